@@ -1,0 +1,4 @@
+pub mod Events
+pub mod Graph
+pub mod Instances
+pub mod Tree

@@ -1,0 +1,30 @@
+//! The events of a run.
+
+use crate::Class;
+use k_num::{Place, Seq};
+
+/// Where an operand's value came from.
+#[derive(Clone, Copy, Debug, PartialEq, Eq, Hash)]
+pub struct Src {
+    /// The number of the operation that gave the value. Operations are numbered from 0 in a run.
+    pub number: u64,
+    /// The dependence is that of an induction or a reduction, which is no edge of the graph.
+    pub broken: bool,
+}
+
+/// One event of a run.
+#[derive(Debug, Drop)]
+pub enum Event {
+    /// An operation was made. Its sources stand in operand order, the control source last; an operand
+    /// whose value came from no operation has none. The latency is in units of the table of latencies.
+    Op {
+        class: Class,
+        latency: u64,
+        sources: Seq<Src>,
+        place: Place,
+    },
+    /// An instance of the region of this number was entered.
+    Enter(u32),
+    /// The newest open instance was left.
+    Exit,
+}
