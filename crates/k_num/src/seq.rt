@@ -1,5 +1,5 @@
 //! A list that contracts see as the list of its items.
-ghost use Rattle.std.specs.Prelude.{◌≡◌, [], ◌∷◌, ◌++◌, length, OnOk, OnErr};
+ghost use Rattle.std.specs.Prelude.{◌≡◌, [], ◌∷◌, ◌++◌, length, IfOk, OnOk, OnErr};
 
 use crate::NoMemory;
 use std::alloc::Global;
@@ -45,6 +45,17 @@ impl<T> Seq<T> {
         ensures { result.now ≡ self.now }
     {
         self.items.as_slice()
+    }
+}
+
+impl<T: Copy> Seq<T> {
+    /// A list of the items of a slice.
+    pub fn copy_of(alloc: Global, items: &[T]) -> Result<Seq<T>, NoMemory>
+        ensures { IfOk result (λ s. s ≡ items.now) }
+    {
+        Ok(Seq {
+            items: Vec::from_slice(alloc, items)?,
+        })
     }
 }
 

@@ -1,0 +1,39 @@
+//! Files by their names.
+ghost use Rattle.k_edge.specs.FilesWords.{FilesState, Loads, Saves};
+
+use std::alloc::Global;
+
+/// Why a load was refused.
+#[derive(Clone, Copy, Debug, PartialEq, Eq)]
+pub enum LoadFault {
+    /// No file has the name.
+    Absent,
+    /// The file has more bytes than the limit.
+    TooLong,
+    /// The outside failed.
+    Failed,
+    /// No memory was found.
+    Memory,
+}
+
+/// Why a save was refused.
+#[derive(Clone, Copy, Debug, PartialEq, Eq)]
+pub enum SaveFault {
+    /// The outside failed. What the name now holds isn't told.
+    Failed,
+    /// No memory was found, and nothing changed.
+    Memory,
+}
+
+/// A store of named files.
+pub trait Files {
+    ghost seen: { Self → FilesState };
+
+    /// The whole content of a name, which has at most `limit` bytes.
+    fn load(&mut self, alloc: Global, name: &str, limit: u64) -> Result<Vec<u8>, LoadFault>
+        ensures { Loads result name.now limit (seen self.old) (seen self.new) };
+
+    /// Makes the bytes the content of a name.
+    fn save(&mut self, alloc: Global, name: &str, bytes: &[u8]) -> Result<(), SaveFault>
+        ensures { Saves result name.now bytes.now (seen self.old) (seen self.new) };
+}

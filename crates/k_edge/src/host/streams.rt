@@ -1,0 +1,80 @@
+//! Adapters over readers and writers.
+ghost use Rattle.std.specs.Prelude.{◌≡◌, ◌≢◌, None, Err};
+ghost use Rattle.k_edge.specs.SinkWords.{Puts};
+ghost use Rattle.k_edge.specs.HostWords.{std_source, std_sink};
+
+use crate::count::risen;
+use crate::{Failed, PutFault, Sink, Source};
+use std::io::{Read, Write};
+
+/// A source over a reader.
+#[derive(Debug, Drop)]
+pub struct StdSource<R> {
+    inner: R,
+    faults: u64,
+    taken: u64,
+}
+
+impl<R: Read> StdSource<R> {
+    pub fn new(inner: R) -> StdSource<R>
+        ensures { std_source result ≡ record { left = None; faults = 0; taken = 0 } }
+    {
+        StdSource {
+            inner,
+            faults: 0,
+            taken: 0,
+        }
+    }
+}
+
+impl<R: Read> Source for StdSource<R> {
+    ghost seen = { std_source };
+
+    /// No read is made that could bring the count of bytes taken above the greatest number: that is a fault.
+    fn read(&mut self, buf: &mut [u8]) -> Result<usize, Failed> {
+        if u64::MAX - self.taken < buf.len() as u64 {
+            self.faults = risen(self.faults);
+            return Err(Failed);
+        }
+        match self.inner.read(buf) {
+            Ok(count) => {
+                self.taken += count as u64;
+                Ok(count)
+            }
+            Err(_) => {
+                self.faults = risen(self.faults);
+                Err(Failed)
+            }
+        }
+    }
+}
+
+/// A sink over a writer, which is flushed after each piece.
+#[derive(Debug, Drop)]
+pub struct StdSink<W> {
+    inner: W,
+    faults: u64,
+}
+
+impl<W: Write> StdSink<W> {
+    pub fn new(inner: W) -> StdSink<W>
+        ensures { std_sink result ≡ record { written = None; faults = 0 } }
+    {
+        StdSink { inner, faults: 0 }
+    }
+}
+
+impl<W: Write> Sink for StdSink<W> {
+    ghost seen = { std_sink };
+
+    fn put(&mut self, piece: &[u8]) -> Result<(), PutFault>
+        ensures puts { Puts result piece.now (std_sink self.old) (std_sink self.new) }
+        ensures never_memory { result ≢ Err PutFault.Memory }
+    {
+        if self.inner.write_all(piece).is_ok() && self.inner.flush().is_ok() {
+            return Ok(());
+        }
+        self.faults = risen(self.faults);
+        Err(PutFault::Failed)
+    }
+}

@@ -1,0 +1,20 @@
+//! Where bytes go to.
+ghost use Rattle.k_edge.specs.SinkWords.{SinkState, Puts};
+
+/// Why a put was refused.
+#[derive(Clone, Copy, Debug, PartialEq, Eq)]
+pub enum PutFault {
+    /// The outside failed. A prefix of the piece may have been written.
+    Failed,
+    /// No memory was found, and nothing was written.
+    Memory,
+}
+
+/// A sink of bytes, which grows at its end.
+pub trait Sink {
+    ghost seen: { Self → SinkState };
+
+    /// Appends the whole piece.
+    fn put(&mut self, piece: &[u8]) -> Result<(), PutFault>
+        ensures { Puts result piece.now (seen self.old) (seen self.new) };
+}

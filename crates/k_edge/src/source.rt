@@ -1,0 +1,16 @@
+//! Where bytes come from.
+ghost use Rattle.k_edge.specs.SourceWords.{SourceState, Reads};
+
+/// A read failed.
+#[derive(Clone, Copy, Debug, PartialEq, Eq)]
+pub struct Failed;
+
+/// A source of bytes, read from its front.
+pub trait Source {
+    ghost seen: { Self → SourceState };
+
+    /// Reads bytes into the front of the buffer, and answers how many: 0 for a buffer that isn't empty is
+    /// the end.
+    fn read(&mut self, buf: &mut [u8]) -> Result<usize, Failed>
+        ensures { Reads result buf.old buf.new (seen self.old) (seen self.new) };
+}
