@@ -1,0 +1,4 @@
+mod Growing
+mod FirstPiece
+mod FormLemmas
+mod ReportLemmas

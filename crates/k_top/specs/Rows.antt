@@ -1,0 +1,55 @@
+-- *Rows*: what the profile says of each region, by the tree of its instances.
+use Rattle.std.specs.Prelude.{ℕ, zero, suc, ◌≡◌, ◌+◌, ◌-◌, ◌*◌, ◌<◌, ◌⊎◌, ◌==◌, nat_lt, List, [], ◌∷◌, ◌++◌, filter, take_while, length, if◌then◌else◌}
+use Rattle.k_optab.specs.Tree.{Node, EachWith}
+use Rattle.k_top.specs.declared.rows.Row.{Row}
+
+-- the sum of a measure of instances
+abbrev pub total : (Node → ℕ) → List Node → ℕ
+total measure [] = 0
+total measure (node ∷ nodes) = measure node + total measure nodes
+
+-- the children of an instance among those entered after it: one level deeper, before the first that is not deeper
+abbrev pub children : Node → List Node → List Node
+children node later = filter (λ n. n.depth == node.depth + 1) (take_while (λ n. nat_lt node.depth n.depth) later)
+
+-- the time that an instance would take if only its children ran in parallel: their critical paths, and its own work
+abbrev pub serial : Node → List Node → ℕ
+serial node later =
+    total (λ n. n.path) (children node later) + (node.work - total (λ n. n.work) (children node later))
+
+-- the same, of all instances of a region together
+abbrev pub serial_of : ℕ → List Node → ℕ
+serial_of region [] = 0
+serial_of region (node ∷ later) = (if node.region == region then serial node later else 0) + serial_of region later
+
+-- a number divides another
+abbrev pub Divides : ℕ → ℕ → Type 0
+Divides d n = (k : ℕ) × (n ≡ k * d)
+
+-- num/den is a/b in lowest terms, and 1/1 where b is 0
+abbrev pub IsRatio : ℕ → ℕ → ℕ → ℕ → Type 0
+IsRatio a b num den =
+    ((b ≡ 0) × (num ≡ 1) × (den ≡ 1))
+    ⊎ ((0 < b) × (0 < den) × (num * b ≡ a * den) × ((d : ℕ) → Divides d num → Divides d den → d ≡ 1))
+
+-- the instances of a region
+abbrev pub instances_of : ℕ → List Node → List Node
+instances_of region nodes = filter (λ n. n.region == region) nodes
+
+-- a row of the profile: how many instances a region has, their work and critical paths together, and the
+-- region's self-parallelism
+pub record IsRow (nodes : List Node) (region : ℕ) (row : Row) : Type 0 where
+  pub number : row.region ≡ region
+  pub instances : row.instances ≡ length (instances_of region nodes)
+  pub work : row.work ≡ total (λ n. n.work) (instances_of region nodes)
+  pub path : row.path ≡ total (λ n. n.path) (instances_of region nodes)
+  pub self_parallelism : IsRatio (serial_of region nodes) row.path row.parallel row.of
+
+-- the numbers below n
+abbrev pub below : ℕ → List ℕ
+below zero = []
+below (suc n) = below n ++ n ∷ []
+
+-- the rows of a program of so many regions: one for each region that has an instance, in order of number
+abbrev pub AreRows : ℕ → List Node → List Row → Type 0
+AreRows regions nodes rows = EachWith (IsRow nodes) (filter (λ r. nat_lt 0 (length (instances_of r nodes))) (below regions)) rows

@@ -1,0 +1,11 @@
+//! The top call: from the words of a command line to a program's run and its profile.
+#![tactic(auto)]
+
+mod command;
+mod form;
+mod output;
+mod pieces;
+mod report;
+mod rows;
+
+pub use command::Usage;
