@@ -2,3 +2,6 @@ mod Growing
 mod FirstPiece
 mod FormLemmas
 mod ReportLemmas
+mod RunLemmas
+mod EndingLemmas
+mod Unique

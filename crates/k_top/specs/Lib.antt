@@ -6,3 +6,6 @@ pub mod Output
 pub mod Run
 pub mod Rows
 pub mod Report
+pub mod Answer
+pub mod Clauses
+pub mod Endings

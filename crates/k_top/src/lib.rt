@@ -2,10 +2,13 @@
 #![tactic(auto)]
 
 mod command;
+mod ending;
 mod form;
 mod output;
 mod pieces;
 mod report;
 mod rows;
+mod run;
+mod top;
 
 pub use command::Usage;

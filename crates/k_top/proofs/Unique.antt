@@ -1,0 +1,62 @@
+-- The whole answer is one: a source spells one program, and a program has one output.
+use Rattle.std.proofs.Common.{ℕ, ◌≡◌, ◌<◌, ◌≤◌, ◌^◌, refl, ap, arith, subst, sym, ◌∙◌, List, [], ◌∷◌, length, Option, Some, inl, inr, map}
+use Rattle.std.specs.Prelude.{slice_get}
+use Rattle.std.specs.Fmt.{decimal}
+use Rattle.std.proofs.lemmas.Fmt.{decimal_injective}
+use Rattle.k_num.specs.declared.place.Place.{Place}
+use Rattle.k_optab.specs.Events.{operations}
+use Rattle.k_optab.specs.Graph.{Heaviest}
+use Rattle.k_optab.specs.Tree.{Node, IsTree, IsNodeOf}
+use Rattle.k_top.specs.declared.form.Program.{Program}
+use Rattle.k_top.specs.declared.rows.Row.{Row}
+use Rattle.k_top.specs.Pieces.{Piece}
+use Rattle.k_top.specs.Form.{ArePiecesOf, Spells, texts_with}
+use Rattle.k_top.specs.Run.{run_of, regions_of}
+use Rattle.k_top.specs.Rows.{AreRows, IsRow}
+use Rattle.k_top.specs.Report.{report_text, with_report}
+use Rattle.k_top.specs.Answer.{IsProfile, IsOutput, tracked_depth}
+use Rattle.k_top.proofs.RunLemmas.{the_move, weightless, main_node, main_row}
+
+some_same : {A : Type 0} (a b : A) → Some a ≡ Some b → a ≡ b
+some_same {A} a b e = cc
+
+-- pieces are those of one program
+pub one_program : (ps : List Piece) (p q : Program) → ArePiecesOf p ps → ArePiecesOf q ps → p ≡ q
+one_program ps p q one two =
+    let written : decimal p.value ≡ decimal q.value = some_same _ _ (ap (λ texts. slice_get texts 7) (sym one.texts ∙ two.texts)) in
+    let value : p.value ≡ q.value = decimal_injective p.value q.value (omega (arith, one.fits)) (omega (arith, two.fits)) written in
+    let name : p.name ≡ q.name = some_same _ _ (sym one.name ∙ two.name) in
+    let place : p.return_place ≡ q.return_place = some_same _ _ (sym one.return ∙ two.return) in
+    λ i. record { value = value i; name = name i; return_place = place i }
+
+-- the heaviest path of the run weighs 0
+no_weight : (place : Place) (w : ℕ) → Heaviest (the_move place ∷ []) 0 1 w → w ≡ 0
+no_weight place w heaviest = elim heaviest.reached [
+  | inl empty ↦ absurd (omega (arith, empty.0))
+  | inr found ↦ let light = weightless place found.0 w found.1.0 found.1.1 in omega (arith, light)
+]
+
+one_tree : (p : Program) (nodes : List Node) → IsTree tracked_depth (run_of p).events nodes → nodes ≡ main_node ∷ []
+unfolding main_node
+one_tree p [] tree = absurd tree
+one_tree p (n ∷ []) tree =
+    let path : n.path ≡ 0 = no_weight p.return_place n.path tree.0.path in
+    λ i. record { region = tree.0.region i; work = tree.0.work i; path = path i; depth = tree.0.depth i } ∷ []
+one_tree p (n ∷ m ∷ nodes) tree = absurd tree.1
+
+one_row : (p : Program) (rows : List Row) → AreRows 1 (main_node ∷ []) rows → rows ≡ main_row ∷ []
+unfolding main_node main_row
+one_row p [] are = absurd are
+one_row p (r ∷ []) are = elim are.0.self_parallelism [
+  | inl one ↦ λ i. record { region = are.0.number i; instances = are.0.instances i; work = are.0.work i; path = are.0.path i; parallel = one.1 i; of = one.2 i } ∷ []
+  | inr more ↦ let path = are.0.path in absurd (omega (arith, path, more.0))
+]
+one_row p (r ∷ s ∷ rows) are = absurd are.1
+
+pub one_output : (p : Program) (one two : List ℕ) → IsOutput p one → IsOutput p two → one ≡ two
+one_output p one two first second =
+    let text = λ (rows : List Row). with_report (run_of p).output (report_text (regions_of p) (run_of p).exit (length (operations (run_of p).events)) rows) in
+    first.2 ∙ ap text (the_rows p first.0 first.1 ∙ sym (the_rows p second.0 second.1)) ∙ sym second.2
+  where
+    the_rows : (q : Program) (rows : List Row) → IsProfile q rows → rows ≡ main_row ∷ []
+    the_rows q rows profile = one_row q rows (subst (λ nodes. AreRows 1 nodes rows) (one_tree q profile.0 profile.1) profile.2)

@@ -1,0 +1,105 @@
+-- *Whole answer*: what `kremlin` answers to the words of its command line, where files hold what they hold.
+use Rattle.std.specs.Prelude.{ℕ, ◌≡◌, ◌≤◌, ◌<◌, ◌⊎◌, List, [], ◌++◌, length, Option, Some, None, Result, Ok, Err, codes}
+use Rattle.std.specs.Fmt.{decimal}
+use Rattle.k_optab.specs.Events.{operations}
+use Rattle.k_optab.specs.Tree.{Node, IsTree}
+use Rattle.k_top.specs.declared.command.Usage.{Usage}
+use Rattle.k_top.specs.declared.command.Usage.TheVariants.{NoCommand, UnknownWord, NoFile}
+use Rattle.k_top.specs.declared.form.Program.{Program}
+use Rattle.k_top.specs.declared.rows.Row.{Row}
+use Rattle.k_top.specs.Command.{command_of}
+use Rattle.k_top.specs.Form.{Spells}
+use Rattle.k_top.specs.Run.{run_of, regions_of}
+use Rattle.k_top.specs.Rows.{AreRows}
+use Rattle.k_top.specs.Report.{report_text, with_report}
+
+-- the bytes put on out, the line put on err, and the status
+pub record Answer : Type 0 where
+  pub out : List ℕ
+  pub err : List ℕ
+  pub status : ℕ
+
+-- how many bytes a source may have
+abbrev pub source_limit : ℕ
+source_limit = 16777216
+
+-- instances below this depth are in the profile
+abbrev pub tracked_depth : ℕ
+tracked_depth = 24
+
+abbrev pub usage_name : Usage → List ℕ
+usage_name NoCommand = codes "NoCommand"
+usage_name (UnknownWord index) = codes "UnknownWord at word " ++ decimal index
+usage_name NoFile = codes "NoFile"
+
+abbrev pub usage_line : Usage → List ℕ
+usage_line usage = codes "kremlin: usage: " ++ usage_name usage ++ codes "\n"
+
+abbrev pub absent_line : List ℕ → List ℕ
+absent_line file = codes "kremlin: no such file: " ++ file ++ codes "\n"
+
+abbrev pub long_line : List ℕ → List ℕ
+long_line file = codes "kremlin: file too long: " ++ file ++ codes "\n"
+
+-- a source that is not of the form
+abbrev pub refused_line : List ℕ
+refused_line = codes "kremlin: source refused: NotBuilt at 1:1\n"
+
+abbrev pub read_fault_line : List ℕ
+read_fault_line = codes "kremlin: read fault\n"
+
+abbrev pub write_fault_line : List ℕ
+write_fault_line = codes "kremlin: write fault\n"
+
+abbrev pub memory_line : List ℕ
+memory_line = codes "kremlin: no memory\n"
+
+-- nothing is put on out
+abbrev pub refusal : ℕ → List ℕ → Answer
+refusal status line = record { out = []; err = line; status = status }
+
+-- the rows of the tree of a program's run
+abbrev pub IsProfile : Program → List Row → Type 0
+IsProfile program rows =
+    (nodes : List Node) × IsTree tracked_depth (run_of program).events nodes × AreRows (length (regions_of program)) nodes rows
+
+-- the output of a program's run, and the report of its rows
+abbrev pub IsOutput : Program → List ℕ → Type 0
+IsOutput program out =
+    (rows : List Row) × IsProfile program rows
+    × (out ≡ with_report (run_of program).output
+    (report_text (regions_of program) (run_of program).exit (length (operations (run_of program).events)) rows))
+
+-- a source is refused where it spells no program, and else the program is run
+abbrev pub AnswersSource : List ℕ → Answer → Type 0
+AnswersSource source answer =
+    (((program : Program) → Spells source program → ⊥) × (answer ≡ refusal 3 refused_line))
+    ⊎ ((program : Program) × Spells source program × (out : List ℕ) × IsOutput program out
+    × (answer ≡ record { out = out; err = []; status = 0 }))
+
+-- the content of the file decides
+abbrev pub AnswersContent : List ℕ → Option (List ℕ) → Answer → Type 0
+AnswersContent file None answer = answer ≡ refusal 5 (absent_line file)
+AnswersContent file (Some source) answer =
+    ((source_limit < length source) × (answer ≡ refusal 12 (long_line file)))
+    ⊎ ((length source ≤ source_limit) × AnswersSource source answer)
+
+-- the command decides
+abbrev pub AnswersCommand : Result (List ℕ) Usage → (List ℕ → Option (List ℕ)) → Answer → Type 0
+AnswersCommand (Err usage) held answer = answer ≡ refusal 4 (usage_line usage)
+AnswersCommand (Ok file) held answer = AnswersContent file (held file) answer
+
+-- the answer to these words, where each name holds that content
+abbrev pub IsAnswer : List (List ℕ) → (List ℕ → Option (List ℕ)) → Answer → Type 0
+IsAnswer words held answer = AnswersCommand (command_of words) held answer
+
+-- the line of each status
+pub data IsLineOf (words : List (List ℕ)) : ℕ → List ℕ → Type 0 where
+  done : IsLineOf words 0 []
+  refused : IsLineOf words 3 refused_line
+  usage : (usage : Usage) → command_of words ≡ Err usage → IsLineOf words 4 (usage_line usage)
+  absent : (file : List ℕ) → command_of words ≡ Ok file → IsLineOf words 5 (absent_line file)
+  read_fault : IsLineOf words 6 read_fault_line
+  write_fault : IsLineOf words 7 write_fault_line
+  no_memory : IsLineOf words 8 memory_line
+  too_long : (file : List ℕ) → command_of words ≡ Ok file → IsLineOf words 12 (long_line file)

@@ -1,0 +1,52 @@
+-- The theorem on `kremlin`: each clause is one sentence.
+use Rattle.std.specs.Prelude.{ℕ, ◌≡◌, ◌≢◌, ◌<◌, ◌⊎◌, List, [], Option, Some, None, Result, Ok, Err}
+use Rattle.k_edge.specs.Fault.{Rose}
+use Rattle.k_edge.specs.SourceWords.{SourceState}
+use Rattle.k_edge.specs.SinkWords.{SinkState, Grows, GrowsInPart}
+use Rattle.k_edge.specs.FilesWords.{FilesState}
+use Rattle.k_top.specs.declared.command.Usage.{Usage}
+use Rattle.k_top.specs.Command.{command_of}
+use Rattle.k_top.specs.Answer.{Answer, IsAnswer, IsLineOf}
+
+-- P holds of what the files hold, where they tell it
+abbrev pub WhereTold : FilesState → ((List ℕ → Option (List ℕ)) → Type 0) → Type 0
+WhereTold files P = (held : List ℕ → Option (List ℕ)) → files.held ≡ Some held → P held
+
+-- a count did not rise, and does not stand at its last value
+abbrev pub DidNotRise : ℕ → ℕ → Type 0
+DidNotRise old new = Rose old new → ⊥
+
+-- no count of faults of files, input or out rose
+pub record NoFault (files files' : FilesState) (input input' : SourceState) (out out' : SinkState) : Type 0 where
+  pub loads : DidNotRise files.counts.load_faults files'.counts.load_faults
+  pub saves : DidNotRise files.counts.save_faults files'.counts.save_faults
+  pub reads : DidNotRise input.faults input'.faults
+  pub puts : DidNotRise out.faults out'.faults
+
+-- the status is that of the whole answer, and out has grown by its bytes
+abbrev pub Answered : List (List ℕ) → ℕ → FilesState → SinkState → SinkState → Type 0
+Answered words status files out out' =
+    WhereTold files (λ held. (answer : Answer) × IsAnswer words held answer × (status ≡ answer.status) × Grows out.written answer.out out'.written)
+
+-- out has grown by a prefix of the bytes of the whole answer
+abbrev pub PartOfAnswer : List (List ℕ) → FilesState → SinkState → SinkState → Type 0
+PartOfAnswer words files out out' =
+    WhereTold files (λ held. (answer : Answer) → IsAnswer words held answer → GrowsInPart out.written answer.out out'.written)
+
+-- the status of a refusal before the run
+abbrev pub IsRefusal : ℕ → Type 0
+IsRefusal status = (status ≡ 3) ⊎ (status ≡ 4) ⊎ (status ≡ 5) ⊎ (status ≡ 6) ⊎ (status ≡ 12)
+
+-- the counts of faults of files, input and out are as before
+pub record SameFaults (files files' : FilesState) (input input' : SourceState) (out out' : SinkState) : Type 0 where
+  pub loads : files'.counts.load_faults ≡ files.counts.load_faults
+  pub saves : files'.counts.save_faults ≡ files.counts.save_faults
+  pub reads : input'.faults ≡ input.faults
+  pub puts : out'.faults ≡ out.faults
+
+-- err has grown by a prefix of the line of the status: by the whole line where the status is not 8 and err's count of faults did not rise
+pub record Told (words : List (List ℕ)) (status : ℕ) (err err' : SinkState) : Type 0 where
+  pub line : List ℕ
+  pub of_status : IsLineOf words status line
+  pub part : GrowsInPart err.written line err'.written
+  pub whole : status ≢ 8 → DidNotRise err.faults err'.faults → Grows err.written line err'.written

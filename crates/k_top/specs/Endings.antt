@@ -1,0 +1,85 @@
+-- How the top call ends, and what each of its parts leaves. The theorem on `kremlin` speaks of none of this.
+use Rattle.std.specs.Prelude.{ℕ, ◌≡◌, ◌⊎◌, List, [], Result, Ok, Err, Vec}
+use Rattle.std.specs.declared.alloc.Global.{Global}
+use Rattle.k_edge.specs.Fault.{Rose}
+use Rattle.k_edge.specs.SinkWords.{SinkState, Grows, GrowsInPart}
+use Rattle.k_edge.specs.FilesWords.{FilesState, Loads}
+use Rattle.k_edge.specs.declared.files.LoadFault.TheVariants as load
+use Rattle.k_top.specs.declared.ending.Ending.{Ending}
+use Rattle.k_top.specs.declared.ending.Ending.TheVariants.{Done, Refused, Usage, Absent, ReadFault, WriteFault, NoMemory, TooLong}
+use Rattle.k_top.specs.declared.form.Program.{Program}
+use Rattle.k_top.specs.Command.{command_of}
+use Rattle.k_top.specs.Form.{Spells}
+use Rattle.k_top.specs.Answer.{IsOutput, source_limit, usage_line, absent_line, long_line, refused_line, read_fault_line, write_fault_line, memory_line}
+
+abbrev pub status_of : Ending → ℕ
+status_of Done = 0
+status_of Refused = 3
+status_of (Usage usage) = 4
+status_of (Absent file) = 5
+status_of ReadFault = 6
+status_of WriteFault = 7
+status_of NoMemory = 8
+status_of (TooLong file) = 12
+
+abbrev pub line_of : Ending → List ℕ
+line_of Done = []
+line_of Refused = refused_line
+line_of (Usage usage) = usage_line usage
+line_of (Absent file) = absent_line file.now
+line_of ReadFault = read_fault_line
+line_of WriteFault = write_fault_line
+line_of NoMemory = memory_line
+line_of (TooLong file) = long_line file.now
+
+-- out has grown by a prefix of a program's output
+abbrev pub PutsPart : Program → SinkState → SinkState → Type 0
+PutsPart program out out' = (text : List ℕ) × IsOutput program text × GrowsInPart out.written text out'.written
+
+-- how a program's run ended
+abbrev pub EndsProgram : Program → Ending → SinkState → SinkState → Type 0
+EndsProgram program Done out out' =
+    (text : List ℕ) × IsOutput program text × Grows out.written text out'.written × (out'.faults ≡ out.faults)
+EndsProgram program WriteFault out out' = PutsPart program out out' × Rose out.faults out'.faults
+EndsProgram program NoMemory out out' = ((out' ≡ out) ⊎ PutsPart program out out') × (out'.faults ≡ out.faults)
+EndsProgram program _ out out' = ⊥
+
+-- how a source ended
+abbrev pub EndsSource : List ℕ → Ending → SinkState → SinkState → Type 0
+EndsSource source Refused out out' = ((program : Program) → Spells source program → ⊥) × (out' ≡ out)
+EndsSource source NoMemory out out' =
+    (out' ≡ out) ⊎ ((program : Program) × Spells source program × EndsProgram program NoMemory out out')
+EndsSource source ending out out' = (program : Program) × Spells source program × EndsProgram program ending out out'
+
+-- how a file ended
+abbrev pub EndsFile : List ℕ → Ending → FilesState → FilesState → SinkState → SinkState → Type 0
+EndsFile file (Absent name) files files' out out' =
+    (name.now ≡ file) × Loads (Err load.Absent) file source_limit files files' × (out' ≡ out)
+EndsFile file (TooLong name) files files' out out' =
+    (name.now ≡ file) × Loads (Err load.TooLong) file source_limit files files' × (out' ≡ out)
+EndsFile file ReadFault files files' out out' = Loads (Err load.Failed) file source_limit files files' × (out' ≡ out)
+EndsFile file NoMemory files files' out out' =
+    ((files' ≡ files) × (out' ≡ out))
+    ⊎ ((source : Vec ℕ Global) × Loads (Ok source) file source_limit files files' × EndsSource source.items NoMemory out out')
+EndsFile file ending files files' out out' =
+    (source : Vec ℕ Global) × Loads (Ok source) file source_limit files files' × EndsSource source.items ending out out'
+
+-- how the words ended
+abbrev pub EndsWords : List (List ℕ) → Ending → FilesState → FilesState → SinkState → SinkState → Type 0
+EndsWords words (Usage usage) files files' out out' = (command_of words ≡ Err usage) × (files' ≡ files) × (out' ≡ out)
+EndsWords words ending files files' out out' =
+    (file : List ℕ) × (command_of words ≡ Ok file) × EndsFile file ending files files' out out'
+
+-- a line was put on err, and this status answered: 8 in place of the one given where memory was wanting for the put
+abbrev pub PutsLine : List ℕ → ℕ → ℕ → SinkState → SinkState → Type 0
+PutsLine line given status err err' =
+    ((status ≡ given) × GrowsInPart err.written line err'.written
+    × ((Rose err.faults err'.faults → ⊥) → Grows err.written line err'.written))
+    ⊎ ((status ≡ 8) × (err' ≡ err))
+
+-- what was told on err, and the status that was answered: 8 in place of the ending's where memory was wanting for the line
+abbrev pub Tells : Ending → ℕ → SinkState → SinkState → Type 0
+Tells ending status err err' =
+    ((status ≡ status_of ending) × GrowsInPart err.written (line_of ending) err'.written
+    × ((Rose err.faults err'.faults → ⊥) → Grows err.written (line_of ending) err'.written))
+    ⊎ ((status ≡ 8) × GrowsInPart err.written memory_line err'.written)
