@@ -3,6 +3,7 @@
 #![tactic(auto)]
 
 mod boxed;
+mod kind;
 mod memory;
 mod numbers;
 mod place;
@@ -10,6 +11,7 @@ mod seq;
 mod text;
 
 pub use boxed::Box;
+pub use kind::{common, convert, holds, promote};
 pub use memory::NoMemory;
 pub use numbers::{Bin, Kind, NumTrap, Un};
 pub use place::Place;
