@@ -53,6 +53,10 @@ given trap kind z = if is_held kind z then Ok z else if is_signed kind then Err 
 abbrev pub is_distance : Kind → ℤ → Bool
 is_distance kind b = int_le (pos 0) b && int_lt b (pos (width kind))
 
+-- a value may be shifted left so far: a negative one may not (6.5.7p4)
+abbrev pub can_shift_left : Kind → ℤ → ℤ → Bool
+can_shift_left kind a b = is_distance kind b && not (is_signed kind && int_lt a (pos 0))
+
 -- the value of a binary operation, or its trap
 abbrev pub value : Bin → Kind → ℤ → ℤ → Result ℤ NumTrap
 value Add kind a b = given Overflow kind (exact Add kind a b)
@@ -63,9 +67,7 @@ value Rem kind a b =
     if is_zero b then Err DivideByZero
     else if is_signed kind && not (is_held kind (exact Div kind a b)) then Err Overflow
     else Ok (exact Rem kind a b)
-value Shl kind a b =
-    if is_distance kind b && not (is_signed kind && int_lt a (pos 0)) then given Shift kind (exact Shl kind a b)
-    else Err Shift
+value Shl kind a b = if can_shift_left kind a b then given Shift kind (exact Shl kind a b) else Err Shift
 value Shr kind a b = if is_distance kind b then Ok (exact Shr kind a b) else Err Shift
 value op kind a b = Ok (exact op kind a b)
 

@@ -38,7 +38,7 @@ fn least(kind: Kind) -> i128
     }
 }
 
-fn greatest(kind: Kind) -> i128
+pub(crate) fn greatest(kind: Kind) -> i128
     ensures { result ≡ greatest_of kind }
 {
     match kind {
@@ -61,7 +61,7 @@ pub fn holds(kind: Kind, v: i128) -> bool
 }
 
 /// 2^n, n the width.
-fn modulus(kind: Kind) -> i128
+pub(crate) fn modulus(kind: Kind) -> i128
     ensures { result ≡ pos (2 ^ width kind) }
 {
     match kind {
