@@ -1,5 +1,5 @@
 -- Every kind's values lie from -2^63 to 2^64 - 1, so that sums, differences, products of signed values and quotients fit an i128.
-use Rattle.std.proofs.Common.{rules, arith, ◌≡◌, ◌^◌, ◌+◌, ◌-◌, ◌*◌, ◌/◌, ◌<◌, ◌≤◌, IsTrue, Bool, true, false, ℕ, zero, suc, pos, negsuc, neg_ℤ, ℤ, ◌+ℤ◌, ◌-ℤ◌, ◌*ℤ◌, ◌≤ℤ◌, ◌<ℤ◌, FitsSigned, to_z, of_z, refl, ap, ◌∙◌, subst}
+use Rattle.std.proofs.Common.{arith, ◌≡◌, ◌^◌, ◌-◌, ◌*◌, ◌≤◌, IsTrue, true, false, ℕ, zero, suc, pos, negsuc, neg_ℤ, ℤ, ◌+ℤ◌, ◌-ℤ◌, ◌*ℤ◌, ◌≤ℤ◌, ◌<ℤ◌, FitsSigned, to_z, of_z, refl, ap, ◌∙◌}
 use Rattle.std.specs.Prelude.{unsigned_abs, int_div, int_rem}
 use Rattle.std.specs.Int.{w128}
 use Rattle.std.proofs.lemmas.Int.{ints, fits_signed_mul, fits_signed_from_abs, to_z-of_z, rem_is, quot-rem}

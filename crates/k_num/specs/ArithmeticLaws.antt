@@ -1,7 +1,6 @@
 -- Laws of *Arithmetic*: what the values of the operators are.
-use Rattle.std.specs.Prelude.{ℕ, zero, suc, ◌+◌, ◌-◌, ◌*◌, ◌/◌, ◌%◌, ◌^◌, ◌<◌, ◌≤◌, ◌⊎◌, Bool, true, false, ◌&&◌, not, if◌then◌else◌, IsTrue, IfOk, ◌≡◌, refl, ℤ, pos, negsuc, neg_ℤ, ◌+ℤ◌, ◌-ℤ◌, ◌*ℤ◌, int_le, int_div, int_rem, unsigned_abs, bit_and, bit_or, bit_xor, Result, Ok, Err}
-use Rattle.std.specs.Int.{int_shr}
-use Rattle.std.proofs.Common.{arith, sym, ap, ◌∙◌, subst, inl, inr}
+use Rattle.std.specs.Prelude.{ℕ, zero, suc, ◌-◌, ◌/◌, ◌%◌, ◌^◌, ◌<◌, ◌≤◌, ◌⊎◌, Bool, true, false, ◌&&◌, not, if◌then◌else◌, IsTrue, IfOk, ◌≡◌, refl, ℤ, pos, negsuc, neg_ℤ, ◌-ℤ◌, int_rem, unsigned_abs, bit_and, bit_or, bit_xor, Result, Ok, Err}
+use Rattle.std.proofs.Common.{arith, sym, ap, subst, inl, inr}
 use Rattle.std.proofs.Math.Nat.{div-le_self, mod-le}
 use Rattle.std.proofs.lemmas.Int.{ints, quot-rem}
 use Rattle.std.proofs.lemmas.Nat.{and_le_l, or_lt, xor_lt}
@@ -9,13 +8,12 @@ use Rattle.k_num.specs.declared.numbers.Kind.{Kind}
 use Rattle.k_num.specs.declared.numbers.Kind.TheVariants.{I8, U8, I16, U16, I32, U32, I64, U64}
 use Rattle.k_num.specs.declared.numbers.Bin.{Bin}
 use Rattle.k_num.specs.declared.numbers.Bin.TheVariants.{Add, Sub, Mul, Div, Rem, And, Or, Xor, Shl, Shr, Lt, Le, Gt, Ge, Eq, Ne, LogAnd, LogOr}
-use Rattle.k_num.specs.declared.numbers.Un.{Un}
 use Rattle.k_num.specs.declared.numbers.Un.TheVariants.{Neg, Complement, Not}
 use Rattle.k_num.specs.declared.numbers.NumTrap.{NumTrap}
 use Rattle.k_num.specs.declared.numbers.NumTrap.TheVariants.{Overflow, DivideByZero, Shift}
-use Rattle.k_num.specs.Kind.{width, is_signed, is_held, remainder, value_of_bits, converted}
+use Rattle.k_num.specs.Kind.{width, is_signed, is_held, remainder, converted}
 use Rattle.k_num.specs.KindLaws.{remainder_below, held_value_of_bits, converted_held}
-use Rattle.k_num.specs.Arithmetic.{exact, given, value, unary_value, truth, is_zero, is_distance, can_shift_left}
+use Rattle.k_num.specs.Arithmetic.{exact, given, value, unary_value, truth, is_zero, is_distance, can_shift_left, CanBeRight}
 
 -- the operator's results are numbers of the operands' kind, and not 0 or 1 for a test (6.5.8p6, 6.5.9p3, 6.5.13p3, 6.5.14p3)
 abbrev pub gives_number : Bin → Bool
@@ -203,3 +201,24 @@ given_unsigned trap kind z u = by (is_held kind z) refl (is_signed kind) u
     by true e s f = ap (λ v. Ok v) (sym (converted_held kind z e))
     by false e true f = cc
     by false e false f = ap (λ v. Ok v) (remainder_converted kind z u)
+
+-- the right operand of every operator may be a value of the kind
+pub can_be_right : (op : Bin) (kind : Kind) (b : ℤ) → IsTrue (is_held kind b) → CanBeRight op kind b
+can_be_right Add kind b h = h
+can_be_right Sub kind b h = h
+can_be_right Mul kind b h = h
+can_be_right Div kind b h = h
+can_be_right Rem kind b h = h
+can_be_right And kind b h = h
+can_be_right Or kind b h = h
+can_be_right Xor kind b h = h
+can_be_right Shl kind b h = (kind, h)
+can_be_right Shr kind b h = (kind, h)
+can_be_right Lt kind b h = h
+can_be_right Le kind b h = h
+can_be_right Gt kind b h = h
+can_be_right Ge kind b h = h
+can_be_right Eq kind b h = h
+can_be_right Ne kind b h = h
+can_be_right LogAnd kind b h = h
+can_be_right LogOr kind b h = h

@@ -1,11 +1,11 @@
 -- Laws of conversion between kinds: it gives a value of the kind, keeps the kind's own values, depends on the number
 -- modulo 2^n alone, and so commutes with sums and products.
-use Rattle.std.specs.Prelude.{ℕ, zero, suc, ◌+◌, ◌-◌, ◌*◌, ◌/◌, ◌%◌, ◌^◌, ◌<◌, ◌≤◌, ◌⊎◌, Bool, true, false, ◌&&◌, if◌then◌else◌, IsTrue, ◌≡◌, refl, ℤ, pos, negsuc, neg_ℤ, ◌+ℤ◌, ◌-ℤ◌, ◌*ℤ◌, ◌<ℤ◌, ◌≤ℤ◌, int_le, unsigned_abs}
+use Rattle.std.specs.Prelude.{ℕ, ◌+◌, ◌-◌, ◌*◌, ◌/◌, ◌^◌, ◌<◌, ◌≤◌, ◌⊎◌, Bool, true, false, ◌&&◌, if◌then◌else◌, IsTrue, ◌≡◌, refl, ℤ, pos, negsuc, neg_ℤ, ◌+ℤ◌, ◌-ℤ◌, ◌*ℤ◌, ◌<ℤ◌, int_le, unsigned_abs}
 use Rattle.std.specs.Int.{int_rem_euclid}
 use Rattle.std.proofs.Common.{arith, sym, ap, inl, inr, ◌∙◌, subst}
 use Rattle.std.proofs.Math.Nat.{mul-le-mul_left, mul-le-mul_right, pow-le-pow_right, mod-lt}
 use Rattle.std.proofs.Math.IntN.{*ℤ_comm}
-use Rattle.std.proofs.lemmas.Bool.{cases_order, cases_cond}
+use Rattle.std.proofs.lemmas.Bool.{cases_order}
 use Rattle.std.proofs.lemmas.Int.{ints, int_rem_euclid_is}
 use Rattle.std.proofs.lemmas.Nat.{div-add-mod', pow_pos}
 use borrow.Author.Differences.{up, down, same_in, same_out, sum_is_lem, product_is}

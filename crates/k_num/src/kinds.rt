@@ -121,3 +121,6 @@ pub fn common(a: Kind, b: Kind) -> Kind
         _ => Kind::I32,
     }
 }
+
+#[cfg(test)]
+mod tests;
