@@ -4,7 +4,7 @@ ghost use Rattle.std.specs.Int.{int_shr};
 ghost use Rattle.k_num.specs.Kind.{is_held, is_signed as is_signed_kind};
 ghost use Rattle.k_num.specs.Arithmetic.{given as given_by, value, CanBeRight, is_distance as is_distance_of, can_shift_left as may_shift_left, truth as truth_of, is_zero as equals_zero};
 
-use crate::kinds::{bits, greatest, holds, is_signed, modulus, remainder, value_of_bits};
+use crate::kinds::{bits, greatest, holds, is_signed, low_bits, remainder, value_of_bits};
 use crate::{Bin, Kind, NumTrap};
 
 /// What the kind gives an exact result.
@@ -29,7 +29,7 @@ fn given_natural(kind: Kind, exact: u128, trap: NumTrap) -> Result<i128, NumTrap
     } else if is_signed(kind) {
         Err(trap)
     } else {
-        Ok((exact % modulus(kind) as u128) as i128)
+        Ok(low_bits(kind, exact) as i128)
     }
 }
 

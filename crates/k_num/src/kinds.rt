@@ -1,5 +1,5 @@
 //! What the kinds of whole numbers hold, and the conversions between them.
-ghost use Rattle.std.specs.Prelude.{◌≡◌, ◌<◌, ◌^◌, pos};
+ghost use Rattle.std.specs.Prelude.{◌≡◌, ◌<◌, ◌^◌, ◌%◌};
 ghost use Rattle.k_num.specs.Kind.{width, is_signed as is_signed_kind, least as least_of, greatest as greatest_of, is_held, remainder as remainder_of, value_of_bits as value_of, converted, promoted, common_kind};
 
 use crate::Kind;
@@ -61,8 +61,8 @@ pub fn holds(kind: Kind, v: i128) -> bool
 }
 
 /// 2^n, n the width.
-pub(crate) fn modulus(kind: Kind) -> i128
-    ensures { result ≡ pos (2 ^ width kind) }
+pub(crate) fn modulus(kind: Kind) -> u128
+    ensures { result ≡ 2 ^ width kind }
 {
     match kind {
         Kind::I8 | Kind::U8 => 0x100,
@@ -72,12 +72,19 @@ pub(crate) fn modulus(kind: Kind) -> i128
     }
 }
 
+/// The remainder of a natural number modulo 2^n.
+pub(crate) fn low_bits(kind: Kind, bits: u128) -> u128
+    ensures { result ≡ bits % 2 ^ width kind }
+{
+    bits & (modulus(kind) - 1)
+}
+
 /// The remainder of `v` modulo 2^n.
 pub(crate) fn remainder(kind: Kind, v: i128) -> u128
     ensures value { result ≡ remainder_of kind v }
     ensures below { result < 2 ^ width kind }
 {
-    v.rem_euclid(modulus(kind)) as u128
+    low_bits(kind, v.cast_unsigned())
 }
 
 /// The value of the kind whose n bits are those of `bits`.
@@ -85,11 +92,11 @@ pub(crate) fn value_of_bits(kind: Kind, bits: u128) -> i128
     requires { bits < 2 ^ width kind }
     ensures { result ≡ value_of kind bits }
 {
-    let bits = bits as i128;
-    if holds(kind, bits) {
-        bits
+    let value = bits as i128;
+    if holds(kind, value) {
+        value
     } else {
-        bits - modulus(kind)
+        value - modulus(kind) as i128
     }
 }
 

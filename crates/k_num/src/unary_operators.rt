@@ -17,8 +17,7 @@ fn negated(kind: Kind, a: i128) -> i128
 fn complement(kind: Kind, a: i128) -> Result<i128, NumTrap>
     ensures { result ≡ unary_value Un.Complement kind a }
 {
-    let ones = modulus(kind) as u128 - 1;
-    Ok(value_of_bits(kind, ones - remainder(kind, a)))
+    Ok(value_of_bits(kind, modulus(kind) - 1 - remainder(kind, a)))
 }
 
 /// The value of `op a` in the kind of the operand, or why it has none.
