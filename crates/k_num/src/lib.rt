@@ -2,16 +2,22 @@
 //! and the kinds and operators of C's whole numbers.
 #![tactic(auto)]
 
+mod binary_operators;
 mod boxed;
+mod kinds;
 mod memory;
 mod numbers;
 mod place;
 mod seq;
 mod text;
+mod unary_operators;
 
+pub use binary_operators::binary;
 pub use boxed::Box;
+pub use kinds::{common, convert, holds, promote};
 pub use memory::NoMemory;
 pub use numbers::{Bin, Kind, NumTrap, Un};
 pub use place::Place;
 pub use seq::Seq;
 pub use text::Text;
+pub use unary_operators::unary;

@@ -1,5 +1,5 @@
 -- *Event*: the operations of a run, numbered from 0.
-use Rattle.std.specs.Prelude.{ℕ, ◌≡◌, ◌+◌, ◌-◌, ◌<◌, ◌⊎◌, Bool, true, false, List, [], ◌∷◌, take, drop, slice_get, Some}
+use Rattle.std.specs.Prelude.{ℕ, ◌≡◌, ◌+◌, ◌-◌, ◌<◌, ◌⊎◌, false, List, [], ◌∷◌, take, drop, slice_get, Some}
 use Rattle.k_num.specs.declared.place.Place.{Place}
 use Rattle.k_optab.specs.declared.class.Class.{Class}
 use Rattle.k_optab.specs.declared.event.Event.{Event}

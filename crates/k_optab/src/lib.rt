@@ -1,11 +1,15 @@
-//! What a run of a program is made of: classes of operations, regions, and the list of events. The
+//! What a run of a program is made of: classes of operations, their latencies, regions, and the list of events. The
 //! definitions of a run's instances, of its dependence graph, and of work and critical path stand in `specs/`.
 #![tactic(auto)]
 
 mod class;
 mod event;
+mod latencies;
 mod region;
+mod table;
 
 pub use class::Class;
 pub use event::{Event, Src};
+pub use latencies::{Latencies, name, of, standard};
 pub use region::{Region, RegionKind};
+pub use table::Table;

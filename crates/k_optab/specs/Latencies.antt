@@ -1,0 +1,86 @@
+-- The classes of operations: their order, their names, and their latencies.
+use Rattle.std.specs.Prelude.{ℕ, List, [], ◌∷◌, map, codes, slice_index, slice_get, Some, ◌≡◌, refl}
+use Rattle.k_optab.specs.declared.class.Class.{Class}
+use Rattle.k_optab.specs.declared.class.Class.TheVariants.{Move, Conv, Simple, Mul, Div, Load, Store, Test, Call, Input, Output}
+
+-- the classes in order
+abbrev pub classes : List Class
+classes = Move ∷ Conv ∷ Simple ∷ Mul ∷ Div ∷ Load ∷ Store ∷ Test ∷ Call ∷ Input ∷ Output ∷ []
+
+-- a class's place in that order
+abbrev pub place : Class → ℕ
+place Move = 0
+place Conv = 1
+place Simple = 2
+place Mul = 3
+place Div = 4
+place Load = 5
+place Store = 6
+place Test = 7
+place Call = 8
+place Input = 9
+place Output = 10
+
+-- a class's name in reports, listings and tables of latencies
+abbrev pub class_name : Class → List ℕ
+class_name Move = codes "move"
+class_name Conv = codes "conv"
+class_name Simple = codes "simple"
+class_name Mul = codes "mul"
+class_name Div = codes "div"
+class_name Load = codes "load"
+class_name Store = codes "store"
+class_name Test = codes "test"
+class_name Call = codes "call"
+class_name Input = codes "input"
+class_name Output = codes "output"
+
+-- a class's latency where no table says another
+abbrev pub standard_latency : Class → ℕ
+standard_latency Move = 0
+standard_latency Conv = 0
+standard_latency Simple = 1
+standard_latency Mul = 3
+standard_latency Div = 20
+standard_latency Load = 4
+standard_latency Store = 1
+standard_latency Test = 1
+standard_latency Call = 1
+standard_latency Input = 10
+standard_latency Output = 10
+
+-- the table of these, in the order of the classes
+abbrev pub standard_latencies : List ℕ
+standard_latencies = map standard_latency classes
+
+-- a class's latency in a table
+abbrev pub latency : List ℕ → Class → ℕ
+latency table class = slice_index table (place class)
+
+-- each class stands at its place
+pub slice_get-classes : (class : Class) → slice_get classes (place class) ≡ Some class
+slice_get-classes Move = refl
+slice_get-classes Conv = refl
+slice_get-classes Simple = refl
+slice_get-classes Mul = refl
+slice_get-classes Div = refl
+slice_get-classes Load = refl
+slice_get-classes Store = refl
+slice_get-classes Test = refl
+slice_get-classes Call = refl
+slice_get-classes Input = refl
+slice_get-classes Output = refl
+
+-- the standard table has each class's standard latency
+pub latency-standard : (class : Class) → latency standard_latencies class ≡ standard_latency class
+latency-standard Move = refl
+latency-standard Conv = refl
+latency-standard Simple = refl
+latency-standard Mul = refl
+latency-standard Div = refl
+latency-standard Load = refl
+latency-standard Store = refl
+latency-standard Test = refl
+latency-standard Call = refl
+latency-standard Input = refl
+latency-standard Output = refl
