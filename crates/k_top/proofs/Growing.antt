@@ -1,7 +1,7 @@
 -- A sink that grows by a piece and then by the rest has grown by the whole.
-use Rattle.std.proofs.Common.{ℕ, ◌≡◌, ◌≤◌, ◌+◌, refl, ap, subst, sym, ◌∙◌, arith, List, [], ◌++◌, length, take, Option, Some, None}
+use Rattle.std.proofs.Common.{ℕ, ◌≡◌, ◌≤◌, ≤_refl, ◌+◌, refl, ap, subst, sym, ◌∙◌, arith, List, [], ◌++◌, length, take, Option, Some, None}
 use Rattle.std.proofs.lemmas.List.{take-append-le, length-append, append-nil, append_assoc}
-use Rattle.std.proofs.Math.Seq.{take-append-add}
+use Rattle.std.proofs.Math.Seq.{take-append-add, take-length}
 use Rattle.k_edge.specs.SinkWords.{Grows, GrowsInPart}
 
 -- a sink that has `now` written and is to grow by `rest` is on the way of one that had `old` written and was to grow by `bytes`
@@ -57,3 +57,6 @@ pub piece_put_in_part : (old : Option (List ℕ)) (bytes : List ℕ) (now end : 
 piece_put_in_part old bytes now end rest piece others way cut g =
     let way' : IsOnTheWay old bytes now (piece ++ others) = subst (λ r. IsOnTheWay old bytes now r) cut way in
     way'.part end (part_of_first now end piece others g)
+
+pub grows_in_part : (old : Option (List ℕ)) (piece : List ℕ) (new : Option (List ℕ)) → Grows old piece new → GrowsInPart old piece new
+grows_in_part old piece new g = (length piece, ≤_refl (length piece), subst (λ t. Grows old t new) (sym (take-length piece)) g)

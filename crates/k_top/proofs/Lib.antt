@@ -5,3 +5,4 @@ mod ReportLemmas
 mod RunLemmas
 mod EndingLemmas
 mod Unique
+mod TopLemmas
