@@ -6,6 +6,7 @@
 mod count;
 mod files;
 mod host;
+pub mod laws;
 mod memory;
 mod sink;
 mod source;
