@@ -19,7 +19,8 @@ pub struct StdSource<R> {
 
 impl<R: Read> StdSource<R> {
     pub fn new(inner: R) -> StdSource<R>
-        ensures { std_source result ≡ record { left = None; faults = 0; taken = 0 } }
+        ensures over { reader_of result ≡ inner }
+        ensures counts { std_source result ≡ record { left = None; faults = 0; taken = 0 } }
     {
         StdSource {
             inner,
@@ -63,7 +64,8 @@ pub struct StdSink<W> {
 
 impl<W: Write> StdSink<W> {
     pub fn new(inner: W) -> StdSink<W>
-        ensures { std_sink result ≡ record { written = None; faults = 0 } }
+        ensures over { writer_of result ≡ inner }
+        ensures counts { std_sink result ≡ record { written = None; faults = 0 } }
     {
         StdSink { inner, faults: 0 }
     }
