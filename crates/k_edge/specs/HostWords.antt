@@ -7,8 +7,16 @@ use Rattle.k_edge.specs.declared.host.streams.StdSource.{StdSource}
 use Rattle.k_edge.specs.declared.host.streams.StdSink.{StdSink}
 use Rattle.k_edge.specs.declared.host.files.HostFiles.{HostFiles}
 
+-- the reader under a source
+abbrev pub reader_of : {R : Type 0} → StdSource R → R
+reader_of s = s.inner
+
 abbrev pub std_source : {R : Type 0} → StdSource R → SourceState
 std_source s = record { left = None; faults = s.faults; taken = s.taken }
+
+-- the writer under a sink
+abbrev pub writer_of : {W : Type 0} → StdSink W → W
+writer_of s = s.inner
 
 abbrev pub std_sink : {W : Type 0} → StdSink W → SinkState
 std_sink s = record { written = None; faults = s.faults }

@@ -5,3 +5,4 @@ pub mod FilesWords
 pub mod Calls
 pub mod MemoryWords
 pub mod HostWords
+pub mod Sure

@@ -11,7 +11,7 @@ use Rattle.std.specs.Cmp.Lexicographic.{pointwise}
 use Rattle.k_edge.specs.Calls.{Schedule}
 use Rattle.k_edge.specs.SourceWords.{SourceState}
 use Rattle.k_edge.specs.SinkWords.{SinkState}
-use Rattle.k_edge.specs.FilesWords.{FilesState, Counts}
+use Rattle.k_edge.specs.FilesWords.{FilesState}
 use Rattle.k_edge.specs.declared.memory.files.File.{File}
 
 -- a source that never fails: the bytes left, and how many were taken

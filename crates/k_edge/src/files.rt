@@ -2,9 +2,11 @@
 ghost use Rattle.k_edge.specs.FilesWords.{FilesState, Loads, Saves};
 
 use std::alloc::Global;
+use std::error::Error;
+use std::fmt;
 
 /// Why a load was refused.
-#[derive(Clone, Copy, Debug, PartialEq, Eq)]
+#[derive(Clone, Copy, Debug, PartialEq, Eq, Hash)]
 pub enum LoadFault {
     /// No file has the name.
     Absent,
@@ -16,14 +18,40 @@ pub enum LoadFault {
     Memory,
 }
 
+impl fmt::Display for LoadFault {
+    fn fmt<W: fmt::Write>(&self, f: &mut fmt::Formatter<W>) -> fmt::Result {
+        let text = match self {
+            LoadFault::Absent => "no such file",
+            LoadFault::TooLong => "the file is too long",
+            LoadFault::Failed => "the load failed",
+            LoadFault::Memory => "no memory",
+        };
+        write!(f, "{text}")
+    }
+}
+
+impl Error for LoadFault {}
+
 /// Why a save was refused.
-#[derive(Clone, Copy, Debug, PartialEq, Eq)]
+#[derive(Clone, Copy, Debug, PartialEq, Eq, Hash)]
 pub enum SaveFault {
     /// The outside failed. What the name now holds isn't told.
     Failed,
     /// No memory was found, and nothing changed.
     Memory,
 }
+
+impl fmt::Display for SaveFault {
+    fn fmt<W: fmt::Write>(&self, f: &mut fmt::Formatter<W>) -> fmt::Result {
+        let text = match self {
+            SaveFault::Failed => "the save failed",
+            SaveFault::Memory => "no memory",
+        };
+        write!(f, "{text}")
+    }
+}
+
+impl Error for SaveFault {}
 
 /// A store of named files.
 pub trait Files {

@@ -6,6 +6,7 @@
 mod count;
 mod files;
 mod host;
+pub mod laws;
 mod memory;
 mod sink;
 mod source;
@@ -18,3 +19,6 @@ pub use memory::sink::{MemSink, SureSink};
 pub use memory::source::{MemSource, SureSource};
 pub use sink::{PutFault, Sink};
 pub use source::{Failed, Source};
+
+#[cfg(test)]
+mod tests;

@@ -1,14 +1,29 @@
 //! Where bytes go to.
 ghost use Rattle.k_edge.specs.SinkWords.{SinkState, Puts};
 
+use std::error::Error;
+use std::fmt;
+
 /// Why a put was refused.
-#[derive(Clone, Copy, Debug, PartialEq, Eq)]
+#[derive(Clone, Copy, Debug, PartialEq, Eq, Hash)]
 pub enum PutFault {
     /// The outside failed. A prefix of the piece may have been written.
     Failed,
     /// No memory was found, and nothing was written.
     Memory,
 }
+
+impl fmt::Display for PutFault {
+    fn fmt<W: fmt::Write>(&self, f: &mut fmt::Formatter<W>) -> fmt::Result {
+        let text = match self {
+            PutFault::Failed => "the write failed",
+            PutFault::Memory => "no memory",
+        };
+        write!(f, "{text}")
+    }
+}
+
+impl Error for PutFault {}
 
 /// A sink of bytes, which grows at its end.
 pub trait Sink {

@@ -1,9 +1,20 @@
 //! Where bytes come from.
 ghost use Rattle.k_edge.specs.SourceWords.{SourceState, Reads};
 
+use std::error::Error;
+use std::fmt;
+
 /// A read failed.
-#[derive(Clone, Copy, Debug, PartialEq, Eq)]
+#[derive(Clone, Copy, Debug, PartialEq, Eq, Hash)]
 pub struct Failed;
+
+impl fmt::Display for Failed {
+    fn fmt<W: fmt::Write>(&self, f: &mut fmt::Formatter<W>) -> fmt::Result {
+        write!(f, "the read failed")
+    }
+}
+
+impl Error for Failed {}
 
 /// A source of bytes, read from its front.
 pub trait Source {

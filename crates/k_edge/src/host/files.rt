@@ -1,11 +1,11 @@
 //! An adapter over the files of the host.
-ghost use Rattle.std.specs.Prelude.{◌≡◌, None};
+ghost use Rattle.std.specs.Prelude.{◌≡◌, ◌≤◌, None, IfOk, vec_len};
 ghost use Rattle.k_edge.specs.HostWords.{host_files};
 
 use crate::count::risen;
 use crate::{Files, LoadFault, SaveFault};
 use std::alloc::Global;
-use std::io::{self, ErrorKind, Read};
+use std::io::{self, ErrorKind, Read, Write};
 use std::{fs, rt};
 
 /// The files of the host, opened by the runtime.
@@ -35,51 +35,70 @@ impl<R: rt::Files> HostFiles<R> {
     }
 }
 
-/// At most one byte more than the limit, of a file of the host.
+/// Reads a file of the host, and at most one byte more than the limit of it. A name can be missing only where the
+/// file is opened.
 fn read_file<R: rt::Files>(
     runtime: &R,
     alloc: Global,
     name: &str,
     limit: u64,
-) -> io::Result<Vec<u8>> {
-    let file = fs::open(runtime, name)?;
+) -> Result<Vec<u8>, LoadFault>
+    ensures { IfOk result (λ bytes. vec_len bytes ≤ limit) }
+{
+    let file = match fs::open(runtime, name) {
+        Ok(file) => file,
+        Err(error) if error.kind() == ErrorKind::NotFound => return Err(LoadFault::Absent),
+        Err(error) => return Err(load_fault(&error)),
+    };
     let mut bytes = Vec::new(alloc);
-    file.take(limit.saturating_add(1)).read_to_end(&mut bytes)?;
-    Ok(bytes)
+    match file.take(limit.saturating_add(1)).read_to_end(&mut bytes) {
+        Ok(count) if count as u64 <= limit => Ok(bytes),
+        Ok(_) => Err(LoadFault::TooLong),
+        Err(error) => Err(load_fault(&error)),
+    }
+}
+
+/// Why a load was refused, where the name was found.
+fn load_fault(error: &io::Error) -> LoadFault {
+    match error.kind() {
+        ErrorKind::OutOfMemory => LoadFault::Memory,
+        _ => LoadFault::Failed,
+    }
+}
+
+/// Writes a file of the host. Opening it cuts it to nothing, so that no error after that leaves it as it was, and
+/// each is a fault.
+fn write_file<R: rt::Files>(runtime: &R, name: &str, bytes: &[u8]) -> Result<(), SaveFault> {
+    let mut file = match fs::create(runtime, name) {
+        Ok(file) => file,
+        Err(error) if error.kind() == ErrorKind::OutOfMemory => return Err(SaveFault::Memory),
+        Err(_) => return Err(SaveFault::Failed),
+    };
+    match file.write_all(bytes) {
+        Ok(()) => Ok(()),
+        Err(_) => Err(SaveFault::Failed),
+    }
 }
 
 impl<R: rt::Files> Files for HostFiles<R> {
     ghost seen = { host_files };
 
     fn load(&mut self, alloc: Global, name: &str, limit: u64) -> Result<Vec<u8>, LoadFault> {
-        match read_file(&self.runtime, alloc, name, limit) {
-            Ok(bytes) if bytes.len() as u64 <= limit => Ok(bytes),
-            Ok(_) => {
-                self.longs = risen(self.longs);
-                Err(LoadFault::TooLong)
-            }
-            Err(error) => match error.kind() {
-                ErrorKind::NotFound => {
-                    self.misses = risen(self.misses);
-                    Err(LoadFault::Absent)
-                }
-                ErrorKind::OutOfMemory => Err(LoadFault::Memory),
-                _ => {
-                    self.load_faults = risen(self.load_faults);
-                    Err(LoadFault::Failed)
-                }
-            },
+        let loaded = read_file(&self.runtime, alloc, name, limit);
+        match loaded {
+            Err(LoadFault::Absent) => self.misses = risen(self.misses),
+            Err(LoadFault::TooLong) => self.longs = risen(self.longs),
+            Err(LoadFault::Failed) => self.load_faults = risen(self.load_faults),
+            Ok(_) | Err(LoadFault::Memory) => {}
         }
+        loaded
     }
 
     fn save(&mut self, _alloc: Global, name: &str, bytes: &[u8]) -> Result<(), SaveFault> {
-        match fs::write(&self.runtime, name, bytes) {
-            Ok(()) => Ok(()),
-            Err(error) if error.kind() == ErrorKind::OutOfMemory => Err(SaveFault::Memory),
-            Err(_) => {
-                self.save_faults = risen(self.save_faults);
-                Err(SaveFault::Failed)
-            }
+        let saved = write_file(&self.runtime, name, bytes);
+        if saved == Err(SaveFault::Failed) {
+            self.save_faults = risen(self.save_faults);
         }
+        saved
     }
 }

@@ -1,7 +1,9 @@
 //! Adapters over readers and writers.
-ghost use Rattle.std.specs.Prelude.{◌≡◌, ◌≢◌, None, Err};
+ghost use Rattle.std.specs.Prelude.{◌≡◌, ◌≢◌, None, Err, OnOk};
+ghost use Rattle.std.specs.Io.KnownBytes.{Appends, ReadConsumes};
+ghost use Rattle.k_edge.specs.SourceWords.{Reads};
 ghost use Rattle.k_edge.specs.SinkWords.{Puts};
-ghost use Rattle.k_edge.specs.HostWords.{std_source, std_sink};
+ghost use Rattle.k_edge.specs.HostWords.{std_source, std_sink, reader_of, writer_of};
 
 use crate::count::risen;
 use crate::{Failed, PutFault, Sink, Source};
@@ -17,7 +19,8 @@ pub struct StdSource<R> {
 
 impl<R: Read> StdSource<R> {
     pub fn new(inner: R) -> StdSource<R>
-        ensures { std_source result ≡ record { left = None; faults = 0; taken = 0 } }
+        ensures over { reader_of result ≡ inner }
+        ensures counts { std_source result ≡ record { left = None; faults = 0; taken = 0 } }
     {
         StdSource {
             inner,
@@ -31,7 +34,10 @@ impl<R: Read> Source for StdSource<R> {
     ghost seen = { std_source };
 
     /// No read is made that could bring the count of bytes taken above the greatest number: that is a fault.
-    fn read(&mut self, buf: &mut [u8]) -> Result<usize, Failed> {
+    fn read(&mut self, buf: &mut [u8]) -> Result<usize, Failed>
+        ensures reads { Reads result buf.old buf.new (std_source self.old) (std_source self.new) }
+        ensures reads_inner { ReadConsumes (R.remaining (reader_of self.old)) (R.remaining (reader_of self.new)) result buf.new }
+    {
         if u64::MAX - self.taken < buf.len() as u64 {
             self.faults = risen(self.faults);
             return Err(Failed);
@@ -58,7 +64,8 @@ pub struct StdSink<W> {
 
 impl<W: Write> StdSink<W> {
     pub fn new(inner: W) -> StdSink<W>
-        ensures { std_sink result ≡ record { written = None; faults = 0 } }
+        ensures over { writer_of result ≡ inner }
+        ensures counts { std_sink result ≡ record { written = None; faults = 0 } }
     {
         StdSink { inner, faults: 0 }
     }
@@ -69,6 +76,7 @@ impl<W: Write> Sink for StdSink<W> {
 
     fn put(&mut self, piece: &[u8]) -> Result<(), PutFault>
         ensures puts { Puts result piece.now (std_sink self.old) (std_sink self.new) }
+        ensures writes_inner { OnOk result (Appends (W.contents (writer_of self.old)) (W.contents (writer_of self.new)) piece.now) }
         ensures never_memory { result ≢ Err PutFault.Memory }
     {
         if self.inner.write_all(piece).is_ok() && self.inner.flush().is_ok() {

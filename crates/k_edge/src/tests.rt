@@ -1,0 +1,4 @@
+//! Each call of the sources, sinks and files once, with ample memory and with faults.
+mod files;
+mod host;
+mod streams;
