@@ -1,5 +1,5 @@
 -- A sink that grows by a piece and then by the rest has grown by the whole.
-use Rattle.std.proofs.Common.{ℕ, ◌≡◌, ◌≤◌, ≤_refl, ◌+◌, refl, ap, subst, sym, ◌∙◌, arith, List, [], ◌++◌, length, take, Option, Some, None}
+use Rattle.std.proofs.Common.{ℕ, ◌≡◌, ◌≤◌, ◌+◌, refl, ap, subst, sym, ◌∙◌, arith, List, [], ◌++◌, length, take, Option, Some, None}
 use Rattle.std.proofs.lemmas.List.{take-append-le, length-append, append-nil, append_assoc}
 use Rattle.std.proofs.Math.Seq.{take-append-add, take-length}
 use Rattle.k_edge.specs.SinkWords.{Grows, GrowsInPart}
@@ -59,4 +59,4 @@ piece_put_in_part old bytes now end rest piece others way cut g =
     way'.part end (part_of_first now end piece others g)
 
 pub grows_in_part : (old : Option (List ℕ)) (piece : List ℕ) (new : Option (List ℕ)) → Grows old piece new → GrowsInPart old piece new
-grows_in_part old piece new g = (length piece, ≤_refl (length piece), subst (λ t. Grows old t new) (sym (take-length piece)) g)
+grows_in_part old piece new g = (length piece, omega arith, subst (λ t. Grows old t new) (sym (take-length piece)) g)

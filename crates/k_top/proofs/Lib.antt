@@ -6,3 +6,4 @@ mod RunLemmas
 mod EndingLemmas
 mod Unique
 mod TopLemmas
+mod ClauseLemmas

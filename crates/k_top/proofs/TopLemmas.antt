@@ -1,9 +1,9 @@
 -- What the words ended with meets each clause of the theorem on `kremlin`.
-use Rattle.std.proofs.Common.{ℕ, ◌≡◌, ◌≢◌, ◌<◌, ◌≤◌, ◌⊎◌, refl, ap, arith, subst, sym, ◌∙◌, List, [], Option, Some, None, Result, Ok, Err, Vec, inl, inr}
+use Rattle.std.proofs.Common.{ℕ, ◌≡◌, ◌≢◌, ◌<◌, ◌≤◌, ◌⊎◌, refl, ap, arith, subst, sym, ◌∙◌, List, [], length, Option, Some, None, Result, Ok, Err, Vec, inl, inr}
 use Rattle.std.specs.declared.alloc.Global.{Global}
 use Rattle.k_edge.specs.Fault.{Rose}
 use Rattle.k_edge.specs.SinkWords.{SinkState, Grows, GrowsInPart}
-use Rattle.k_edge.specs.FilesWords.{FilesState, Counts, Loads}
+use Rattle.k_edge.specs.FilesWords.{FilesState, Has, HasLonger, Loads}
 use Rattle.k_edge.specs.declared.files.LoadFault.TheVariants as load
 use Rattle.k_top.specs.declared.command.Usage as usages
 use Rattle.k_top.specs.declared.ending.Ending.{Ending}
@@ -13,11 +13,20 @@ use Rattle.k_top.specs.Command.{command_of}
 use Rattle.k_top.specs.Pieces.{pieces, source_start}
 use Rattle.k_top.specs.Form.{Spells}
 use Rattle.k_top.specs.Answer
-use Rattle.k_top.specs.Answer.{IsAnswer, AnswersContent, AnswersSource, AnswersCommand, IsOutput, IsLineOf, source_limit, refusal, absent_line, long_line, refused_line}
+use Rattle.k_top.specs.Answer.{IsAnswer, AnswersContent, AnswersSource, AnswersCommand, IsOutput, IsLineOf, source_limit, refusal, usage_line, absent_line, long_line, refused_line}
 use Rattle.k_top.specs.Clauses.{Answered, PartOfAnswer, IsRefusal}
 use Rattle.k_top.specs.Endings.{EndsWords, status_of, line_of}
 use Rattle.k_top.proofs.Growing.{grows_no_part, grows_nothing, grows_in_part}
 use Rattle.k_top.proofs.Unique.{one_program, one_output}
+
+-- what a store that tells its content has
+content_told : (files : FilesState) (held : List ℕ → Option (List ℕ)) (file : List ℕ) (content : Option (List ℕ))
+    → files.held ≡ Some held → Has files.held file content → held file ≡ content
+content_told files held file content told has = subst (λ h. Has h file content) told has
+
+longer_told : (files : FilesState) (held : List ℕ → Option (List ℕ)) (file : List ℕ) (limit : ℕ)
+    → files.held ≡ Some held → HasLonger files.held file limit → (source : List ℕ) × (held file ≡ Some source) × (limit < length source)
+longer_told files held file limit told has = subst (λ h. HasLonger h file limit) told has
 
 module _ (words : List (List ℕ)) (files files' : FilesState) (out out' : SinkState) where
   Ends : Ending → Type 0
@@ -33,3 +42,148 @@ module _ (words : List (List ℕ)) (files files' : FilesState) (out out' : SinkS
   line_told WriteFault ends = Answer.write_fault
   line_told NoMemory ends = Answer.no_memory
   line_told (TooLong file) ends = Answer.too_long file.now (ends.1 ∙ ap Ok (sym ends.2.0))
+
+  is_answer : (held : List ℕ → Option (List ℕ)) (file : List ℕ) (content : Option (List ℕ)) (answer : Answer.Answer)
+      → command_of words ≡ Ok file → held file ≡ content → AnswersContent file content answer → IsAnswer words held answer
+  is_answer held file content answer command holds answers =
+      subst (λ c. AnswersCommand c held answer) (sym command) (subst (λ c. AnswersContent file c answer) (sym holds) answers)
+
+  -- the output of the answer is that of the program that the file's source spells
+  answer_output : (held : List ℕ → Option (List ℕ)) (answer : Answer.Answer) (file source text : List ℕ) (program : Program)
+      → command_of words ≡ Ok file → held file ≡ Some source → length source ≤ source_limit → Spells source program → IsOutput program text
+      → IsAnswer words held answer → answer.out ≡ text
+  answer_output held answer file source text program command content fits spells output is =
+      of_content (subst (λ c. AnswersContent file c answer) content (subst (λ c. AnswersCommand c held answer) command is))
+    where
+      of_source : AnswersSource source answer → answer.out ≡ text
+      of_source (inl refused) = absurd (refused.0 program spells)
+      of_source (inr (other, other_spells, out_text, other_output, same)) =
+          let one : other ≡ program = one_program (pieces source source_start) other program other_spells spells in
+          ap (λ (a : Answer.Answer). a.out) same
+          ∙ one_output program out_text text (subst (λ p. IsOutput p out_text) one other_output) output
+
+      of_content : AnswersContent file (Some source) answer → answer.out ≡ text
+      of_content (inl long) = absurd (omega (arith, fits, long.0))
+      of_content (inr short) = of_source short.1
+
+  nothing_put : out' ≡ out → PartOfAnswer words files out out'
+  nothing_put same held told answer is =
+      subst (λ o. GrowsInPart out.written answer.out o.written) (sym same) (grows_no_part out.written answer.out)
+
+  -- a prefix of the program's output is one of the answer's
+  program_put : (file : List ℕ) (source : Vec ℕ Global) (program : Program) (text : List ℕ) → command_of words ≡ Ok file
+      → Loads (Ok source) file source_limit files files' → Spells source.items program → IsOutput program text
+      → GrowsInPart out.written text out'.written → PartOfAnswer words files out out'
+  program_put file source program text command loads spells output grows held told answer is =
+      let content : held file ≡ Some source.items = content_told files held file (Some source.items) told loads.0 in
+      let same : answer.out ≡ text = answer_output held answer file source.items text program command content loads.1 spells output is in
+      subst (λ t. GrowsInPart out.written t out'.written) (sym same) grows
+
+  pub part_put : (ending : Ending) → EndsWords words ending files files' out out' → PartOfAnswer words files out out'
+  part_put Done (file, command, (source, loads, (program, spells, (text, output, grows, faults)))) =
+      program_put file source program text command loads spells output (grows_in_part out.written text out'.written grows)
+  part_put Refused (file, command, (source, loads, (none, same))) = nothing_put same
+  part_put (Usage usage) (command, kept, same) = nothing_put same
+  part_put (Absent name) (file, command, (named, loads, same)) = nothing_put same
+  part_put ReadFault (file, command, (loads, same)) = nothing_put same
+  part_put WriteFault (file, command, (source, loads, (program, spells, ((text, output, grows), fault)))) =
+      program_put file source program text command loads spells output grows
+  part_put NoMemory (file, command, inl (kept, same)) = nothing_put same
+  part_put NoMemory (file, command, inr (source, loads, inl same)) = nothing_put same
+  part_put NoMemory (file, command, inr (source, loads, inr (program, spells, (inl same, faults)))) = nothing_put same
+  part_put NoMemory (file, command, inr (source, loads, inr (program, spells, (inr (text, output, grows), faults)))) =
+      program_put file source program text command loads spells output grows
+  part_put (TooLong name) (file, command, (named, loads, same)) = nothing_put same
+
+  -- out grows by nothing
+  refused : (answer : Answer.Answer) → answer.out ≡ [] → out' ≡ out → Grows out.written answer.out out'.written
+  refused answer empty same = subst (λ t. Grows out.written t out'.written) (sym empty) (subst (λ o. Grows out.written [] o.written) (sym same) (grows_nothing out.written))
+
+  -- the status is 6, 7 or 8, or that of the answer
+  abbrev pub Unless : ℕ → Type 0
+  Unless status = (status ≡ 6) ⊎ (status ≡ 7) ⊎ (status ≡ 8) ⊎ Answered words status files out out'
+
+  answer_of : (status : ℕ) → Answered words status files out out' → Unless status
+  answer_of status answered = inr (inr (inr answered))
+
+  pub answered : (ending : Ending) → EndsWords words ending files files' out out' → Unless (status_of ending)
+  answered Done (file, command, (source, loads, (program, spells, (text, output, grows, faults)))) = answer_of 0 (λ held told.
+      let answer : Answer.Answer = record { out = text; err = []; status = 0 } in (
+        answer,
+        is_answer held file (Some source.items) answer command (content_told files held file (Some source.items) told loads.0)
+            (inr (loads.1, inr (program, spells, text, output, refl))),
+        refl,
+        grows,
+      ))
+  answered Refused (file, command, (source, loads, (none, same))) = answer_of 3 (λ held told. (
+    refusal 3 refused_line,
+    is_answer held file (Some source.items) (refusal 3 refused_line) command (content_told files held file (Some source.items) told loads.0)
+        (inr (loads.1, inl (none, refl))),
+    refl,
+    refused (refusal 3 refused_line) refl same,
+  ))
+  answered (Usage usage) (command, kept, same) = answer_of 4 (λ held told.
+      let answer : Answer.Answer = refusal 4 (usage_line usage) in
+      (answer, subst (λ c. AnswersCommand c held answer) (sym command) refl, refl, refused answer refl same))
+  answered (Absent name) (file, command, (named, loads, same)) = answer_of 5 (λ held told.
+      let answer : Answer.Answer = refusal 5 (absent_line file) in
+      (answer, is_answer held file None answer command (content_told files held file None told loads.0) refl, refl, refused answer refl same))
+  answered ReadFault (file, command, (loads, same)) = inl refl
+  answered WriteFault (file, command, ends) = inr (inl refl)
+  answered NoMemory ends = inr (inr (inl refl))
+  answered (TooLong name) (file, command, (named, loads, same)) = answer_of 12 (λ held told.
+      let answer : Answer.Answer = refusal 12 (long_line file) in
+      let longer = longer_told files held file source_limit told loads.0 in
+      (answer, is_answer held file (Some longer.0) answer command longer.1 (inl (longer.2, refl)), refl, refused answer refl same))
+
+  -- what each ending leaves of the files
+  abbrev pub FilesAfter : Ending → Type 0
+  FilesAfter (Absent name) = Rose files.counts.misses files'.counts.misses
+      × (files' ≡ record files { counts = record files.counts { misses = files'.counts.misses } })
+  FilesAfter (TooLong name) = Rose files.counts.longs files'.counts.longs
+      × (files' ≡ record files { counts = record files.counts { longs = files'.counts.longs } })
+  FilesAfter ReadFault = Rose files.counts.load_faults files'.counts.load_faults
+      × (files' ≡ record files { counts = record files.counts { load_faults = files'.counts.load_faults } })
+  FilesAfter ending = files' ≡ files
+
+  pub files_after : (ending : Ending) → EndsWords words ending files files' out out' → FilesAfter ending
+  files_after Done (file, command, (source, loads, ends)) = loads.2
+  files_after Refused (file, command, (source, loads, ends)) = loads.2
+  files_after (Usage usage) (command, kept, same) = kept
+  files_after (Absent name) (file, command, (named, loads, same)) = (loads.1, loads.2)
+  files_after ReadFault (file, command, (loads, same)) = (loads.0, loads.1)
+  files_after WriteFault (file, command, (source, loads, ends)) = loads.2
+  files_after NoMemory (file, command, inl (kept, same)) = kept
+  files_after NoMemory (file, command, inr (source, loads, ends)) = loads.2
+  files_after (TooLong name) (file, command, (named, loads, same)) = (loads.1, loads.2)
+
+  -- and of out
+  abbrev pub OutAfter : Ending → Type 0
+  OutAfter Done = out'.faults ≡ out.faults
+  OutAfter WriteFault = Rose out.faults out'.faults
+  OutAfter NoMemory = out'.faults ≡ out.faults
+  OutAfter ending = out' ≡ out
+
+  pub out_after : (ending : Ending) → EndsWords words ending files files' out out' → OutAfter ending
+  out_after Done (file, command, (source, loads, (program, spells, (text, output, grows, faults)))) = faults
+  out_after Refused (file, command, (source, loads, (none, same))) = same
+  out_after (Usage usage) (command, kept, same) = same
+  out_after (Absent name) (file, command, (named, loads, same)) = same
+  out_after ReadFault (file, command, (loads, same)) = same
+  out_after WriteFault (file, command, (source, loads, (program, spells, (put, fault)))) = fault
+  out_after NoMemory (file, command, inl (kept, same)) = ap (λ (o : SinkState). o.faults) same
+  out_after NoMemory (file, command, inr (source, loads, inl same)) = ap (λ (o : SinkState). o.faults) same
+  out_after NoMemory (file, command, inr (source, loads, inr (program, spells, (put, faults)))) = faults
+  out_after (TooLong name) (file, command, (named, loads, same)) = same
+
+  pub command_after : (ending : Ending) → EndsWords words ending files files' out out'
+      → ((usage : usages.Usage) × (command_of words ≡ Err usage) × (status_of ending ≡ 4))
+      ⊎ ((file : List ℕ) × (command_of words ≡ Ok file) × ((status_of ending ≡ 4) → ⊥))
+  command_after Done ends = inr (ends.0, ends.1, λ e. omega (arith, e))
+  command_after Refused ends = inr (ends.0, ends.1, λ e. omega (arith, e))
+  command_after (Usage usage) ends = inl (usage, ends.0, refl)
+  command_after (Absent name) ends = inr (ends.0, ends.1, λ e. omega (arith, e))
+  command_after ReadFault ends = inr (ends.0, ends.1, λ e. omega (arith, e))
+  command_after WriteFault ends = inr (ends.0, ends.1, λ e. omega (arith, e))
+  command_after NoMemory ends = inr (ends.0, ends.1, λ e. omega (arith, e))
+  command_after (TooLong name) ends = inr (ends.0, ends.1, λ e. omega (arith, e))

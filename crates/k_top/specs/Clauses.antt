@@ -37,6 +37,12 @@ PartOfAnswer words files out out' =
 abbrev pub IsRefusal : ℕ → Type 0
 IsRefusal status = (status ≡ 3) ⊎ (status ≡ 4) ⊎ (status ≡ 5) ⊎ (status ≡ 6) ⊎ (status ≡ 12)
 
+-- status 4 comes where the words are no command, and there alone, but for want of memory
+abbrev pub IsUsage : List (List ℕ) → ℕ → Type 0
+IsUsage words status =
+    (status ≡ 4 → (usage : Usage) × (command_of words ≡ Err usage))
+    × ((usage : Usage) → command_of words ≡ Err usage → (status ≡ 4) ⊎ (status ≡ 8))
+
 -- the counts of faults of files, input and out are as before
 pub record SameFaults (files files' : FilesState) (input input' : SourceState) (out out' : SinkState) : Type 0 where
   pub loads : files'.counts.load_faults ≡ files.counts.load_faults

@@ -12,3 +12,4 @@ mod run;
 mod top;
 
 pub use command::Usage;
+pub use top::kremlin;

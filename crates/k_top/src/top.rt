@@ -1,6 +1,8 @@
 //! The top call.
-ghost use Rattle.std.specs.Prelude.{◌≡◌, ◌≤◌, length, map, string_bytes};
+ghost use Rattle.std.specs.Prelude.{◌≡◌, ◌<◌, ◌≤◌, ◌⊎◌, length, map, string_bytes};
+ghost use Rattle.k_edge.specs.Fault.{Rose};
 ghost use Rattle.k_top.specs.Answer.{source_limit, memory_line};
+ghost use Rattle.k_top.specs.Clauses.{Answered, IsRefusal, IsUsage, NoFault, PartOfAnswer, SameFaults, Told};
 ghost use Rattle.k_top.specs.Endings.{EndsProgram, EndsSource, EndsFile, EndsWords, PutsLine, Tells};
 
 use crate::command::file_to_run;
@@ -9,11 +11,58 @@ use crate::form;
 use crate::form::Program;
 use crate::output::put_all;
 use crate::run::output;
-use k_edge::{Files, LoadFault, PutFault, Sink};
+use k_edge::{Files, LoadFault, PutFault, Sink, Source};
 use std::alloc::Global;
 
 /// How many bytes a source may have.
 const SOURCE_LIMIT: u64 = 16_777_216;
+
+/// Runs the command that the words say, and answers the exit status: 0 where it is done, 3 where the source is
+/// refused, 4 where the words are no command, 5 where there is no such file, 6 where a read failed, 7 where a write
+/// failed, 8 where no memory was found, 12 where the file is too long. The program's output and the report go to
+/// `out`, a line that says why on every other status to `err`.
+pub fn kremlin<F: Files, S: Source, K: Sink, E: Sink>(
+    alloc: Global,
+    words: &[String],
+    files: &mut F,
+    input: &mut S,
+    out: &mut K,
+    err: &mut E,
+) -> u8
+    // Where no fault comes, the answer is the whole answer of the definitions, or want of memory.
+    ensures exact { NoFault (F.seen files.old) (F.seen files.new) (S.seen input.old) (S.seen input.new) (K.seen out.old) (K.seen out.new)
+        → (result ≡ 8) ⊎ Answered (map string_bytes words.now) result (F.seen files.old) (K.seen out.old) (K.seen out.new) }
+    // On every status but 6, 7 and 8 it is that too, whatever the counts are.
+    ensures answered { (result ≡ 6) ⊎ (result ≡ 7) ⊎ (result ≡ 8)
+        ⊎ Answered (map string_bytes words.now) result (F.seen files.old) (K.seen out.old) (K.seen out.new) }
+
+    // What is put on out is in every case a prefix of the answer's bytes, and nothing where nothing ran.
+    ensures part { PartOfAnswer (map string_bytes words.now) (F.seen files.old) (K.seen out.old) (K.seen out.new) }
+    ensures nothing { IsRefusal result → K.seen out.new ≡ K.seen out.old }
+
+    // Status 0 means that no fault came; a fault means its own status, or want of memory.
+    ensures clean { result ≡ 0 → SameFaults (F.seen files.old) (F.seen files.new) (S.seen input.old) (S.seen input.new) (K.seen out.old) (K.seen out.new) }
+    ensures load_fault { (F.seen files.old).counts.load_faults < (F.seen files.new).counts.load_faults → (result ≡ 6) ⊎ (result ≡ 8) }
+    ensures put_fault { (K.seen out.old).faults < (K.seen out.new).faults → (result ≡ 7) ⊎ (result ≡ 8) }
+    ensures no_save { (F.seen files.new).counts.save_faults ≡ (F.seen files.old).counts.save_faults }
+
+    // Each status that blames the outside has its cause.
+    ensures absent { result ≡ 5 → Rose (F.seen files.old).counts.misses (F.seen files.new).counts.misses }
+    ensures read_fault { result ≡ 6 → Rose (F.seen files.old).counts.load_faults (F.seen files.new).counts.load_faults }
+    ensures write_fault { result ≡ 7 → Rose (K.seen out.old).faults (K.seen out.new).faults }
+    ensures too_long { result ≡ 12 → Rose (F.seen files.old).counts.longs (F.seen files.new).counts.longs }
+    ensures usage { IsUsage (map string_bytes words.now) result }
+
+    // The line on err is that of the status.
+    ensures told { Told (map string_bytes words.now) result (E.seen err.old) (E.seen err.new) }
+
+    // The input is not touched, and no file changes.
+    ensures input { S.seen input.new ≡ S.seen input.old }
+    ensures files { (F.seen files.new).held ≡ (F.seen files.old).held }
+{
+    let ending = run_words(alloc, words, files, out);
+    tell(alloc, &ending, err)
+}
 
 /// Runs what the words say.
 fn run_words<'a, F: Files, K: Sink>(
