@@ -1,4 +1,6 @@
 pub mod Events
 pub mod Graph
+pub mod GraphLaws
+pub mod InstanceLaws
 pub mod Instances
 pub mod Tree

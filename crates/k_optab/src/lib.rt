@@ -4,6 +4,7 @@
 
 mod class;
 mod event;
+pub mod laws;
 mod region;
 
 pub use class::Class;
