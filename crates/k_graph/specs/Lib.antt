@@ -1,3 +1,4 @@
 pub mod Levels
+pub mod Listings
 pub mod Passes
 pub mod Times
