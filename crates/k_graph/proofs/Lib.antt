@@ -1,2 +1,4 @@
 pub mod Closings
+pub mod Entries
+pub mod Measures
 pub mod Outwards

@@ -1,7 +1,7 @@
 -- Closed instances stand in order of entry, and no two of them cross.
 use Rattle.std.proofs.Common.{◌≡◌, ℕ, zero, suc, ◌+◌, ◌-◌, ◌<◌, ◌≤◌, ◌⊎◌, inl, inr, List, [], ◌∷◌, ◌++◌, length, Option, Some, None, refl, sym, ◌∙◌, subst, ap, arith}
 use Rattle.std.specs.Prelude.{All, AllPairs, filter, nat_lt}
-use Rattle.std.proofs.lemmas.List.Elements.{All-cons}
+use Rattle.std.proofs.lemmas.List.Elements.{All-cons, All-filter}
 use Rattle.std.proofs.lemmas.List.Kept.{AllPairs-filter, AllPairs-cons}
 use Rattle.k_optab.specs.declared.event.Event.{Event}
 use Rattle.k_optab.specs.declared.event.Event.TheVariants.{Op, Enter, Exit}
@@ -117,3 +117,16 @@ never_crossing (Exit ∷ events) before made depth = never_crossing events (befo
 pub instances_never_cross : (depth : ℕ) (events : List Event) → AllPairs Precedes (tracked depth events)
 instances_never_cross depth events =
     AllPairs-filter Precedes (λ i. nat_lt i.depth depth) (closed_from events 0 0 0) (never_crossing events 0 0 0)
+
+-- an instance is left after it is entered
+left_later : (events : List Event) (before made depth : ℕ) → All (λ i. i.enter < i.exit) (closed_from events before made depth)
+left_later [] before made depth = λ k d within. absurd (omega arith)
+left_later (Op class latency sources place ∷ events) before made depth = left_later events (before + 1) (made + 1) depth
+left_later (Enter region ∷ events) before made depth =
+    all_with_instance (λ i. i.enter < i.exit) region depth before made (until_exit events 0) (closed_from events (before + 1) made (depth + 1))
+    (λ inside is. omega arith) (left_later events (before + 1) made (depth + 1))
+left_later (Exit ∷ events) before made depth = left_later events (before + 1) made (depth - 1)
+
+pub instances_are_left_later : (depth : ℕ) (events : List Event) → All (λ i. i.enter < i.exit) (tracked depth events)
+instances_are_left_later depth events =
+    All-filter (λ i. nat_lt i.depth depth) (λ i. i.enter < i.exit) (closed_from events 0 0 0) (left_later events 0 0 0)

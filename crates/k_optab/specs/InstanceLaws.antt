@@ -1,5 +1,5 @@
 -- What holds of instances, whatever the events: the statements of the laws.
-use Rattle.std.specs.Prelude.{ℕ, ◌≡◌, ◌<◌, ◌⊎◌, ◌↔◌, List, ◌∷◌, ◌++◌, Some, AllPairs}
+use Rattle.std.specs.Prelude.{ℕ, ◌≡◌, ◌<◌, ◌⊎◌, ◌↔◌, List, ◌∷◌, ◌++◌, Some, All, AllPairs}
 use Rattle.k_optab.specs.declared.event.Event.{Event}
 use Rattle.k_optab.specs.declared.event.Event.TheVariants.{Exit}
 use Rattle.k_optab.specs.Instances.{Closed, Balanced, until_exit, tracked}
@@ -17,3 +17,6 @@ pub record Precedes (a b : Closed) : Type 0 where
 -- the closed instances stand in order of entry, and no two of them cross
 abbrev pub InstancesNeverCross : Type 0
 InstancesNeverCross = (depth : ℕ) (events : List Event) → AllPairs Precedes (tracked depth events)
+
+abbrev pub InstancesAreLeftLater : Type 0
+InstancesAreLeftLater = (depth : ℕ) (events : List Event) → All (λ i. i.enter < i.exit) (tracked depth events)

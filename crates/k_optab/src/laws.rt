@@ -16,7 +16,7 @@ ghost use Rattle.k_optab.specs.GraphLaws.{
   InnerPathIsAtMostOuter,
   PathIsAtMostPartsAndOwnWork,
 };
-ghost use Rattle.k_optab.specs.InstanceLaws.{ExitIsMatching, InstancesNeverCross};
+ghost use Rattle.k_optab.specs.InstanceLaws.{ExitIsMatching, InstancesAreLeftLater, InstancesNeverCross};
 
 /// A path weighs at most the work of its interval.
 pub fn path_is_at_most_work()
@@ -70,7 +70,8 @@ pub fn exit_is_matching()
     ensures { ExitIsMatching }
 {}
 
-/// Closed instances stand in order of entry, and no two of them cross.
+/// Closed instances stand in order of entry, each is left after it is entered, and no two of them cross.
 pub fn instances_never_cross()
-    ensures { InstancesNeverCross }
+    ensures left { InstancesAreLeftLater }
+    ensures apart { InstancesNeverCross }
 {}

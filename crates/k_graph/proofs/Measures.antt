@@ -1,0 +1,1 @@
+-- What a pass knows of the work and the paths of the instances.
