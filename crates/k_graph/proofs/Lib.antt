@@ -2,3 +2,4 @@ pub mod Closings
 pub mod Entries
 pub mod Measures
 pub mod Outwards
+pub mod Progress

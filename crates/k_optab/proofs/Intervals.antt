@@ -1,7 +1,7 @@
 -- The work of intervals, and reads of the list of operations.
 use Rattle.std.proofs.Common.{◌≡◌, ℕ, zero, suc, ◌+◌, ◌-◌, ◌<◌, ◌≤◌, List, [], ◌∷◌, ◌++◌, length, Option, Some, None, take, drop, refl, sym, ap, ◌∙◌, arith, add_assoc, zero-add, slice_get, min}
 use Rattle.std.proofs.Math.Seq.{take-add}
-use Rattle.std.proofs.lemmas.List.{drop-drop}
+use Rattle.std.proofs.lemmas.List.{drop-drop, take-append-drop}
 use Rattle.std.proofs.lemmas.Option.{slice_get_within}
 use Rattle.k_optab.specs.Events.{Operation, IsOperation, total_latency, interval}
 use Rattle.k_optab.specs.Graph.{work}
@@ -41,3 +41,13 @@ work_narrows ops s m e low high = let split = work_split ops s m e low high in o
 
 pub work_empty : (ops : List Operation) (s : ℕ) → work ops s s ≡ 0
 work_empty ops s = let none : s - s ≡ 0 = omega arith in rw none refl
+
+-- an interval's work is at most that of the whole run
+pub work_at_most_total : (ops : List Operation) (s e : ℕ) → work ops s e ≤ total_latency ops
+work_at_most_total ops s e =
+    let front : take s ops ++ drop s ops ≡ ops = take-append-drop s ops in
+    let inner : take (e - s) (drop s ops) ++ drop (e - s) (drop s ops) ≡ drop s ops = take-append-drop (e - s) (drop s ops) in
+    let one : total_latency (take s ops) + total_latency (drop s ops) ≡ total_latency ops = sym (total_latency-append (take s ops) (drop s ops)) ∙ ap total_latency front in
+    let two : work ops s e + total_latency (drop (e - s) (drop s ops)) ≡ total_latency (drop s ops) =
+        sym (total_latency-append (take (e - s) (drop s ops)) (drop (e - s) (drop s ops))) ∙ ap total_latency inner in
+    omega arith
