@@ -1,8 +1,10 @@
 -- What holds of a pass at each place among the events.
-use Rattle.std.proofs.Common.{◌≡◌, ℕ, zero, suc, ◌+◌, ◌-◌, ◌<◌, ◌≤◌, ◌^◌, ◌⊎◌, inl, inr, List, [], ◌∷◌, ◌++◌, length, Option, Some, None, Bool, true, false, refl, sym, ◌∙◌, subst, ap, arith, slice_get, drop, min, map, append_assoc, append-nil, length-append}
+use Rattle.std.proofs.Common.{◌≡◌, ℕ, zero, suc, ◌+◌, ◌-◌, ◌<◌, ◌≤◌, ◌^◌, ◌⊎◌, inl, inr, List, [], ◌∷◌, ◌++◌, length, Option, Some, None, Bool, true, false, refl, sym, ◌∙◌, subst, ap, arith, slice_get, get_or, drop, min, map, append_assoc, append-nil, length-append}
 use Rattle.std.specs.Prelude.{All, nat_lt, filter, if◌then◌else◌, ◌==◌}
 use Rattle.std.proofs.lemmas.Bool.{cases_lt, cases_eq}
-use Rattle.std.proofs.lemmas.List.{length-map}
+use Rattle.std.proofs.Math.Seq.{drop-cons}
+use Rattle.std.proofs.Math.Numerals.{add-one}
+use Rattle.std.proofs.lemmas.List.{length-map, drop_all}
 use Rattle.std.proofs.lemmas.List.Elements.{filter-append}
 use Rattle.k_num.specs.declared.place.Place.{Place}
 use Rattle.k_optab.specs.declared.class.Class.{Class}
@@ -14,7 +16,11 @@ use Rattle.k_optab.specs.Instances.{Closed, until_exit, instance_of, closed_from
 use Rattle.k_graph.specs.declared.level.Level.{Level}
 use Rattle.k_graph.specs.declared.level.Measured.{Measured}
 use Rattle.k_graph.specs.Levels.{CanAdd, added}
-use Rattle.k_graph.specs.Listings.{closed_of}
+use Rattle.k_optab.specs.Graph.{Heaviest}
+use Rattle.k_optab.specs.Tree.{EachWith, IsNodeOf}
+use Rattle.k_optab.proofs.Crossing.{instances_are_left_later, instances_never_cross}
+use Rattle.k_graph.specs.declared.tree.Instance.{Instance}
+use Rattle.k_graph.specs.Listings.{AreNested, HasParent, IsListed, IsListing, closed_of, node_of}
 use Rattle.k_graph.specs.Passes.{State, CanTake, start_state, operated, entered, new_level, close_into, closed, exited, taken, listed}
 use Rattle.k_graph.proofs.Entries.{live, live_operation, live_enter, live_enter_level, live_exit, live_close, live_end, levels_close}
 use Rattle.k_graph.proofs.Measures.{Every, every_all, every_append, every_map, every_weaker, IsMeasured, IsLevel, entered_level, closed_levels, added_level, can_add}
@@ -306,3 +312,79 @@ module _ (limit : ℕ) (events rest : List Event) (earlier : SourcesAreEarlier (
       let same = is.limit_is in
       (omega arith, omega arith, omega arith)
   can_take small few shallow Exit s is = let count = is.count in omega arith
+
+-- after the last event
+every_listed : (ops : List Operation) (made : ℕ) (done : List Measured) (levels : List Level) → Every (IsMeasured ops) done → Every (IsLevel ops made) levels
+    → Every (IsMeasured ops) (listed done levels)
+every_listed ops made done [] are is = are
+every_listed ops made done (level ∷ levels) are is =
+    every_listed ops made (done ++ level.inner) levels (every_append (IsMeasured ops) done level.inner are is.0.inner) is.1
+
+module _ (limit : ℕ) (events : List Event) (s : State) (is : IsBefore limit events [] s) where
+  pub at_end : map closed_of (listed s.done s.levels) ≡ tracked limit events
+  at_end =
+      live_end s.place s.made (s.open_count - length s.levels) s.done s.levels
+      ∙ (ap (λ l. map closed_of s.done ++ l) (sym (append-nil (live [] s.place s.made (s.open_count - length s.levels) s.levels)))
+      ∙ is.listing)
+
+  pub nested_at_end : AreNested (map closed_of (listed s.done s.levels))
+  nested_at_end = subst (λ l. AreNested l) (sym at_end)
+      (record { left = instances_are_left_later limit events; apart = instances_never_cross limit events })
+
+  pub listing_at_end : (tree : List Instance) → EachWith (HasParent (map closed_of (listed s.done s.levels))) (listed s.done s.levels) tree
+      → IsListing limit events tree
+  listing_at_end tree each =
+      subst (λ l. EachWith (IsListed (operations events) l) l tree) at_end
+      (each_listed (operations events) (map closed_of (listed s.done s.levels)) (listed s.done s.levels) tree each
+        (every_listed (operations events) s.made s.done s.levels is.done is.levels))
+    where
+      each_listed : (ops : List Operation) (all : List Closed) (list : List Measured) (tree : List Instance) → EachWith (HasParent all) list tree
+          → Every (IsMeasured ops) list → EachWith (IsListed ops all) (map closed_of list) tree
+      each_listed ops all [] [] each measured = tt
+      each_listed ops all [] (n ∷ tree) each measured = absurd each
+      each_listed ops all (m ∷ list) [] each measured = absurd each
+      each_listed ops all (m ∷ list) (n ∷ tree) each measured = (record {
+        region = each.0.region;
+        depth = each.0.depth;
+        start = each.0.start;
+        end = each.0.end;
+        work = each.0.work ∙ measured.0.work;
+        path = subst (λ p. Heaviest ops m.start m.end p) (sym each.0.path) measured.0.path;
+        parent = each.0.parent;
+      }, each_listed ops all list tree each.1 measured.1)
+
+-- the nodes of a listing are the tree's
+pub tree_of_listing : (ops : List Operation) (all list : List Closed) (tree : List Instance) → EachWith (IsListed ops all) list tree
+    → EachWith (IsNodeOf ops) list (map node_of tree)
+tree_of_listing ops all [] [] each = tt
+tree_of_listing ops all [] (n ∷ tree) each = absurd each
+tree_of_listing ops all (i ∷ list) [] each = absurd each
+tree_of_listing ops all (i ∷ list) (n ∷ tree) each =
+    (record { region = each.0.region; depth = each.0.depth; work = each.0.work; path = each.0.path }, tree_of_listing ops all list tree each.1)
+
+-- the events as a loop reads them: the one at a place, and those behind it
+pub before_event : (limit : ℕ) (events shown : List Event) (i : ℕ) (event : Event) (s : State) → shown ≡ events → i < length shown → event ≡ get_or shown i event
+    → IsBefore limit events (drop i events) s → IsBefore limit events (event ∷ drop (i + 1) events) s
+before_event limit events shown i event s same within item is =
+    let size : length shown ≡ length events = ap length same in
+    let low : i < length events = omega arith in
+    let here : get_or events i event ≡ event = ap (λ l. get_or l i event) (sym same) ∙ sym item in
+    let rest : drop i events ≡ get_or events i event ∷ drop (i + 1) events = rw add-one (drop-cons events i event low) in
+    subst (λ l. IsBefore limit events l s) (rest ∙ ap (λ x. x ∷ drop (i + 1) events) here) is
+
+pub before_end : (limit : ℕ) (events shown : List Event) (i : ℕ) (s : State) → shown ≡ events → length shown ≤ i
+    → IsBefore limit events (drop i events) s → IsBefore limit events [] s
+before_end limit events shown i s same past is =
+    let size : length shown ≡ length events = ap length same in
+    subst (λ l. IsBefore limit events l s) (drop_all i events (omega arith)) is
+
+-- what the listed instances are, where the list is what the pass listed
+pub nested_list : (limit : ℕ) (events : List Event) (s : State) (list shown : List Measured) → IsBefore limit events [] s → list ≡ listed s.done s.levels → shown ≡ list
+    → AreNested (map closed_of shown)
+nested_list limit events s list shown is listed_is shown_is =
+    subst (λ l. AreNested (map closed_of l)) (sym listed_is ∙ sym shown_is) (nested_at_end limit events s is)
+
+pub listing_list : (limit : ℕ) (events : List Event) (s : State) (list shown : List Measured) → IsBefore limit events [] s → list ≡ listed s.done s.levels → shown ≡ list
+    → (tree : List Instance) → EachWith (HasParent (map closed_of shown)) shown tree → IsListing limit events tree
+listing_list limit events s list shown is listed_is shown_is tree each =
+    listing_at_end limit events s is tree (subst (λ l. EachWith (HasParent (map closed_of l)) l tree) (shown_is ∙ listed_is) each)
