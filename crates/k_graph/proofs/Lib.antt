@@ -3,3 +3,4 @@ pub mod Entries
 pub mod Measures
 pub mod Outwards
 pub mod Progress
+pub mod Tracing

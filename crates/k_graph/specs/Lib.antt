@@ -1,3 +1,5 @@
+pub mod Chains
+pub mod Chosen
 pub mod Levels
 pub mod Listings
 pub mod Passes
