@@ -1,3 +1,4 @@
+pub mod Chaining
 pub mod Closings
 pub mod Entries
 pub mod Measures

@@ -65,11 +65,11 @@ dropped_head (suc n) (x ∷ xs) y ys h =
     let next : suc n + 1 ≡ suc (n + 1) = omega arith in
     (found.0, ap (λ k. drop k (x ∷ xs)) next ∙ found.1)
 
-if_true : {A : Type 0} (b : Bool) (x y : A) → b ≡ true → (if b then x else y) ≡ x
+pub if_true : {A : Type 0} (b : Bool) (x y : A) → b ≡ true → (if b then x else y) ≡ x
 if_true true x y h = refl
 if_true false x y h = cc
 
-if_false : {A : Type 0} (b : Bool) (x y : A) → b ≡ false → (if b then x else y) ≡ y
+pub if_false : {A : Type 0} (b : Bool) (x y : A) → b ≡ false → (if b then x else y) ≡ y
 if_false true x y h = cc
 if_false false x y h = refl
 

@@ -185,6 +185,10 @@ module _ (ops : List Operation) (earlier : SourcesAreEarlier ops) where
   pub heaviest_to_exists : (s k : ℕ) (op : Operation) → s ≤ k → IsOperation ops k op → (p : ℕ) × HeaviestTo ops s k p
   heaviest_to_exists s k op low made = exists_below (k + 1) s k op (omega arith) low made
 
+  -- each unbroken source of an operation has a time
+  pub time_exists : (s k : ℕ) (op : Operation) → IsOperation ops k op → (j : ℕ) → ListsUnbroken op.sources j → (t : ℕ) × IsTime ops s (Some j) t
+  time_exists s k op made = source_time s k op made (λ j other (less : j < k) inside at. heaviest_to_exists s j other inside at)
+
   -- the heaviest path of an interval is at most its work
   pub heaviest_at_most_work : (s e p : ℕ) → Heaviest ops s e p → p ≤ work ops s e
   heaviest_at_most_work s e p most = elim most.reached [
