@@ -1,5 +1,7 @@
 pub mod Events
 pub mod Graph
+pub mod GraphLaws
+pub mod InstanceLaws
 pub mod Instances
 pub mod Latencies
 pub mod Tree

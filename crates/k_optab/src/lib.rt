@@ -5,6 +5,7 @@
 mod class;
 mod event;
 mod latencies;
+pub mod laws;
 mod region;
 mod table;
 

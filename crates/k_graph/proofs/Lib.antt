@@ -1,0 +1,7 @@
+pub mod Chaining
+pub mod Closings
+pub mod Entries
+pub mod Measures
+pub mod Outwards
+pub mod Progress
+pub mod Tracing

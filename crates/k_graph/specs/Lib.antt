@@ -1,0 +1,6 @@
+pub mod Chains
+pub mod Chosen
+pub mod Levels
+pub mod Listings
+pub mod Passes
+pub mod Times

@@ -1,0 +1,53 @@
+-- What is listed of a run's instances.
+use Rattle.std.specs.Prelude.{ℕ, ◌≡◌, ◌<◌, ◌⊎◌, List, Option, Some, None, map, length, slice_get, All, AllPairs}
+use Rattle.k_optab.specs.declared.event.Event.{Event}
+use Rattle.k_optab.specs.Events.{Operation, operations}
+use Rattle.k_optab.specs.Graph.{Heaviest, work}
+use Rattle.k_optab.specs.Instances.{Closed, IsParent, Encloses, tracked}
+use Rattle.k_optab.specs.InstanceLaws.{Precedes}
+use Rattle.k_optab.specs.Tree.{Node, EachWith}
+use Rattle.k_graph.specs.declared.level.Measured.{Measured}
+use Rattle.k_graph.specs.declared.tree.Instance.{Instance}
+
+-- what the list says of a closed instance: its region, depth and interval, the work of the interval and the
+-- weight of its heaviest path, and the place in the list of its parent
+pub record IsListed (ops : List Operation) (all : List Closed) (i : Closed) (n : Instance) : Type 0 where
+  pub region : n.region ≡ i.region
+  pub depth : n.depth ≡ i.depth
+  pub start : n.start ≡ i.start
+  pub end : n.end ≡ i.end
+  pub work : n.work ≡ work ops i.start i.end
+  pub path : Heaviest ops i.start i.end n.path
+  pub parent : IsParent all i n.parent
+
+-- the list has the tracked instances, in order of entry, and nothing else
+abbrev pub IsListing : ℕ → List Event → List Instance → Type 0
+IsListing depth events list = EachWith (IsListed (operations events) (tracked depth events)) (tracked depth events) list
+
+-- what the tree says of an instance of the list
+abbrev pub node_of : Instance → Node
+node_of n = record { region = n.region; work = n.work; path = n.path; depth = n.depth }
+
+-- a measured instance as a closed one
+abbrev pub closed_of : Measured → Closed
+closed_of m = record { region = m.region; depth = m.depth; enter = m.enter; exit = m.exit; start = m.start; end = m.end }
+
+-- the list's item has what was measured, and its parent
+pub record HasParent (all : List Closed) (m : Measured) (n : Instance) : Type 0 where
+  pub region : n.region ≡ m.region
+  pub depth : n.depth ≡ m.depth
+  pub start : n.start ≡ m.start
+  pub end : n.end ≡ m.end
+  pub work : n.work ≡ m.work
+  pub path : n.path ≡ m.path
+  pub parent : IsParent all (closed_of m) n.parent
+
+-- closed instances in order of entry, none of which crosses another
+pub record AreNested (all : List Closed) : Type 0 where
+  pub left : All (λ i. i.enter < i.exit) all
+  pub apart : AllPairs Precedes all
+
+-- each item so far has its parent
+abbrev pub EachHasParent : List Measured → List Instance → Type 0
+EachHasParent list tree = (place : ℕ) (m : Measured) (n : Instance) → slice_get list place ≡ Some m → slice_get tree place ≡ Some n
+    → HasParent (map closed_of list) m n

@@ -1,0 +1,85 @@
+-- Where a pass over the events stands, and what each event makes of it.
+use Rattle.std.specs.Prelude.{ℕ, ◌≡◌, ◌+◌, ◌-◌, ◌^◌, ◌<◌, ◌==◌, max, List, [], ◌∷◌, ◌++◌, length, map, All, nat_lt, if◌then◌else◌}
+use Rattle.k_optab.specs.declared.event.Event.{Event}
+use Rattle.k_optab.specs.declared.event.Event.TheVariants.{Op, Enter, Exit}
+use Rattle.k_optab.specs.declared.event.Src.{Src}
+use Rattle.k_graph.specs.declared.level.Level.{Level}
+use Rattle.k_graph.specs.declared.level.Measured.{Measured}
+use Rattle.k_graph.specs.declared.pass.Pass.{Pass}
+use Rattle.k_graph.specs.Levels.{CanAdd, added, measured}
+
+-- behind `place` events with `made` operations, where `open` instances are open, those of depth below
+-- `limit` at the levels, the outermost first, and the closed ones that none of these encloses are done
+pub record State : Type 0 where
+  pub limit : ℕ
+  pub place : ℕ
+  pub made : ℕ
+  pub open_count : ℕ
+  pub done : List Measured
+  pub levels : List Level
+
+abbrev pub state : Pass → State
+state p = record { limit = p.limit; place = p.place; made = p.made; open_count = p.open_count; done = p.done; levels = p.levels.items }
+
+-- before the first event
+abbrev pub start_state : ℕ → State
+start_state limit = record { limit = limit; place = 0; made = 0; open_count = 0; done = []; levels = [] }
+
+abbrev pub operated : ℕ → List Src → State → State
+operated latency sources s = record s { place = s.place + 1; made = s.made + 1; levels = map (added latency sources) s.levels }
+
+abbrev pub new_level : ℕ → State → Level
+new_level region s = record { region = region; depth = s.open_count; enter = s.place; start = s.made; work = 0; path = 0; times = []; inner = [] }
+
+abbrev pub entered : ℕ → State → State
+entered region s = record s {
+  place = s.place + 1;
+  open_count = s.open_count + 1;
+  levels = if nat_lt s.open_count s.limit then s.levels ++ new_level region s ∷ [] else s.levels;
+}
+
+-- the instances that no open one encloses, and the levels
+pub record Closing : Type 0 where
+  pub done : List Measured
+  pub levels : List Level
+
+-- the innermost level is closed: its instance, and those within it, go into the level around it, or are done
+abbrev pub close_into : ℕ → ℕ → List Measured → List Level → Closing
+close_into place made done [] = record { done = done; levels = [] }
+close_into place made done (top ∷ []) = record { done = done ++ measured place made top ∷ top.inner; levels = [] }
+close_into place made done (level ∷ next ∷ levels) = record {
+  done = done;
+  levels = record level { inner = (close_into place made level.inner (next ∷ levels)).done } ∷ (close_into place made level.inner (next ∷ levels)).levels;
+}
+
+abbrev pub closed : State → State
+closed s = record s {
+  done = (close_into s.place s.made s.done s.levels).done;
+  levels = (close_into s.place s.made s.done s.levels).levels;
+}
+
+abbrev pub exited : State → State
+exited s =
+    if s.open_count == 0 then record s { place = s.place + 1 }
+    else (if nat_lt s.limit s.open_count then record s { place = s.place + 1; open_count = s.open_count - 1 }
+    else record (closed s) { place = s.place + 1; open_count = s.open_count - 1 })
+
+-- what an event makes of it
+abbrev pub taken : Event → State → State
+taken (Op class latency sources place) s = operated latency sources s
+taken (Enter region) s = entered region s
+taken Exit s = exited s
+
+-- the closed instances, where no event follows
+abbrev pub listed : List Measured → List Level → List Measured
+listed done [] = done
+listed done (level ∷ levels) = listed (done ++ level.inner) levels
+
+-- an event comes next, and its numbers are small enough
+abbrev pub CanTakeOp : ℕ → List Src → State → Type 0
+CanTakeOp latency sources s = (s.place + 1 < 2 ^ 64) × (s.made + 1 < 2 ^ 64) × All (CanAdd latency sources) s.levels
+
+abbrev pub CanTake : Event → State → Type 0
+CanTake (Op class latency sources place) s = CanTakeOp latency sources s
+CanTake (Enter region) s = (s.place + 1 < 2 ^ 64) × (s.open_count + 1 < 2 ^ 64) × (s.limit < 2 ^ 32)
+CanTake Exit s = s.place + 1 < 2 ^ 64

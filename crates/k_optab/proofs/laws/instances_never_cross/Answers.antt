@@ -1,0 +1,8 @@
+use Rattle.k_optab.proofs.Crossing.{instances_are_left_later, instances_never_cross}
+use Rattle.k_optab.proofs.laws.instances_never_cross.Goals as goal
+
+pub returns-clause-left : goal.returns-clause-left
+returns-clause-left c = instances_are_left_later
+
+pub returns-clause-apart : goal.returns-clause-apart
+returns-clause-apart c = instances_never_cross

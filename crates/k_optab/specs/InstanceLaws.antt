@@ -1,0 +1,22 @@
+-- What holds of instances, whatever the events: the statements of the laws.
+use Rattle.std.specs.Prelude.{ℕ, ◌≡◌, ◌<◌, ◌⊎◌, ◌↔◌, List, ◌∷◌, ◌++◌, Some, All, AllPairs}
+use Rattle.k_optab.specs.declared.event.Event.{Event}
+use Rattle.k_optab.specs.declared.event.Event.TheVariants.{Exit}
+use Rattle.k_optab.specs.Instances.{Closed, Balanced, until_exit, tracked}
+
+-- the events before the matching Exit are the balanced ones that an Exit follows
+abbrev pub ExitIsMatching : Type 0
+ExitIsMatching = (events inside : List Event)
+    → (until_exit events 0 ≡ Some inside) ↔ (Balanced inside × ((rest : List Event) × (events ≡ inside ++ Exit ∷ rest)))
+
+-- the one instance is entered before the other, and is left after it or before it is entered
+pub record Precedes (a b : Closed) : Type 0 where
+  pub entered : a.enter < b.enter
+  pub left : (b.exit < a.exit) ⊎ (a.exit < b.enter)
+
+-- the closed instances stand in order of entry, and no two of them cross
+abbrev pub InstancesNeverCross : Type 0
+InstancesNeverCross = (depth : ℕ) (events : List Event) → AllPairs Precedes (tracked depth events)
+
+abbrev pub InstancesAreLeftLater : Type 0
+InstancesAreLeftLater = (depth : ℕ) (events : List Event) → All (λ i. i.enter < i.exit) (tracked depth events)
