@@ -15,7 +15,7 @@ use Rattle.k_top.specs.Run.{run_of, regions_of}
 use Rattle.k_top.specs.Rows.{AreRows, IsRow}
 use Rattle.k_top.specs.Report.{report_text, with_report}
 use Rattle.k_top.specs.Answer.{IsProfile, IsOutput, tracked_depth}
-use Rattle.k_top.proofs.RunLemmas.{the_move, weightless, main_node, main_row}
+use Rattle.k_top.proofs.RunLemmas.{main_node, main_row, one_tree}
 
 some_same : {A : Type 0} (a b : A) → Some a ≡ Some b → a ≡ b
 some_same {A} a b e = cc
@@ -28,21 +28,6 @@ one_program ps p q one two =
     let name : p.name ≡ q.name = some_same _ _ (sym one.name ∙ two.name) in
     let place : p.return_place ≡ q.return_place = some_same _ _ (sym one.return ∙ two.return) in
     λ i. record { value = value i; name = name i; return_place = place i }
-
--- the heaviest path of the run weighs 0
-no_weight : (place : Place) (w : ℕ) → Heaviest (the_move place ∷ []) 0 1 w → w ≡ 0
-no_weight place w heaviest = elim heaviest.reached [
-  | inl empty ↦ absurd (omega (arith, empty.0))
-  | inr found ↦ let light = weightless place found.0 w found.1.0 found.1.1 in omega (arith, light)
-]
-
-one_tree : (p : Program) (nodes : List Node) → IsTree tracked_depth (run_of p).events nodes → nodes ≡ main_node ∷ []
-unfolding main_node
-one_tree p [] tree = absurd tree
-one_tree p (n ∷ []) tree =
-    let path : n.path ≡ 0 = no_weight p.return_place n.path tree.0.path in
-    λ i. record { region = tree.0.region i; work = tree.0.work i; path = path i; depth = tree.0.depth i } ∷ []
-one_tree p (n ∷ m ∷ nodes) tree = absurd tree.1
 
 one_row : (p : Program) (rows : List Row) → AreRows 1 (main_node ∷ []) rows → rows ≡ main_row ∷ []
 unfolding main_node main_row

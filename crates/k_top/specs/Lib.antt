@@ -9,3 +9,4 @@ pub mod Report
 pub mod Answer
 pub mod Clauses
 pub mod Endings
+pub mod Only

@@ -1,6 +1,7 @@
 -- *Evaluation* and *Run*: what a program does when it runs.
 use Rattle.std.specs.Prelude.{ℕ, ℤ, pos, List, [], ◌∷◌, codes}
 use Rattle.k_optab.specs.declared.class.Class.TheVariants.{Move}
+use Rattle.k_optab.specs.Latencies.{latency, standard_latencies}
 use Rattle.k_optab.specs.declared.event.Event.{Event}
 use Rattle.k_optab.specs.declared.event.Event.TheVariants.{Op, Enter, Exit}
 use Rattle.k_optab.specs.declared.region.Region.{Region}
@@ -16,7 +17,7 @@ pub record Run : Type 0 where
 -- main, region 0, is entered; `return n` moves its operand, a constant, which has no source; main is left
 abbrev pub run_of : Program → Run
 run_of program = record {
-  events = Enter 0 ∷ Op Move 0 [] program.return_place ∷ Exit ∷ [];
+  events = Enter 0 ∷ Op Move (latency standard_latencies Move) [] program.return_place ∷ Exit ∷ [];
   output = [];
   exit = pos program.value;
 }
