@@ -1,9 +1,9 @@
 -- The clauses of the theorem on `kremlin`, from what each ending leaves, and from what was told on err.
-use Rattle.std.proofs.Common.{ℕ, ◌≡◌, ◌≢◌, ◌<◌, ◌⊎◌, refl, ap, arith, subst, sym, ◌∙◌, List, Option, Result, Ok, Err, inl, inr}
+use Rattle.std.proofs.Common.{ℕ, ◌≡◌, ◌<◌, ◌⊎◌, refl, ap, arith, subst, sym, ◌∙◌, List, Result, Ok, Err, inl, inr}
 use Rattle.k_edge.specs.Fault.{Rose}
 use Rattle.k_edge.specs.SourceWords.{SourceState}
-use Rattle.k_edge.specs.SinkWords.{SinkState, Grows, GrowsInPart}
-use Rattle.k_edge.specs.FilesWords.{FilesState, Counts}
+use Rattle.k_edge.specs.SinkWords.{SinkState}
+use Rattle.k_edge.specs.FilesWords.{FilesState}
 use Rattle.k_top.specs.declared.command.Usage as usages
 use Rattle.k_top.specs.declared.ending.Ending.{Ending}
 use Rattle.k_top.specs.declared.ending.Ending.TheVariants.{Done, Refused, Usage, Absent, ReadFault, WriteFault, NoMemory, TooLong}
@@ -12,7 +12,7 @@ use Rattle.k_top.specs.Answer
 use Rattle.k_top.specs.Answer.{IsLineOf, memory_line}
 use Rattle.k_top.specs.Clauses.{Answered, IsRefusal, NoFault, SameFaults, Told}
 use Rattle.k_top.specs.Endings.{EndsWords, Tells, status_of, line_of}
-use Rattle.k_top.proofs.TopLemmas.{FilesAfter, OutAfter, Unless, files_after, out_after, command_after, line_told, answered}
+use Rattle.k_top.proofs.TopLemmas.{FilesAfter, OutAfter, Unless, files_after, out_after, command_after, answered}
 
 not_refusal : (status : ℕ) → (status ≡ 0) ⊎ (status ≡ 7) ⊎ (status ≡ 8) → IsRefusal status → ⊥
 not_refusal status other refusal = grind (arith, other, refusal)

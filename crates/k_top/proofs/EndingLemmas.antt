@@ -1,5 +1,5 @@
 -- What a source ended with, its file ended with, and so did the words.
-use Rattle.std.proofs.Common.{ℕ, ◌≡◌, List, Vec, Ok, inl, inr}
+use Rattle.std.proofs.Common.{ℕ, ◌≡◌, List, Vec, Ok, inr}
 use Rattle.std.specs.declared.alloc.Global.{Global}
 use Rattle.k_edge.specs.SinkWords.{SinkState}
 use Rattle.k_edge.specs.FilesWords.{FilesState, Loads}

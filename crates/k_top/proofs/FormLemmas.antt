@@ -1,5 +1,5 @@
 -- Pieces of a program, seen one by one.
-use Rattle.std.proofs.Common.{ℕ, ◌≡◌, ◌<◌, ◌+◌, ◌≤◌, ◌^◌, suc, refl, ap, subst, sym, ◌∙◌, arith, List, [], ◌∷◌, ◌++◌, length, take, map, Option, Some, None, Ok, Result, MatchOption, slice_index_or}
+use Rattle.std.proofs.Common.{ℕ, ◌≡◌, ◌<◌, ◌≤◌, suc, refl, ap, subst, sym, ◌∙◌, arith, List, [], ◌∷◌, ◌++◌, length, take, map, Option, Some, None, Ok, Result, MatchOption, slice_index_or}
 use Rattle.std.specs.Prelude.{slice_get}
 use Rattle.std.specs.Str.Parse.{ParsesUnsigned}
 use Rattle.std.specs.Option.{option_map}
@@ -7,10 +7,9 @@ use Rattle.std.specs.Fmt.{decimal}
 use Rattle.std.proofs.lemmas.Fmt.{parse-decimal}
 use Rattle.std.proofs.lemmas.Option.{slice_get-map, slice_get-get_or}
 use Rattle.std.proofs.lemmas.List.{append_assoc, length-map, length-take, take_all}
-use Rattle.k_num.specs.declared.place.Place.{Place}
 use Rattle.k_top.specs.Pieces.{Piece}
 use Rattle.k_top.specs.Cursors.{seen_piece}
-use Rattle.k_top.specs.Form.{ArePiecesOf, texts_with}
+use Rattle.k_top.specs.Form.{ArePiecesOf}
 use Rattle.k_top.specs.declared.pieces.Piece as read
 use Rattle.k_top.specs.declared.form.Program.{Program}
 

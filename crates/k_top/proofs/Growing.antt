@@ -1,5 +1,5 @@
 -- A sink that grows by a piece and then by the rest has grown by the whole.
-use Rattle.std.proofs.Common.{ℕ, ◌≡◌, ◌≤◌, ◌+◌, refl, ap, subst, sym, ◌∙◌, arith, List, [], ◌++◌, length, take, Option, Some, None}
+use Rattle.std.proofs.Common.{ℕ, ◌≡◌, ◌+◌, refl, ap, subst, sym, ◌∙◌, arith, List, [], ◌++◌, length, take, Option, Some, None}
 use Rattle.std.proofs.lemmas.List.{take-append-le, length-append, append-nil, append_assoc}
 use Rattle.std.proofs.Math.Seq.{take-append-add, take-length}
 use Rattle.k_edge.specs.SinkWords.{Grows, GrowsInPart}

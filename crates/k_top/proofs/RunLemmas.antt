@@ -1,10 +1,9 @@
 -- The tree of a program's run is main's one instance, of work and path 0.
 use Rattle.std.proofs.Common.{ℕ, ◌≡◌, ◌<◌, ◌≤◌, refl, ap, arith, subst, sym, List, [], ◌∷◌, map, Some, inl, inr}
-use Rattle.std.specs.Prelude.{slice_get, codes}
 use Rattle.k_num.specs.declared.place.Place.{Place}
 use Rattle.k_optab.specs.declared.class.Class.TheVariants.{Move}
 use Rattle.k_optab.specs.Events.{Operation, operations, IsOperation, ListsUnbroken, AreBefore, SourcesAreEarlier}
-use Rattle.k_optab.specs.Graph.{Path, alone, joined, IsNode, Heaviest, Weighs}
+use Rattle.k_optab.specs.Graph.{Path, alone, joined, Heaviest}
 use Rattle.k_optab.specs.Tree.{Node, IsTree}
 use Rattle.std.proofs.lemmas.Option.{slice_get_within}
 use Rattle.k_graph.specs.Listings.{node_of}
@@ -12,8 +11,7 @@ use Rattle.k_graph.specs.declared.tree.Instance.{Instance}
 use Rattle.k_top.specs.Only.{only_row}
 use Rattle.k_top.specs.declared.form.Program.{Program}
 use Rattle.k_top.specs.declared.rows.Row.{Row}
-use Rattle.k_top.specs.Run.{Run, run_of, regions_of}
-use Rattle.k_top.specs.Rows.{AreRows}
+use Rattle.k_top.specs.Run.{run_of}
 use Rattle.k_top.specs.Answer.{tracked_depth, IsProfile}
 
 -- the one operation

@@ -1,10 +1,9 @@
 -- What the words ended with meets each clause of the theorem on `kremlin`.
-use Rattle.std.proofs.Common.{ℕ, ◌≡◌, ◌≢◌, ◌<◌, ◌≤◌, ◌⊎◌, refl, ap, arith, subst, sym, ◌∙◌, List, [], length, Option, Some, None, Result, Ok, Err, Vec, inl, inr}
+use Rattle.std.proofs.Common.{ℕ, ◌≡◌, ◌<◌, ◌≤◌, ◌⊎◌, refl, ap, arith, subst, sym, ◌∙◌, List, [], length, Option, Some, None, Ok, Err, Vec, inl, inr}
 use Rattle.std.specs.declared.alloc.Global.{Global}
 use Rattle.k_edge.specs.Fault.{Rose}
 use Rattle.k_edge.specs.SinkWords.{SinkState, Grows, GrowsInPart}
 use Rattle.k_edge.specs.FilesWords.{FilesState, Has, HasLonger, Loads}
-use Rattle.k_edge.specs.declared.files.LoadFault.TheVariants as load
 use Rattle.k_top.specs.declared.command.Usage as usages
 use Rattle.k_top.specs.declared.ending.Ending.{Ending}
 use Rattle.k_top.specs.declared.ending.Ending.TheVariants.{Done, Refused, Usage, Absent, ReadFault, WriteFault, NoMemory, TooLong}
@@ -14,7 +13,7 @@ use Rattle.k_top.specs.Pieces.{pieces, source_start}
 use Rattle.k_top.specs.Form.{Spells}
 use Rattle.k_top.specs.Answer
 use Rattle.k_top.specs.Answer.{IsAnswer, AnswersContent, AnswersSource, AnswersCommand, IsOutput, IsLineOf, source_limit, refusal, usage_line, absent_line, long_line, refused_line}
-use Rattle.k_top.specs.Clauses.{Answered, PartOfAnswer, IsRefusal}
+use Rattle.k_top.specs.Clauses.{Answered, PartOfAnswer}
 use Rattle.k_top.specs.Endings.{EndsWords, status_of, line_of}
 use Rattle.k_top.proofs.Growing.{grows_no_part, grows_nothing, grows_in_part}
 use Rattle.k_top.proofs.Unique.{one_program, one_output}

@@ -1,20 +1,17 @@
 -- The whole answer is one: a source spells one program, and a program has one output.
-use Rattle.std.proofs.Common.{ℕ, ◌≡◌, ◌<◌, ◌≤◌, ◌^◌, refl, ap, arith, subst, sym, ◌∙◌, List, [], ◌∷◌, length, Option, Some, inl, inr, map}
+use Rattle.std.proofs.Common.{ℕ, ◌≡◌, ap, arith, subst, sym, ◌∙◌, List, [], ◌∷◌, length, Some, inl, inr}
 use Rattle.std.specs.Prelude.{slice_get}
 use Rattle.std.specs.Fmt.{decimal}
 use Rattle.std.proofs.lemmas.Fmt.{decimal_injective}
-use Rattle.k_num.specs.declared.place.Place.{Place}
 use Rattle.k_optab.specs.Events.{operations}
-use Rattle.k_optab.specs.Graph.{Heaviest}
-use Rattle.k_optab.specs.Tree.{Node, IsTree, IsNodeOf}
 use Rattle.k_top.specs.declared.form.Program.{Program}
 use Rattle.k_top.specs.declared.rows.Row.{Row}
 use Rattle.k_top.specs.Pieces.{Piece}
-use Rattle.k_top.specs.Form.{ArePiecesOf, Spells, texts_with}
+use Rattle.k_top.specs.Form.{ArePiecesOf}
 use Rattle.k_top.specs.Run.{run_of, regions_of}
-use Rattle.k_top.specs.Rows.{AreRows, IsRow}
+use Rattle.k_top.specs.Rows.{AreRows}
 use Rattle.k_top.specs.Report.{report_text, with_report}
-use Rattle.k_top.specs.Answer.{IsProfile, IsOutput, tracked_depth}
+use Rattle.k_top.specs.Answer.{IsProfile, IsOutput}
 use Rattle.k_top.proofs.RunLemmas.{main_node, main_row, one_tree}
 
 some_same : {A : Type 0} (a b : A) → Some a ≡ Some b → a ≡ b

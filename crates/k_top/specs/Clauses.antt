@@ -1,5 +1,5 @@
 -- The theorem on `kremlin`: each clause is one sentence.
-use Rattle.std.specs.Prelude.{ℕ, ◌≡◌, ◌≢◌, ◌<◌, ◌⊎◌, List, [], Option, Some, None, Result, Ok, Err}
+use Rattle.std.specs.Prelude.{ℕ, ◌≡◌, ◌≢◌, ◌⊎◌, List, Option, Some, Err}
 use Rattle.k_edge.specs.Fault.{Rose}
 use Rattle.k_edge.specs.SourceWords.{SourceState}
 use Rattle.k_edge.specs.SinkWords.{SinkState, Grows, GrowsInPart}

@@ -1,5 +1,5 @@
 -- The words of the command line: `run FILE`.
-use Rattle.std.specs.Prelude.{ℕ, ◌==◌, List, [], ◌∷◌, Result, Ok, Err, Bool, true, false, ◌||◌, codes, nat_eq, if◌then◌else◌, List}
+use Rattle.std.specs.Prelude.{ℕ, List, [], ◌∷◌, Result, Ok, Err, Bool, true, codes, nat_eq, if◌then◌else◌, List}
 use Rattle.std.specs.List.{starts_with}
 use Rattle.std.specs.Cmp.Lexicographic.{pointwise}
 use Rattle.k_top.specs.declared.command.Usage.{Usage}

@@ -1,7 +1,6 @@
 -- The programs that are run: `int main(void){return n;}`, with blanks between its pieces.
 use Rattle.std.specs.Prelude.{ℕ, ◌≡◌, ◌≤◌, List, [], ◌∷◌, map, codes, slice_get, Some}
 use Rattle.std.specs.Fmt.{decimal}
-use Rattle.k_num.specs.declared.place.Place.{Place}
 use Rattle.k_top.specs.Pieces.{Piece, pieces, source_start}
 use Rattle.k_top.specs.declared.form.Program.{Program}
 

@@ -1,4 +1,4 @@
-use Rattle.std.proofs.Common.{◌≡◌, refl, arith, subst, sym, ◌∙◌, ap}
+use Rattle.std.proofs.Common.{refl, arith, sym, ◌∙◌, ap}
 use Rattle.k_top.specs.Form.{texts_with}
 use Rattle.k_top.proofs.FormLemmas.{texts_seen, place_seen, number_seen}
 use Rattle.k_top.proofs.form.program_of.Goals as goal

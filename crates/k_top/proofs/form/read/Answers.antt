@@ -1,4 +1,4 @@
-use Rattle.std.proofs.Common.{◌∙◌, ap, map, length}
+use Rattle.std.proofs.Common.{◌∙◌, ap, map}
 use Rattle.k_top.specs.Pieces.{pieces, source_start}
 use Rattle.k_top.specs.Cursors.{seen_piece}
 use Rattle.k_top.proofs.FormLemmas.{found_in_all}

@@ -1,4 +1,4 @@
-use Rattle.std.proofs.Common.{◌≡◌, ◌∙◌, ap, sym, subst, arith, Err, Ok}
+use Rattle.std.proofs.Common.{◌≡◌, ◌∙◌, ap, sym, arith}
 use Rattle.std.specs.Fmt.{decimal}
 use Rattle.k_top.proofs.FormLemmas.{read_number, ok_same}
 use Rattle.k_top.proofs.form.text_value.Goals as goal

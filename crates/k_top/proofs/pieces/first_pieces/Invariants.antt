@@ -1,4 +1,4 @@
-use Rattle.std.proofs.Common.{◌≡◌, ◌++◌, ◌-◌, length, take, map, vec_len}
+use Rattle.std.proofs.Common.{◌≡◌, ◌++◌, ◌-◌, take, map, vec_len}
 use Rattle.k_top.specs.Pieces.{pieces, source_start}
 use Rattle.k_top.specs.Cursors.{PlacesFit, seen_piece}
 use Rattle.k_top.proofs.pieces.first_pieces.Given as goal

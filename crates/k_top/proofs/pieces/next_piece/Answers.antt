@@ -1,4 +1,4 @@
-use Rattle.std.proofs.Common.{◌≡◌, ◌∙◌, ◌<◌, length, sym, ap, arith, max}
+use Rattle.std.proofs.Common.{◌∙◌, ◌<◌, length, sym, ap, arith, max}
 use Rattle.k_top.proofs.FirstPiece.{first_piece}
 use Rattle.k_top.proofs.pieces.next_piece.Goals as goal
 
