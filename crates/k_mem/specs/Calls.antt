@@ -1,6 +1,6 @@
 -- What the calls on a program's objects answer, and the memory that they leave.
-use Rattle.std.specs.Prelude.{ℕ, ◌≡◌, ◌+◌, ◌^◌, ◌==◌, ◌&&◌, ◌||◌, nat_lt, nat_le, Bool, true, false, if◌then◌else◌, List, [], ◌∷◌, ◌++◌, length, take, map, replicate, slice_get, slice_set, Option, Some, None, Result, Ok, Err, ℤ, pos, negsuc, ◌+ℤ◌, ◌-ℤ◌, w8}
-use Rattle.std.specs.Int.{cast_signed}
+use Rattle.std.specs.Prelude.{ℕ, ◌≡◌, ◌+◌, ◌^◌, ◌==◌, ◌&&◌, ◌||◌, nat_lt, nat_le, Bool, true, false, if◌then◌else◌, List, [], ◌∷◌, ◌++◌, length, take, map, replicate, slice_get, slice_set, Option, Some, None, Result, Ok, Err, ℤ, pos, negsuc, ◌+ℤ◌, ◌-ℤ◌}
+use Rattle.std.specs.Int.{w8, cast_signed}
 use Rattle.k_mem.specs.declared.pointer.Pointer.{Pointer}
 use Rattle.k_mem.specs.declared.fault.MemTrap.{MemTrap}
 use Rattle.k_mem.specs.declared.fault.MemTrap.TheVariants.{Uninit, OutOfBounds, PointerRange, PointerOrder, Dangling, ReadOnly}
@@ -8,18 +8,18 @@ use Rattle.k_mem.specs.declared.start.Start.{Start}
 use Rattle.k_mem.specs.declared.start.Start.TheVariants.{Unset, Zero, Literal}
 use Rattle.k_mem.specs.Memory.{Object, Memory, object_of, live_elements}
 
--- the answer of a live object; a dead one's pointer dangles
-abbrev pub where_live : {A : Type 0} → Option Object → (Object → Result A MemTrap) → Result A MemTrap
+-- the answer of a live object; a pointer into a dead one dangles (C17 6.2.4p2)
+abbrev pub where_live : {O A : Type 0} → Option O → (O → Result A MemTrap) → Result A MemTrap
 where_live None answer = Err Dangling
 where_live (Some o) answer = answer o
 
--- the answer at an offset of one of the object's elements (C17 6.5.6p8: the element one past the last isn't accessed)
-abbrev pub where_within : {A : Type 0} → Object → ℕ → Result A MemTrap → Result A MemTrap
-where_within o offset answer = if nat_lt offset (length o.elements) then answer else Err OutOfBounds
+-- the answer at the offset of one of `len` elements (C17 6.5.6p8: the place one past the last isn't accessed)
+abbrev pub where_within : {A : Type 0} → ℕ → ℕ → Result A MemTrap → Result A MemTrap
+where_within len offset answer = if nat_lt offset len then answer else Err OutOfBounds
 
 -- the number of the element pointed to, set or unset
 abbrev pub element_of : Memory → Pointer → Result ℕ MemTrap
-element_of m at = where_live (object_of m at.object) (λ o. where_within o at.offset (Ok (o.first + at.offset)))
+element_of m at = where_live (object_of m at.object) (λ o. where_within (length o.elements) at.offset (Ok (o.first + at.offset)))
 
 -- a read of an element: its value and its number (C17 6.2.4p2, 6.7.9p10: an unset element has no value)
 abbrev pub value_read : Option (Option ℤ) → ℕ → Result (ℤ × ℕ) MemTrap
@@ -32,7 +32,7 @@ load_of m at = where_live (object_of m at.object) (λ o. value_read (slice_get o
 
 -- a write answers the element's number (C17 6.4.5p7: a literal's object isn't written)
 abbrev pub store_of : Memory → Pointer → Result ℕ MemTrap
-store_of m at = where_live (object_of m at.object) (λ o. where_within o at.offset (if o.writable then Ok (o.first + at.offset) else Err ReadOnly))
+store_of m at = where_live (object_of m at.object) (λ o. where_within (length o.elements) at.offset (if o.writable then Ok (o.first + at.offset) else Err ReadOnly))
 
 -- the object with that value in its element at that offset
 abbrev pub with_value : Object → ℕ → ℤ → Object
@@ -56,17 +56,25 @@ pointer_to object (Some offset) = Ok (record { object = object; offset = offset 
 abbrev pub shift_of : Memory → Pointer → ℤ → Result Pointer MemTrap
 shift_of m at by = where_live (object_of m at.object) (λ o. pointer_to at.object (offset_within (length o.elements) (pos at.offset +ℤ by)))
 
--- the answer of two pointers into live objects
-abbrev pub where_both_live : {A : Type 0} → Memory → Pointer → Pointer → Result A MemTrap → Result A MemTrap
-where_both_live m a b answer = where_live (object_of m a.object) (λ _. where_live (object_of m b.object) (λ _. answer))
+-- the answer of two live objects
+abbrev pub where_both_live : {O A : Type 0} → Option O → Option O → Result A MemTrap → Result A MemTrap
+where_both_live a b answer = where_live a (λ _. where_live b (λ _. answer))
 
--- how many elements a lies after b (C17 6.5.6p9, 6.5.8p5)
+-- how many elements a lies after b, in one object
+abbrev pub difference : Pointer → Pointer → Result ℤ MemTrap
+difference a b = if a.object == b.object then Ok (pos a.offset -ℤ pos b.offset) else Err PointerOrder
+
+-- the difference of two pointers (C17 6.5.6p9, 6.5.8p5)
 abbrev pub order_of : Memory → Pointer → Pointer → Result ℤ MemTrap
-order_of m a b = where_both_live m a b (if a.object == b.object then Ok (pos a.offset -ℤ pos b.offset) else Err PointerOrder)
+order_of m a b = where_both_live (object_of m a.object) (object_of m b.object) (difference a b)
 
--- whether two pointers point to one element, or past the end of one object (C17 6.5.9p6)
+-- whether two pointers have one object and one offset
+abbrev pub is_same : Pointer → Pointer → Bool
+is_same a b = (a.object == b.object) && (a.offset == b.offset)
+
+-- the comparison of two pointers (C17 6.5.9p6)
 abbrev pub same_of : Memory → Pointer → Pointer → Result Bool MemTrap
-same_of m a b = where_both_live m a b (Ok ((a.object == b.object) && (a.offset == b.offset)))
+same_of m a b = where_both_live (object_of m a.object) (object_of m b.object) (Ok (is_same a b))
 
 -- the elements of a new object: a literal's are its bytes as signed 8-bit numbers
 abbrev pub elements_at : Start → ℕ → List (Option ℤ)

@@ -1,6 +1,6 @@
 //! The elements of all live objects, in one list of cells. A cell is None where its element is unset.
-ghost use Rattle.std.specs.Prelude.{◌≡◌, ◌+◌, ◌<◌, ◌^◌, ◌++◌, length, map, slice_get, vec_len, OnOk, OnErr, w8};
-ghost use Rattle.std.specs.Int.{cast_signed};
+ghost use Rattle.std.specs.Prelude.{◌≡◌, ◌+◌, ◌<◌, ◌^◌, ◌++◌, length, map, slice_get, vec_len, OnOk, OnErr};
+ghost use Rattle.std.specs.Int.{w8, cast_signed};
 ghost use Rattle.k_mem.specs.Calls.{HasLength, elements_at};
 
 use crate::Start;
@@ -20,7 +20,7 @@ pub fn append_elements(
     elements: u32,
     start: Start<'_>,
 ) -> Result<(), NoMemory>
-    requires literal { HasLength start.entry elements }
+    requires literal { HasLength start elements }
     requires room { vec_len cells.old + elements < 2 ^ 64 }
     ensures ok { OnOk result (cells.new.items ≡ cells.old.items ++ elements_at start.entry elements) }
     ensures err { OnErr result (cells.new.items ≡ cells.old.items) }

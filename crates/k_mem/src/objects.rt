@@ -4,7 +4,7 @@ ghost use Rattle.k_mem.specs.Memory.{IsLaidOut, live_elements};
 ghost use Rattle.k_mem.specs.Calls.{HasLength, push_of, popped, load_of, store_of, stored, element_of, shift_of, order_of, same_of};
 
 use crate::cells::{append_elements, cell_at};
-use crate::extent::{Extent, extent_at, extent_of};
+use crate::extent::{Extent, element_at, extent_at, order_among, same_among, shifted, writable_at};
 use crate::{MemTrap, Pointer, PushFault, Start};
 use k_num::NoMemory;
 use std::alloc::Global;
@@ -31,13 +31,14 @@ pub struct Objects {
 
 impl Model for Objects {
     ghost use Rattle.k_mem.specs.Memory.{Memory};
-    ghost use Rattle.k_mem.specs.Layout.{objects_in, IsKept};
+    ghost use Rattle.std.specs.Prelude.{length};
+    ghost use Rattle.k_mem.specs.Layout.{objects_in, AreKept};
 
     ghost Value = { Memory };
 
     ghost view = { λ s. record { live = objects_in s.extents.items s.cells.items; made = s.made } };
 
-    ghost invariant = { λ s. IsKept s.extents.items s.cells.items s.made };
+    ghost invariant = { λ s. AreKept s.extents.items (length s.cells.items) s.made };
 }
 
 impl Objects {
@@ -55,7 +56,7 @@ impl Objects {
 
     /// Makes an object and answers its number.
     pub fn push_object(&mut self, elements: u32, start: Start<'_>) -> Result<u64, PushFault>
-        requires { HasLength start.entry elements }
+        requires { HasLength start elements }
         ensures number { IfOk result (λ number. number ≡ self.old.made) }
         ensures made { OnOk result (push_of self.old start.entry elements ≡ Some self.new) }
         ensures limit { (result ≡ Err PushFault.MemoryLimit) ↔ (push_of self.old start.entry elements ≡ None) }
@@ -114,7 +115,7 @@ impl Objects {
         ensures value { result ≡ load_of self.now at }
         ensures laid_out { IsLaidOut self.now }
     {
-        let element = self.element(at)?;
+        let element = element_at(&self.extents, at)?;
         match cell_at(&self.cells, element as usize) {
             Some(value) => Ok((value, element)),
             None => Err(MemTrap::Uninit),
@@ -128,11 +129,7 @@ impl Objects {
         ensures err { OnErr result (self.new ≡ self.old) }
         ensures laid_out { IsLaidOut self.new }
     {
-        let extent = extent_of(&self.extents, at.object)?;
-        let element = extent.element(at.offset)?;
-        if !extent.writable {
-            return Err(MemTrap::ReadOnly);
-        }
+        let element = writable_at(&self.extents, at)?;
         self.cells[element as usize] = Some(v);
         Ok(element)
     }
@@ -142,7 +139,7 @@ impl Objects {
         ensures element { result ≡ element_of self.now at }
         ensures laid_out { IsLaidOut self.now }
     {
-        extent_of(&self.extents, at.object)?.element(at.offset)
+        element_at(&self.extents, at)
     }
 
     /// The pointer that lies `by` elements further on.
@@ -150,11 +147,7 @@ impl Objects {
         ensures pointer { result ≡ shift_of self.now at by }
         ensures laid_out { IsLaidOut self.now }
     {
-        let extent = extent_of(&self.extents, at.object)?;
-        let offset = extent
-            .shifted(at.offset, by)
-            .ok_or(MemTrap::PointerRange)?;
-        Ok(Pointer { object: at.object, offset })
+        shifted(&self.extents, at, by)
     }
 
     /// How many elements `a` lies after `b` in their object.
@@ -162,12 +155,7 @@ impl Objects {
         ensures difference { result ≡ order_of self.now a b }
         ensures laid_out { IsLaidOut self.now }
     {
-        extent_of(&self.extents, a.object)?;
-        extent_of(&self.extents, b.object)?;
-        if a.object != b.object {
-            return Err(MemTrap::PointerOrder);
-        }
-        Ok(i128::from(a.offset) - i128::from(b.offset))
+        order_among(&self.extents, a, b)
     }
 
     /// Whether the two pointers are equal.
@@ -175,8 +163,6 @@ impl Objects {
         ensures same { result ≡ same_of self.now a b }
         ensures laid_out { IsLaidOut self.now }
     {
-        extent_of(&self.extents, a.object)?;
-        extent_of(&self.extents, b.object)?;
-        Ok(a == b)
+        same_among(&self.extents, a, b)
     }
 }
