@@ -16,6 +16,10 @@ object_in cells e = record { number = e.number; first = e.first; writable = e.wr
 abbrev pub objects_in : List Extent → List (Option ℤ) → List Object
 objects_in extents cells = map (object_in cells) extents
 
+-- the memory that they are seen as
+abbrev pub memory_in : List Extent → List (Option ℤ) → ℕ → Memory
+memory_in extents cells made = record { live = objects_in extents cells; made = made }
+
 -- the extents fill the cells from `start` to `end`, one after another
 abbrev pub Fill : ℕ → List Extent → ℕ → Type 0
 Fill start [] end = start ≡ end

@@ -32,11 +32,11 @@ pub struct Objects {
 impl Model for Objects {
     ghost use Rattle.k_mem.specs.Memory.{Memory};
     ghost use Rattle.std.specs.Prelude.{length};
-    ghost use Rattle.k_mem.specs.Layout.{objects_in, AreKept};
+    ghost use Rattle.k_mem.specs.Layout.{memory_in, AreKept};
 
     ghost Value = { Memory };
 
-    ghost view = { λ s. record { live = objects_in s.extents.items s.cells.items; made = s.made } };
+    ghost view = { λ s. memory_in s.extents.items s.cells.items s.made };
 
     ghost invariant = { λ s. AreKept s.extents.items (length s.cells.items) s.made };
 }
