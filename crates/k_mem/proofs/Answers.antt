@@ -22,7 +22,7 @@ where_kept (e ∷ extents) cells start made number answer answer' fill same =
     let end = length cells in
     let within : e.first + e.length ≤ length cells = omega (arith, fill.0, fill_le extents (start + e.length) (length cells) fill.1) in
     elim (eqb e.number number) as (λ b. where_live (cond b (Some (object_in cells e)) (object_of (memory_in extents cells made) number)) answer
-          ≡ where_live (cond b (Some e) (extent_with extents number)) answer') [
+    ≡ where_live (cond b (Some e) (extent_with extents number)) answer') [
       | true ↦ same e within
       | false ↦ where_kept extents cells (start + e.length) made number answer answer' fill.1 same
     ]
@@ -54,9 +54,9 @@ read_kept : (cells : List (Option ℤ)) (e : Extent) (offset : ℕ) → e.first 
     → slice_get (take e.length (drop e.first cells)) offset ≡ cell_read cells e offset
 unfolding cell_read
 read_kept cells e offset within = elim (leb_tells (suc offset) e.length) [
-    | inl below ↦ rw below.0 (element_kept cells e offset within below.1)
-    | inr past ↦ rw past.0 (slice_get_past (take e.length (drop e.first cells)) offset (omega (arith, length_kept cells e within, past.1)))
-  ]
+  | inl below ↦ rw below.0 (element_kept cells e offset within below.1)
+  | inr past ↦ rw past.0 (slice_get_past (take e.length (drop e.first cells)) offset (omega (arith, length_kept cells e within, past.1)))
+]
 
 -- what a load answers, by what the element's number and its cell are
 read_at : (cells : List (Option ℤ)) (e : Option Extent) (offset element : ℕ) (cell : Option ℤ)
@@ -65,9 +65,9 @@ read_at : (cells : List (Option ℤ)) (e : Option Extent) (offset element : ℕ)
 unfolding cell_read
 read_at cells None offset element cell answer read = cc
 read_at cells (Some e) offset element cell answer read = elim (leb_tells (suc offset) e.length) [
-    | inl below ↦ grind arith
-    | inr past ↦ grind arith
-  ]
+  | inl below ↦ grind arith
+  | inr past ↦ grind arith
+]
 
 refused_at : (cells : List (Option ℤ)) (e : Option Extent) (offset : ℕ) (trap : MemTrap)
     → where_live e (λ e. where_within e.length offset (Ok (e.first + offset))) ≡ Err trap
@@ -75,9 +75,9 @@ refused_at : (cells : List (Option ℤ)) (e : Option Extent) (offset : ℕ) (tra
 unfolding cell_read
 refused_at cells None offset trap answer = cc
 refused_at cells (Some e) offset trap answer = elim (leb_tells (suc offset) e.length) [
-    | inl below ↦ grind arith
-    | inr past ↦ grind arith
-  ]
+  | inl below ↦ grind arith
+  | inr past ↦ grind arith
+]
 
 -- an element that is answered is one of the extents' cells
 element_below : (extents : List Extent) (start end object offset element : ℕ) → Fill start extents end
@@ -87,7 +87,7 @@ element_below (e ∷ extents) start end object offset element fill answer =
     let rest = element_below extents (start + e.length) end object offset element fill.1 in
     let le = fill_le extents (start + e.length) end fill.1 in
     let here : where_within e.length offset (Ok (e.first + offset)) ≡ Ok element → element < end =
-        λ at. elim (leb_tells (suc offset) e.length) [ inl below ↦ grind arith | inr past ↦ grind arith ] in
+    λ at. elim (leb_tells (suc offset) e.length) [ inl below ↦ grind arith | inr past ↦ grind arith ] in
     (elim (eqb e.number object) as (λ b. where_live (cond b (Some e) (extent_with extents object)) (λ e. where_within e.length offset (Ok (e.first + offset))) ≡ Ok element → element < end) [
       | true ↦ here
       | false ↦ rest

@@ -1,13 +1,15 @@
 -- What the extents and cells are seen as, with an object more, and with the newest objects gone.
-use Rattle.std.proofs.Common.{◌≡◌, ℕ, zero, suc, pos, ◌+◌, ◌-◌, ◌^◌, ◌<◌, ◌≤◌, List, [], ◌∷◌, ◌++◌, length, take, drop, map, replicate, slice_get, Option, Some, None, ℤ, arith, refl, ap, sym, subst, ◌∙◌}
+use Rattle.std.proofs.Common.{◌≡◌, ℕ, zero, suc, pos, ◌+◌, ◌-◌, ◌^◌, ◌<◌, ◌≤◌, List, [], ◌∷◌, ◌++◌, length, take, drop, map, replicate, slice_get, Option, Some, None, ℤ, Bool, true, false, cond, arith, refl, inl, inr, ap, sym, subst, ◌∙◌}
 use Rattle.std.proofs.lemmas.List.{length-take-le, drop-take, take-take, take-map, take-append-le, drop-append-le, length-drop, length-append, map-append, length-replicate, length-map}
 use Rattle.std.proofs.Math.Seq.{take-length, drop-append_seam}
+use Rattle.std.proofs.lemmas.Bool.{true≢false}
+use Rattle.std.proofs.lemmas.Bool.Decides.{leb_tells}
 use Rattle.k_mem.specs.declared.extent.Extent.{Extent}
 use Rattle.k_mem.specs.declared.start.Start.{Start}
 use Rattle.k_mem.specs.declared.start.Start.TheVariants.{Unset, Zero, Literal}
 use Rattle.k_mem.specs.Memory.{Object, Memory, live_elements}
-use Rattle.k_mem.specs.Calls.{HasLength, elements_at, is_writable, next_object, popped}
-use Rattle.k_mem.specs.Layout.{object_in, objects_in, memory_in, Fill, Ascend, AreKept}
+use Rattle.k_mem.specs.Calls.{HasLength, elements_at, is_writable, next_object, is_over_limit, push_of, popped}
+use Rattle.k_mem.specs.Layout.{object_in, objects_in, memory_in, extent_made, Fill, Ascend, AreKept}
 use Rattle.k_mem.proofs.Extents.{fill_le}
 use Rattle.k_mem.proofs.Views.{live_kept}
 
@@ -93,6 +95,15 @@ ascend_more : (extents : List Extent) (low made : ℕ) (e : Extent) → Ascend l
 ascend_more [] low made e ascend number = (omega (arith, ascend, number), omega (arith, number))
 ascend_more (x ∷ extents) low made e ascend number = (ascend.0, ascend_more extents (x.number + 1) made e ascend.1 number)
 
+within_limits : (live n made : ℕ) → is_over_limit live n made ≡ false → (live + n ≤ 4194304) × (made < 2 ^ 62)
+within_limits live n made within = elim (leb_tells (suc 4194304) (live + n)) [
+  | inl over ↦ absurd (true≢false (sym (rw over.0 refl) ∙ within))
+  | inr few ↦ elim (leb_tells (2 ^ 62) made) [
+    | inl over ↦ absurd (true≢false (sym (rw (few.0, over.0) refl) ∙ within))
+    | inr some ↦ (omega (arith, few.1), some.1)
+  ]
+]
+
 -- a new object has as many elements as it was asked for
 pub length_made : (start : Start) (n : ℕ) → HasLength start n → length (elements_at start n) ≡ n
 length_made Unset n has = length-replicate n None
@@ -102,17 +113,19 @@ length_made (Literal bytes) n has = length-map bytes.now _ ∙ has
 module _ (extents : List Extent) (cells : List (Option ℤ)) (made : ℕ) (kept : AreKept extents (length cells) made) (start : Start) (n : ℕ)
     (has : HasLength start n) where
   -- the extent of the new object
-  abbrev pub next_extent : Extent
-  next_extent = record { number = made; first = length cells; length = n; writable = is_writable start }
+  abbrev next_extent : Extent
+  next_extent = extent_made start n made (length cells)
 
-  pub kept_more : length cells + n ≤ 4194304 → made < 2 ^ 62 → AreKept (extents ++ next_extent ∷ []) (length (cells ++ elements_at start n)) (made + 1)
-  kept_more few_elements few_objects =
+  pub kept_more : is_over_limit (length cells) n made ≡ false
+      → AreKept (extents ++ extent_made start n made (length cells) ∷ []) (length (cells ++ elements_at start n)) (made + 1)
+  kept_more within =
+      let few : (length cells + n ≤ 4194304) × (made < 2 ^ 62) = within_limits (length cells) n made within in
       let len : length (cells ++ elements_at start n) ≡ length cells + n = omega (arith, length-append cells (elements_at start n), length_made start n has) in
       rw len (record {
         fill = fill_more extents 0 (length cells) next_extent kept.fill refl;
         ascend = ascend_more extents 0 made next_extent kept.ascend refl;
-        few_elements = few_elements;
-        few_objects = omega arith;
+        few_elements = few.0;
+        few_objects = omega (arith, few.1);
       })
 
   new_elements : take n (drop (length cells) (cells ++ elements_at start n)) ≡ elements_at start n
@@ -120,17 +133,37 @@ module _ (extents : List Extent) (cells : List (Option ℤ)) (made : ℕ) (kept 
       ap (take n) (drop-append_seam cells (elements_at start n))
       ∙ ap (λ (k : ℕ). take k (elements_at start n)) (sym (length_made start n has)) ∙ take-length (elements_at start n)
 
-  pub memory_more : memory_in (extents ++ next_extent ∷ []) (cells ++ elements_at start n) (made + 1)
+  memory_more : memory_in (extents ++ next_extent ∷ []) (cells ++ elements_at start n) (made + 1)
       ≡ record { live = objects_in extents cells ++ next_object (memory_in extents cells made) start n ∷ []; made = made + 1 }
   unfolding with_elements
   memory_more =
       let old = same_objects extents (cells ++ elements_at start n) cells 0 (length cells) kept.fill (elements_grown cells (elements_at start n)) in
       let first : length cells ≡ live_elements (memory_in extents cells made) = sym (live_kept extents cells made kept) in
       let new : object_in (cells ++ elements_at start n) next_extent ≡ next_object (memory_in extents cells made) start n =
-          ap (with_elements next_extent) new_elements
-          ∙ ap (λ (k : ℕ). let o : Object = record { number = made; first = k; writable = is_writable start; elements = elements_at start n } in o) first in
+      ap (with_elements next_extent) new_elements
+      ∙ ap (λ (k : ℕ). let o : Object = record { number = made; first = k; writable = is_writable start; elements = elements_at start n } in o) first in
       ap (λ (live : List Object). let m : Memory = record { live = live; made = made + 1 } in m)
       (map-append (object_in (cells ++ elements_at start n)) extents (next_extent ∷ []) ∙ joined old new)
     where
       joined : {xs ys : List Object} {x y : Object} → xs ≡ ys → x ≡ y → xs ++ x ∷ [] ≡ ys ++ y ∷ []
       joined p q = cc
+
+  -- the memory that the push is to make
+  pub memory_pushed : is_over_limit (length cells) n made ≡ false → push_of (memory_in extents cells made) start n
+      ≡ Some (memory_in (extents ++ extent_made start n made (length cells) ∷ []) (cells ++ elements_at start n) (made + 1))
+  memory_pushed within =
+      let unlimited : is_over_limit (live_elements (memory_in extents cells made)) n made ≡ false =
+      ap (λ (k : ℕ). is_over_limit k n made) (live_kept extents cells made kept) ∙ within in
+      let next : Memory = record { live = objects_in extents cells ++ next_object (memory_in extents cells made) start n ∷ []; made = made + 1 } in
+      ap (λ (b : Bool). cond b None (Some next)) unlimited ∙ ap Some (sym memory_more)
+
+  pub memory_refused : is_over_limit (length cells) n made ≡ true → push_of (memory_in extents cells made) start n ≡ None
+  memory_refused over = rw (live_kept extents cells made kept, over) refl
+
+  -- so it isn't refused
+  pub never_refused : (m : Memory) → memory_in extents cells made ≡ m → is_over_limit (length cells) n made ≡ false → push_of m start n ≡ None → ⊥
+  never_refused m seen within refused =
+      none_some (ap (λ (of : Memory). push_of of start n) seen ∙ refused) (memory_pushed within)
+    where
+      none_some : {o : Option Memory} {x : Memory} → o ≡ None → o ≡ Some x → ⊥
+      none_some none some = cc

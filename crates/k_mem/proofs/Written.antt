@@ -87,27 +87,27 @@ store_seen : (extents : List Extent) (cells : List (Option ℤ)) (start end low 
 unfolding written
 store_seen [] cells start end low made object offset element v fill ascend answer = absurd (cc)
 store_seen (e ∷ extents) cells start end low made object offset element v fill ascend answer = elim (eqb_tells e.number object) [
-    | inl same ↦
-        let here = answered e.writable e.length offset (e.first + offset) element (rw same.0 at answer) in
-        let le = fill_le extents (start + e.length) end fill.1 in
-        let head : object_in (set cells element (Some v)) e ≡ written object offset v (object_in cells e) =
-            rw (← here.1, same.0) (in_object cells e offset v here.0) in
-        let tail = behind extents cells (start + e.length) end element (Some v) fill.1 (omega (arith, here.0, here.1, fill.0)) in
-        record {
-          behind_start = omega (arith, here.1, fill.0);
-          before_end = omega (arith, here.0, here.1, fill.0, le);
-          seen = cons_eq _ _ _ _ head (tail ∙ sym (greater extents cells (e.number + 1) made object offset v ascend.1 (omega (arith, same.1))));
-        }
-    | inr other ↦
-        let rest = store_seen extents cells (start + e.length) end (e.number + 1) made object offset element v fill.1 ascend.1 (rw other.0 at answer) in
-        let head : object_in (set cells element (Some v)) e ≡ written object offset v (object_in cells e) =
-            rw other.0 (later_object cells e element (Some v) (omega (arith, rest.behind_start, fill.0))) in
-        record {
-          behind_start = omega (arith, rest.behind_start);
-          before_end = rest.before_end;
-          seen = cons_eq _ _ _ _ head rest.seen;
-        }
-  ]
+  | inl same ↦
+      let here = answered e.writable e.length offset (e.first + offset) element (rw same.0 at answer) in
+      let le = fill_le extents (start + e.length) end fill.1 in
+      let head : object_in (set cells element (Some v)) e ≡ written object offset v (object_in cells e) =
+      rw (← here.1, same.0) (in_object cells e offset v here.0) in
+      let tail = behind extents cells (start + e.length) end element (Some v) fill.1 (omega (arith, here.0, here.1, fill.0)) in
+      record {
+        behind_start = omega (arith, here.1, fill.0);
+        before_end = omega (arith, here.0, here.1, fill.0, le);
+        seen = cons_eq _ _ _ _ head (tail ∙ sym (greater extents cells (e.number + 1) made object offset v ascend.1 (omega (arith, same.1))));
+      }
+  | inr other ↦
+      let rest = store_seen extents cells (start + e.length) end (e.number + 1) made object offset element v fill.1 ascend.1 (rw other.0 at answer) in
+      let head : object_in (set cells element (Some v)) e ≡ written object offset v (object_in cells e) =
+      rw other.0 (later_object cells e element (Some v) (omega (arith, rest.behind_start, fill.0))) in
+      record {
+        behind_start = omega (arith, rest.behind_start);
+        before_end = rest.before_end;
+        seen = cons_eq _ _ _ _ head rest.seen;
+      }
+]
 
 module _ (extents : List Extent) (cells : List (Option ℤ)) (made : ℕ) (kept : AreKept extents (length cells) made) (at : Pointer) (element : ℕ)
     (answer : store_among extents at ≡ Ok element) where

@@ -98,13 +98,13 @@ HasLength (Literal bytes) n = length bytes.now ≡ n
 abbrev pub next_object : Memory → Start → ℕ → Object
 next_object m start n = record { number = m.made; first = live_elements m; writable = is_writable start; elements = elements_at start n }
 
--- whether n more elements would be too many, or as many objects were made as there are numbers for
-abbrev pub is_over_limit : Memory → ℕ → Bool
-is_over_limit m n = nat_lt 4194304 (live_elements m + n) || nat_le (2 ^ 62) m.made
+-- whether n elements beside the live ones are too many, or as many objects were made as there are numbers for
+abbrev pub is_over_limit : ℕ → ℕ → ℕ → Bool
+is_over_limit live n made = nat_lt 4194304 (live + n) || nat_le (2 ^ 62) made
 
 -- the memory with a new object of n elements; None past the limit
 abbrev pub push_of : Memory → Start → ℕ → Option Memory
-push_of m start n = if is_over_limit m n then None else Some (record { live = m.live ++ next_object m start n ∷ []; made = m.made + 1 })
+push_of m start n = if is_over_limit (live_elements m) n m.made then None else Some (record { live = m.live ++ next_object m start n ∷ []; made = m.made + 1 })
 
 -- the memory with the oldest objects alone
 abbrev pub popped : Memory → ℕ → Memory

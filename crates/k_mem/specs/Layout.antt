@@ -5,8 +5,9 @@ use Rattle.k_mem.specs.declared.extent.Extent.{Extent}
 use Rattle.k_mem.specs.declared.fault.MemTrap.{MemTrap}
 use Rattle.k_mem.specs.declared.fault.MemTrap.TheVariants.{ReadOnly}
 use Rattle.k_mem.specs.declared.pointer.Pointer.{Pointer}
+use Rattle.k_mem.specs.declared.start.Start.{Start}
 use Rattle.k_mem.specs.Memory.{Object, Memory}
-use Rattle.k_mem.specs.Calls.{where_live, where_within, pointer_to, offset_within}
+use Rattle.k_mem.specs.Calls.{is_writable, where_live, where_within, pointer_to, offset_within}
 
 -- the object whose elements are those cells
 abbrev pub object_in : List (Option ℤ) → Extent → Object
@@ -15,6 +16,10 @@ object_in cells e = record { number = e.number; first = e.first; writable = e.wr
 -- the objects of these extents
 abbrev pub objects_in : List Extent → List (Option ℤ) → List Object
 objects_in extents cells = map (object_in cells) extents
+
+-- the extent of an object of that number whose n elements are the cells from `first` on
+abbrev pub extent_made : Start → ℕ → ℕ → ℕ → Extent
+extent_made start n number first = record { number = number; first = first; length = n; writable = is_writable start }
 
 -- the memory that they are seen as
 abbrev pub memory_in : List Extent → List (Option ℤ) → ℕ → Memory

@@ -1,7 +1,8 @@
 //! The objects of a running program.
-ghost use Rattle.std.specs.Prelude.{◌≡◌, ◌+◌, ◌≤◌, [], length, IfOk, OnOk, OnErr, ◌↔◌, None, Some};
+ghost use Rattle.std.specs.Prelude.{◌≡◌, ◌+◌, ◌^◌, ◌<◌, ◌≤◌, [], ◌∷◌, ◌++◌, length, vec_len, IfOk, OnOk, OnErr, ◌↔◌, None, Some};
 ghost use Rattle.k_mem.specs.Memory.{IsLaidOut, live_elements};
-ghost use Rattle.k_mem.specs.Calls.{HasLength, push_of, popped, load_of, store_of, stored, element_of, shift_of, order_of, same_of};
+ghost use Rattle.k_mem.specs.Layout.{extent_made};
+ghost use Rattle.k_mem.specs.Calls.{HasLength, elements_at, is_over_limit, push_of, popped, load_of, store_of, stored, element_of, shift_of, order_of, same_of};
 
 use crate::cells::{append_elements, cell_at};
 use crate::extent::{Extent, element_at, extent_at, order_among, same_among, shifted, writable_at};
@@ -63,19 +64,11 @@ impl Objects {
         ensures err { OnErr result (self.new ≡ self.old) }
         ensures laid_out { IsLaidOut self.new }
     {
-        let first = self.cells.len();
-        if elements as usize > ELEMENT_LIMIT - first || self.made >= OBJECT_LIMIT {
+        if is_over_limit(self.cells.len(), elements, self.made) {
             return Err(PushFault::MemoryLimit);
         }
-        self.extents.reserve(1).map_err(NoMemory::from)?;
-        append_elements(&mut self.cells, elements, start)?;
         let number = self.made;
-        self.extents.push_reserved(Extent {
-            number,
-            first: first as u32,
-            length: elements,
-            writable: !matches!(start, Start::Literal(_)),
-        });
+        append_object(&mut self.extents, &mut self.cells, number, elements, start)?;
         self.made += 1;
         Ok(number)
     }
@@ -165,4 +158,40 @@ impl Objects {
     {
         same_among(&self.extents, a, b)
     }
+}
+
+/// Whether so many elements more would be too many, or no number is left for another object.
+fn is_over_limit(live: usize, elements: u32, made: u64) -> bool
+    requires { live < 2 ^ 63 }
+    ensures { result ≡ is_over_limit live elements made }
+{
+    live + elements as usize > ELEMENT_LIMIT || made >= OBJECT_LIMIT
+}
+
+/// Adds an object behind the others. A refusal leaves extents and cells as they were.
+fn append_object(
+    extents: &mut Vec<Extent>,
+    cells: &mut Vec<Option<i128>>,
+    number: u64,
+    elements: u32,
+    start: Start<'_>,
+) -> Result<(), NoMemory>
+    requires literal { HasLength start elements }
+    requires room { vec_len cells.old < 2 ^ 32 }
+    ensures extents { OnOk result (extents.new.items ≡ extents.old.items ++ extent_made start.entry elements number (length cells.old.items) ∷ []) }
+    ensures cells { OnOk result (cells.new.items ≡ cells.old.items ++ elements_at start.entry elements) }
+    ensures extents_stay { OnErr result (extents.new.items ≡ extents.old.items) }
+    ensures cells_stay { OnErr result (cells.new.items ≡ cells.old.items) }
+{
+    let first = cells.len() as u32;
+    let writable = start.is_writable();
+    extents.reserve(1)?;
+    append_elements(cells, elements, start)?;
+    extents.push_reserved(Extent {
+        number,
+        first,
+        length: elements,
+        writable,
+    });
+    Ok(())
 }

@@ -1,4 +1,5 @@
 //! What an object holds when it is made.
+ghost use Rattle.std.specs.Prelude.{◌≡◌};
 
 /// What an object holds when it is made.
 #[derive(Clone, Copy, Debug, PartialEq, Eq)]
@@ -9,4 +10,18 @@ pub enum Start<'a> {
     Zero,
     /// The elements are these bytes as signed 8-bit numbers, and can't be written.
     Literal(&'a [u8]),
+}
+
+impl Start<'_> {
+    ghost use Rattle.k_mem.specs.Calls.{is_writable};
+
+    /// Whether the object may be written.
+    pub(crate) fn is_writable(self) -> bool
+        ensures { result ≡ is_writable self.entry }
+    {
+        match self {
+            Start::Unset | Start::Zero => true,
+            Start::Literal(_) => false,
+        }
+    }
 }
