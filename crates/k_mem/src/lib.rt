@@ -8,6 +8,8 @@ mod fault;
 mod objects;
 mod pointer;
 mod start;
+#[cfg(test)]
+mod tests;
 
 pub use fault::{MemTrap, PushFault};
 pub use objects::Objects;
