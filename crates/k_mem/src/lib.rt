@@ -5,6 +5,7 @@
 mod cells;
 mod extent;
 mod fault;
+pub mod laws;
 mod objects;
 mod pointer;
 mod start;
