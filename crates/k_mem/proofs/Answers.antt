@@ -1,14 +1,14 @@
 -- What the calls answer is what they answer by the extents alone.
-use Rattle.std.proofs.Common.{◌≡◌, ℕ, suc, ◌+◌, ◌<◌, ◌≤◌, Bool, true, false, cond, eqb, ltb, List, [], ◌∷◌, length, take, drop, Option, Some, None, Result, Ok, Err, ℤ, pos, ◌+ℤ◌, slice_get, arith, refl, ap, sym, inl, inr, ◌∙◌}
+use Rattle.std.proofs.Common.{◌≡◌, ℕ, suc, ◌+◌, ◌<◌, ◌≤◌, true, false, cond, eqb, ltb, List, [], ◌∷◌, length, take, drop, Option, Some, None, Result, Ok, Err, ℤ, pos, ◌+ℤ◌, slice_get, arith, refl, ap, inl, inr, ◌∙◌}
 use Rattle.std.proofs.lemmas.Bool.Decides.{leb_tells}
 use Rattle.std.proofs.lemmas.Option.{slice_get_past}
 use Rattle.k_mem.specs.declared.extent.Extent.{Extent}
 use Rattle.k_mem.specs.declared.fault.MemTrap.{MemTrap}
 use Rattle.k_mem.specs.declared.fault.MemTrap.TheVariants.{ReadOnly}
 use Rattle.k_mem.specs.declared.pointer.Pointer.{Pointer}
-use Rattle.k_mem.specs.Memory.{Object, Memory, object_of}
+use Rattle.k_mem.specs.Memory.{Object, object_of}
 use Rattle.k_mem.specs.Calls.{where_live, where_within, where_both_live, element_of, store_of, shift_of, load_of, value_read, pointer_to, offset_within}
-use Rattle.k_mem.specs.Layout.{object_in, objects_in, memory_in, Fill, extent_with, element_among, store_among, shift_among}
+use Rattle.k_mem.specs.Layout.{object_in, memory_in, Fill, extent_with, element_among, store_among, shift_among}
 use Rattle.k_mem.proofs.Extents.{fill_le}
 use Rattle.k_mem.proofs.Views.{length_kept, element_kept}
 

@@ -1,12 +1,11 @@
 -- What a search by number finds among extents.
-use Rattle.std.proofs.Common.{◌≡◌, ◌≢◌, ℕ, zero, suc, ◌+◌, ◌<◌, ◌≤◌, List, [], ◌∷◌, length, get_or, Some, None, Result, Ok, Err, arith, refl, ap, sym, ◌∙◌, subst}
+use Rattle.std.proofs.Common.{◌≡◌, ◌≢◌, ℕ, zero, suc, ◌+◌, ◌<◌, ◌≤◌, List, [], ◌∷◌, length, get_or, Some, None, arith, refl}
 use Rattle.std.specs.List.Sorted.{IsNonDecreasingBy, IsPartitionPoint}
 use Rattle.std.specs.Ordering.{nat_cmp, ordering_index}
-use Rattle.std.specs.declared.cmp.Ordering.TheVariants.{Less, Equal, Greater}
+use Rattle.std.specs.declared.cmp.Ordering.TheVariants.{Less, Greater}
 use Rattle.std.proofs.lemmas.Bool.Decides.{nat_tests}
-use Rattle.std.proofs.lemmas.Cmp.{ranked}
 use Rattle.k_mem.specs.declared.extent.Extent.{Extent}
-use Rattle.k_mem.specs.Layout.{Fill, Ascend, AreKept, AreExtents, extent_with}
+use Rattle.k_mem.specs.Layout.{Fill, Ascend, extent_with}
 
 -- what fills from `start` to `end` doesn't end before it starts
 pub fill_le : (extents : List Extent) (start end : ℕ) → Fill start extents end → start ≤ end

@@ -1,5 +1,5 @@
 -- What a write to a cell is seen as.
-use Rattle.std.proofs.Common.{◌≡◌, ℕ, suc, pos, subst, ◌+◌, ◌-◌, ◌<◌, ◌≤◌, Bool, true, false, cond, eqb, List, [], ◌∷◌, length, take, drop, set, map, Option, Some, None, Result, Ok, Err, ℤ, arith, refl, ap, sym, inl, inr, ◌∙◌}
+use Rattle.std.proofs.Common.{◌≡◌, ℕ, suc, pos, subst, ◌+◌, ◌-◌, ◌<◌, ◌≤◌, Bool, true, false, cond, eqb, List, [], ◌∷◌, length, take, drop, set, map, Option, Some, Result, Ok, Err, ℤ, arith, refl, ap, sym, inl, inr, ◌∙◌}
 use Rattle.std.proofs.lemmas.Bool.Decides.{leb_tells, eqb_tells}
 use Rattle.std.proofs.lemmas.List.{drop-set-lt, drop-set-add, take-set-le}
 use Rattle.std.proofs.Math.Seq.{take-set-lt}

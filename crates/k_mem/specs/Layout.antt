@@ -1,6 +1,6 @@
 -- How the objects are kept: the elements of all live objects in one list of cells, and for each object where
 -- its own begin and how many they are.
-use Rattle.std.specs.Prelude.{ℕ, ◌≡◌, ◌+◌, ◌^◌, ◌≤◌, ◌==◌, if◌then◌else◌, List, [], ◌∷◌, length, take, drop, map, find, Option, Result, Ok, Err, ℤ, pos, ◌+ℤ◌}
+use Rattle.std.specs.Prelude.{ℕ, ◌≡◌, ◌+◌, ◌^◌, ◌≤◌, ◌==◌, if◌then◌else◌, List, [], ◌∷◌, take, drop, map, find, Option, Result, Ok, Err, ℤ, pos, ◌+ℤ◌}
 use Rattle.k_mem.specs.declared.extent.Extent.{Extent}
 use Rattle.k_mem.specs.declared.fault.MemTrap.{MemTrap}
 use Rattle.k_mem.specs.declared.fault.MemTrap.TheVariants.{ReadOnly}

@@ -1,5 +1,5 @@
 -- Proofs of the laws, for the proofs of those who rest on them.
-use Rattle.std.proofs.Common.{ℕ, zero, suc, ◌≡◌, ◌≢◌, ◌+◌, ◌<◌, ◌≤◌, ◌⊎◌, Bool, true, false, cond, List, [], ◌∷◌, ◌++◌, length, take, map, slice_get, sum_by, Option, Some, None, Result, Ok, Err, ℤ, refl, arith, sym, ap, inl, inr, ◌∙◌, eqb, set, get_or}
+use Rattle.std.proofs.Common.{ℕ, zero, suc, ◌≡◌, ◌≢◌, ◌+◌, ◌<◌, ◌≤◌, ◌⊎◌, Bool, true, false, cond, List, [], ◌∷◌, ◌++◌, length, take, map, slice_get, sum_by, Option, Some, None, Result, Ok, Err, ℤ, refl, arith, sym, ap, inl, inr, ◌∙◌, eqb, set}
 use Rattle.std.specs.List.{find}
 use Rattle.std.proofs.Math.ListN.{length-set}
 use Rattle.std.proofs.lemmas.Bool.{cases_lt}
@@ -9,10 +9,9 @@ use Rattle.std.proofs.lemmas.List.Sums.{sum_by-cons}
 use Rattle.std.proofs.lemmas.Option.{slice_get-get_or, slice_get_past}
 use Rattle.k_mem.specs.declared.fault.MemTrap.{MemTrap}
 use Rattle.k_mem.specs.declared.fault.MemTrap.TheVariants.{ReadOnly}
-use Rattle.k_mem.specs.declared.pointer.Pointer.{Pointer}
 use Rattle.k_mem.specs.declared.start.Start.{Start}
-use Rattle.k_mem.specs.Memory.{Object, Memory, object_of, live_elements, FollowOn, Rise, IsLaidOut}
-use Rattle.k_mem.specs.Calls.{where_live, where_within, element_of, store_of, load_of, value_read, with_value, stored, next_object, is_over_limit, push_of, popped}
+use Rattle.k_mem.specs.Memory.{Object, Memory, live_elements, FollowOn, Rise}
+use Rattle.k_mem.specs.Calls.{where_live, where_within, value_read, with_value, next_object, is_over_limit, push_of}
 use Rattle.k_mem.specs.Laws.{ElementsAreLive, ElementsDiffer, KeepsOverPush, KeepsOverStore, KeepsOverPop, LoadsLastStored, LoadsOthersAsBefore, DeadForGood, MakesNext}
 
 abbrev with_number : List Object → ℕ → Option Object

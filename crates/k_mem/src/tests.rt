@@ -56,9 +56,14 @@ fn loads_and_stores(rt: HostRuntime) -> Result<(), Fail> {
     ] {
         assert_eq!(rt; objects.load(pointer), want, "at {pointer:?}");
     }
-    assert_eq!(rt; objects.element(at(1, 1)), Ok(4));
-    assert_eq!(rt; objects.element(at(1, 4)), Err(MemTrap::OutOfBounds));
-    assert_eq!(rt; objects.element(at(2, 9)), Err(MemTrap::Dangling));
+    for (pointer, want) in [
+        (at(0, 1), Ok(1)),
+        (at(1, 1), Ok(4)),
+        (at(1, 4), Err(MemTrap::OutOfBounds)),
+        (at(2, 9), Err(MemTrap::Dangling)),
+    ] {
+        assert_eq!(rt; objects.element(pointer), want, "at {pointer:?}");
+    }
     Ok(())
 }
 
@@ -105,27 +110,31 @@ fn pointers(rt: HostRuntime) -> Result<(), Fail> {
 #[test]
 fn limit(rt: HostRuntime) -> Result<(), Fail> {
     let mut objects = Objects::new(rt.alloc());
-    assert_eq!(rt;
-        objects.push_object(4_194_305, Start::Zero),
-        Err(PushFault::MemoryLimit)
-    );
-    assert_eq!(rt; objects.push_object(4_194_303, Start::Zero)?, 0);
-    assert_eq!(rt;
-        objects.push_object(2, Start::Unset),
-        Err(PushFault::MemoryLimit)
-    );
-    assert_eq!(rt; objects.push_object(1, Start::Unset)?, 1);
-    assert_eq!(rt;
-        objects.push_object(1, Start::Unset),
-        Err(PushFault::MemoryLimit)
-    );
-    assert_eq!(rt; objects.push_object(0, Start::Unset)?, 2);
+    for (elements, want) in [
+        (4_194_305, Err(PushFault::MemoryLimit)),
+        (4_194_303, Ok(0)),
+        (2, Err(PushFault::MemoryLimit)),
+        (1, Ok(1)),
+        (1, Err(PushFault::MemoryLimit)),
+        (0, Ok(2)),
+    ] {
+        assert_eq!(rt;
+            objects.push_object(elements, Start::Zero),
+            want,
+            "of {elements}"
+        );
+    }
     assert_eq!(rt; objects.live_elements(), 4_194_304);
     assert!(rt; objects.live_objects() >= 1);
     objects.pop_objects(1);
-    assert_eq!(rt; objects.store(at(0, 4_194_302), 1), Ok(4_194_302));
-    assert_eq!(rt; objects.element(at(1, 0)), Err(MemTrap::Dangling));
-    assert_eq!(rt; objects.push_object(1, Start::Zero)?, 3);
-    assert_eq!(rt; objects.load(at(3, 0)), Ok((0, 4_194_303)));
+    assert_eq!(rt; objects.live_elements(), 4_194_303);
+    assert_eq!(rt; objects.push_object(1, Start::Unset), Ok(3));
+    for (pointer, want) in [
+        (at(0, 4_194_302), Ok(4_194_302)),
+        (at(1, 0), Err(MemTrap::Dangling)),
+        (at(3, 0), Ok(4_194_303)),
+    ] {
+        assert_eq!(rt; objects.element(pointer), want, "at {pointer:?}");
+    }
     Ok(())
 }

@@ -1,4 +1,4 @@
-use Rattle.std.proofs.Common.{◌≡◌, Some, slice_get, sym}
+use Rattle.std.proofs.Common.{◌≡◌, Some, slice_get}
 use Rattle.k_mem.proofs.Grown.{kept_cut, memory_cut}
 use Rattle.k_mem.proofs.Views.{laid_out, laid_out_seen}
 use Rattle.k_mem.proofs.objects.Objects.pop_objects.Goals as goal

@@ -1,7 +1,6 @@
-use Rattle.std.proofs.Common.{◌≡◌, length, vec_len, true, false, Some, None, rules, refl}
+use Rattle.std.proofs.Common.{◌≡◌, length, vec_len, true, false, rules, refl}
 use Rattle.std.proofs.lemmas.Result.{err_from_is_err_and}
-use Rattle.k_mem.specs.Calls.{is_over_limit, push_of}
-use Rattle.k_mem.specs.Layout.{AreKept}
+use Rattle.k_mem.specs.Calls.{is_over_limit}
 use Rattle.k_mem.proofs.Grown.{kept_more, memory_pushed, memory_refused, never_refused}
 use Rattle.k_mem.proofs.Views.{laid_out, laid_out_seen}
 use Rattle.k_mem.proofs.objects.Objects.push_object.Goals as goal

@@ -1,10 +1,9 @@
-use Rattle.std.proofs.Common.{◌≡◌, length, vec_len, set, Ok, Err, FitsSigned, rules, sym, ap, ◌∙◌}
+use Rattle.std.proofs.Common.{◌≡◌, length, vec_len, set, Ok, Err, FitsSigned, rules, sym, ◌∙◌}
 use Rattle.std.specs.Int.{w128}
 use Rattle.std.proofs.Math.ListN.{length-set}
 use Rattle.std.proofs.lemmas.Int.{to_z-of_z}
 use Rattle.std.proofs.lemmas.Result.{err_from_is_err_and}
-use Rattle.k_mem.specs.Calls.{stored}
-use Rattle.k_mem.specs.Layout.{store_among, memory_in, AreKept}
+use Rattle.k_mem.specs.Layout.{store_among}
 use Rattle.k_mem.proofs.Answers.{store_answer}
 use Rattle.k_mem.proofs.Views.{laid_out, laid_out_seen}
 use Rattle.k_mem.proofs.Written.{written_within, memory_written}
