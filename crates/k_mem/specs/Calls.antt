@@ -19,20 +19,24 @@ where_within len offset answer = if nat_lt offset len then answer else Err OutOf
 
 -- the number of the element pointed to, set or unset
 abbrev pub element_of : Memory → Pointer → Result ℕ MemTrap
-element_of m at = where_live (object_of m at.object) (λ o. where_within (length o.elements) at.offset (Ok (o.first + at.offset)))
+element_of m at =
+    where_live (object_of m at.object) (λ o. where_within (length o.elements) at.offset (Ok (o.first + at.offset)))
 
--- a read of an element: its value and its number (C17 6.2.4p2, 6.7.9p10: an unset element has no value)
+-- what stands at an offset, read: the value and the element's number (C17 6.2.4p6, 6.7.9p10: an unset element has no value)
 abbrev pub value_read : Option (Option ℤ) → ℕ → Result (ℤ × ℕ) MemTrap
 value_read None element = Err OutOfBounds
 value_read (Some None) element = Err Uninit
 value_read (Some (Some v)) element = Ok (v, element)
 
+-- the value of the element pointed to, and its number
 abbrev pub load_of : Memory → Pointer → Result (ℤ × ℕ) MemTrap
-load_of m at = where_live (object_of m at.object) (λ o. value_read (slice_get o.elements at.offset) (o.first + at.offset))
+load_of m at =
+    where_live (object_of m at.object) (λ o. value_read (slice_get o.elements at.offset) (o.first + at.offset))
 
 -- a write answers the element's number (C17 6.4.5p7: a literal's object isn't written)
 abbrev pub store_of : Memory → Pointer → Result ℕ MemTrap
-store_of m at = where_live (object_of m at.object) (λ o. where_within (length o.elements) at.offset (if o.writable then Ok (o.first + at.offset) else Err ReadOnly))
+store_of m at = where_live (object_of m at.object) (λ o. where_within (length o.elements) at.offset
+    (if o.writable then Ok (o.first + at.offset) else Err ReadOnly))
 
 -- the object with that value in its element at that offset
 abbrev pub with_value : Object → ℕ → ℤ → Object
@@ -54,7 +58,8 @@ pointer_to object (Some offset) = Ok (record { object = object; offset = offset 
 
 -- a pointer and a number of elements (C17 6.5.6p8)
 abbrev pub shift_of : Memory → Pointer → ℤ → Result Pointer MemTrap
-shift_of m at by = where_live (object_of m at.object) (λ o. pointer_to at.object (offset_within (length o.elements) (pos at.offset +ℤ by)))
+shift_of m at by = where_live (object_of m at.object)
+    (λ o. pointer_to at.object (offset_within (length o.elements) (pos at.offset +ℤ by)))
 
 -- the answer of two live objects
 abbrev pub where_both_live : {O A : Type 0} → Option O → Option O → Result A MemTrap → Result A MemTrap
@@ -96,7 +101,12 @@ HasLength (Literal bytes) n = length bytes.now ≡ n
 
 -- the object that is made next
 abbrev pub next_object : Memory → Start → ℕ → Object
-next_object m start n = record { number = m.made; first = live_elements m; writable = is_writable start; elements = elements_at start n }
+next_object m start n = record {
+  number = m.made;
+  first = live_elements m;
+  writable = is_writable start;
+  elements = elements_at start n;
+}
 
 -- whether n elements beside the live ones are too many, or as many objects were made as there are numbers for
 abbrev pub is_over_limit : ℕ → ℕ → ℕ → Bool
@@ -104,7 +114,9 @@ is_over_limit live n made = nat_lt 4194304 (live + n) || nat_le (2 ^ 62) made
 
 -- the memory with a new object of n elements; None past the limit
 abbrev pub push_of : Memory → Start → ℕ → Option Memory
-push_of m start n = if is_over_limit (live_elements m) n m.made then None else Some (record { live = m.live ++ next_object m start n ∷ []; made = m.made + 1 })
+push_of m start n =
+    if is_over_limit (live_elements m) n m.made then None
+    else Some (record { live = m.live ++ next_object m start n ∷ []; made = m.made + 1 })
 
 -- the memory with the oldest objects alone
 abbrev pub popped : Memory → ℕ → Memory
