@@ -1,0 +1,5 @@
+pub mod Answers
+pub mod Extents
+pub mod Grown
+pub mod Views
+pub mod Written

@@ -1,0 +1,5 @@
+use Rattle.k_mem.specs.Lemmas.{loads_last_stored, loads_others_as_before}
+use Rattle.k_mem.proofs.laws.last_stored.Goals as goal
+
+pub returns : goal.returns
+returns c = record { same = loads_last_stored; others = loads_others_as_before }

@@ -1,0 +1,5 @@
+pub mod Calls
+pub mod Laws
+pub mod Layout
+pub mod Lemmas
+pub mod Memory
