@@ -1,5 +1,6 @@
 pub mod Chaining
 pub mod Closings
+pub mod Conditions
 pub mod Entries
 pub mod Measures
 pub mod Outwards

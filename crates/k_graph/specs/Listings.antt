@@ -1,9 +1,9 @@
 -- What is listed of a run's instances.
-use Rattle.std.specs.Prelude.{ℕ, ◌≡◌, ◌<◌, ◌⊎◌, List, Option, Some, None, map, length, slice_get, All, AllPairs}
+use Rattle.std.specs.Prelude.{ℕ, ◌≡◌, ◌<◌, List, Some, map, slice_get, All, AllPairs}
 use Rattle.k_optab.specs.declared.event.Event.{Event}
 use Rattle.k_optab.specs.Events.{Operation, operations}
 use Rattle.k_optab.specs.Graph.{Heaviest, work}
-use Rattle.k_optab.specs.Instances.{Closed, IsParent, Encloses, tracked}
+use Rattle.k_optab.specs.Instances.{Closed, IsParent, tracked}
 use Rattle.k_optab.specs.InstanceLaws.{Precedes}
 use Rattle.k_optab.specs.Tree.{Node, EachWith}
 use Rattle.k_graph.specs.declared.level.Measured.{Measured}
