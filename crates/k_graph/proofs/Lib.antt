@@ -3,6 +3,7 @@ pub mod Closings
 pub mod Conditions
 pub mod Entries
 pub mod Measures
+pub mod Meanings
 pub mod Outwards
 pub mod Progress
 pub mod Tracing

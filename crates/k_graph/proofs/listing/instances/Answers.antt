@@ -3,8 +3,9 @@ use Rattle.std.proofs.lemmas.Result.{IfOk-weaker}
 use Rattle.k_optab.specs.Events.{operations}
 use Rattle.k_optab.specs.Instances.{tracked}
 use Rattle.k_optab.specs.Tree.{EachWith, IsTree}
-use Rattle.k_graph.specs.Listings.{HasParent, IsListing, closed_of, node_of}
+use Rattle.k_graph.specs.Listings.{AreBounded, HasParent, IsListing, closed_of, node_of}
 use Rattle.k_graph.specs.Passes.{state}
+use Rattle.k_graph.proofs.Meanings.{bounded_listing}
 use Rattle.k_graph.proofs.Progress.{IsBefore, before_event, before_end, event_taken, can_take, nested_list, listing_list, tree_of_listing}
 use Rattle.k_graph.proofs.listing.instances.Goals as goal
 
@@ -43,3 +44,7 @@ pub returns-clause-tree : goal.returns-clause-tree
 returns-clause-tree c = IfOk-weaker c.with_parents.result (IsListing c.args.depth c.args.events.now) (λ tree. IsTree c.args.depth c.args.events.now (map node_of tree))
     (λ tree listing. tree_of_listing (operations c.args.events.now) (tracked c.args.depth c.args.events.now) (tracked c.args.depth c.args.events.now) tree listing)
     (returns-clause-listing c)
+
+pub returns-clause-meaning : goal.returns-clause-meaning
+returns-clause-meaning c = IfOk-weaker c.with_parents.result (IsListing c.args.depth c.args.events.now) AreBounded
+    (bounded_listing c.args.depth c.args.events.now c.requires.sources) (returns-clause-listing c)
