@@ -1,8 +1,8 @@
 -- What is kept of each operation of an interval is what the definitions say, and the path that is read off is the chosen one.
-use Rattle.std.proofs.Common.{◌≡◌, ℕ, zero, suc, ◌+◌, ◌-◌, ◌<◌, ◌≤◌, ◌^◌, ◌⊎◌, inl, inr, List, [], ◌∷◌, ◌++◌, length, Option, Some, None, Bool, true, false, refl, sym, ◌∙◌, subst, ap, arith, slice_get, get_or, max, min, length-append, drop}
-use Rattle.std.specs.Prelude.{nat_lt, ◌==◌, if◌then◌else◌}
+use Rattle.std.proofs.Common.{◌≡◌, ℕ, ◌+◌, ◌-◌, ◌<◌, ◌≤◌, ◌^◌, inl, inr, List, [], ◌∷◌, ◌++◌, length, Option, Some, None, true, false, refl, sym, ◌∙◌, subst, ap, arith, get_or, max, min, length-append, drop}
+use Rattle.std.specs.Prelude.{nat_lt, ◌==◌}
 use Rattle.std.proofs.lemmas.Bool.{cases_lt, cases_eq, cases_Bool}
-use Rattle.std.proofs.lemmas.Option.{slice_get-get_or, slice_get_within}
+use Rattle.std.proofs.lemmas.Option.{slice_get-get_or}
 use Rattle.std.proofs.Math.Seq.{drop-cons}
 use Rattle.std.proofs.Math.Numerals.{add-one}
 use Rattle.std.proofs.lemmas.List.{drop_all, length-drop}
@@ -13,11 +13,11 @@ use Rattle.k_optab.specs.declared.event.Event.TheVariants.{Op, Enter, Exit}
 use Rattle.k_graph.specs.declared.chain.Chains.{Chains}
 use Rattle.k_optab.specs.declared.event.Src.{Src}
 use Rattle.k_optab.specs.Events.{Operation, IsOperation, ListsUnbroken, AreBefore, SourcesAreEarlier, operations, total_latency}
-use Rattle.k_optab.specs.Graph.{IsNode, Path, alone, joined, Weighs, Heaviest, HeaviestTo, IsTime, work}
+use Rattle.k_optab.specs.Graph.{IsNode, Path, alone, joined, Heaviest, HeaviestTo, IsTime, work}
 use Rattle.k_optab.specs.GraphLaws.{IsGreatestTime}
 use Rattle.k_optab.proofs.Intervals.{work_at_most_total}
 use Rattle.k_optab.proofs.Paths.{source_before, last_node, widened, narrowed, weight_at_most_work}
-use Rattle.k_optab.proofs.Heaviest.{heaviest_to_unique, heaviest_empty, time_from_sources, time_exists}
+use Rattle.k_optab.proofs.Heaviest.{heaviest_to_unique, time_from_sources, time_exists}
 use Rattle.k_graph.specs.Times.{time_at, greatest_of}
 use Rattle.k_graph.specs.Chains.{Traces, starts, follows, AreEarlier, CanChain, chained, lesser, smallest_of, before_of}
 use Rattle.k_graph.specs.Chosen.{HasNoSource, IsChosenSource, ChosenTo, IsChosen, IsPathOf, IsBefore, AreChained}
@@ -40,34 +40,42 @@ IsSmallest s times time sources (Some m) = Has s times time sources m × ((j : �
 passes : (s : ℕ) (times : List ℕ) (time : ℕ) (src : Src) (sources : List Src) (o : Option ℕ) → (Has s times time (src ∷ []) src.number → ⊥)
     → IsSmallest s times time sources o → IsSmallest s times time (src ∷ sources) o
 passes s times time src sources None none is = λ j has. elim has.listed [
-  inl here ↦ none (subst (λ n. Has s times time (src ∷ []) n) (sym here.0) (record { listed = inl here; within = has.within; reads = has.reads }))
-  | inr there ↦ is j (record { listed = there; within = has.within; reads = has.reads }) ]
-passes s times time src sources (Some m) none is =
-    (record { listed = inr is.0.listed; within = is.0.within; reads = is.0.reads },
-     λ j has. elim has.listed [
-       inl here ↦ absurd (none (subst (λ n. Has s times time (src ∷ []) n) (sym here.0) (record { listed = inl here; within = has.within; reads = has.reads })))
-       | inr there ↦ is.1 j (record { listed = there; within = has.within; reads = has.reads }) ])
+  | inl here ↦ none (subst (λ n. Has s times time (src ∷ []) n) (sym here.0) (record { listed = inl here; within = has.within; reads = has.reads }))
+  | inr there ↦ is j (record { listed = there; within = has.within; reads = has.reads })
+]
+passes s times time src sources (Some m) none is = (
+  record { listed = inr is.0.listed; within = is.0.within; reads = is.0.reads },
+  λ j has. elim has.listed [
+    | inl here ↦ absurd (none (subst (λ n. Has s times time (src ∷ []) n) (sym here.0) (record { listed = inl here; within = has.within; reads = has.reads })))
+    | inr there ↦ is.1 j (record { listed = there; within = has.within; reads = has.reads })
+  ],
+)
 
 -- and where it is one, the lesser of the two is the smallest
 takes : (s : ℕ) (times : List ℕ) (time : ℕ) (src : Src) (sources : List Src) (o : Option ℕ) → Has s times time (src ∷ []) src.number
     → IsSmallest s times time sources o → IsSmallest s times time (src ∷ sources) (lesser (Some src.number) o)
-takes s times time src sources None one is =
-    (record { listed = front one.listed; within = one.within; reads = one.reads },
-     λ j has. elim has.listed [
-       inl here ↦ (let same : src.number ≡ j = here.0 in omega arith)
-       | inr there ↦ absurd (is j (record { listed = there; within = has.within; reads = has.reads })) ])
+takes s times time src sources None one is = (
+  record { listed = front one.listed; within = one.within; reads = one.reads },
+  λ j has. elim has.listed [
+    | inl here ↦ (let same : src.number ≡ j = here.0 in omega arith)
+    | inr there ↦ absurd (is j (record { listed = there; within = has.within; reads = has.reads }))
+  ],
+)
   where
     front : ListsUnbroken (src ∷ []) src.number → ListsUnbroken (src ∷ sources) src.number
     front listed = elim listed [ inl here ↦ inl here | inr none ↦ absurd none ]
-takes s times time src sources (Some m) one is =
-    (elim (cases_lt src.number m) [
-      inl less ↦ (let first : src.number ≡ min src.number m = omega arith in
+takes s times time src sources (Some m) one is = (
+  elim (cases_lt src.number m) [
+    | inl less ↦ (let first : src.number ≡ min src.number m = omega arith in
         subst (λ n. Has s times time (src ∷ sources) n) first (record { listed = front one.listed; within = one.within; reads = one.reads }))
-      | inr more ↦ (let second : m ≡ min src.number m = omega arith in
-        subst (λ n. Has s times time (src ∷ sources) n) second (record { listed = inr is.0.listed; within = is.0.within; reads = is.0.reads })) ],
-     λ j has. elim has.listed [
-       inl here ↦ (let same : src.number ≡ j = here.0 in omega arith)
-       | inr there ↦ (let low : m ≤ j = is.1 j (record { listed = there; within = has.within; reads = has.reads }) in omega arith) ])
+    | inr more ↦ (let second : m ≡ min src.number m = omega arith in
+        subst (λ n. Has s times time (src ∷ sources) n) second (record { listed = inr is.0.listed; within = is.0.within; reads = is.0.reads }))
+  ],
+  λ j has. elim has.listed [
+    | inl here ↦ (let same : src.number ≡ j = here.0 in omega arith)
+    | inr there ↦ (let low : m ≤ j = is.1 j (record { listed = there; within = has.within; reads = has.reads }) in omega arith)
+  ],
+)
   where
     front : ListsUnbroken (src ∷ []) src.number → ListsUnbroken (src ∷ sources) src.number
     front listed = elim listed [ inl here ↦ inl here | inr none ↦ absurd none ]
@@ -81,26 +89,29 @@ smallest_is s times time [] = λ j has. has.listed
 smallest_is s times time (src ∷ sources) =
     let rest : IsSmallest s times time sources (smallest_of s times time sources) = smallest_is s times time sources in
     elim (cases_Bool src.broken) [
-      inl broken ↦ subst (λ o. IsSmallest s times time (src ∷ sources) o) (sym (if_true src.broken _ _ broken))
-        (passes s times time src sources (smallest_of s times time sources) (broken_none s times time src broken) rest)
+      | inl broken ↦ subst (λ o. IsSmallest s times time (src ∷ sources) o) (sym (if_true src.broken _ _ broken))
+          (passes s times time src sources (smallest_of s times time sources) (broken_none s times time src broken) rest)
       | inr whole ↦ subst (λ o. IsSmallest s times time (src ∷ sources) o) (sym (if_false src.broken _ _ whole))
-        (elim (cases_lt src.number s) [
-          inl outside ↦
-            (let test : nat_lt src.number s ≡ true = search (arith) in
-            subst (λ o. IsSmallest s times time (src ∷ sources) o) (sym (if_true (nat_lt src.number s) _ _ test))
-            (passes s times time src sources (smallest_of s times time sources) (λ has. absurd (omega (arith, has.within))) rest))
-          | inr inside ↦
-            (let test : nat_lt src.number s ≡ false = search (arith) in
-            subst (λ o. IsSmallest s times time (src ∷ sources) o) (sym (if_false (nat_lt src.number s) _ _ test))
-            (elim (cases_eq (get_or times (src.number - s) 0) time) [
-              inl same ↦
-                (let equal : (get_or times (src.number - s) 0 == time) ≡ true = search (arith) in
-                subst (λ o. IsSmallest s times time (src ∷ sources) o) (sym (if_true (get_or times (src.number - s) 0 == time) _ _ equal))
-                (takes s times time src sources (smallest_of s times time sources) (record { listed = inl (refl, whole); within = inside; reads = same }) rest))
-              | inr other ↦
-                (let unequal : (get_or times (src.number - s) 0 == time) ≡ false = search (arith) in
-                subst (λ o. IsSmallest s times time (src ∷ sources) o) (sym (if_false (get_or times (src.number - s) 0 == time) _ _ unequal))
-                (passes s times time src sources (smallest_of s times time sources) (λ has. other has.reads) rest)) ])) ]) ]
+          (elim (cases_lt src.number s) [
+            | inl outside ↦
+                (let test : nat_lt src.number s ≡ true = search (arith) in
+                subst (λ o. IsSmallest s times time (src ∷ sources) o) (sym (if_true (nat_lt src.number s) _ _ test))
+                (passes s times time src sources (smallest_of s times time sources) (λ has. absurd (omega (arith, has.within))) rest))
+            | inr inside ↦
+                (let test : nat_lt src.number s ≡ false = search (arith) in
+                subst (λ o. IsSmallest s times time (src ∷ sources) o) (sym (if_false (nat_lt src.number s) _ _ test))
+                (elim (cases_eq (get_or times (src.number - s) 0) time) [
+                  | inl same ↦
+                      (let equal : (get_or times (src.number - s) 0 == time) ≡ true = search (arith) in
+                      subst (λ o. IsSmallest s times time (src ∷ sources) o) (sym (if_true (get_or times (src.number - s) 0 == time) _ _ equal))
+                      (takes s times time src sources (smallest_of s times time sources) (record { listed = inl (refl, whole); within = inside; reads = same }) rest))
+                  | inr other ↦
+                      (let unequal : (get_or times (src.number - s) 0 == time) ≡ false = search (arith) in
+                      subst (λ o. IsSmallest s times time (src ∷ sources) o) (sym (if_false (get_or times (src.number - s) 0 == time) _ _ unequal))
+                      (passes s times time src sources (smallest_of s times time sources) (λ has. other has.reads) rest))
+                ]))
+          ])
+    ]
 
 module _ (ops : List Operation) (earlier : SourcesAreEarlier ops) where
   -- a time that is kept is that of the heaviest path
@@ -131,46 +142,50 @@ module _ (ops : List Operation) (earlier : SourcesAreEarlier ops) where
     chosen_before : (o : Option ℕ) → 0 < greatest_of (time_at s times) op.sources
         → IsSmallest s times (greatest_of (time_at s times) op.sources) op.sources o → IsBefore ops s op.sources o
     chosen_before None some is = elim most.reached [
-      inl none ↦ absurd (omega (arith, none))
+      | inl none ↦ absurd (omega (arith, none))
       | inr one ↦ elim (cases_lt one.0 s) [
-        inl outside ↦ absurd (omega (arith, one.2.0 outside))
+        | inl outside ↦ absurd (omega (arith, one.2.0 outside))
         | inr inside ↦
-          (let before : one.0 < made = source_before ops earlier made one.0 op there one.1 in
-          let same : greatest_of (time_at s times) op.sources ≡ get_or times (one.0 - s) 0 =
-              kept_time s times one.0 (greatest_of (time_at s times) op.sources) are inside (omega arith) (one.2.1 inside) in
-          absurd (is one.0 (record { listed = one.1; within = inside; reads = sym same }))) ] ]
+            (let before : one.0 < made = source_before ops earlier made one.0 op there one.1 in
+            let same : greatest_of (time_at s times) op.sources ≡ get_or times (one.0 - s) 0 =
+            kept_time s times one.0 (greatest_of (time_at s times) op.sources) are inside (omega arith) (one.2.1 inside) in
+            absurd (is one.0 (record { listed = one.1; within = inside; reads = sym same })))
+      ]
+    ]
     chosen_before (Some m) some is = record {
       weight = greatest_of (time_at s times) op.sources;
       listed = is.0.listed;
       within = is.0.within;
       heaviest =
-        (let before : m < made = source_before ops earlier made m op there is.0.listed in
-        let from : s ≤ m = is.0.within in
-        subst (λ n. HeaviestTo ops s m n) is.0.reads (read_time s times m are from (omega arith)));
+          (let before : m < made = source_before ops earlier made m op there is.0.listed in
+          let from : s ≤ m = is.0.within in
+          subst (λ n. HeaviestTo ops s m n) is.0.reads (read_time s times m are from (omega arith)));
       above = some;
       first = λ i w listed from to.
-        let before : i < made = source_before ops earlier made i op there listed in
-        let kept : w ≡ get_or times (i - s) 0 = kept_time s times i w are from (omega arith) to in
-        let time : (t : ℕ) × IsTime ops s (Some i) t × (t ≤ greatest_of (time_at s times) op.sources) = most.greatest i listed in
-        let low : time.0 ≤ greatest_of (time_at s times) op.sources = time.2 in
-        let same : w ≡ time.0 = heaviest_to_unique ops s i w time.0 to (time.1.1 from) in
-        elim (cases_lt w (greatest_of (time_at s times) op.sources)) [
-          inl less ↦ inl less
-          | inr more ↦
-            (let equal : w ≡ greatest_of (time_at s times) op.sources = omega arith in
-            inr (equal, is.1 i (record { listed = listed; within = from; reads = sym kept ∙ equal }))) ];
+          let before : i < made = source_before ops earlier made i op there listed in
+          let kept : w ≡ get_or times (i - s) 0 = kept_time s times i w are from (omega arith) to in
+          let time : (t : ℕ) × IsTime ops s (Some i) t × (t ≤ greatest_of (time_at s times) op.sources) = most.greatest i listed in
+          let low : time.0 ≤ greatest_of (time_at s times) op.sources = time.2 in
+          let same : w ≡ time.0 = heaviest_to_unique ops s i w time.0 to (time.1.1 from) in
+          elim (cases_lt w (greatest_of (time_at s times) op.sources)) [
+            | inl less ↦ inl less
+            | inr more ↦
+                (let equal : w ≡ greatest_of (time_at s times) op.sources = omega arith in
+                inr (equal, is.1 i (record { listed = listed; within = from; reads = sym kept ∙ equal })))
+          ];
     }
 
     before_is : IsBefore ops s op.sources (before_of s times op.sources)
     before_is = elim (cases_lt 0 (greatest_of (time_at s times) op.sources)) [
-      inl some ↦
-        (let test : nat_lt 0 (greatest_of (time_at s times) op.sources) ≡ true = search (arith) in
-        subst (λ o. IsBefore ops s op.sources o) (sym (if_true (nat_lt 0 (greatest_of (time_at s times) op.sources)) _ _ test))
-        (chosen_before (smallest_of s times (greatest_of (time_at s times) op.sources) op.sources) some (smallest_is s times (greatest_of (time_at s times) op.sources) op.sources)))
+      | inl some ↦
+          (let test : nat_lt 0 (greatest_of (time_at s times) op.sources) ≡ true = search (arith) in
+          subst (λ o. IsBefore ops s op.sources o) (sym (if_true (nat_lt 0 (greatest_of (time_at s times) op.sources)) _ _ test))
+          (chosen_before (smallest_of s times (greatest_of (time_at s times) op.sources) op.sources) some (smallest_is s times (greatest_of (time_at s times) op.sources) op.sources)))
       | inr none ↦
-        (let test : nat_lt 0 (greatest_of (time_at s times) op.sources) ≡ false = search (arith) in
-        subst (λ o. IsBefore ops s op.sources o) (sym (if_false (nat_lt 0 (greatest_of (time_at s times) op.sources)) _ _ test))
-        (nothing_before (omega arith))) ]
+          (let test : nat_lt 0 (greatest_of (time_at s times) op.sources) ≡ false = search (arith) in
+          subst (λ o. IsBefore ops s op.sources o) (sym (if_false (nat_lt 0 (greatest_of (time_at s times) op.sources)) _ _ test))
+          (nothing_before (omega arith)))
+    ]
 
   -- one operation more
   pub chained_more : (s made : ℕ) (op : Operation) → IsOperation ops made op → s ≤ made → (times : List ℕ) (befores : List (Option ℕ)) → AreChained ops s made times befores
@@ -185,12 +200,13 @@ module _ (ops : List Operation) (earlier : SourcesAreEarlier ops) where
         count = omega arith;
         same = omega arith;
         weights = times_more ops earlier made op there s (op.latency + greatest_of (time_at s times) op.sources) times count are.weights
-          (new_time_is ops earlier made op there s times count are.weights);
+            (new_time_is ops earlier made op there s times count are.weights);
         earlier = λ k b at. elim (slice_get-push befores (before_of s times op.sources) b k at) [
-          inl old ↦ are.earlier k b old
+          | inl old ↦ are.earlier k b old
           | inr new ↦
-            (let place : made ≡ s + k = (let last : k ≡ length befores = new.0 in omega arith) in
-            (op, subst (λ n. IsOperation ops n op) place there, subst (λ o. IsBefore ops s op.sources o) new.1 (before_is s made op there times are.weights count))) ];
+              (let place : made ≡ s + k = (let last : k ≡ length befores = new.0 in omega arith) in
+              (op, subst (λ n. IsOperation ops n op) place there, subst (λ o. IsBefore ops s op.sources o) new.1 (before_is s made op there times are.weights count)))
+        ];
       }
 
   -- an operation from before the interval
@@ -204,7 +220,7 @@ module _ (ops : List Operation) (earlier : SourcesAreEarlier ops) where
   next_time_small small s made op there times count are =
       let time : HeaviestTo ops s made (op.latency + greatest_of (time_at s times) op.sources) = new_time_is ops earlier made op there s times count are in
       let path : op.latency + greatest_of (time_at s times) op.sources ≤ work ops s (made + 1) =
-          weight_at_most_work ops earlier s (made + 1) made (op.latency + greatest_of (time_at s times) op.sources) time.reached.0 time.reached.1 in
+      weight_at_most_work ops earlier s (made + 1) made (op.latency + greatest_of (time_at s times) op.sources) time.reached.0 time.reached.1 in
       let total : work ops s (made + 1) ≤ total_latency ops = work_at_most_total ops s (made + 1) in
       omega arith
 
@@ -230,32 +246,35 @@ module _ (ops : List Operation) (earlier : SourcesAreEarlier ops) where
   pub chosen_path : (s k p : ℕ) (nodes : List ℕ) → s ≤ k → ChosenTo ops s k nodes → HeaviestTo ops s k p → Path ops s (k + 1) k p nodes
   chosen_path s _ p _ from (chosen.starts k op made none) to =
       let most : IsGreatestTime ops s op.sources 0 = record {
-            reached = inl refl;
-            greatest = λ j listed.
-              let time : (t : ℕ) × IsTime ops s (Some j) t = time_exists ops earlier s k op made j listed in
-              let low : time.0 ≤ 0 = elim (cases_lt j s) [
-                inl outside ↦ (let zero_is : time.0 ≡ 0 = time.1.0 outside in omega arith)
-                | inr inside ↦ (let zero_is : time.0 ≡ 0 = none j time.0 listed inside (time.1.1 inside) in omega arith) ] in
-              (time.0, time.1, low);
-          } in
+        reached = inl refl;
+        greatest = λ j listed.
+            let time : (t : ℕ) × IsTime ops s (Some j) t = time_exists ops earlier s k op made j listed in
+            let low : time.0 ≤ 0 = elim (cases_lt j s) [
+              | inl outside ↦ (let zero_is : time.0 ≡ 0 = time.1.0 outside in omega arith)
+              | inr inside ↦ (let zero_is : time.0 ≡ 0 = none j time.0 listed inside (time.1.1 inside) in omega arith)
+            ] in
+            (time.0, time.1, low);
+      } in
       let same : p ≡ op.latency + 0 = heaviest_to_unique ops s k p (op.latency + 0) to (time_from_sources ops earlier s k 0 op from made most) in
       let is : op.latency ≡ p = omega arith in
       subst (λ n. Path ops s (k + 1) k n (k ∷ [])) is (alone k op (record { from_start = from; before_end = omega arith; made = made }))
   chosen_path s _ p _ from (chosen.follows j k nodes op path made best) to =
       let before : j < k = source_before ops earlier k j op made best.listed in
       let most : IsGreatestTime ops s op.sources best.weight = record {
-            reached = inr (j, best.listed, (λ (outside : j < s). absurd (omega (arith, best.within)), λ _. best.heaviest));
-            greatest = λ i listed.
-              let time : (t : ℕ) × IsTime ops s (Some i) t = time_exists ops earlier s k op made i listed in
-              let low : time.0 ≤ best.weight = elim (cases_lt i s) [
-                inl outside ↦ (let zero_is : time.0 ≡ 0 = time.1.0 outside in omega arith)
-                | inr inside ↦ elim (best.first i time.0 listed inside (time.1.1 inside)) [
-                  inl less ↦ omega arith
-                  | inr equal ↦ (let is : time.0 ≡ best.weight = equal.0 in omega arith) ] ] in
-              (time.0, time.1, low);
-          } in
+        reached = inr (j, best.listed, (λ (outside : j < s). absurd (omega (arith, best.within)), λ _. best.heaviest));
+        greatest = λ i listed.
+            let time : (t : ℕ) × IsTime ops s (Some i) t = time_exists ops earlier s k op made i listed in
+            let low : time.0 ≤ best.weight = elim (cases_lt i s) [
+              | inl outside ↦ (let zero_is : time.0 ≡ 0 = time.1.0 outside in omega arith)
+              | inr inside ↦ elim (best.first i time.0 listed inside (time.1.1 inside)) [
+                | inl less ↦ omega arith
+                | inr equal ↦ (let is : time.0 ≡ best.weight = equal.0 in omega arith)
+              ]
+            ] in
+            (time.0, time.1, low);
+      } in
       let same : p ≡ op.latency + best.weight =
-          heaviest_to_unique ops s k p (op.latency + best.weight) to (time_from_sources ops earlier s k best.weight op from made most) in
+      heaviest_to_unique ops s k p (op.latency + best.weight) to (time_from_sources ops earlier s k best.weight op from made most) in
       let is : best.weight + op.latency ≡ p = omega arith in
       let inner : Path ops s (j + 1) j best.weight nodes = chosen_path s j best.weight nodes best.within path best.heaviest in
       subst (λ n. Path ops s (k + 1) k n (nodes ++ k ∷ [])) is
@@ -274,20 +293,20 @@ module _ (ops : List Operation) (earlier : SourcesAreEarlier ops) where
     heaviest_is = record {
       reached = inr (s + last, (last_is.reached.0, widened s e (omega arith) (omega (arith, last_below)) last_is.reached.1));
       greatest = λ k w weighs.
-        let node : (op : Operation) × IsNode ops s e k op = last_node weighs.1 in
-        let from : s ≤ k = node.1.from_start in
-        let below : k < e = node.1.before_end in
-        let counted : s + length times ≡ max s e = are.count in
-        let to : HeaviestTo ops s k (get_or times (k - s) 0) = read_time s times k are.weights from (omega arith) in
-        let under : w ≤ get_or times (k - s) 0 = to.greatest w (weighs.0, narrowed ops earlier s e k w (k + 1) weighs.0 (omega arith) weighs.1) in
-        let top : get_or times (k - s) 0 ≤ get_or times last 0 = greatest (k - s) (omega arith) in
-        omega arith;
+          let node : (op : Operation) × IsNode ops s e k op = last_node weighs.1 in
+          let from : s ≤ k = node.1.from_start in
+          let below : k < e = node.1.before_end in
+          let counted : s + length times ≡ max s e = are.count in
+          let to : HeaviestTo ops s k (get_or times (k - s) 0) = read_time s times k are.weights from (omega arith) in
+          let under : w ≤ get_or times (k - s) 0 = to.greatest w (weighs.0, narrowed ops earlier s e k w (k + 1) weighs.0 (omega arith) weighs.1) in
+          let top : get_or times (k - s) 0 ≤ get_or times last 0 = greatest (k - s) (omega arith) in
+          omega arith;
     }
 
     pub path_is : (nodes : List ℕ) → Traces s befores (s + last) nodes → IsPathOf ops s e (get_or times last 0) nodes
     path_is nodes traces =
         let path : Path ops s (s + last + 1) (s + last) (get_or times last 0) nodes =
-            chosen_path s (s + last) (get_or times last 0) nodes (omega arith) (traced s e times befores are (s + last) nodes (omega arith) traces) last_is in
+        chosen_path s (s + last) (get_or times last 0) nodes (omega arith) (traced s e times befores are (s + last) nodes (omega arith) traces) last_is in
         inr (s + last, widened s e (omega arith) (omega (arith, last_below)) path)
 
     pub chosen_is : ((k : ℕ) → k < last → get_or times k 0 < get_or times last 0) → (nodes : List ℕ) → Traces s befores (s + last) nodes
@@ -298,9 +317,9 @@ module _ (ops : List Operation) (earlier : SourcesAreEarlier ops) where
       before_end = last_below;
       weighs = last_is;
       first = λ i w from less to.
-        let kept : w ≡ get_or times (i - s) 0 = kept_time s times i w are.weights from (omega arith) to in
-        let under : get_or times (i - s) 0 < get_or times last 0 = first (i - s) (omega arith) in
-        omega arith;
+          let kept : w ≡ get_or times (i - s) 0 = kept_time s times i w are.weights from (omega arith) to in
+          let under : get_or times (i - s) 0 < get_or times last 0 = first (i - s) (omega arith) in
+          omega arith;
       path = traced s e times befores are (s + last) nodes (omega arith) traces;
     }
 
@@ -314,7 +333,7 @@ module _ (ops : List Operation) (earlier : SourcesAreEarlier ops) where
       record {
         before = subst (λ l. AreBefore (c.start + length c.times) l) (sym same) (subst (λ n. AreBefore n op.sources) (sym begin) (earlier made op there));
         time = subst (λ l. op.latency + greatest_of (time_at c.start c.times) l < 2 ^ 64) (sym same)
-          (subst (λ n. op.latency + greatest_of (time_at n c.times) op.sources < 2 ^ 64) (sym start) (next_time_small small s made op there c.times count are.weights));
+            (subst (λ n. op.latency + greatest_of (time_at n c.times) op.sources < 2 ^ 64) (sym start) (next_time_small small s made op there c.times count are.weights));
       }
 
   pub chain_added : (s made : ℕ) (op : Operation) → IsOperation ops made op → s ≤ made → (c d : Chains) → c.start ≡ s
@@ -323,13 +342,14 @@ module _ (ops : List Operation) (earlier : SourcesAreEarlier ops) where
   chain_added s made op there from c d start are sources same grown =
       let whole : d ≡ chained op.latency op.sources c = grown ∙ ap (λ l. chained op.latency l c) same in
       let times : d.times ≡ c.times ++ (op.latency + greatest_of (time_at s c.times) op.sources) ∷ [] =
-          ap (λ (x : Chains). x.times) whole ∙ ap (λ n. c.times ++ (op.latency + greatest_of (time_at n c.times) op.sources) ∷ []) start in
+      ap (λ (x : Chains). x.times) whole ∙ ap (λ n. c.times ++ (op.latency + greatest_of (time_at n c.times) op.sources) ∷ []) start in
       let befores : d.befores ≡ c.befores ++ before_of s c.times op.sources ∷ [] =
-          ap (λ (x : Chains). x.befores) whole ∙ ap (λ n. c.befores ++ before_of n c.times op.sources ∷ []) start in
-      (ap (λ (x : Chains). x.start) whole ∙ start,
-       subst (λ l. AreChained ops s (made + 1) d.times l) (sym befores)
-       (subst (λ l. AreChained ops s (made + 1) l (c.befores ++ before_of s c.times op.sources ∷ [])) (sym times)
-       (chained_more s made op there from c.times c.befores are)))
+      ap (λ (x : Chains). x.befores) whole ∙ ap (λ n. c.befores ++ before_of n c.times op.sources ∷ []) start in (
+        ap (λ (x : Chains). x.start) whole ∙ start,
+        subst (λ l. AreChained ops s (made + 1) d.times l) (sym befores)
+            (subst (λ l. AreChained ops s (made + 1) l (c.befores ++ before_of s c.times op.sources ∷ [])) (sym times)
+            (chained_more s made op there from c.times c.befores are)),
+      )
 
 -- the events as a loop reads them
 pub event_at : (events : List Event) (i : ℕ) (event : Event) → i < length events → event ≡ get_or events i event → drop i events ≡ event ∷ drop (i + 1) events
@@ -340,12 +360,12 @@ event_at events i event within is =
 pub operation_at : (events : List Event) (i made : ℕ) (event : Event) (class : Class) (latency : ℕ) (sources : List Src) (place : Place) → i < length events → event ≡ get_or events i event
     → event ≡ Op class latency sources place → drop made (operations events) ≡ operations (drop i events)
     → IsOperation (operations events) made (record { class = class; latency = latency; sources = sources; place = place })
-      × (drop (made + 1) (operations events) ≡ operations (drop (i + 1) events))
+    × (drop (made + 1) (operations events) ≡ operations (drop (i + 1) events))
 operation_at events i made event class latency sources place within is op left =
     dropped_head made (operations events) _ (operations (drop (i + 1) events))
     (left ∙ (ap operations (event_at events i event within is) ∙ ap (λ x. operations (x ∷ drop (i + 1) events)) op))
 
-no_operation : (event : Event) (rest : List Event)
+pub no_operation : (event : Event) (rest : List Event)
     → ((class : Class) (latency : ℕ) (sources : List Src) (place : Place) → event ≡ Op class latency sources place → ⊥) → operations (event ∷ rest) ≡ operations rest
 no_operation (Op class latency sources place) rest other = absurd (other class latency sources place refl)
 no_operation (Enter region) rest other = refl

@@ -1,7 +1,9 @@
 pub mod Chaining
 pub mod Closings
+pub mod Conditions
 pub mod Entries
 pub mod Measures
+pub mod Meanings
 pub mod Outwards
 pub mod Progress
 pub mod Tracing

@@ -1,5 +1,5 @@
 -- What a pass knows of the work and the paths of the instances.
-use Rattle.std.proofs.Common.{◌≡◌, ℕ, zero, suc, ◌+◌, ◌-◌, ◌<◌, ◌≤◌, ◌⊎◌, inl, inr, List, [], ◌∷◌, ◌++◌, length, Option, Some, None, Bool, true, false, refl, sym, ◌∙◌, subst, ap, arith, slice_get, get_or, max, map, length-append, ◌^◌}
+use Rattle.std.proofs.Common.{◌≡◌, ℕ, ◌+◌, ◌-◌, ◌<◌, ◌≤◌, inl, inr, List, [], ◌∷◌, ◌++◌, length, Some, true, false, refl, sym, ◌∙◌, subst, ap, arith, slice_get, get_or, max, map, length-append, ◌^◌}
 use Rattle.std.specs.Prelude.{All, nat_lt, if◌then◌else◌}
 use Rattle.std.proofs.lemmas.Bool.{cases_lt, cases_Bool}
 use Rattle.std.proofs.lemmas.Option.{slice_get-get_or}
@@ -46,15 +46,16 @@ greatest_of_is ops s time [] times = greatest_none ops s
 greatest_of_is ops s time (src ∷ sources) times =
     let rest : IsGreatestTime ops s sources (greatest_of time sources) = greatest_of_is ops s time sources (λ j listed. times j (inr listed)) in
     elim (cases_Bool src.broken) [
-      inl broken ↦
-        (let is : greatest_of time (src ∷ sources) ≡ greatest_of time sources =
-            ap (λ b. if b then greatest_of time sources else max (time src.number) (greatest_of time sources)) broken in
-        subst (λ n. IsGreatestTime ops s (src ∷ sources) n) (sym is) (greatest_broken ops s (greatest_of time sources) src sources broken rest))
+      | inl broken ↦
+          (let is : greatest_of time (src ∷ sources) ≡ greatest_of time sources =
+          ap (λ b. if b then greatest_of time sources else max (time src.number) (greatest_of time sources)) broken in
+          subst (λ n. IsGreatestTime ops s (src ∷ sources) n) (sym is) (greatest_broken ops s (greatest_of time sources) src sources broken rest))
       | inr whole ↦
-        (let is : greatest_of time (src ∷ sources) ≡ max (time src.number) (greatest_of time sources) =
-            ap (λ b. if b then greatest_of time sources else max (time src.number) (greatest_of time sources)) whole in
-        subst (λ n. IsGreatestTime ops s (src ∷ sources) n) (sym is)
-        (greatest_unbroken ops s (greatest_of time sources) (time src.number) src sources whole (times src.number (inl (refl, whole))) rest)) ]
+          (let is : greatest_of time (src ∷ sources) ≡ max (time src.number) (greatest_of time sources) =
+          ap (λ b. if b then greatest_of time sources else max (time src.number) (greatest_of time sources)) whole in
+          subst (λ n. IsGreatestTime ops s (src ∷ sources) n) (sym is)
+          (greatest_unbroken ops s (greatest_of time sources) (time src.number) src sources whole (times src.number (inl (refl, whole))) rest))
+    ]
 
 -- the times of the operations from s on
 abbrev pub AreTimes : List Operation → ℕ → List ℕ → Type 0
@@ -63,11 +64,12 @@ AreTimes ops s times = (k t : ℕ) → slice_get times k ≡ Some t → Heaviest
 -- a source's time is read off
 pub time_at_is : (ops : List Operation) (s : ℕ) (times : List ℕ) (j : ℕ) → AreTimes ops s times → j < s + length times → IsTime ops s (Some j) (time_at s times j)
 time_at_is ops s times j are within = elim (cases_lt j s) [
-  inl outside ↦ (let test : nat_lt j s ≡ true = search (arith) in rw test (λ _. refl, λ (inside : s ≤ j). absurd (omega arith)))
+  | inl outside ↦ (let test : nat_lt j s ≡ true = search (arith) in rw test (λ _. refl, λ (inside : s ≤ j). absurd (omega arith)))
   | inr inside ↦ (let test : nat_lt j s ≡ false = search (arith) in
       let place : s + (j - s) ≡ j = omega arith in
       let read : HeaviestTo ops s (s + (j - s)) (get_or times (j - s) 0) = are (j - s) (get_or times (j - s) 0) (slice_get-get_or times (j - s) 0 (omega arith)) in
-      rw test (λ (outside : j < s). absurd (omega arith), λ _. subst (λ n. HeaviestTo ops s n (get_or times (j - s) 0)) place read)) ]
+      rw test (λ (outside : j < s). absurd (omega arith), λ _. subst (λ n. HeaviestTo ops s n (get_or times (j - s) 0)) place read))
+]
 
 -- what was measured of a closed instance is so
 pub record IsMeasured (ops : List Operation) (m : Measured) : Type 0 where
@@ -104,7 +106,7 @@ closed_levels ops made place done (top ∷ []) are levels =
     (every_append (IsMeasured ops) done (measured place made top ∷ top.inner) are (closed_level ops made place top levels.0, levels.0.inner), tt)
 closed_levels ops made place done (level ∷ next ∷ levels) are is =
     let closing : Every (IsMeasured ops) (close_into place made level.inner (next ∷ levels)).done × Every (IsLevel ops made) (close_into place made level.inner (next ∷ levels)).levels =
-        closed_levels ops made place level.inner (next ∷ levels) is.0.inner is.1 in
+    closed_levels ops made place level.inner (next ∷ levels) is.0.inner is.1 in
     (are, (record { count = is.0.count; times = is.0.times; work = is.0.work; path = is.0.path; inner = closing.0 }, closing.1))
 
 module _ (ops : List Operation) (earlier : SourcesAreEarlier ops) (made : ℕ) (op : Operation) (there : IsOperation ops made op) where
@@ -114,15 +116,16 @@ module _ (ops : List Operation) (earlier : SourcesAreEarlier ops) (made : ℕ) (
   new_time_is s times count are =
       time_from_sources ops earlier s made (greatest_of (time_at s times) op.sources) op (omega arith) there
       (greatest_of_is ops s (time_at s times) op.sources (λ j listed.
-        let before : j < made = source_before ops earlier made j op there listed in
-        time_at_is ops s times j are (omega arith)))
+      let before : j < made = source_before ops earlier made j op there listed in
+      time_at_is ops s times j are (omega arith)))
 
   pub times_more : (s new : ℕ) (times : List ℕ) → s + length times ≡ made → AreTimes ops s times → HeaviestTo ops s made new → AreTimes ops s (times ++ new ∷ [])
   times_more s new times count are is k t at = elim (slice_get-push times new t k at) [
-    inl old ↦ are k t old
+    | inl old ↦ are k t old
     | inr now ↦
-      (let place : made ≡ s + k = (let last : k ≡ length times = now.0 in omega arith) in
-      subst (λ n. HeaviestTo ops s n t) place (subst (λ n. HeaviestTo ops s made n) now.1 is)) ]
+        (let place : made ≡ s + k = (let last : k ≡ length times = now.0 in omega arith) in
+        subst (λ n. HeaviestTo ops s n t) place (subst (λ n. HeaviestTo ops s made n) now.1 is))
+  ]
 
   pub added_level : (level : Level) → IsLevel ops made level → IsLevel ops (made + 1) (added op.latency op.sources level)
   added_level level is =
@@ -143,7 +146,7 @@ module _ (ops : List Operation) (earlier : SourcesAreEarlier ops) (made : ℕ) (
       let low : level.start ≤ made = (let count = is.count in omega arith) in
       let time : HeaviestTo ops level.start made (new_time op.latency op.sources level) = new_time_is level.start level.times is.count is.times in
       let path : new_time op.latency op.sources level ≤ work ops level.start (made + 1) =
-          weight_to ops earlier level.start (made + 1) made (new_time op.latency op.sources level) time.reached.0 time.reached.1 in
+      weight_to ops earlier level.start (made + 1) made (new_time op.latency op.sources level) time.reached.0 time.reached.1 in
       let more : work ops level.start (made + 1) ≡ work ops level.start made + op.latency = work_more ops level.start made op low there in
       let total : work ops level.start (made + 1) ≤ total_latency ops = work_at_most_total ops level.start (made + 1) in
       let work_is : level.work ≡ work ops level.start made = is.work in

@@ -1,6 +1,6 @@
 -- The parent of an instance, looked for outwards from the one before it.
-use Rattle.std.proofs.Common.{◌≡◌, ℕ, zero, suc, ◌+◌, ◌-◌, ◌<◌, ◌≤◌, ◌⊎◌, inl, inr, List, [], ◌∷◌, ◌++◌, length, Option, Some, None, refl, sym, ◌∙◌, subst, ap, arith, slice_get, get_or}
-use Rattle.std.specs.Prelude.{All, AllPairs, map, option_map, unwrap_or, MatchOption}
+use Rattle.std.proofs.Common.{◌≡◌, ℕ, zero, suc, ◌+◌, ◌<◌, ◌≤◌, ◌⊎◌, inl, inr, List, [], ◌∷◌, ◌++◌, length, Option, Some, None, refl, sym, ◌∙◌, subst, ap, arith, slice_get, get_or}
+use Rattle.std.specs.Prelude.{map, option_map, unwrap_or, MatchOption}
 use Rattle.std.specs.Option.{ForSome}
 use Rattle.std.proofs.lemmas.Bool.{cases_lt, cases_order}
 use Rattle.std.proofs.lemmas.Option.{slice_get_within, slice_get-get_or, slice_get-map, get_or_from_slice_get}
@@ -41,14 +41,16 @@ module _ (all : List Closed) (nested : AreNested all) where
   -- an instance that encloses another stands before it
   pub encloses_before : (i j : ℕ) (a b : Closed) → slice_get all i ≡ Some a → slice_get all j ≡ Some b → Encloses a b → i < j
   encloses_before i j a b one other encloses = elim (cases_order i j) [
-    inl same ↦ (let is : a ≡ b = (let there : slice_get all i ≡ Some b = ap (λ n. slice_get all n) same ∙ other in cc) in
+    | inl same ↦ (let is : a ≡ b = (let there : slice_get all i ≡ Some b = ap (λ n. slice_get all n) same ∙ other in cc) in
         let entered : a.enter < b.enter = encloses.entered in
         let equal : a.enter ≡ b.enter = ap (λ (c : Closed). c.enter) is in absurd (omega arith))
     | inr order ↦ elim order [
-        inl less ↦ less
-        | inr more ↦ (let back : Precedes b a = precedes_at j i b a other one more in
-            let first : b.enter < a.enter = back.entered in
-            let second : a.enter < b.enter = encloses.entered in absurd (omega arith)) ] ]
+      | inl less ↦ less
+      | inr more ↦ (let back : Precedes b a = precedes_at j i b a other one more in
+          let first : b.enter < a.enter = back.entered in
+          let second : a.enter < b.enter = encloses.entered in absurd (omega arith))
+    ]
+  ]
 
   pub around_none : (i : Closed) → slice_get all 0 ≡ Some i → IsAround all i None
   around_none i there j o at encloses = let before : j < 0 = encloses_before j 0 o i at there encloses in absurd (omega arith)
@@ -57,43 +59,50 @@ module _ (all : List Closed) (nested : AreNested all) where
   around_first q p i next there j o at encloses =
       let before : j < p = encloses_before j p o i at there encloses in
       elim (cases_lt j q) [
-        inl less ↦ inr (λ c here.
-          let one : Precedes o c = precedes_at j q o c at here less in
-          let two : Precedes c i = precedes_at q p c i here there (omega arith) in
-          let whole : i.enter < i.exit = left_at p i there in
-          elim one.left [
-            inl inside ↦ record { entered = one.entered; left = inside }
-            | inr outside ↦ absurd (omega (arith, outside, two.entered, encloses.left, whole)) ])
-        | inr more ↦ inl (omega arith) ]
+        | inl less ↦ inr (λ c here.
+            let one : Precedes o c = precedes_at j q o c at here less in
+            let two : Precedes c i = precedes_at q p c i here there (omega arith) in
+            let whole : i.enter < i.exit = left_at p i there in
+            elim one.left [
+              | inl inside ↦ record { entered = one.entered; left = inside }
+              | inr outside ↦ absurd (omega (arith, outside, two.entered, encloses.left, whole))
+            ])
+        | inr more ↦ inl (omega arith)
+      ]
 
   pub around_next : (q p : ℕ) (i c : Closed) (parent : Option ℕ) → slice_get all p ≡ Some i → slice_get all q ≡ Some c → c.exit ≤ i.enter
       → IsParent all c parent → IsAround all i (Some q) → IsAround all i parent
   around_next q p i c None there here left is around j o at encloses = elim (around j o at encloses) [
-    inl same ↦ (let equal : o ≡ c = (let again : slice_get all q ≡ Some o = ap (λ n. slice_get all n) (sym same) ∙ at in cc) in
+    | inl same ↦ (let equal : o ≡ c = (let again : slice_get all q ≡ Some o = ap (λ n. slice_get all n) (sym same) ∙ at in cc) in
         let exits : o.exit ≡ c.exit = ap (λ (x : Closed). x.exit) equal in
         let whole : i.enter < i.exit = left_at p i there in
         absurd (omega (arith, encloses.left)))
-    | inr further ↦ absurd (is j o at (further c here)) ]
+    | inr further ↦ absurd (is j o at (further c here))
+  ]
   around_next q p i c (Some r) there here left is around j o at encloses = elim (around j o at encloses) [
-    inl same ↦ (let equal : o ≡ c = (let again : slice_get all q ≡ Some o = ap (λ n. slice_get all n) (sym same) ∙ at in cc) in
+    | inl same ↦ (let equal : o ≡ c = (let again : slice_get all q ≡ Some o = ap (λ n. slice_get all n) (sym same) ∙ at in cc) in
         let exits : o.exit ≡ c.exit = ap (λ (x : Closed). x.exit) equal in
         let whole : i.enter < i.exit = left_at p i there in
         absurd (omega (arith, encloses.left)))
     | inr further ↦
-      (let near : o.enter ≤ is.outer.enter = is.nearest j o at (further c here) in
-      elim (cases_order j r) [
-        inl same ↦ inl same
-        | inr order ↦ elim order [
-          inl less ↦ inr (λ d place.
-            let outer_is : is.outer ≡ d = (let both : Some is.outer ≡ Some d = sym is.there ∙ place in cc) in
-            let one : Precedes o is.outer = precedes_at j r o is.outer at is.there less in
-            let whole : c.enter < c.exit = left_at q c here in
-            let it : Encloses o is.outer = elim one.left [
-              inl inside ↦ record { entered = one.entered; left = inside }
-              | inr outside ↦ absurd (omega (arith, outside, is.encloses.entered, (further c here).left, whole)) ] in
-            subst (λ x. Encloses o x) outer_is it)
-          | inr more ↦ (let back : Precedes is.outer o = precedes_at r j is.outer o is.there at more in
-              absurd (omega (arith, back.entered, near))) ] ]) ]
+        (let near : o.enter ≤ is.outer.enter = is.nearest j o at (further c here) in
+        elim (cases_order j r) [
+          | inl same ↦ inl same
+          | inr order ↦ elim order [
+            | inl less ↦ inr (λ d place.
+                let outer_is : is.outer ≡ d = (let both : Some is.outer ≡ Some d = sym is.there ∙ place in cc) in
+                let one : Precedes o is.outer = precedes_at j r o is.outer at is.there less in
+                let whole : c.enter < c.exit = left_at q c here in
+                let it : Encloses o is.outer = elim one.left [
+                  | inl inside ↦ record { entered = one.entered; left = inside }
+                  | inr outside ↦ absurd (omega (arith, outside, is.encloses.entered, (further c here).left, whole))
+                ] in
+                subst (λ x. Encloses o x) outer_is it)
+            | inr more ↦ (let back : Precedes is.outer o = precedes_at r j is.outer o is.there at more in
+                absurd (omega (arith, back.entered, near)))
+          ]
+        ])
+  ]
 
   pub parent_found : (q p : ℕ) (i c : Closed) → q < p → slice_get all p ≡ Some i → slice_get all q ≡ Some c → i.enter < c.exit
       → IsAround all i (Some q) → IsParent all i (Some q)
@@ -104,9 +113,10 @@ module _ (all : List Closed) (nested : AreNested all) where
         there = here;
         encloses = record { entered = one.entered; left = elim one.left [ inl within ↦ within | inr outside ↦ absurd (omega (arith, outside, inside)) ] };
         nearest = λ j o at encloses. elim (around j o at encloses) [
-          inl same ↦ (let equal : o ≡ c = (let again : slice_get all q ≡ Some o = ap (λ n. slice_get all n) (sym same) ∙ at in cc) in
+          | inl same ↦ (let equal : o ≡ c = (let again : slice_get all q ≡ Some o = ap (λ n. slice_get all n) (sym same) ∙ at in cc) in
               let enters : o.enter ≡ c.enter = ap (λ (x : Closed). x.enter) equal in omega arith)
-          | inr further ↦ omega (arith, (further c here).entered) ];
+          | inr further ↦ omega (arith, (further c here).entered)
+        ];
       }
 
   pub parent_none : (i : Closed) → IsAround all i None → IsParent all i None
@@ -164,7 +174,7 @@ module _ (list : List Measured) (nested : AreNested (map closed_of list)) where
       → ForSome parent (λ r. r < q)
   parent_below q e parent in_list its r is =
       let near : IsNearest (map closed_of list) (closed_of (get_or list q e)) r =
-          subst (λ o. IsParent (map closed_of list) (closed_of (get_or list q e)) o) is its in
+      subst (λ o. IsParent (map closed_of list) (closed_of (get_or list q e)) o) is its in
       encloses_before (map closed_of list) nested r q near.outer (closed_of (get_or list q e)) near.there
       (closed_at q (get_or list q e) (slice_get-get_or list q e in_list)) near.encloses
 

@@ -1,6 +1,6 @@
 -- What holds of a pass at each place among the events.
-use Rattle.std.proofs.Common.{◌≡◌, ℕ, zero, suc, ◌+◌, ◌-◌, ◌<◌, ◌≤◌, ◌^◌, ◌⊎◌, inl, inr, List, [], ◌∷◌, ◌++◌, length, Option, Some, None, Bool, true, false, refl, sym, ◌∙◌, subst, ap, arith, slice_get, get_or, drop, min, map, append_assoc, append-nil, length-append}
-use Rattle.std.specs.Prelude.{All, nat_lt, filter, if◌then◌else◌, ◌==◌}
+use Rattle.std.proofs.Common.{◌≡◌, ℕ, zero, suc, ◌+◌, ◌-◌, ◌<◌, ◌≤◌, ◌^◌, inl, inr, List, [], ◌∷◌, ◌++◌, length, Option, Some, None, Bool, true, false, refl, sym, ◌∙◌, subst, ap, arith, slice_get, get_or, drop, min, map, append_assoc, append-nil, length-append}
+use Rattle.std.specs.Prelude.{nat_lt, filter, if◌then◌else◌, ◌==◌}
 use Rattle.std.proofs.lemmas.Bool.{cases_lt, cases_eq}
 use Rattle.std.proofs.Math.Seq.{drop-cons}
 use Rattle.std.proofs.Math.Numerals.{add-one}
@@ -11,7 +11,7 @@ use Rattle.k_optab.specs.declared.class.Class.{Class}
 use Rattle.k_optab.specs.declared.event.Src.{Src}
 use Rattle.k_optab.specs.declared.event.Event.{Event}
 use Rattle.k_optab.specs.declared.event.Event.TheVariants.{Op, Enter, Exit}
-use Rattle.k_optab.specs.Events.{Operation, IsOperation, operations, SourcesAreEarlier, total_latency}
+use Rattle.k_optab.specs.Events.{Operation, operations, SourcesAreEarlier, total_latency}
 use Rattle.k_optab.specs.Instances.{Closed, until_exit, instance_of, closed_from, tracked}
 use Rattle.k_graph.specs.declared.level.Level.{Level}
 use Rattle.k_graph.specs.declared.level.Measured.{Measured}
@@ -95,23 +95,23 @@ module _ (limit : ℕ) (events rest : List Event) (earlier : SourcesAreEarlier (
   operation_taken class latency sources here s is =
       let op : Operation = record { class = class; latency = latency; sources = sources; place = here } in
       let head : (slice_get (operations events) s.made ≡ Some op) × (drop (s.made + 1) (operations events) ≡ operations rest) =
-          dropped_head s.made (operations events) op (operations rest) is.operations_left in
+      dropped_head s.made (operations events) op (operations rest) is.operations_left in
       let size : length (map (added latency sources) s.levels) ≡ length s.levels = length-map s.levels (added latency sources) in
       record {
         limit_is = is.limit_is;
         listing =
-          ap (λ n. map closed_of s.done ++ (live rest (s.place + 1) (s.made + 1) (s.open_count - n) (map (added latency sources) s.levels)
+            ap (λ n. map closed_of s.done ++ (live rest (s.place + 1) (s.made + 1) (s.open_count - n) (map (added latency sources) s.levels)
             ++ coming limit rest (s.place + 1) (s.made + 1) s.open_count)) size
-          ∙ (ap (λ l. map closed_of s.done ++ (l ++ coming limit rest (s.place + 1) (s.made + 1) s.open_count))
-              (sym (live_operation rest s.place s.made class latency sources here (s.open_count - length s.levels) s.levels))
-          ∙ is.listing);
+            ∙ (ap (λ l. map closed_of s.done ++ (l ++ coming limit rest (s.place + 1) (s.made + 1) s.open_count))
+            (sym (live_operation rest s.place s.made class latency sources here (s.open_count - length s.levels) s.levels))
+            ∙ is.listing);
         depth = size ∙ is.depth;
         operations_left = head.1;
         count = (let count = is.count in omega arith);
         made_few = (let few = is.made_few in omega arith);
         open_few = (let few = is.open_few in omega arith);
         levels = every_map (IsLevel (operations events) s.made) (IsLevel (operations events) (s.made + 1)) (added latency sources) s.levels
-          (λ level. added_level (operations events) earlier s.made op head.0 level) is.levels;
+            (λ level. added_level (operations events) earlier s.made op head.0 level) is.levels;
         done = is.done;
       }
 
@@ -137,25 +137,25 @@ module _ (limit : ℕ) (events rest : List Event) (earlier : SourcesAreEarlier (
       let after = coming limit rest (s.place + 1) s.made (s.open_count + 1) in
       let inst = instance_of region s.open_count s.place s.made (until_exit rest 0) in
       let come : coming limit (Enter region ∷ rest) s.place s.made s.open_count ≡ inst ++ after =
-          filter-append (λ i. nat_lt i.depth limit) inst (closed_from rest (s.place + 1) s.made (s.open_count + 1))
-          ∙ ap (λ l. l ++ after) (filter_instance region s.open_count s.place s.made (until_exit rest 0) test) in
+      filter-append (λ i. nat_lt i.depth limit) inst (closed_from rest (s.place + 1) s.made (s.open_count + 1))
+      ∙ ap (λ l. l ++ after) (filter_instance region s.open_count s.place s.made (until_exit rest 0) test) in
       record {
         limit_is = is.limit_is;
         listing =
-          ap (λ n. map closed_of s.done ++ (live rest (s.place + 1) s.made n (s.levels ++ new_level region s ∷ []) ++ after)) still
-          ∙ (ap (λ l. map closed_of s.done ++ (l ++ after))
-              (sym (live_enter_level rest s.place s.made region (new_level region s) refl refl refl refl s.levels))
-          ∙ (ap (λ l. map closed_of s.done ++ l) (append_assoc (live (Enter region ∷ rest) s.place s.made 0 s.levels) inst after)
-          ∙ (ap (λ l. map closed_of s.done ++ (live (Enter region ∷ rest) s.place s.made 0 s.levels ++ l)) (sym come)
-          ∙ (ap (λ n. map closed_of s.done ++ (live (Enter region ∷ rest) s.place s.made n s.levels ++ coming limit (Enter region ∷ rest) s.place s.made s.open_count)) (sym none)
-          ∙ is.listing))));
+            ap (λ n. map closed_of s.done ++ (live rest (s.place + 1) s.made n (s.levels ++ new_level region s ∷ []) ++ after)) still
+            ∙ (ap (λ l. map closed_of s.done ++ (l ++ after))
+            (sym (live_enter_level rest s.place s.made region (new_level region s) refl refl refl refl s.levels))
+            ∙ (ap (λ l. map closed_of s.done ++ l) (append_assoc (live (Enter region ∷ rest) s.place s.made 0 s.levels) inst after)
+            ∙ (ap (λ l. map closed_of s.done ++ (live (Enter region ∷ rest) s.place s.made 0 s.levels ++ l)) (sym come)
+            ∙ (ap (λ n. map closed_of s.done ++ (live (Enter region ∷ rest) s.place s.made n s.levels ++ coming limit (Enter region ∷ rest) s.place s.made s.open_count)) (sym none)
+            ∙ is.listing))));
         depth = omega arith;
         operations_left = is.operations_left;
         count = (let count = is.count in omega arith);
         made_few = (let few = is.made_few in omega arith);
         open_few = (let few = is.open_few in omega arith);
         levels = every_append (IsLevel (operations events) s.made) s.levels (new_level region s ∷ []) is.levels
-          (entered_level (operations events) s.made (new_level region s) refl refl refl refl refl, tt);
+            (entered_level (operations events) s.made (new_level region s) refl refl refl refl refl, tt);
         done = is.done;
       }
 
@@ -168,15 +168,15 @@ module _ (limit : ℕ) (events rest : List Event) (earlier : SourcesAreEarlier (
       let after = coming limit rest (s.place + 1) s.made (s.open_count + 1) in
       let inst = instance_of region s.open_count s.place s.made (until_exit rest 0) in
       let come : coming limit (Enter region ∷ rest) s.place s.made s.open_count ≡ after =
-          filter-append (λ i. nat_lt i.depth limit) inst (closed_from rest (s.place + 1) s.made (s.open_count + 1))
-          ∙ ap (λ l. l ++ after) (filter_no_instance region s.open_count s.place s.made (until_exit rest 0) test) in
+      filter-append (λ i. nat_lt i.depth limit) inst (closed_from rest (s.place + 1) s.made (s.open_count + 1))
+      ∙ ap (λ l. l ++ after) (filter_no_instance region s.open_count s.place s.made (until_exit rest 0) test) in
       record {
         limit_is = is.limit_is;
         listing =
-          ap (λ n. map closed_of s.done ++ (live rest (s.place + 1) s.made n s.levels ++ after)) deeper
-          ∙ (ap (λ l. map closed_of s.done ++ (l ++ after)) (sym (live_enter rest s.place s.made region (s.open_count - length s.levels) s.levels))
-          ∙ (ap (λ l. map closed_of s.done ++ (live (Enter region ∷ rest) s.place s.made (s.open_count - length s.levels) s.levels ++ l)) (sym come)
-          ∙ is.listing));
+            ap (λ n. map closed_of s.done ++ (live rest (s.place + 1) s.made n s.levels ++ after)) deeper
+            ∙ (ap (λ l. map closed_of s.done ++ (l ++ after)) (sym (live_enter rest s.place s.made region (s.open_count - length s.levels) s.levels))
+            ∙ (ap (λ l. map closed_of s.done ++ (live (Enter region ∷ rest) s.place s.made (s.open_count - length s.levels) s.levels ++ l)) (sym come)
+            ∙ is.listing));
         depth = omega arith;
         operations_left = is.operations_left;
         count = (let count = is.count in omega arith);
@@ -188,16 +188,17 @@ module _ (limit : ℕ) (events rest : List Event) (earlier : SourcesAreEarlier (
 
   enter_taken : (region : ℕ) (s : State) → IsBefore limit events (Enter region ∷ rest) s → IsBefore limit events rest (entered region s)
   enter_taken region s is = elim (cases_lt s.open_count limit) [
-    inl low ↦
-      (let test : nat_lt s.open_count s.limit ≡ true = (let same = is.limit_is in let less : s.open_count < s.limit = omega arith in search (arith)) in
-      let next : entered region s ≡ record s { place = s.place + 1; open_count = s.open_count + 1; levels = s.levels ++ new_level region s ∷ [] } =
-          ap (λ b. record s { place = s.place + 1; open_count = s.open_count + 1; levels = if b then s.levels ++ new_level region s ∷ [] else s.levels }) test in
-      subst (λ t. IsBefore limit events rest t) (sym next) (tracked_entered region s low is))
+    | inl low ↦
+        (let test : nat_lt s.open_count s.limit ≡ true = (let same = is.limit_is in let less : s.open_count < s.limit = omega arith in search (arith)) in
+        let next : entered region s ≡ record s { place = s.place + 1; open_count = s.open_count + 1; levels = s.levels ++ new_level region s ∷ [] } =
+        ap (λ b. record s { place = s.place + 1; open_count = s.open_count + 1; levels = if b then s.levels ++ new_level region s ∷ [] else s.levels }) test in
+        subst (λ t. IsBefore limit events rest t) (sym next) (tracked_entered region s low is))
     | inr high ↦
-      (let test : nat_lt s.open_count s.limit ≡ false = (let same = is.limit_is in let more : s.limit ≤ s.open_count = omega arith in search (arith)) in
-      let next : entered region s ≡ record s { place = s.place + 1; open_count = s.open_count + 1 } =
-          ap (λ b. record s { place = s.place + 1; open_count = s.open_count + 1; levels = if b then s.levels ++ new_level region s ∷ [] else s.levels }) test in
-      subst (λ t. IsBefore limit events rest t) (sym next) (untracked_entered region s high is)) ]
+        (let test : nat_lt s.open_count s.limit ≡ false = (let same = is.limit_is in let more : s.limit ≤ s.open_count = omega arith in search (arith)) in
+        let next : entered region s ≡ record s { place = s.place + 1; open_count = s.open_count + 1 } =
+        ap (λ b. record s { place = s.place + 1; open_count = s.open_count + 1; levels = if b then s.levels ++ new_level region s ∷ [] else s.levels }) test in
+        subst (λ t. IsBefore limit events rest t) (sym next) (untracked_entered region s high is))
+  ]
 
   idle_exit : (s : State) → s.open_count ≡ 0 → IsBefore limit events (Exit ∷ rest) s → IsBefore limit events rest (record s { place = s.place + 1 })
   idle_exit s none is =
@@ -207,10 +208,10 @@ module _ (limit : ℕ) (events rest : List Event) (earlier : SourcesAreEarlier (
       record {
         limit_is = is.limit_is;
         listing =
-          ap (λ l. map closed_of s.done ++ (live rest (s.place + 1) s.made (s.open_count - length l) l ++ coming limit rest (s.place + 1) s.made s.open_count)) empty
-          ∙ (ap (λ n. map closed_of s.done ++ ([] ++ coming limit rest (s.place + 1) s.made n)) (sym same)
-          ∙ (ap (λ l. map closed_of s.done ++ (live (Exit ∷ rest) s.place s.made (s.open_count - length l) l ++ coming limit (Exit ∷ rest) s.place s.made s.open_count)) (sym empty)
-          ∙ is.listing));
+            ap (λ l. map closed_of s.done ++ (live rest (s.place + 1) s.made (s.open_count - length l) l ++ coming limit rest (s.place + 1) s.made s.open_count)) empty
+            ∙ (ap (λ n. map closed_of s.done ++ ([] ++ coming limit rest (s.place + 1) s.made n)) (sym same)
+            ∙ (ap (λ l. map closed_of s.done ++ (live (Exit ∷ rest) s.place s.made (s.open_count - length l) l ++ coming limit (Exit ∷ rest) s.place s.made s.open_count)) (sym empty)
+            ∙ is.listing));
         depth = is.depth;
         operations_left = is.operations_left;
         count = (let count = is.count in omega arith);
@@ -232,10 +233,10 @@ module _ (limit : ℕ) (events rest : List Event) (earlier : SourcesAreEarlier (
       record {
         limit_is = is.limit_is;
         listing =
-          ap (λ l. map closed_of s.done ++ (l ++ coming limit rest (s.place + 1) s.made (s.open_count - 1)))
+            ap (λ l. map closed_of s.done ++ (l ++ coming limit rest (s.place + 1) s.made (s.open_count - 1)))
             (sym (live_exit rest s.place s.made ((s.open_count - 1) - length s.levels) s.levels))
-          ∙ (ap (λ n. map closed_of s.done ++ (live (Exit ∷ rest) s.place s.made n s.levels ++ coming limit rest (s.place + 1) s.made (s.open_count - 1))) (sym deeper)
-          ∙ is.listing);
+            ∙ (ap (λ n. map closed_of s.done ++ (live (Exit ∷ rest) s.place s.made n s.levels ++ coming limit rest (s.place + 1) s.made (s.open_count - 1))) (sym deeper)
+            ∙ is.listing);
         depth = omega arith;
         operations_left = is.operations_left;
         count = (let count = is.count in omega arith);
@@ -247,8 +248,8 @@ module _ (limit : ℕ) (events rest : List Event) (earlier : SourcesAreEarlier (
 
   closes : (s : State) (levels : List Level) → 0 < length levels
       → (map closed_of s.done ++ live (Exit ∷ rest) s.place s.made 0 levels
-        ≡ map closed_of (close_into s.place s.made s.done levels).done ++ live rest (s.place + 1) s.made 0 (close_into s.place s.made s.done levels).levels)
-        × (length (close_into s.place s.made s.done levels).levels + 1 ≡ length levels)
+      ≡ map closed_of (close_into s.place s.made s.done levels).done ++ live rest (s.place + 1) s.made 0 (close_into s.place s.made s.done levels).levels)
+      × (length (close_into s.place s.made s.done levels).levels + 1 ≡ length levels)
   closes s [] some = absurd (omega arith)
   closes s (level ∷ levels) some =
       (live_close rest s.place s.made s.done level levels, (let size = levels_close s.place s.made s.done level levels in omega arith))
@@ -266,12 +267,12 @@ module _ (limit : ℕ) (events rest : List Event) (earlier : SourcesAreEarlier (
       record {
         limit_is = is.limit_is;
         listing =
-          ap (λ n. map closed_of (closed s).done ++ (live rest (s.place + 1) s.made n (closed s).levels ++ after)) still
-          ∙ (sym (append_assoc (map closed_of (closed s).done) (live rest (s.place + 1) s.made 0 (closed s).levels) after)
-          ∙ (ap (λ l. l ++ after) (sym close.0)
-          ∙ (append_assoc (map closed_of s.done) (live (Exit ∷ rest) s.place s.made 0 s.levels) after
-          ∙ (ap (λ n. map closed_of s.done ++ (live (Exit ∷ rest) s.place s.made n s.levels ++ after)) (sym none)
-          ∙ is.listing))));
+            ap (λ n. map closed_of (closed s).done ++ (live rest (s.place + 1) s.made n (closed s).levels ++ after)) still
+            ∙ (sym (append_assoc (map closed_of (closed s).done) (live rest (s.place + 1) s.made 0 (closed s).levels) after)
+            ∙ (ap (λ l. l ++ after) (sym close.0)
+            ∙ (append_assoc (map closed_of s.done) (live (Exit ∷ rest) s.place s.made 0 s.levels) after
+            ∙ (ap (λ n. map closed_of s.done ++ (live (Exit ∷ rest) s.place s.made n s.levels ++ after)) (sym none)
+            ∙ is.listing))));
         depth = omega arith;
         operations_left = is.operations_left;
         count = (let count = is.count in omega arith);
@@ -283,12 +284,14 @@ module _ (limit : ℕ) (events rest : List Event) (earlier : SourcesAreEarlier (
 
   exit_taken : (s : State) → IsBefore limit events (Exit ∷ rest) s → IsBefore limit events rest (exited s)
   exit_taken s is = elim (cases_eq s.open_count 0) [
-    inl none ↦ subst (λ t. IsBefore limit events rest t) (sym (exited_idle s none)) (idle_exit s none is)
+    | inl none ↦ subst (λ t. IsBefore limit events rest t) (sym (exited_idle s none)) (idle_exit s none is)
     | inr some ↦ elim (cases_lt limit s.open_count) [
-      inl deep ↦ (let less : s.limit < s.open_count = (let same = is.limit_is in omega arith) in
-        subst (λ t. IsBefore limit events rest t) (sym (exited_deep s some less)) (untracked_exit s deep is))
+      | inl deep ↦ (let less : s.limit < s.open_count = (let same = is.limit_is in omega arith) in
+          subst (λ t. IsBefore limit events rest t) (sym (exited_deep s some less)) (untracked_exit s deep is))
       | inr low ↦ (let more : s.open_count ≤ s.limit = (let same = is.limit_is in omega arith) in
-        subst (λ t. IsBefore limit events rest t) (sym (exited_tracked s some more)) (tracked_exit s (omega arith) low is)) ] ]
+          subst (λ t. IsBefore limit events rest t) (sym (exited_tracked s some more)) (tracked_exit s (omega arith) low is))
+    ]
+  ]
 
   pub event_taken : (event : Event) (s : State) → IsBefore limit events (event ∷ rest) s → IsBefore limit events rest (taken event s)
   event_taken (Op class latency sources here) s is = operation_taken class latency sources here s is
@@ -300,12 +303,15 @@ module _ (limit : ℕ) (events rest : List Event) (earlier : SourcesAreEarlier (
   can_take small few shallow (Op class latency sources here) s is =
       let op : Operation = record { class = class; latency = latency; sources = sources; place = here } in
       let head : (slice_get (operations events) s.made ≡ Some op) × (drop (s.made + 1) (operations events) ≡ operations rest) =
-          dropped_head s.made (operations events) op (operations rest) is.operations_left in
+      dropped_head s.made (operations events) op (operations rest) is.operations_left in
       let count = is.count in
-      let made = is.made_few in
-      (omega arith, omega arith, every_all (CanAdd latency sources) s.levels
-        (every_weaker (IsLevel (operations events) s.made) (CanAdd latency sources) s.levels
-          (λ level. can_add (operations events) earlier s.made op head.0 small level) is.levels))
+      let made = is.made_few in (
+        omega arith,
+        omega arith,
+        every_all (CanAdd latency sources) s.levels
+            (every_weaker (IsLevel (operations events) s.made) (CanAdd latency sources) s.levels
+            (λ level. can_add (operations events) earlier s.made op head.0 small level) is.levels),
+      )
   can_take small few shallow (Enter region) s is =
       let count = is.count in
       let open_few = is.open_few in
@@ -336,22 +342,25 @@ module _ (limit : ℕ) (events : List Event) (s : State) (is : IsBefore limit ev
   listing_at_end tree each =
       subst (λ l. EachWith (IsListed (operations events) l) l tree) at_end
       (each_listed (operations events) (map closed_of (listed s.done s.levels)) (listed s.done s.levels) tree each
-        (every_listed (operations events) s.made s.done s.levels is.done is.levels))
+      (every_listed (operations events) s.made s.done s.levels is.done is.levels))
     where
       each_listed : (ops : List Operation) (all : List Closed) (list : List Measured) (tree : List Instance) → EachWith (HasParent all) list tree
           → Every (IsMeasured ops) list → EachWith (IsListed ops all) (map closed_of list) tree
       each_listed ops all [] [] each measured = tt
       each_listed ops all [] (n ∷ tree) each measured = absurd each
       each_listed ops all (m ∷ list) [] each measured = absurd each
-      each_listed ops all (m ∷ list) (n ∷ tree) each measured = (record {
-        region = each.0.region;
-        depth = each.0.depth;
-        start = each.0.start;
-        end = each.0.end;
-        work = each.0.work ∙ measured.0.work;
-        path = subst (λ p. Heaviest ops m.start m.end p) (sym each.0.path) measured.0.path;
-        parent = each.0.parent;
-      }, each_listed ops all list tree each.1 measured.1)
+      each_listed ops all (m ∷ list) (n ∷ tree) each measured = (
+        record {
+          region = each.0.region;
+          depth = each.0.depth;
+          start = each.0.start;
+          end = each.0.end;
+          work = each.0.work ∙ measured.0.work;
+          path = subst (λ p. Heaviest ops m.start m.end p) (sym each.0.path) measured.0.path;
+          parent = each.0.parent;
+        },
+        each_listed ops all list tree each.1 measured.1,
+      )
 
 -- the nodes of a listing are the tree's
 pub tree_of_listing : (ops : List Operation) (all list : List Closed) (tree : List Instance) → EachWith (IsListed ops all) list tree

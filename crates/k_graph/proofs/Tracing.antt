@@ -1,5 +1,5 @@
 -- A path is read off from its end.
-use Rattle.std.proofs.Common.{◌≡◌, ℕ, ◌+◌, ◌-◌, ◌<◌, ◌≤◌, List, [], ◌∷◌, ◌++◌, length, Option, Some, None, refl, sym, ◌∙◌, subst, ap, arith, slice_get, get_or, reverse, append_assoc, append-nil}
+use Rattle.std.proofs.Common.{◌≡◌, ℕ, ◌-◌, ◌<◌, List, [], ◌∷◌, ◌++◌, length, Option, Some, None, sym, ◌∙◌, subst, ap, slice_get, get_or, reverse, append_assoc, append-nil}
 use Rattle.std.proofs.lemmas.List.{reverse-append}
 use Rattle.std.proofs.lemmas.Option.{slice_get-get_or}
 use Rattle.k_graph.specs.Chains.{Traces, starts, follows}
@@ -22,7 +22,7 @@ module _ (start : ℕ) (befores : List (Option ℕ)) (last : ℕ) where
         → Traces start befores last (nodes ++ reverse grown)
     trace_goes_on before at nodes traces =
         let whole : (nodes ++ node ∷ []) ++ reverse items ≡ nodes ++ reverse grown =
-            append_assoc nodes (node ∷ []) (reverse items) ∙ ap (λ l. nodes ++ l) (sym (ap reverse push ∙ reverse-push items node)) in
+        append_assoc nodes (node ∷ []) (reverse items) ∙ ap (λ l. nodes ++ l) (sym (ap reverse push ∙ reverse-push items node)) in
         subst (λ l. Traces start befores last l) whole (goes_on (nodes ++ node ∷ []) (follows before node nodes traces at))
 
     pub trace_ends : slice_get befores (node - start) ≡ Some None → Traces start befores last (reverse grown)

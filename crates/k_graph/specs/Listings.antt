@@ -1,9 +1,9 @@
 -- What is listed of a run's instances.
-use Rattle.std.specs.Prelude.{ℕ, ◌≡◌, ◌<◌, ◌⊎◌, List, Option, Some, None, map, length, slice_get, All, AllPairs}
+use Rattle.std.specs.Prelude.{ℕ, ◌≡◌, ◌<◌, ◌≤◌, List, Some, map, slice_get, All, AllPairs}
 use Rattle.k_optab.specs.declared.event.Event.{Event}
 use Rattle.k_optab.specs.Events.{Operation, operations}
 use Rattle.k_optab.specs.Graph.{Heaviest, work}
-use Rattle.k_optab.specs.Instances.{Closed, IsParent, Encloses, tracked}
+use Rattle.k_optab.specs.Instances.{Closed, IsParent, tracked}
 use Rattle.k_optab.specs.InstanceLaws.{Precedes}
 use Rattle.k_optab.specs.Tree.{Node, EachWith}
 use Rattle.k_graph.specs.declared.level.Measured.{Measured}
@@ -51,3 +51,8 @@ pub record AreNested (all : List Closed) : Type 0 where
 abbrev pub EachHasParent : List Measured → List Instance → Type 0
 EachHasParent list tree = (place : ℕ) (m : Measured) (n : Instance) → slice_get list place ≡ Some m → slice_get tree place ≡ Some n
     → HasParent (map closed_of list) m n
+
+-- the first meaning of the numbers of a list of instances: a path is at most its work, and at most the path of the parent
+pub record AreBounded (list : List Instance) : Type 0 where
+  pub work : (place : ℕ) (n : Instance) → slice_get list place ≡ Some n → n.path ≤ n.work
+  pub parent : (place p : ℕ) (n m : Instance) → slice_get list place ≡ Some n → n.parent ≡ Some p → slice_get list p ≡ Some m → n.path ≤ m.path

@@ -1,5 +1,5 @@
 -- Where a pass over the events stands, and what each event makes of it.
-use Rattle.std.specs.Prelude.{ℕ, ◌≡◌, ◌+◌, ◌-◌, ◌^◌, ◌<◌, ◌==◌, max, List, [], ◌∷◌, ◌++◌, length, map, All, nat_lt, if◌then◌else◌}
+use Rattle.std.specs.Prelude.{ℕ, ◌+◌, ◌-◌, ◌^◌, ◌<◌, ◌==◌, List, [], ◌∷◌, ◌++◌, map, All, nat_lt, if◌then◌else◌}
 use Rattle.k_optab.specs.declared.event.Event.{Event}
 use Rattle.k_optab.specs.declared.event.Event.TheVariants.{Op, Enter, Exit}
 use Rattle.k_optab.specs.declared.event.Src.{Src}

@@ -1,5 +1,5 @@
 -- The time that an operation's sources give it, by the times of the operations of an interval so far.
-use Rattle.std.specs.Prelude.{ℕ, ◌≡◌, ◌+◌, ◌-◌, ◌<◌, ◌≤◌, max, List, [], ◌∷◌, length, slice_index, nat_lt, if◌then◌else◌}
+use Rattle.std.specs.Prelude.{ℕ, ◌-◌, max, List, [], ◌∷◌, slice_index, nat_lt, if◌then◌else◌}
 use Rattle.k_optab.specs.declared.event.Src.{Src}
 
 -- the time of a source in an interval from start on: 0 for one from before it

@@ -58,7 +58,12 @@ fn chains_of(alloc: Global, events: &[Event], start: u64, end: u64) -> Result<Ch
         if made >= end {
             break;
         }
-        if let Event::Op { latency, sources, .. } = event {
+        if let Event::Op {
+            latency,
+            sources,
+            ..
+        } = event
+        {
             if made >= start {
                 chains.add(*latency, sources.as_slice())?;
             }
@@ -80,7 +85,12 @@ fn copied(alloc: Global, numbers: &[u64]) -> Result<Seq<u64>, NoMemory>
 }
 
 /// The path that ends at `last`, by what stands before each operation.
-fn path_to(alloc: Global, start: u64, befores: &[Option<u64>], last: u64) -> Result<Seq<u64>, NoMemory>
+fn path_to(
+    alloc: Global,
+    start: u64,
+    befores: &[Option<u64>],
+    last: u64,
+) -> Result<Seq<u64>, NoMemory>
     requires from_start { start ≤ last }
     requires within { last < start + length befores.now }
     requires earlier { AreEarlier start befores.now }
@@ -98,7 +108,12 @@ fn path_to(alloc: Global, start: u64, befores: &[Option<u64>], last: u64) -> Res
 }
 
 /// The greatest weight of a path of an interval, and one path that has it.
-pub fn heaviest(alloc: Global, events: &Seq<Event>, start: u64, end: u64) -> Result<(u64, Seq<u64>), NoMemory>
+pub fn heaviest(
+    alloc: Global,
+    events: &Seq<Event>,
+    start: u64,
+    end: u64,
+) -> Result<(u64, Seq<u64>), NoMemory>
     requires sources { SourcesAreEarlier (operations events.now) }
     requires latencies { total_latency (operations events.now) < 2 ^ 62 }
     requires interval { start ≤ end }

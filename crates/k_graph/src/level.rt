@@ -72,7 +72,11 @@ impl Level {
 }
 
 /// One operation more at each level.
-pub(crate) fn add_to_each(levels: &mut [Level], latency: u64, sources: &[Src]) -> Result<(), NoMemory>
+pub(crate) fn add_to_each(
+    levels: &mut [Level],
+    latency: u64,
+    sources: &[Src],
+) -> Result<(), NoMemory>
     requires { All (CanAdd latency sources.now) levels.old }
     ensures { OnOk result (levels.new ≡ map (added latency sources.now) levels.old) }
 {

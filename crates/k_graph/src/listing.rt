@@ -2,7 +2,7 @@
 ghost use Rattle.std.specs.Prelude.{◌^◌, ◌<◌, IfOk, map};
 ghost use Rattle.k_optab.specs.Events.{SourcesAreEarlier, operations, total_latency};
 ghost use Rattle.k_optab.specs.Tree.{IsTree};
-ghost use Rattle.k_graph.specs.Listings.{IsListing, node_of};
+ghost use Rattle.k_graph.specs.Listings.{AreBounded, IsListing, node_of};
 
 use crate::parents::with_parents;
 use crate::pass::Pass;
@@ -17,6 +17,7 @@ pub fn instances(alloc: Global, events: &Seq<Event>, depth: u32) -> Result<Tree,
     requires latencies { total_latency (operations events.now) < 2 ^ 62 }
     ensures listing { IfOk result (λ tree. IsListing depth events.now tree) }
     ensures tree { IfOk result (λ tree. IsTree depth events.now (map node_of tree)) }
+    ensures meaning { IfOk result (λ tree. AreBounded tree) }
 {
     let mut pass = Pass::new(alloc, depth);
     for event in events.as_slice() {

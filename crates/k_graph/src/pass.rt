@@ -1,7 +1,16 @@
 //! One pass over the events, which measures each instance.
 ghost use Rattle.std.specs.Prelude.{◌≡◌, ◌+◌, ◌^◌, ◌<◌, ◌++◌, ◌∷◌, OnOk, IfOk};
 ghost use Rattle.k_graph.specs.Passes.{
-    CanTake, CanTakeOp, closed, entered, exited, listed, operated, start_state, state, taken
+  CanTake,
+  CanTakeOp,
+  closed,
+  entered,
+  exited,
+  listed,
+  operated,
+  start_state,
+  state,
+  taken,
 };
 
 use crate::level::{Level, Measured, add_to_each, append};
@@ -113,7 +122,11 @@ impl Pass {
         ensures { OnOk result (state self.new ≡ taken event.now (state self.old)) }
     {
         match event {
-            Event::Op { latency, sources, .. } => self.operate(*latency, sources.as_slice()),
+            Event::Op {
+                latency,
+                sources,
+                ..
+            } => self.operate(*latency, sources.as_slice()),
             Event::Enter(region) => self.enter(alloc, *region),
             Event::Exit => self.exit(),
         }
@@ -123,7 +136,11 @@ impl Pass {
     pub(crate) fn finish(self) -> Result<Seq<Measured>, NoMemory>
         ensures { IfOk result (λ list. list ≡ listed self.done self.levels.items) }
     {
-        let Pass { mut done, levels, .. } = self;
+        let Pass {
+            mut done,
+            levels,
+            ..
+        } = self;
         for level in &levels {
             append(&mut done, level.inner.as_slice())?;
         }

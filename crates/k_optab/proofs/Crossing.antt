@@ -11,7 +11,7 @@ use Rattle.k_optab.specs.InstanceLaws.{Precedes}
 use Rattle.k_optab.proofs.Matching.{mapped}
 
 -- what holds of an instance, where it is closed, and of each one of a list holds of each of them together
-all_with_instance : (P : Closed → Type 0) (region depth enter start : ℕ) (found : Option (List Event)) (list : List Closed)
+pub all_with_instance : (P : Closed → Type 0) (region depth enter start : ℕ) (found : Option (List Event)) (list : List Closed)
     → ((inside : List Event) → found ≡ Some inside
     → P (record { region = region; depth = depth; enter = enter; exit = enter + 1 + length inside; start = start; end = start + length (operations inside) }))
     → All P list → All P (instance_of region depth enter start found ++ list)
@@ -19,7 +19,7 @@ all_with_instance P region depth enter start None list one all = all
 all_with_instance P region depth enter start (Some inside) list one all = All-cons P _ list (one inside refl) all
 
 -- all instances of these events are entered from a place on
-entered_from : (events : List Event) (low before made depth : ℕ) → low ≤ before → All (λ i. low ≤ i.enter) (closed_from events before made depth)
+pub entered_from : (events : List Event) (low before made depth : ℕ) → low ≤ before → All (λ i. low ≤ i.enter) (closed_from events before made depth)
 entered_from [] low before made depth from = λ k d within. absurd (omega arith)
 entered_from (Op class latency sources place ∷ events) low before made depth from =
     entered_from events low (before + 1) (made + 1) depth (omega arith)
@@ -119,7 +119,7 @@ instances_never_cross depth events =
     AllPairs-filter Precedes (λ i. nat_lt i.depth depth) (closed_from events 0 0 0) (never_crossing events 0 0 0)
 
 -- an instance is left after it is entered
-left_later : (events : List Event) (before made depth : ℕ) → All (λ i. i.enter < i.exit) (closed_from events before made depth)
+pub left_later : (events : List Event) (before made depth : ℕ) → All (λ i. i.enter < i.exit) (closed_from events before made depth)
 left_later [] before made depth = λ k d within. absurd (omega arith)
 left_later (Op class latency sources place ∷ events) before made depth = left_later events (before + 1) (made + 1) depth
 left_later (Enter region ∷ events) before made depth =

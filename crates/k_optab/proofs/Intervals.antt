@@ -49,5 +49,5 @@ work_at_most_total ops s e =
     let inner : take (e - s) (drop s ops) ++ drop (e - s) (drop s ops) ≡ drop s ops = take-append-drop (e - s) (drop s ops) in
     let one : total_latency (take s ops) + total_latency (drop s ops) ≡ total_latency ops = sym (total_latency-append (take s ops) (drop s ops)) ∙ ap total_latency front in
     let two : work ops s e + total_latency (drop (e - s) (drop s ops)) ≡ total_latency (drop s ops) =
-        sym (total_latency-append (take (e - s) (drop s ops)) (drop (e - s) (drop s ops))) ∙ ap total_latency inner in
+    sym (total_latency-append (take (e - s) (drop s ops)) (drop (e - s) (drop s ops))) ∙ ap total_latency inner in
     omega arith

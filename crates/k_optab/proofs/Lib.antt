@@ -2,5 +2,6 @@ pub mod Intervals
 pub mod History
 pub mod Matching
 pub mod Crossing
+pub mod Nesting
 pub mod Paths
 pub mod Heaviest

@@ -1,5 +1,5 @@
 -- What holds of instances, whatever the events: the statements of the laws.
-use Rattle.std.specs.Prelude.{ℕ, ◌≡◌, ◌<◌, ◌⊎◌, ◌↔◌, List, ◌∷◌, ◌++◌, Some, All, AllPairs}
+use Rattle.std.specs.Prelude.{ℕ, ◌≡◌, ◌<◌, ◌≤◌, ◌⊎◌, ◌↔◌, List, ◌∷◌, ◌++◌, Some, All, AllPairs}
 use Rattle.k_optab.specs.declared.event.Event.{Event}
 use Rattle.k_optab.specs.declared.event.Event.TheVariants.{Exit}
 use Rattle.k_optab.specs.Instances.{Closed, Balanced, until_exit, tracked}
@@ -20,3 +20,12 @@ InstancesNeverCross = (depth : ℕ) (events : List Event) → AllPairs Precedes 
 
 abbrev pub InstancesAreLeftLater : Type 0
 InstancesAreLeftLater = (depth : ℕ) (events : List Event) → All (λ i. i.enter < i.exit) (tracked depth events)
+
+-- the intervals of two instances, the first of which is entered first, lie as the instances do: one within
+-- the other, or one behind the other
+pub record LieAsInstances (a b : Closed) : Type 0 where
+  pub within : b.exit < a.exit → (a.start ≤ b.start) × (b.end ≤ a.end)
+  pub apart : a.exit < b.enter → a.end ≤ b.start
+
+abbrev pub IntervalsLieAsInstances : Type 0
+IntervalsLieAsInstances = (depth : ℕ) (events : List Event) → AllPairs LieAsInstances (tracked depth events)

@@ -16,7 +16,7 @@ ghost use Rattle.k_optab.specs.GraphLaws.{
   InnerPathIsAtMostOuter,
   PathIsAtMostPartsAndOwnWork,
 };
-ghost use Rattle.k_optab.specs.InstanceLaws.{ExitIsMatching, InstancesAreLeftLater, InstancesNeverCross};
+ghost use Rattle.k_optab.specs.InstanceLaws.{ExitIsMatching, InstancesAreLeftLater, InstancesNeverCross, IntervalsLieAsInstances};
 
 /// A path weighs at most the work of its interval.
 pub fn path_is_at_most_work()
@@ -74,4 +74,5 @@ pub fn exit_is_matching()
 pub fn instances_never_cross()
     ensures left { InstancesAreLeftLater }
     ensures apart { InstancesNeverCross }
+    ensures intervals { IntervalsLieAsInstances }
 {}

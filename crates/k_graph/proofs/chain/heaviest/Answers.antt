@@ -6,8 +6,8 @@ use Rattle.k_graph.proofs.chain.heaviest.Goals as goal
 pub path_to-requires-clause-earlier : goal.path_to-requires-clause-earlier
 path_to-requires-clause-earlier c =
     let are : AreChained (operations c.args.events.now) c.args.start c.args.end c.as_slice-times.result.now c.as_slice-2.result.now =
-        chained_shown c.args.events.now c.as_slice.result.now c.args.start c.args.end c.in_ok-chains.chains.times c.as_slice-times.result.now c.in_ok-chains.chains.befores
-        c.as_slice-2.result.now c.as_slice.ensures c.as_slice-times.ensures c.as_slice-2.ensures c.in_ok-chains.ensures.chains in
+    chained_shown c.args.events.now c.as_slice.result.now c.args.start c.args.end c.in_ok-chains.chains.times c.as_slice-times.result.now c.in_ok-chains.chains.befores
+    c.as_slice-2.result.now c.as_slice.ensures c.as_slice-times.ensures c.as_slice-2.ensures c.in_ok-chains.ensures.chains in
     befores_earlier (operations c.args.events.now) c.requires.sources c.args.start c.args.end c.as_slice-times.result.now c.as_slice-2.result.now are
 
 chained_at_end : (c : goal.After-drop-chains-3) → AreChained (operations c.args.events.now) c.args.start c.args.end c.as_slice-times.result.now c.as_slice-2.result.now

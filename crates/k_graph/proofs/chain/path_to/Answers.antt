@@ -1,4 +1,4 @@
-use Rattle.std.proofs.Common.{◌≡◌, ◌+◌, ◌-◌, ◌<◌, ◌≤◌, Some, None, length, arith, slice_get, reverse, ap, sym, ◌∙◌, subst}
+use Rattle.std.proofs.Common.{◌≡◌, ◌-◌, ◌<◌, Some, None, length, arith, slice_get, reverse, ap, sym, ◌∙◌, subst}
 use Rattle.std.proofs.lemmas.List.{take_at}
 use Rattle.std.proofs.lemmas.Result.{IfOk-weaker}
 use Rattle.k_graph.specs.Chains.{Traces}
@@ -21,7 +21,7 @@ loop-node-preserved c =
       from_start = earlier.0;
       within = omega (arith, earlier.1);
       goes_on = trace_goes_on c.args.start c.args.befores.now c.args.last c.loop-node.node c.loop-node.nodes.items c.push.new.self.items c.in_ok-push.ensures.items
-        c.loop-node.invariant.goes_on c.in-Some.before at;
+          c.loop-node.invariant.goes_on c.in-Some.before at;
     }
 
 pub loop-node-smaller : goal.loop-node-smaller
@@ -35,11 +35,11 @@ returns c =
     let within : c.loop-node.node - c.args.start < length c.args.befores.now = omega arith in
     let at : slice_get c.args.befores.now (c.loop-node.node - c.args.start) ≡ Some None = read_at c.args.befores.now _ _ _ within c.in_default.is in
     let turned : c.as_slice.result.now ≡ reverse c.push-2.new.self.items =
-        c.as_slice.ensures.value
-        ∙ (take_at c.reverse.new.self _ c.push-2.new.self.len (c.reverse.ensures.len ∙ c.as_mut_slice.ensures.len)
-        ∙ (c.reverse.ensures.after ∙ ap reverse c.as_mut_slice.ensures.value)) in
+    c.as_slice.ensures.value
+    ∙ (take_at c.reverse.new.self _ c.push-2.new.self.len (c.reverse.ensures.len ∙ c.as_mut_slice.ensures.len)
+    ∙ (c.reverse.ensures.after ∙ ap reverse c.as_mut_slice.ensures.value)) in
     IfOk-weaker c.copied.result (λ list. list ≡ c.as_slice.result.now) (Traces c.args.start c.args.befores.now c.args.last)
     (λ list same. subst (λ l. Traces c.args.start c.args.befores.now c.args.last l) (sym (same ∙ turned))
-      (trace_ends c.args.start c.args.befores.now c.args.last c.loop-node.node c.loop-node.nodes.items c.push-2.new.self.items c.in_ok-push-2.ensures.items
-        c.loop-node.invariant.goes_on at))
+    (trace_ends c.args.start c.args.befores.now c.args.last c.loop-node.node c.loop-node.nodes.items c.push-2.new.self.items c.in_ok-push-2.ensures.items
+    c.loop-node.invariant.goes_on at))
     c.copied.ensures

@@ -1,4 +1,4 @@
-use Rattle.std.proofs.Common.{◌≡◌, ◌+◌, ◌<◌, ◌≤◌, ◌++◌, List, ℕ, length, reverse}
+use Rattle.std.proofs.Common.{◌+◌, ◌<◌, ◌≤◌, ◌++◌, List, ℕ, length, reverse}
 use Rattle.k_graph.specs.Chains.{Traces}
 use Rattle.k_graph.proofs.chain.path_to.Given as goal
 

@@ -1,4 +1,4 @@
-use Rattle.std.proofs.Common.{◌≡◌, ◌<◌, length, arith, get_or, None}
+use Rattle.std.proofs.Common.{◌<◌, length, arith, get_or, None}
 use Rattle.std.specs.Option.{ForSome}
 use Rattle.k_graph.specs.declared.level.Measured.{Measured}
 use Rattle.k_graph.specs.declared.tree.Instance.{Instance}
@@ -40,8 +40,8 @@ loop-outer-preserved c =
     let there : c.args.place < length c.args.list.now = c.requires.there in
     record {
       around = λ m at.
-        further c.args.list.now c.requires.nested c.args.place c.in-Some.candidate _ _ m c.loop-outer.outer c.requires.there less c.in-Some.is
-        (c.loop-outer.invariant.around m at) at _ c.if-enter-list.false
-        (known_parent c.args.list.now c.requires.nested c.args.tree.now c.in-Some.candidate _ _ c.requires.parents (omega arith) (omega (arith, c.requires.so_far)));
+          further c.args.list.now c.requires.nested c.args.place c.in-Some.candidate _ _ m c.loop-outer.outer c.requires.there less c.in-Some.is
+          (c.loop-outer.invariant.around m at) at _ c.if-enter-list.false
+          (known_parent c.args.list.now c.requires.nested c.args.tree.now c.in-Some.candidate _ _ c.requires.parents (omega arith) (omega (arith, c.requires.so_far)));
       below = λ q is. let low : q < c.in-Some.candidate = its_parent_below c q is in omega arith;
     }

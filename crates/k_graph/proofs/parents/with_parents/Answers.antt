@@ -8,11 +8,12 @@ pub loop-place-preserved : goal.loop-place-preserved
 loop-place-preserved c = record {
   count = omega (arith, length-append {A = Instance}, ap length c.in_ok-push.ensures.ok);
   parents = λ place m n item pushed. elim (slice_get-push c.loop-place.tree _ n place (subst (λ l. slice_get l place ≡ Some n) c.in_ok-push.ensures.ok pushed)) [
-    inl old ↦ c.loop-place.invariant.parents place m n item old
+    | inl old ↦ c.loop-place.invariant.parents place m n item old
     | inr new ↦
-      (let here : place ≡ c.loop-place.place = new.0 ∙ c.loop-place.invariant.count in
-      let at : slice_get c.args.list.now c.loop-place.place ≡ Some m = subst (λ k. slice_get c.args.list.now k ≡ Some m) here item in
-      made_item _ m _ c.parent_of-parent.result n (get_or_from_slice_get c.args.list.now c.loop-place.place m _ at) new.1 (c.parent_of-parent.ensures m at)) ];
+        (let here : place ≡ c.loop-place.place = new.0 ∙ c.loop-place.invariant.count in
+        let at : slice_get c.args.list.now c.loop-place.place ≡ Some m = subst (λ k. slice_get c.args.list.now k ≡ Some m) here item in
+        made_item _ m _ c.parent_of-parent.result n (get_or_from_slice_get c.args.list.now c.loop-place.place m _ at) new.1 (c.parent_of-parent.ensures m at))
+  ];
 }
 
 pub returns : goal.returns
