@@ -2,7 +2,12 @@
 #![tactic(auto)]
 
 mod tokens;
+mod tree;
 
 pub use tokens::mark::Mark;
 pub use tokens::word::Word;
 pub use tokens::{Token, TokenKind};
+pub use tree::declaration::{Declarator, Init, Param, Params};
+pub use tree::expression::Expr;
+pub use tree::statement::{First, Stmt};
+pub use tree::unit::{Head, Item, Unit};
