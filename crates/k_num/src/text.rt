@@ -111,6 +111,7 @@ mod tests {
         assert!(rt; one == other);
         let hashes = BuildHasherDefault::<FoldHasher>::default();
         assert_eq!(rt; hashes.hash_one(&one), hashes.hash_one(&other));
+        assert!(rt; Seq::copy_of(rt.alloc(), one.as_slice())? == other);
         other.push(1)?;
         assert!(rt; one != other);
         let text = Text::copy_of(rt.alloc(), "loop")?;
