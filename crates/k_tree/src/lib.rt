@@ -1,9 +1,13 @@
 //! The syntax of a source: its tokens, and trees of syntax with parentheses kept.
 #![tactic(auto)]
 
+mod count;
+mod spelling;
 mod tokens;
 mod tree;
 
+pub use count::unit::{item_nodes, nodes};
+pub use spelling::unit::spell;
 pub use tokens::mark::Mark;
 pub use tokens::word::Word;
 pub use tokens::{Token, TokenKind};

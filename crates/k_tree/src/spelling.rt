@@ -1,0 +1,6 @@
+//! Trees written back as tokens.
+pub mod declaration;
+pub mod expression;
+pub mod printer;
+pub mod statement;
+pub mod unit;
