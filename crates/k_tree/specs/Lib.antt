@@ -1,2 +1,5 @@
+pub mod Bare
 pub mod Count
+pub mod Nesting
+pub mod Places
 pub mod Spelling
