@@ -2,4 +2,5 @@ pub mod Bare
 pub mod Count
 pub mod Nesting
 pub mod Places
+pub mod Ranked
 pub mod Spelling
