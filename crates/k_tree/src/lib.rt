@@ -15,3 +15,6 @@ pub use tree::declaration::{Declarator, Init, Param, Params};
 pub use tree::expression::Expr;
 pub use tree::statement::{First, Stmt};
 pub use tree::unit::{Head, Item, Unit};
+
+#[cfg(test)]
+mod tests;
