@@ -176,6 +176,11 @@ abbrev pub spell_else : Option Spelled → Spelled
 spell_else None = []
 spell_else (Some other) = the_word word.Else ++ other
 
+-- C17 6.8.5.2: a `do` loop, whose body is spelled
+abbrev pub spell_do : Spelled → Expr → Spelled
+spell_do body test =
+    the_word word.Do ++ (body ++ (the_word word.While ++ (in_parens (spell_expr test) ++ the_mark mark.Semicolon)))
+
 -- C17 6.8: a statement, whose statements are spelled
 abbrev pub spell_stmt_step : Stmt-F Spelled → Spelled
 spell_stmt_step (Stmt-F.Expr place value) = spell_expr value ++ the_mark mark.Semicolon
@@ -185,7 +190,7 @@ spell_stmt_step (Stmt-F.If place test chosen other) =
     the_word word.If ++ (in_parens (spell_expr test) ++ (chosen ++ spell_else other))
 spell_stmt_step (Stmt-F.While place test body) = the_word word.While ++ (in_parens (spell_expr test) ++ body)
 spell_stmt_step (Stmt-F.DoWhile place body test) =
-    the_word word.Do ++ (body ++ (the_word word.While ++ (in_parens (spell_expr test) ++ the_mark mark.Semicolon)))
+    spell_do body test
 spell_stmt_step (Stmt-F.For place start test step body) =
     the_word word.For ++ (spell_for start test step ++ body)
 spell_stmt_step (Stmt-F.Break place) = the_word word.Break ++ the_mark mark.Semicolon

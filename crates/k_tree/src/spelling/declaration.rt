@@ -1,14 +1,14 @@
-//! Declarators, parameters and initialisers as tokens.
+//! Declarations, declarators and initialisers as tokens.
 ghost use Rattle.std.specs.Prelude.{◌≡◌, ◌++◌, IfOk, map};
 ghost use Rattle.k_tree.specs.Spelling.{spell_dim, spell_dims, spell_init, spell_initialised, with_commas};
-ghost use Rattle.k_tree.specs.Spelling.{spell_declarator, spell_declaration, spell_optional_name, spell_param, spell_params};
+ghost use Rattle.k_tree.specs.Spelling.{spell_declarator, spell_declaration};
 
 use crate::spelling::printer::Printer;
 use crate::tokens::mark::Mark;
 use crate::tokens::word::Word;
-use crate::tree::declaration::{Declarator, Init, Param, Params};
+use crate::tree::declaration::{Declarator, Init};
 use crate::tree::expression::Expr;
-use k_num::{NoMemory, Seq, Text};
+use k_num::{NoMemory, Seq};
 
 impl Printer {
     /// Writes a declaration.
@@ -93,7 +93,7 @@ impl Printer {
     }
 
     /// Writes dimensions.
-    fn dims(&mut self, dims: &Seq<Option<Expr>>) -> Result<(), NoMemory>
+    pub fn dims(&mut self, dims: &Seq<Option<Expr>>) -> Result<(), NoMemory>
         ensures { IfOk result (λ _. self.new.tokens ≡ self.old.tokens ++ spell_dims dims.now) }
     {
         for size in dims.as_slice() {
@@ -111,51 +111,5 @@ impl Printer {
             self.expr(size)?;
         }
         self.mark(Mark::RightBracket)
-    }
-
-    /// Writes what stands between the parentheses of a head.
-    pub fn params(&mut self, params: &Params) -> Result<(), NoMemory>
-        ensures { IfOk result (λ _. self.new.tokens ≡ self.old.tokens ++ spell_params params.now) }
-    {
-        match params {
-            Params::Empty => Ok(()),
-            Params::Void => self.word(Word::Void),
-            Params::List(list) => self.param_list(list),
-        }
-    }
-
-    /// Writes parameters with commas between them.
-    fn param_list(&mut self, list: &Seq<Param>) -> Result<(), NoMemory>
-        ensures { IfOk result (λ _. self.new.tokens ≡ self.old.tokens ++ with_commas (map spell_param list.now)) }
-    {
-        let Some((first, rest)) = list.as_slice().split_first() else {
-            return Ok(());
-        };
-        self.param(first)?;
-        for param in rest {
-            self.mark(Mark::Comma)?;
-            self.param(param)?;
-        }
-        Ok(())
-    }
-
-    /// Writes a parameter.
-    fn param(&mut self, param: &Param) -> Result<(), NoMemory>
-        ensures { IfOk result (λ _. self.new.tokens ≡ self.old.tokens ++ spell_param param.now) }
-    {
-        self.specs(&param.specs)?;
-        self.stars(&param.stars)?;
-        self.optional_name(&param.name)?;
-        self.dims(&param.dims)
-    }
-
-    /// Writes a name, if there is one.
-    fn optional_name(&mut self, name: &Option<Text>) -> Result<(), NoMemory>
-        ensures { IfOk result (λ _. self.new.tokens ≡ self.old.tokens ++ spell_optional_name name.now) }
-    {
-        match name {
-            None => Ok(()),
-            Some(name) => self.name(name),
-        }
     }
 }

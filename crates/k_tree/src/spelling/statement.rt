@@ -1,6 +1,7 @@
 //! Statements as tokens.
 ghost use Rattle.std.specs.Prelude.{◌≡◌, ◌++◌, IfOk};
-ghost use Rattle.k_tree.specs.Spelling.{spell_stmt, spell_stmts, spell_first, spell_for, spell_option, spell_expr, in_braces, the_word, the_mark, in_parens};
+ghost use Rattle.k_tree.specs.Spelling.{spell_stmt, spell_stmts, spell_first, spell_for, spell_do, spell_else, spell_option, spell_expr, in_braces, the_word, the_mark, in_parens};
+ghost use Rattle.k_tree.specs.Bare.{where_given};
 ghost use Rattle.k_tree.specs.declared.tokens.mark.Mark.TheVariants as mark;
 
 use crate::spelling::printer::Printer;
@@ -31,24 +32,13 @@ impl Printer {
             } => {
                 self.guard(Word::If, test.get())?;
                 self.stmt(then.get())?;
-                match other {
-                    None => Ok(()),
-                    Some(other) => {
-                        self.word(Word::Else)?;
-                        self.stmt(other.get())
-                    }
-                }
+                self.else_part(other)
             }
             Stmt::While { test, body, .. } => {
                 self.guard(Word::While, test.get())?;
                 self.stmt(body.get())
             }
-            Stmt::DoWhile { body, test, .. } => {
-                self.word(Word::Do)?;
-                self.stmt(body.get())?;
-                self.guard(Word::While, test.get())?;
-                self.mark(Mark::Semicolon)
-            }
+            Stmt::DoWhile { body, test, .. } => self.do_while(body.get(), test.get()),
             Stmt::For {
                 first,
                 test,
@@ -68,6 +58,31 @@ impl Printer {
             }
             Stmt::Declare { specs, list, .. } => self.declaration(specs, list),
         }
+    }
+
+    /// Writes the `else` of an `if`, if there is one.
+    #[cycle(statements)]
+    fn else_part(&mut self, other: &Option<Box<Stmt>>) -> Result<(), NoMemory>
+        ensures { IfOk result (λ _. self.new.tokens ≡ self.old.tokens ++ spell_else (where_given spell_stmt other.now)) }
+    {
+        match other {
+            None => Ok(()),
+            Some(other) => {
+                self.word(Word::Else)?;
+                self.stmt(other.get())
+            }
+        }
+    }
+
+    /// Writes a `do` loop.
+    #[cycle(statements)]
+    fn do_while(&mut self, body: &Stmt, test: &Expr) -> Result<(), NoMemory>
+        ensures { IfOk result (λ _. self.new.tokens ≡ self.old.tokens ++ spell_do (spell_stmt body.now) test.now) }
+    {
+        self.word(Word::Do)?;
+        self.stmt(body)?;
+        self.guard(Word::While, test)?;
+        self.mark(Mark::Semicolon)
     }
 
     /// Writes statements in braces.
