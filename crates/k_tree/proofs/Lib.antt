@@ -1,1 +1,4 @@
+pub mod Begin
 pub mod Examples
+pub mod Laid
+pub mod Ranks

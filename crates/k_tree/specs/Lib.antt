@@ -1,7 +1,9 @@
 pub mod Bare
+pub mod Begins
 pub mod Count
 pub mod Folds
 pub mod Nesting
 pub mod Places
+pub mod Rank
 pub mod Ranked
 pub mod Spelling

@@ -197,3 +197,7 @@ Stand (piece ∷ pieces) [] = ⊥
 -- each node has the place of its token
 abbrev pub Placed : source.Unit → List Token → Type 0
 Placed unit tokens = Stand (lay_unit unit) tokens
+
+-- the tokens of pieces, without places
+abbrev pub kinds_of : Pieces → Spelled
+kinds_of pieces = map (λ piece. piece.what) pieces
