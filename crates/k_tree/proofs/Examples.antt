@@ -157,3 +157,4 @@ to_outer = stmt.If nowhere a (stmt.If nowhere a (stmt.Empty nowhere) None) (Some
 
 pub equal_spellings : spell_stmt to_nearest ≡ spell_stmt to_outer
 equal_spellings = simp folds
+
