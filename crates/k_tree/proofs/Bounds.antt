@@ -1,5 +1,5 @@
 -- A ranked tree has at most twice as many nodes as tokens: an initialiser alone has no token of its own.
-use Rattle.std.proofs.Common.{ℕ, ◌≡◌, ◌≢◌, ◌≤◌, ◌+◌, ◌*◌, List, [], ◌∷◌, ◌++◌, map, sum, length, Option, Some, None, refl, arith, length-append}
+use Rattle.std.proofs.Common.{ℕ, ◌≡◌, ◌≢◌, ◌≤◌, ◌+◌, ◌*◌, List, [], ◌∷◌, map, sum, length, Option, Some, None, refl, arith, length-append}
 use Rattle.std.specs.Prelude.{All}
 use Rattle.std.proofs.lemmas.List.Elements.{All-head, All-tail, All-nil, All-cons}
 use Rattle.std.proofs.lemmas.List.Sums.{sum_by-cons}
@@ -146,7 +146,7 @@ first_bound (first.Declare specs list) h = omega (arith, declaration_bound specs
 
 declare_bound : (p : Place) (specs : List Word) (list : List Declarator) → RankedDeclaration specs list
     → stmt_count (stmt.Declare p specs list) ≤ 2 * length (spell_stmt (stmt.Declare p specs list))
-declare_bound p specs list h = rw (stmt_Declare, stmt_Declare) (omega (arith, declaration_bound specs list h))
+declare_bound p specs list h = simp stmt_Declare (omega (arith, declaration_bound specs list h))
 
 mutual
   pub stmt_bound : (s : Stmt) → RankedStmt s → stmt_count s ≤ 2 * length (spell_stmt s)
@@ -170,8 +170,12 @@ mutual
   parts_bound _ (statement s parts x y) =
       simp length-append (omega (arith, sum-cons (stmt_count s) (map stmt_count parts), stmt_bound s x, parts_bound parts y))
   parts_bound _ (declaration p specs list parts x y) =
-      simp (length-append) (omega (arith, sum-cons (stmt_count (stmt.Declare p specs list)) (map stmt_count parts),
-      declare_bound p specs list x, parts_bound parts y))
+      simp (length-append) (omega (
+        arith,
+        sum-cons (stmt_count (stmt.Declare p specs list)) (map stmt_count parts),
+        declare_bound p specs list x,
+        parts_bound parts y,
+      ))
 
 pub item_bound : (i : Item) → RankedItem i → item_count i ≤ 2 * length (spell_item i)
 item_bound (item.Function p h body close) r =

@@ -1,6 +1,6 @@
 -- Small sources: node counts and nesting of one for each construct, first the count, then the nesting;
 -- and the tree in which an `else` goes to the nearest `if`, beside the one in which it doesn't.
-use Rattle.std.proofs.Common.{ℕ, ◌≡◌, Bool, true, false, List, [], ◌∷◌, map, Option, Some, None, refl, ap}
+use Rattle.std.proofs.Common.{ℕ, ◌≡◌, true, false, List, [], ◌∷◌, map, Option, Some, None, refl, ap, sym, subst, ◌∙◌}
 use Rattle.std.specs.Prelude.{pos}
 use Rattle.k_num.specs.declared.numbers.Kind.TheVariants as kind
 use Rattle.k_tree.specs.Bare.{nowhere}
@@ -8,13 +8,15 @@ use Rattle.k_tree.specs.Count.{unit_count}
 use Rattle.k_tree.specs.Folds.{folds}
 use Rattle.k_tree.specs.Nesting.{nesting}
 use Rattle.k_tree.specs.Spelling.{spell_stmt}
-use Rattle.k_tree.specs.Ranked.{RankedStmt, ends_open, if_else, if_alone, empty, name}
+use Rattle.k_tree.specs.Ranked.{RankedStmt, ends_open, value, empty, block, if_alone, if_else, while_loop, do_loop, for_loop, break_loop, continue_loop, return_value}
+use Rattle.k_num.specs.declared.place.Place.{Place}
 use Rattle.k_tree.specs.declared.tokens.mark.Mark.TheVariants as mark
 use Rattle.k_tree.specs.declared.tokens.word.Word.TheVariants as word
 use Rattle.k_tree.specs.declared.tree.expression.Expr.{Expr}
 use Rattle.k_tree.specs.declared.tree.expression.Expr.TheVariants as expr
 use Rattle.k_tree.specs.declared.tree.statement.First.TheVariants as first
-use Rattle.k_tree.specs.declared.tree.statement.Stmt.{Stmt}
+use Rattle.k_tree.specs.declared.tree.statement.Stmt.{Stmt, out-Stmt, roll-Stmt, out-roll-Stmt}
+use Rattle.k_tree.specs.declared.tree.statement.Stmt.TheOpen.{Stmt-F}
 use Rattle.k_tree.specs.declared.tree.statement.Stmt.TheVariants as stmt
 use Rattle.k_tree.specs.declared.tree.declaration.Declarator.{Declarator}
 use Rattle.k_tree.specs.declared.tree.declaration.Init.{Init}
@@ -158,3 +160,29 @@ to_outer = stmt.If nowhere a (stmt.If nowhere a (stmt.Empty nowhere) None) (Some
 pub equal_spellings : spell_stmt to_nearest ≡ spell_stmt to_outer
 equal_spellings = simp folds
 
+roll_injective : (x y : Stmt-F Stmt) → roll-Stmt x ≡ roll-Stmt y → x ≡ y
+roll_injective x y e = sym (out-roll-Stmt x) ∙ (ap out-Stmt e ∙ out-roll-Stmt y)
+
+-- the statement before an `else` doesn't end in an `if` without one
+no_open_if : (s : Stmt) → RankedStmt s → (p : Place) (e : Expr) (x t : Stmt) → s ≡ stmt.If p e x (Some t) → ends_open x ≡ false
+no_open_if _ (value p b x) q e y t eq = cc
+no_open_if _ (empty p) q e y t eq = cc
+no_open_if _ (block p parts x) q e y t eq = cc
+no_open_if _ (if_alone p b s x y) q e z t eq = cc
+no_open_if _ (if_else p b s t x y closed z) q e w u eq =
+    let layers : Stmt-F.If p b s (Some t) ≡ Stmt-F.If q e w (Some u) =
+    roll_injective _ _ (stmt.rolls-If p b s (Some t) ∙ (eq ∙ sym (stmt.rolls-If q e w (Some u)))) in
+    let same : s ≡ w = cc in subst (λ z. ends_open z ≡ false) same closed
+no_open_if _ (while_loop p b s x y) q e z t eq = cc
+no_open_if _ (do_loop p s b x y) q e z t eq = cc
+no_open_if _ (for_loop p start b c s x y z w) q e v t eq = cc
+no_open_if _ (break_loop p) q e x t eq = cc
+no_open_if _ (continue_loop p) q e x t eq = cc
+no_open_if _ (return_value p b x) q e y t eq = cc
+
+pub outer_else_refused : RankedStmt to_outer → ⊥
+outer_else_refused d =
+    let closed : ends_open (stmt.If nowhere a (stmt.Empty nowhere) None) ≡ false =
+    no_open_if to_outer d nowhere a (stmt.If nowhere a (stmt.Empty nowhere) None) (stmt.Empty nowhere) refl in
+    let open_end : ends_open (stmt.If nowhere a (stmt.Empty nowhere) None) ≡ true = simp folds in
+    cc

@@ -1,5 +1,5 @@
 -- Specifiers and stars end where what follows can't go on with them, so their tokens tell them.
-use Rattle.std.proofs.Common.{◌≡◌, Bool, true, false, IsTrue, IsFalse, List, [], ◌∷◌, ◌++◌, map, sym, subst, ap, refl}
+use Rattle.std.proofs.Common.{◌≡◌, Bool, IsTrue, IsFalse, List, [], ◌∷◌, ◌++◌, sym, subst, refl}
 use Rattle.std.specs.Prelude.{All}
 use Rattle.std.proofs.lemmas.List.Elements.{All-head, All-tail}
 use Rattle.k_tree.specs.declared.tokens.TokenKind.{TokenKind}
@@ -34,5 +34,5 @@ specs_unique (v ∷ a) (w ∷ b) x y ha hb sx sy e =
     let q : v ≡ w = cc in
     let r : spell_specs a ++ x ≡ spell_specs b ++ y = cc in
     let s : (a ≡ b) × (x ≡ y) =
-          specs_unique a b x y (All-tail (λ u. IsTrue (is_spec u)) v a ha) (All-tail (λ u. IsTrue (is_spec u)) w b hb) sx sy r in
+    specs_unique a b x y (All-tail (λ u. IsTrue (is_spec u)) v a ha) (All-tail (λ u. IsTrue (is_spec u)) w b hb) sx sy r in
     let s0 : a ≡ b = s.0 in (cc, s.1)

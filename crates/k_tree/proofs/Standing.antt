@@ -1,9 +1,7 @@
 -- Laws of pieces that stand at tokens: row by row, token by token.
-use Rattle.std.proofs.Common.{◌≡◌, List, [], ◌∷◌, ◌++◌, map, ap, sym, refl}
-use Rattle.std.specs.Prelude.{All}
+use Rattle.std.proofs.Common.{◌≡◌, List, [], ◌∷◌, ◌++◌, map, refl}
 use Rattle.std.proofs.lemmas.List.Elements.{All-nil, All-cons}
 use Rattle.k_num.specs.declared.place.Place.{Place}
-use Rattle.k_tree.specs.declared.tokens.TokenKind.{TokenKind}
 use Rattle.k_tree.specs.declared.tokens.Token.{Token}
 use Rattle.k_tree.specs.Places.{Piece, Pieces, plain, at, kinds_of, Stand}
 

@@ -2,6 +2,7 @@ pub mod Bare
 pub mod Begins
 pub mod Count
 pub mod Folds
+pub mod Laws
 pub mod Nesting
 pub mod Places
 pub mod Rank

@@ -2,6 +2,7 @@
 #![tactic(auto)]
 
 mod count;
+pub mod laws;
 mod spelling;
 mod tokens;
 mod tree;
