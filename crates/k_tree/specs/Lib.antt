@@ -1,0 +1,10 @@
+pub mod Bare
+pub mod Begins
+pub mod Count
+pub mod Folds
+pub mod Laws
+pub mod Nesting
+pub mod Places
+pub mod Rank
+pub mod Ranked
+pub mod Spelling

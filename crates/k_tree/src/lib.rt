@@ -1,8 +1,21 @@
 //! The syntax of a source: its tokens, and trees of syntax with parentheses kept.
 #![tactic(auto)]
 
+mod count;
+pub mod laws;
+mod spelling;
 mod tokens;
+mod tree;
 
+pub use count::unit::{item_nodes, nodes};
+pub use spelling::unit::spell;
 pub use tokens::mark::Mark;
 pub use tokens::word::Word;
 pub use tokens::{Token, TokenKind};
+pub use tree::declaration::{Declarator, Init, Param, Params};
+pub use tree::expression::Expr;
+pub use tree::statement::{First, Stmt};
+pub use tree::unit::{Head, Item, Unit};
+
+#[cfg(test)]
+mod tests;

@@ -1,0 +1,7 @@
+pub mod Begin
+pub mod Bounds
+pub mod Examples
+pub mod Laid
+pub mod Prefix
+pub mod Ranks
+pub mod Standing

@@ -1,0 +1,107 @@
+-- Trees without their places: two trees are equal up to places where these are equal.
+use Rattle.std.specs.Prelude.{List, map, Option, Some, None}
+use Rattle.k_num.specs.declared.place.Place.{Place}
+use Rattle.k_tree.specs.declared.tree.expression.Expr.{Expr, fold-Expr}
+use Rattle.k_tree.specs.declared.tree.expression.Expr.TheOpen.{Expr-F}
+use Rattle.k_tree.specs.declared.tree.expression.Expr.TheVariants as expr
+use Rattle.k_tree.specs.declared.tree.declaration.Init.{Init, fold-Init}
+use Rattle.k_tree.specs.declared.tree.declaration.Init.TheOpen.{Init-F}
+use Rattle.k_tree.specs.declared.tree.declaration.Init.TheVariants as init
+use Rattle.k_tree.specs.declared.tree.declaration.Declarator.{Declarator}
+use Rattle.k_tree.specs.declared.tree.declaration.Param.{Param}
+use Rattle.k_tree.specs.declared.tree.declaration.Params.{Params}
+use Rattle.k_tree.specs.declared.tree.declaration.Params.TheVariants as params
+use Rattle.k_tree.specs.declared.tree.statement.First.{First}
+use Rattle.k_tree.specs.declared.tree.statement.First.TheVariants as first
+use Rattle.k_tree.specs.declared.tree.statement.Stmt.{Stmt, fold-Stmt}
+use Rattle.k_tree.specs.declared.tree.statement.Stmt.TheOpen.{Stmt-F}
+use Rattle.k_tree.specs.declared.tree.statement.Stmt.TheVariants as stmt
+use Rattle.k_tree.specs.declared.tree.unit.Head.{Head}
+use Rattle.k_tree.specs.declared.tree.unit.Item.{Item}
+use Rattle.k_tree.specs.declared.tree.unit.Item.TheVariants as item
+use Rattle.k_tree.specs.declared.tree.unit.Unit as source
+
+-- the one place that each node gets
+abbrev pub nowhere : Place
+nowhere = record { line = 0; column = 0 }
+
+-- what may be left out, changed where it is there
+abbrev pub where_given : {A B : Type 0} → (A → B) → Option A → Option B
+where_given f None = None
+where_given f (Some x) = Some (f x)
+
+abbrev pub bare_expr_step : Expr-F Expr → Expr
+bare_expr_step (Expr-F.Name place name) = expr.Name nowhere name
+bare_expr_step (Expr-F.Number place kind value) = expr.Number nowhere kind value
+bare_expr_step (Expr-F.Char place value) = expr.Char nowhere value
+bare_expr_step (Expr-F.Str place bytes) = expr.Str nowhere bytes
+bare_expr_step (Expr-F.Paren place inner) = expr.Paren nowhere inner
+bare_expr_step (Expr-F.Index place base index) = expr.Index nowhere base index
+bare_expr_step (Expr-F.Call place name args) = expr.Call nowhere name args
+bare_expr_step (Expr-F.Post place op operand) = expr.Post nowhere op operand
+bare_expr_step (Expr-F.Pre place op operand) = expr.Pre nowhere op operand
+bare_expr_step (Expr-F.Unary place op operand) = expr.Unary nowhere op operand
+bare_expr_step (Expr-F.SizeofExpr place operand) = expr.SizeofExpr nowhere operand
+bare_expr_step (Expr-F.SizeofType place specs stars) = expr.SizeofType nowhere specs stars
+bare_expr_step (Expr-F.Cast place specs stars operand) = expr.Cast nowhere specs stars operand
+bare_expr_step (Expr-F.Binary place op left right) = expr.Binary nowhere op left right
+bare_expr_step (Expr-F.Cond place test chosen other) = expr.Cond nowhere test chosen other
+bare_expr_step (Expr-F.Assign place op left right) = expr.Assign nowhere op left right
+bare_expr_step (Expr-F.Comma place left right) = expr.Comma nowhere left right
+
+abbrev pub bare_expr : Expr → Expr
+bare_expr = fold-Expr Expr bare_expr_step
+
+abbrev pub bare_dims : List (Option Expr) → List (Option Expr)
+bare_dims dims = map (where_given bare_expr) dims
+
+abbrev pub bare_init_step : Init-F Init → Init
+bare_init_step (Init-F.One place value) = init.One nowhere (bare_expr value)
+bare_init_step (Init-F.List place items comma) = init.List nowhere items comma
+
+abbrev pub bare_init : Init → Init
+bare_init = fold-Init Init bare_init_step
+
+abbrev pub bare_declarator : Declarator → Declarator
+bare_declarator d = record d { place = nowhere; dims = bare_dims d.dims; init = where_given bare_init d.init }
+
+abbrev pub bare_param : Param → Param
+bare_param p = record p { place = nowhere; dims = bare_dims p.dims }
+
+abbrev pub bare_params : Params → Params
+bare_params params.Empty = params.Empty
+bare_params params.Void = params.Void
+bare_params (params.List list) = params.List (map bare_param list)
+
+abbrev pub bare_head : Head → Head
+bare_head h = record h { name_place = nowhere; params = bare_params h.params }
+
+abbrev pub bare_first : First → First
+bare_first first.Nothing = first.Nothing
+bare_first (first.Value value) = first.Value (bare_expr value)
+bare_first (first.Declare specs list) = first.Declare specs (map bare_declarator list)
+
+abbrev pub bare_stmt_step : Stmt-F Stmt → Stmt
+bare_stmt_step (Stmt-F.Expr place value) = stmt.Expr nowhere (bare_expr value)
+bare_stmt_step (Stmt-F.Empty place) = stmt.Empty nowhere
+bare_stmt_step (Stmt-F.Block place parts) = stmt.Block nowhere parts
+bare_stmt_step (Stmt-F.If place test chosen other) = stmt.If nowhere (bare_expr test) chosen other
+bare_stmt_step (Stmt-F.While place test body) = stmt.While nowhere (bare_expr test) body
+bare_stmt_step (Stmt-F.DoWhile place body test) = stmt.DoWhile nowhere body (bare_expr test)
+bare_stmt_step (Stmt-F.For place start test step body) =
+    stmt.For nowhere (bare_first start) (where_given bare_expr test) (where_given bare_expr step) body
+bare_stmt_step (Stmt-F.Break place) = stmt.Break nowhere
+bare_stmt_step (Stmt-F.Continue place) = stmt.Continue nowhere
+bare_stmt_step (Stmt-F.Return place value) = stmt.Return nowhere (where_given bare_expr value)
+bare_stmt_step (Stmt-F.Declare place specs list) = stmt.Declare nowhere specs (map bare_declarator list)
+
+abbrev pub bare_stmt : Stmt → Stmt
+bare_stmt = fold-Stmt Stmt bare_stmt_step
+
+abbrev pub bare_item : Item → Item
+bare_item (item.Function place head body close) = item.Function nowhere (bare_head head) (map bare_stmt body) nowhere
+bare_item (item.Prototype place head) = item.Prototype nowhere (bare_head head)
+bare_item (item.Objects place specs list) = item.Objects nowhere specs (map bare_declarator list)
+
+abbrev pub bare : source.Unit → source.Unit
+bare unit = record { items = map bare_item unit.items; end = nowhere }
