@@ -70,19 +70,6 @@ impl<T: Drop> Seq<T> {
     }
 }
 
-impl<T: Copy> Seq<T> {
-    /// A list with the items of `items`.
-    pub fn copy_of(alloc: Global, items: &[T]) -> Result<Seq<T>, NoMemory>
-        ensures { IfOk result (λ list. list ≡ items.now) }
-    {
-        let mut list = Seq::new(alloc);
-        for item in items {
-            list.push(*item)?;
-        }
-        Ok(list)
-    }
-}
-
 impl<T: PartialEq> PartialEq for Seq<T> {
     ghost use Rattle.std.specs.Cmp.Lexicographic.{pointwise, lists_per};
 
