@@ -1,0 +1,4 @@
+pub mod Longest
+pub mod Tables
+pub mod Classes
+pub mod PieceLaws

@@ -1,0 +1,11 @@
+pub mod Bytes
+pub mod Marks
+pub mod Words
+pub mod Pieces
+pub mod Outcome
+pub mod Numbers
+pub mod Literals
+pub mod Macros
+pub mod Lines
+pub mod Tokens
+pub mod Scans

@@ -1,0 +1,12 @@
+//! The tokens of a source: its bytes are cut into pieces, directives are obeyed, macros are replaced, and
+//! neighbouring strings are joined.
+#![tactic(auto)]
+
+mod bytes;
+mod fault;
+mod lines;
+mod macros;
+mod pieces;
+mod scan;
+
+pub use fault::LexFault;
