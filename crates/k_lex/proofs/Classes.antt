@@ -27,6 +27,9 @@ class_string s n m c h = rw (n, m, c, h) refl
 pub class_comment : (s : List ℕ) → Pieces.is_name s ≡ false → Pieces.is_number s ≡ false → Pieces.is_character s ≡ false → Pieces.is_string s ≡ false → Pieces.is_comment s ≡ true → Pieces.class_of s ≡ p.Comment
 class_comment s n m c t h = rw (n, m, c, t, h) refl
 
+pub class_blank : (s : List ℕ) → Pieces.is_name s ≡ false → Pieces.is_number s ≡ false → Pieces.is_character s ≡ false → Pieces.is_string s ≡ false → Pieces.is_comment s ≡ false → Pieces.is_blank_piece s ≡ true → Pieces.class_of s ≡ p.Blank
+class_blank s n m c t o h = rw (n, m, c, t, o, h) refl
+
 pub class_mark : (s : List ℕ) → Pieces.is_name s ≡ false → Pieces.is_number s ≡ false → Pieces.is_character s ≡ false → Pieces.is_string s ≡ false → Pieces.is_comment s ≡ false → Pieces.is_blank_piece s ≡ false → same s (10 ∷ []) ≡ false → Pieces.class_of s ≡ Pieces.mark_piece (mark_of s)
 class_mark s n m c t o b l = rw (n, m, c, t, o, b, l) refl
 
@@ -91,8 +94,28 @@ digit_or_point b = is_digit b || eqb b 46
 pub digit_apart : (b : ℕ) → b < 256 → digit_or_point b ≡ true → rest_after_digit b ≡ false
 digit_apart b lt h = apart digit_or_point rest_after_digit b refl lt h
 
+abbrev pub digit_or_letter : ℕ → Bool
+digit_or_letter b = is_letter b || is_digit b
+
 abbrev pub rest_after_blank : ℕ → Bool
-rest_after_blank b = is_letter b || is_digit b || eqb b 46 || eqb b 39 || eqb b 34 || eqb b 47 || eqb b 10
+rest_after_blank b = digit_or_letter b || eqb b 46 || eqb b 39 || eqb b 34 || eqb b 47 || eqb b 10
 
 pub blank_apart : (b : ℕ) → b < 256 → is_blank b ≡ true → rest_after_blank b ≡ false
 blank_apart b lt h = apart is_blank rest_after_blank b refl lt h
+
+pub six_parts : (a b c d e f : Bool) → (a || b || c || d || e || f) ≡ false → (a ≡ false) × (b ≡ false) × (c ≡ false) × (d ≡ false) × (e ≡ false) × (f ≡ false)
+six_parts a b c d e f h =
+    let o1 = or_parts (a || b || c || d || e) f h in
+    let o2 = or_parts (a || b || c || d) e o1.0 in
+    let o3 = or_parts (a || b || c) d o2.0 in
+    let o4 = or_parts (a || b) c o3.0 in
+    let o5 = or_parts a b o4.0 in
+    (o5.0, o5.1, o4.1, o3.1, o2.1, o1.1)
+
+-- what a byte that begins a number is not: a letter, a quote, a slash, a blank, a newline
+pub digit_is_not : (b : ℕ) → b < 256 → digit_or_point b ≡ true → (is_letter b ≡ false) × (eqb b 39 ≡ false) × (eqb b 34 ≡ false) × (eqb b 47 ≡ false) × (is_blank b ≡ false) × (eqb b 10 ≡ false)
+digit_is_not b lt h = six_parts (is_letter b) (eqb b 39) (eqb b 34) (eqb b 47) (is_blank b) (eqb b 10) (digit_apart b lt h)
+
+-- what a blank is not
+pub blank_is_not : (b : ℕ) → b < 256 → is_blank b ≡ true → (digit_or_letter b ≡ false) × (eqb b 46 ≡ false) × (eqb b 39 ≡ false) × (eqb b 34 ≡ false) × (eqb b 47 ≡ false) × (eqb b 10 ≡ false)
+blank_is_not b lt h = six_parts (digit_or_letter b) (eqb b 46) (eqb b 39) (eqb b 34) (eqb b 47) (eqb b 10) (blank_apart b lt h)

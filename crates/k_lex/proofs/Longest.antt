@@ -27,14 +27,21 @@ longest_up_to passes b bs n le same_as =
     above zero lt _ = absurd (omega arith)
     above (suc m) lt le' = same_as m (omega arith) ∙ lt-leb m n (omega arith)
 
--- Only the front of one length passes.
-pub longest_at : (passes : List ℕ → Bool) (b : ℕ) (bs : List ℕ) (n : ℕ) → n ≤ length bs → ((m : ℕ) → m ≤ length bs → passes (b ∷ take m bs) ≡ eqb m n) → longest passes (b ∷ bs) (suc (length bs)) ≡ suc n
-longest_at passes b bs n le same_as =
-    longest_is passes (b ∷ bs) (suc n) (suc (length bs)) (omega arith) (λ _. same_as n le ∙ eq-eqb n n refl) above
+-- The front of one length passes, and no longer one.
+pub longest_exact : (passes : List ℕ → Bool) (b : ℕ) (bs : List ℕ) (n : ℕ) → n ≤ length bs → passes (b ∷ take n bs) ≡ true → ((m : ℕ) → n < m → m ≤ length bs → passes (b ∷ take m bs) ≡ false) → longest passes (b ∷ bs) (suc (length bs)) ≡ suc n
+longest_exact passes b bs n le holds fails =
+    longest_is passes (b ∷ bs) (suc n) (suc (length bs)) (omega arith) (λ _. holds) above
   where
     above : (m : ℕ) → suc n < m → m ≤ suc (length bs) → passes (take m (b ∷ bs)) ≡ false
     above zero lt _ = absurd (omega arith)
-    above (suc m) lt le' = same_as m (omega arith) ∙ grind (arith, nat_tests)
+    above (suc m) lt le' = fails m (omega arith) (omega arith)
+
+-- Two tests that agree on fronts have one longest front.
+pub longest_same : (f g : List ℕ → Bool) (text : List ℕ) (k : ℕ) → ((m : ℕ) → f (take m text) ≡ g (take m text)) → longest f text k ≡ longest g text k
+longest_same f g text zero e = refl
+longest_same f g text (suc k) e =
+    ap (λ v. if◌then◌else◌ v (suc k) (longest f text k)) (e (suc k))
+    ∙ ap (λ n. if◌then◌else◌ (g (take (suc k) text)) (suc k) n) (longest_same f g text k e)
 
 -- No front passes.
 pub longest_none : (passes : List ℕ → Bool) (b : ℕ) (bs : List ℕ) → ((m : ℕ) → m ≤ length bs → passes (b ∷ take m bs) ≡ false) → longest passes (b ∷ bs) (suc (length bs)) ≡ 0
@@ -156,3 +163,28 @@ header_take count (b ∷ bs) (suc m) le =
     | false ↦ elim (eqb b 10) as (λ v. (not v && closes_header (take m bs)) ≡ is_at (if◌then◌else◌ v None (header_at (count + 1) bs)) (count + suc m)) [
         true ↦ refl
         | false ↦ header_take (count + 1) bs m (omega arith) ∙ ap (is_at (header_at (count + 1) bs)) (omega arith) ] ]
+
+pub close_within : (quote : ℕ) (escaped : Bool) (count : ℕ) (bs : List ℕ) (n : ℕ) → close_at quote escaped count bs ≡ Some n → n ≤ count + length bs
+close_within quote escaped count [] n = λ e. absurd (cc)
+close_within quote escaped count (b ∷ bs) n =
+    elim (not escaped && eqb b quote) as (λ v. (if◌then◌else◌ v (Some (count + 1)) (if◌then◌else◌ (eqb b 10) None (close_at quote (not escaped && eqb b 92) (count + 1) bs))) ≡ Some n → n ≤ count + suc (length bs)) [
+    true ↦ λ e. let k : count + 1 ≡ n = cc in omega arith
+    | false ↦ elim (eqb b 10) as (λ v. (if◌then◌else◌ v None (close_at quote (not escaped && eqb b 92) (count + 1) bs)) ≡ Some n → n ≤ count + suc (length bs)) [
+        true ↦ λ e. absurd (cc)
+        | false ↦ λ e. omega (arith, close_within quote (not escaped && eqb b 92) (count + 1) bs n e) ] ]
+
+pub comment_within : (star : Bool) (count : ℕ) (bs : List ℕ) (n : ℕ) → comment_at star count bs ≡ Some n → n ≤ count + length bs
+comment_within star count [] n = λ e. absurd (cc)
+comment_within star count (b ∷ bs) n =
+    elim (star && eqb b 47) as (λ v. (if◌then◌else◌ v (Some (count + 1)) (comment_at (eqb b 42) (count + 1) bs)) ≡ Some n → n ≤ count + suc (length bs)) [
+    true ↦ λ e. let k : count + 1 ≡ n = cc in omega arith
+    | false ↦ λ e. omega (arith, comment_within (eqb b 42) (count + 1) bs n e) ]
+
+pub header_within : (count : ℕ) (bs : List ℕ) (n : ℕ) → header_at count bs ≡ Some n → n ≤ count + length bs
+header_within count [] n = λ e. absurd (cc)
+header_within count (b ∷ bs) n =
+    elim (eqb b 62) as (λ v. (if◌then◌else◌ v (Some (count + 1)) (if◌then◌else◌ (eqb b 10) None (header_at (count + 1) bs))) ≡ Some n → n ≤ count + suc (length bs)) [
+    true ↦ λ e. let k : count + 1 ≡ n = cc in omega arith
+    | false ↦ elim (eqb b 10) as (λ v. (if◌then◌else◌ v None (header_at (count + 1) bs)) ≡ Some n → n ≤ count + suc (length bs)) [
+        true ↦ λ e. absurd (cc)
+        | false ↦ λ e. omega (arith, header_within (count + 1) bs n e) ] ]

@@ -104,9 +104,11 @@ class_in_pragma s =
     else (if length s == 1 then p.Blank
     else p.Unknown))
 
--- the same behind `#include`
+-- the same behind `#include`, where `<` begins a header's name
 abbrev pub class_in_include : List ℕ → Piece
-class_in_include s = if is_header s then p.Header else class_of s
+class_in_include s =
+    if begins (codes "<") s then (if is_header s then p.Header else p.Unknown)
+    else class_of s
 
 abbrev pub is_known : Piece → Bool
 is_known p.Unknown = false
