@@ -9,13 +9,16 @@ use Rattle.k_lex.specs.declared.pieces.Piece.TheVariants as p
 use Rattle.k_lex.specs.Bytes.{is_letter, is_digit, in_name, is_blank, every, span, same, begins, look_up}
 use Rattle.k_lex.specs.Marks.{marks, mark_of}
 use Rattle.k_lex.specs.Pieces
-use Rattle.k_lex.specs.Pieces.{piece_by, piece_of_length, class_of, is_known, longest}
+use Rattle.k_lex.specs.Pieces.{piece_by, starts_number, piece_of_length, class_of, is_known, longest}
 use Rattle.k_lex.specs.Scans.{number_span, close_at, comment_at, header_at, or_mark, mark_at}
 use Rattle.k_lex.proofs.Longest
 use Rattle.k_lex.proofs.Longest.{is_at}
 use Rattle.k_lex.proofs.Classes
 use Rattle.k_lex.proofs.Tables.{no_key}
 use Rattle.k_tree.specs.declared.tokens.mark.Mark.{Mark}
+
+pub test_fails : (a b : ℕ) → a ≢ b → eqb a b ≡ false
+test_fails a b ne = grind (arith, nat_tests)
 
 abbrev known : List ℕ → Bool
 known s = is_known (class_of s)
@@ -79,10 +82,6 @@ name_is b bs n lt h e =
     ap (λ k. (p.Name, k)) (add-one n) ∙ sym whole ∙ ap (piece_of_length class_of (b ∷ bs)) (sym found)
 
 -- ---- numbers
-
-abbrev pub starts_number : ℕ → List ℕ → Bool
-starts_number b [] = is_digit b
-starts_number b (c ∷ cs) = is_digit b || (eqb b 46 && is_digit c)
 
 number_known : (b : ℕ) (t : List ℕ) → b < 256 → Classes.digit_or_point b ≡ true → known (b ∷ t) ≡ Pieces.is_number (b ∷ t)
 number_known b t lt h = elim (cases_Bool (Pieces.is_number (b ∷ t))) [
@@ -231,33 +230,38 @@ comment_some_length bs n at =
     let early : is_at (Some n) 0 ≡ false = ap (λ o. is_at o 0) (sym at) ∙ Longest.comment_later false 0 bs 0 (omega arith) in
     grind (arith, nat_tests)
 
-pub comment_is : (bs : List ℕ) (n : ℕ) → comment_at false 0 bs ≡ Some n → (p.Comment, n + 2) ≡ piece_by class_of (47 ∷ 42 ∷ bs)
+pub comment_by : (class : List ℕ → Piece) → ((t : List ℕ) → is_known (class (47 ∷ 42 ∷ t)) ≡ Pieces.ends_comment false t) → ((t : List ℕ) → Pieces.ends_comment false t ≡ true → class (47 ∷ 42 ∷ t) ≡ p.Comment) → (bs : List ℕ) (n : ℕ) → comment_at false 0 bs ≡ Some n → (p.Comment, n + 2) ≡ piece_by class (47 ∷ 42 ∷ bs)
 unfolding piece_by
-comment_is bs n at =
+comment_by class opens closed bs n at =
     let within : n ≤ length bs = omega (arith, Longest.comment_within false 0 bs n at) in
     let ends = λ (m : ℕ) (le : m ≤ length bs). Longest.comment_take false 0 bs m le ∙ ap (λ o. is_at o (0 + m)) at in
     let holds : Pieces.ends_comment false (take n bs) ≡ true = ends n within ∙ eq-eqb (0 + n) n (omega arith) in
-    let found : longest known (47 ∷ 42 ∷ bs) (suc (suc (length bs))) ≡ suc (suc n) =
-        Longest.longest_exact known 47 (42 ∷ bs) (suc n) (omega arith) (comment_known (take n bs) ∙ holds) (above ends) in
-    let class : class_of (47 ∷ 42 ∷ take n bs) ≡ p.Comment = Classes.class_comment (47 ∷ 42 ∷ take n bs) refl refl refl refl (or_left _ _ holds) in
-    let whole = longer_found class_of 47 42 bs n p.Comment class (comment_some_length bs n at) in
+    let found : longest (λ s. is_known (class s)) (47 ∷ 42 ∷ bs) (suc (suc (length bs))) ≡ suc (suc n) =
+        Longest.longest_exact (λ s. is_known (class s)) 47 (42 ∷ bs) (suc n) (omega arith) (opens (take n bs) ∙ holds) (above ends) in
+    let whole = longer_found class 47 42 bs n p.Comment (closed (take n bs) holds) (comment_some_length bs n at) in
     let two : n + 2 ≡ suc (suc n) = omega arith in
-    ap (λ k. (p.Comment, k)) two ∙ sym whole ∙ ap (piece_of_length class_of (47 ∷ 42 ∷ bs)) (sym found)
+    ap (λ k. (p.Comment, k)) two ∙ sym whole ∙ ap (piece_of_length class (47 ∷ 42 ∷ bs)) (sym found)
   where
-    above : ((m : ℕ) → m ≤ length bs → Pieces.ends_comment false (take m bs) ≡ is_at (Some n) (0 + m)) → (m : ℕ) → suc n < m → m ≤ suc (length bs) → known (47 ∷ take m (42 ∷ bs)) ≡ false
+    above : ((m : ℕ) → m ≤ length bs → Pieces.ends_comment false (take m bs) ≡ is_at (Some n) (0 + m)) → (m : ℕ) → suc n < m → m ≤ suc (length bs) → is_known (class (47 ∷ take m (42 ∷ bs))) ≡ false
     above ends zero lt le = absurd (omega arith)
-    above ends (suc m) lt le = comment_known (take m bs) ∙ ends m (omega arith) ∙ (let ne : 0 + m ≢ n = omega arith in grind (arith, nat_tests))
+    above ends (suc m) lt le = opens (take m bs) ∙ ends m (omega arith) ∙ (let ne : 0 + m ≢ n = omega arith in grind (arith, nat_tests))
+
+pub comment_open_by : (class : List ℕ → Piece) → ((t : List ℕ) → is_known (class (47 ∷ 42 ∷ t)) ≡ Pieces.ends_comment false t) → is_known (class (47 ∷ [])) ≡ true → (bs : List ℕ) → comment_at false 0 bs ≡ None → (p.OpenComment, 1) ≡ piece_by class (47 ∷ 42 ∷ bs)
+unfolding piece_by
+comment_open_by class opens slash bs at =
+    let found : longest (λ s. is_known (class s)) (47 ∷ 42 ∷ bs) (suc (suc (length bs))) ≡ suc 0 =
+        Longest.longest_exact (λ s. is_known (class s)) 47 (42 ∷ bs) 0 (omega arith) slash above in
+    ap (piece_of_length class (47 ∷ 42 ∷ bs)) (sym found)
+  where
+    above : (m : ℕ) → 0 < m → m ≤ suc (length bs) → is_known (class (47 ∷ take m (42 ∷ bs))) ≡ false
+    above zero lt le = absurd (omega arith)
+    above (suc m) lt le = opens (take m bs) ∙ Longest.comment_take false 0 bs m (omega arith) ∙ ap (λ o. is_at o (0 + m)) at
+
+pub comment_is : (bs : List ℕ) (n : ℕ) → comment_at false 0 bs ≡ Some n → (p.Comment, n + 2) ≡ piece_by class_of (47 ∷ 42 ∷ bs)
+comment_is bs n at = comment_by class_of comment_known (λ t e. Classes.class_comment (47 ∷ 42 ∷ t) refl refl refl refl (or_left _ _ e)) bs n at
 
 pub comment_open : (bs : List ℕ) → comment_at false 0 bs ≡ None → (p.OpenComment, 1) ≡ piece_by class_of (47 ∷ 42 ∷ bs)
-unfolding piece_by
-comment_open bs at =
-    let found : longest known (47 ∷ 42 ∷ bs) (suc (suc (length bs))) ≡ suc 0 =
-        Longest.longest_exact known 47 (42 ∷ bs) 0 (omega arith) refl above in
-    ap (piece_of_length class_of (47 ∷ 42 ∷ bs)) (sym found)
-  where
-    above : (m : ℕ) → 0 < m → m ≤ suc (length bs) → known (47 ∷ take m (42 ∷ bs)) ≡ false
-    above zero lt le = absurd (omega arith)
-    above (suc m) lt le = comment_known (take m bs) ∙ Longest.comment_take false 0 bs m (omega arith) ∙ ap (λ o. is_at o (0 + m)) at
+comment_open bs at = comment_open_by class_of comment_known refl bs at
 
 line_known : (t : List ℕ) → known (47 ∷ 47 ∷ t) ≡ every Pieces.in_line t
 line_known t = elim (cases_Bool (every Pieces.in_line t)) [
@@ -266,32 +270,36 @@ line_known t = elim (cases_Bool (every Pieces.in_line t)) [
         Classes.class_mark (47 ∷ 47 ∷ t) refl refl refl refl e refl refl
         ∙ ap Pieces.mark_piece (no_key marks (λ s. not (begins (47 ∷ 47 ∷ []) s)) (47 ∷ 47 ∷ t) refl refl)) ∙ sym e ]
 
-pub line_is : (bs : List ℕ) (n : ℕ) → n ≡ span Pieces.in_line bs → (p.Comment, n + 2) ≡ piece_by class_of (47 ∷ 47 ∷ bs)
+pub line_by : (class : List ℕ → Piece) → ((t : List ℕ) → is_known (class (47 ∷ 47 ∷ t)) ≡ every Pieces.in_line t) → ((t : List ℕ) → every Pieces.in_line t ≡ true → class (47 ∷ 47 ∷ t) ≡ p.Comment) → (bs : List ℕ) (n : ℕ) → n ≡ span Pieces.in_line bs → (p.Comment, n + 2) ≡ piece_by class (47 ∷ 47 ∷ bs)
 unfolding piece_by
-line_is bs n e =
+line_by class opens closed bs n e =
     let within = Longest.span_within Pieces.in_line bs in
-    let goes = λ (m : ℕ) (le : m ≤ length bs). Longest.every_take Pieces.in_line bs m le in
-    let holds : every Pieces.in_line (take n bs) ≡ true = goes n (omega arith) ∙ le-leb n (span Pieces.in_line bs) (omega arith) in
-    let found : longest known (47 ∷ 47 ∷ bs) (suc (suc (length bs))) ≡ suc (suc n) =
-        Longest.longest_exact known 47 (47 ∷ bs) (suc n) (omega arith) (line_known (take n bs) ∙ holds) above in
-    let class : class_of (47 ∷ 47 ∷ take n bs) ≡ p.Comment = Classes.class_comment (47 ∷ 47 ∷ take n bs) refl refl refl refl holds in
-    let whole = piece_found class_of 47 (47 ∷ bs) (suc n) p.Comment refl class in
+    let holds : every Pieces.in_line (take n bs) ≡ true = Longest.every_take Pieces.in_line bs n (omega arith) ∙ le-leb n (span Pieces.in_line bs) (omega arith) in
+    let found : longest (λ s. is_known (class s)) (47 ∷ 47 ∷ bs) (suc (suc (length bs))) ≡ suc (suc n) =
+        Longest.longest_exact (λ s. is_known (class s)) 47 (47 ∷ bs) (suc n) (omega arith) (opens (take n bs) ∙ holds) above in
+    let whole = piece_found class 47 (47 ∷ bs) (suc n) p.Comment refl (closed (take n bs) holds) in
     let two : n + 2 ≡ suc (suc n) = omega arith in
-    ap (λ k. (p.Comment, k)) two ∙ sym whole ∙ ap (piece_of_length class_of (47 ∷ 47 ∷ bs)) (sym found)
+    ap (λ k. (p.Comment, k)) two ∙ sym whole ∙ ap (piece_of_length class (47 ∷ 47 ∷ bs)) (sym found)
   where
-    above : (m : ℕ) → suc n < m → m ≤ suc (length bs) → known (47 ∷ take m (47 ∷ bs)) ≡ false
+    above : (m : ℕ) → suc n < m → m ≤ suc (length bs) → is_known (class (47 ∷ take m (47 ∷ bs))) ≡ false
     above zero lt le = absurd (omega arith)
-    above (suc m) lt le = line_known (take m bs) ∙ Longest.every_take Pieces.in_line bs m (omega arith) ∙ lt-leb m (span Pieces.in_line bs) (omega arith)
+    above (suc m) lt le = opens (take m bs) ∙ Longest.every_take Pieces.in_line bs m (omega arith) ∙ lt-leb m (span Pieces.in_line bs) (omega arith)
+
+pub line_is : (bs : List ℕ) (n : ℕ) → n ≡ span Pieces.in_line bs → (p.Comment, n + 2) ≡ piece_by class_of (47 ∷ 47 ∷ bs)
+line_is bs n e = line_by class_of line_known (λ t h. Classes.class_comment (47 ∷ 47 ∷ t) refl refl refl refl h) bs n e
 
 -- ---- blanks and newlines
 
--- no piece of more than this byte
-single_is : (class : List ℕ → Piece) (b : ℕ) (bs : List ℕ) (x : Piece) → NoComment b bs → class (b ∷ []) ≡ x → is_known x ≡ true → ((c : ℕ) (t : List ℕ) → is_known (class (b ∷ c ∷ t)) ≡ false) → (x, 1) ≡ piece_by class (b ∷ bs)
+-- no front of more than this byte is a piece
+single_at : (class : List ℕ → Piece) (b : ℕ) (bs : List ℕ) (x : Piece) → NoComment b bs → class (b ∷ []) ≡ x → is_known x ≡ true → ((m : ℕ) → 0 < m → m ≤ length bs → is_known (class (b ∷ take m bs)) ≡ false) → (x, 1) ≡ piece_by class (b ∷ bs)
 unfolding piece_by
-single_is class b bs x clear e holds fails =
+single_at class b bs x clear e holds fails =
     let found : longest (λ s. is_known (class s)) (b ∷ bs) (suc (length bs)) ≡ suc 0 =
-        Longest.longest_exact (λ s. is_known (class s)) b bs 0 (omega arith) (ap is_known e ∙ holds) (above bs) in
+        Longest.longest_exact (λ s. is_known (class s)) b bs 0 (omega arith) (ap is_known e ∙ holds) fails in
     sym (piece_found class b bs 0 x clear e) ∙ ap (piece_of_length class (b ∷ bs)) (sym found)
+
+single_is : (class : List ℕ → Piece) (b : ℕ) (bs : List ℕ) (x : Piece) → NoComment b bs → class (b ∷ []) ≡ x → is_known x ≡ true → ((c : ℕ) (t : List ℕ) → is_known (class (b ∷ c ∷ t)) ≡ false) → (x, 1) ≡ piece_by class (b ∷ bs)
+single_is class b bs x clear e holds fails = single_at class b bs x clear e holds (above bs)
   where
     above : (bs : List ℕ) (m : ℕ) → 0 < m → m ≤ length bs → is_known (class (b ∷ take m bs)) ≡ false
     above bs zero lt le = absurd (omega arith)
@@ -376,3 +384,162 @@ mark_is b (c ∷ e ∷ es) clear q d class =
     above [] class (suc (suc (suc (suc m)))) lt le = absurd (omega arith)
     above (f ∷ fs) class (suc (suc (suc (suc m)))) lt le =
         ap is_known (class (suc (suc (suc m))) (omega arith) ∙ ap Pieces.mark_piece (no_longer_mark b c e f (take m fs)))
+
+-- ---- what is left begins marks, or nothing
+
+not_number_front : (b : ℕ) (bs : List ℕ) (m : ℕ) → m ≤ length bs → starts_number b bs ≡ false → Pieces.is_number (b ∷ take m bs) ≡ false
+not_number_front b [] zero le h = h
+not_number_front b [] (suc m) le h = absurd (omega arith)
+not_number_front b (c ∷ cs) zero le h = (or_parts (is_digit b) (eqb b 46 && is_digit c) h).0
+not_number_front b (c ∷ cs) (suc m) le h = and_left (is_digit b || (eqb b 46 && is_digit c)) (Pieces.number_goes_on b (c ∷ take m cs)) h
+
+pub other_is : (b : ℕ) (bs : List ℕ) → is_letter b ≡ false → starts_number b bs ≡ false → eqb b 39 ≡ false → eqb b 34 ≡ false → eqb b 47 ≡ false → is_blank b ≡ false → eqb b 10 ≡ false → mark_at (b ∷ bs) ≡ piece_by class_of (b ∷ bs)
+other_is b bs l n q d s w e = mark_is b bs (no_slash b bs s) q d (λ m le.
+    Classes.class_mark (b ∷ take m bs) (Classes.not_name b (take m bs) l) (not_number_front b bs m le n) (Classes.not_character b (take m bs) q)
+    (Classes.not_string b (take m bs) d) (Classes.not_comment b (take m bs) s) (Classes.not_blank b (take m bs) w) (Classes.not_newline b (take m bs) e))
+
+slash_class : (t : List ℕ) → Pieces.is_comment (47 ∷ t) ≡ false → class_of (47 ∷ t) ≡ Pieces.mark_piece (mark_of (47 ∷ t))
+slash_class t h = Classes.class_mark (47 ∷ t) refl (Classes.not_number 47 t refl refl) (Classes.not_character 47 t refl) (Classes.not_string 47 t refl) h
+    (Classes.not_blank 47 t refl) (Classes.not_newline 47 t refl)
+
+pub slash_alone_is : mark_at (47 ∷ []) ≡ piece_by class_of (47 ∷ [])
+slash_alone_is = mark_is 47 [] refl refl refl class
+  where
+    class : (m : ℕ) → m ≤ 0 → class_of (47 ∷ take m []) ≡ Pieces.mark_piece (mark_of (47 ∷ take m []))
+    class zero le = refl
+    class (suc m) le = absurd (omega arith)
+
+pub slash_is : (c : ℕ) (cs : List ℕ) → eqb c 42 ≡ false → eqb c 47 ≡ false → mark_at (47 ∷ c ∷ cs) ≡ piece_by class_of (47 ∷ c ∷ cs)
+slash_is c cs s t = mark_is 47 (c ∷ cs) clear refl refl class
+  where
+    clear : begins (47 ∷ 42 ∷ []) (47 ∷ c ∷ cs) ≡ false
+    clear = and_left (eqb 42 c) true (grind (arith, nat_tests))
+    class : (m : ℕ) → m ≤ suc (length cs) → class_of (47 ∷ take m (c ∷ cs)) ≡ Pieces.mark_piece (mark_of (47 ∷ take m (c ∷ cs)))
+    class zero le = refl
+    class (suc m) le = slash_class (c ∷ take m cs) (or_from _ _ (and_left (eqb c 42) _ s) (and_left (eqb c 47) _ t))
+
+-- ---- in a `#pragma`
+
+abbrev in_pragma : List ℕ → Piece
+in_pragma = Pieces.class_in_pragma
+
+pragma_comment : (t : List ℕ) → Pieces.ends_comment false t ≡ true → in_pragma (47 ∷ 42 ∷ t) ≡ p.Comment
+pragma_comment t e = let h : Pieces.is_comment (47 ∷ 42 ∷ t) ≡ true = or_left _ _ e in rw h refl
+
+no_single : (b c : ℕ) (t : List ℕ) → Pieces.is_comment (b ∷ c ∷ t) ≡ false → is_known (in_pragma (b ∷ c ∷ t)) ≡ false
+no_single b c t h =
+    let z : eqb (suc (suc (length t))) 1 ≡ false = grind (arith, nat_tests) in
+    rw (h, z) refl
+
+pragma_opens : (t : List ℕ) → is_known (in_pragma (47 ∷ 42 ∷ t)) ≡ Pieces.ends_comment false t
+pragma_opens t = elim (cases_Bool (Pieces.ends_comment false t)) [
+    inl e ↦ ap is_known (pragma_comment t e) ∙ sym e
+    | inr e ↦ no_single 47 42 t (or_from _ _ e refl) ∙ sym e ]
+
+pragma_line : (t : List ℕ) → is_known (in_pragma (47 ∷ 47 ∷ t)) ≡ every Pieces.in_line t
+pragma_line t = elim (cases_Bool (every Pieces.in_line t)) [
+    inl e ↦ (let h : Pieces.is_comment (47 ∷ 47 ∷ t) ≡ true = e in rw h refl)
+    | inr e ↦ no_single 47 47 t e ∙ sym e ]
+
+pub pragma_comment_is : (bs : List ℕ) (n : ℕ) → comment_at false 0 bs ≡ Some n → (p.Comment, n + 2) ≡ piece_by Pieces.class_in_pragma (47 ∷ 42 ∷ bs)
+pragma_comment_is bs n at = comment_by in_pragma pragma_opens pragma_comment bs n at
+
+pub pragma_comment_open : (bs : List ℕ) → comment_at false 0 bs ≡ None → (p.OpenComment, 1) ≡ piece_by Pieces.class_in_pragma (47 ∷ 42 ∷ bs)
+pragma_comment_open bs at = comment_open_by in_pragma pragma_opens refl bs at
+
+pub pragma_line_is : (bs : List ℕ) (n : ℕ) → n ≡ span Pieces.in_line bs → (p.Comment, n + 2) ≡ piece_by Pieces.class_in_pragma (47 ∷ 47 ∷ bs)
+pragma_line_is bs n e = line_by in_pragma pragma_line (λ t h. let k : Pieces.is_comment (47 ∷ 47 ∷ t) ≡ true = h in rw k refl) bs n e
+
+pub pragma_newline_is : (bs : List ℕ) → (p.Newline, 1) ≡ piece_by Pieces.class_in_pragma (10 ∷ bs)
+pragma_newline_is bs = single_is in_pragma 10 bs p.Newline refl refl refl (λ c t. no_single 10 c t refl)
+
+pub pragma_slash_alone_is : (p.Blank, 1) ≡ piece_by Pieces.class_in_pragma (47 ∷ [])
+unfolding piece_by
+pragma_slash_alone_is = refl
+
+pub pragma_slash_is : (c : ℕ) (cs : List ℕ) → eqb c 42 ≡ false → eqb c 47 ≡ false → (p.Blank, 1) ≡ piece_by Pieces.class_in_pragma (47 ∷ c ∷ cs)
+pragma_slash_is c cs s t = single_at in_pragma 47 (c ∷ cs) p.Blank clear refl refl above
+  where
+    clear : begins (47 ∷ 42 ∷ []) (47 ∷ c ∷ cs) ≡ false
+    clear = and_left (eqb 42 c) true (grind (arith, nat_tests))
+    above : (m : ℕ) → 0 < m → m ≤ suc (length cs) → is_known (in_pragma (47 ∷ take m (c ∷ cs))) ≡ false
+    above zero lt le = absurd (omega arith)
+    above (suc m) lt le = no_single 47 c (take m cs) (or_from _ _ (and_left (eqb c 42) _ s) (and_left (eqb c 47) _ t))
+
+pub pragma_other_is : (b : ℕ) (bs : List ℕ) → eqb b 47 ≡ false → eqb b 10 ≡ false → (p.Blank, 1) ≡ piece_by Pieces.class_in_pragma (b ∷ bs)
+pragma_other_is b bs s e = single_is in_pragma b bs p.Blank (no_slash b bs s) (rw e refl) refl (λ c t. no_single b c t (Classes.not_comment b (c ∷ t) s))
+
+pub pragma_end_is : (p.Unknown, 1) ≡ piece_by Pieces.class_in_pragma []
+unfolding piece_by
+pragma_end_is = refl
+
+pub end_is : (p.Unknown, 1) ≡ piece_by class_of []
+unfolding piece_by
+end_is = refl
+
+-- ---- behind `#include`
+
+abbrev in_include : List ℕ → Piece
+in_include = Pieces.class_in_include
+
+header_known : (t : List ℕ) → is_known (in_include (60 ∷ t)) ≡ Pieces.closes_header t
+header_known t = elim (cases_Bool (Pieces.closes_header t)) [
+    inl e ↦ rw e refl
+    | inr e ↦ rw e refl ]
+
+pub header_is : (bs : List ℕ) (n : ℕ) → header_at 0 bs ≡ Some n → (p.Header, n + 1) ≡ piece_by Pieces.class_in_include (60 ∷ bs)
+unfolding piece_by
+header_is bs n at =
+    let within : n ≤ length bs = omega (arith, Longest.header_within 0 bs n at) in
+    let closed = λ (m : ℕ) (le : m ≤ length bs). Longest.header_take 0 bs m le ∙ ap (λ o. is_at o (0 + m)) at in
+    let holds : Pieces.closes_header (take n bs) ≡ true = closed n within ∙ eq-eqb (0 + n) n (omega arith) in
+    let found : longest (λ s. is_known (in_include s)) (60 ∷ bs) (suc (length bs)) ≡ suc n =
+        Longest.longest_exact (λ s. is_known (in_include s)) 60 bs n within (header_known (take n bs) ∙ holds)
+        (λ m above le. header_known (take m bs) ∙ closed m le ∙ (let ne : 0 + m ≢ n = omega arith in grind (arith, nat_tests))) in
+    let class : in_include (60 ∷ take n bs) ≡ p.Header = rw holds refl in
+    let whole = piece_found in_include 60 bs n p.Header refl class in
+    ap (λ k. (p.Header, k)) (add-one n) ∙ sym whole ∙ ap (piece_of_length in_include (60 ∷ bs)) (sym found)
+
+pub header_open : (bs : List ℕ) → header_at 0 bs ≡ None → (p.Unknown, 1) ≡ piece_by Pieces.class_in_include (60 ∷ bs)
+unfolding piece_by
+header_open bs at =
+    let found : longest (λ s. is_known (in_include s)) (60 ∷ bs) (suc (length bs)) ≡ 0 =
+        Longest.longest_none (λ s. is_known (in_include s)) 60 bs (λ m le. header_known (take m bs) ∙ Longest.header_take 0 bs m le ∙ ap (λ o. is_at o (0 + m)) at) in
+    ap (piece_of_length in_include (60 ∷ bs)) (sym found)
+
+pub include_other_is : (b : ℕ) (bs : List ℕ) → eqb b 60 ≡ false → piece_by class_of (b ∷ bs) ≡ piece_by Pieces.class_in_include (b ∷ bs)
+unfolding piece_by
+include_other_is b bs e =
+    ap (piece_of_length class_of (b ∷ bs)) (Longest.longest_same known (λ s. is_known (in_include s)) (b ∷ bs) (suc (length bs)) (λ m. ap is_known (agree m)))
+    ∙ at_length (longest (λ s. is_known (in_include s)) (b ∷ bs) (suc (length bs)))
+  where
+    agree : (m : ℕ) → class_of (take m (b ∷ bs)) ≡ in_include (take m (b ∷ bs))
+    agree zero = refl
+    agree (suc m) = let h : (eqb 60 b && true) ≡ false = and_left (eqb 60 b) true (grind (arith, nat_tests)) in rw h refl
+    at_length : (n : ℕ) → piece_of_length class_of (b ∷ bs) n ≡ piece_of_length in_include (b ∷ bs) n
+    at_length n = ap (λ x. if begins (47 ∷ 42 ∷ []) (b ∷ bs) && leb n 1 then (p.OpenComment, 1)
+        else (if eqb n 0 then ((if begins (39 ∷ []) (b ∷ bs) || begins (34 ∷ []) (b ∷ bs) then p.OpenLiteral else p.Unknown), 1)
+        else (x, n))) (agree n)
+
+pub include_end_is : piece_by class_of [] ≡ piece_by Pieces.class_in_include []
+unfolding piece_by
+include_end_is = refl
+
+-- ---- a piece has a byte, and not more than the text
+
+pub longest_within : (passes : List ℕ → Bool) (text : List ℕ) (k : ℕ) → longest passes text k ≤ k
+longest_within passes text zero = omega arith
+longest_within passes text (suc k) = elim (passes (take (suc k) text)) as (λ v. (if v then suc k else longest passes text k) ≤ suc k) [
+    true ↦ omega arith
+    | false ↦ omega (arith, longest_within passes text k) ]
+
+pub piece_length : (class : List ℕ → Piece) (b : ℕ) (bs : List ℕ) → (1 ≤ (piece_by class (b ∷ bs)).1) × ((piece_by class (b ∷ bs)).1 ≤ suc (length bs))
+unfolding piece_by
+piece_length class b bs = by (longest (λ s. is_known (class s)) (b ∷ bs) (suc (length bs))) (longest_within (λ s. is_known (class s)) (b ∷ bs) (suc (length bs)))
+  where
+    by : (n : ℕ) → n ≤ suc (length bs) → (1 ≤ (piece_of_length class (b ∷ bs) n).1) × ((piece_of_length class (b ∷ bs) n).1 ≤ suc (length bs))
+    by n le = elim (begins (47 ∷ 42 ∷ []) (b ∷ bs) && leb n 1) as (λ v. let x : Piece × ℕ = if v then (p.OpenComment, 1) else (if eqb n 0 then ((if begins (39 ∷ []) (b ∷ bs) || begins (34 ∷ []) (b ∷ bs) then p.OpenLiteral else p.Unknown), 1) else (class (take n (b ∷ bs)), n)) in (1 ≤ x.1) × (x.1 ≤ suc (length bs))) [
+        true ↦ (omega arith, omega arith)
+        | false ↦ elim (cases_eq n 0) [
+            inl z ↦ (let e : eqb n 0 ≡ true = eq-eqb n 0 z in rw e (omega arith, omega arith))
+            | inr z ↦ (let e : eqb n 0 ≡ false = grind (arith, nat_tests) in rw e (omega arith, le)) ] ]

@@ -22,10 +22,15 @@ abbrev pub number_goes_on : ℕ → List ℕ → Bool
 number_goes_on before [] = true
 number_goes_on before (b ∷ bs) = goes_on before b && number_goes_on b bs
 
+-- whether a number begins with a byte and what stands behind it
+abbrev pub starts_number : ℕ → List ℕ → Bool
+starts_number b [] = is_digit b
+starts_number b (c ∷ cs) = is_digit b || (b == 46 && is_digit c)
+
 abbrev pub is_number : List ℕ → Bool
 is_number [] = false
 is_number (b ∷ []) = is_digit b
-is_number (b ∷ c ∷ cs) = (is_digit b || (b == 46 && is_digit c)) && number_goes_on b (c ∷ cs)
+is_number (b ∷ c ∷ cs) = starts_number b (c ∷ cs) && number_goes_on b (c ∷ cs)
 
 -- What stands behind an opening quote ends with the closing one, which is the first in the line that
 -- no backslash stands before (C17 6.4.4.4, 6.4.5).

@@ -5,7 +5,9 @@
 mod bytes;
 mod fault;
 mod lines;
+mod literals;
 mod macros;
+mod marks;
 mod pieces;
 mod scan;
 

@@ -1,5 +1,5 @@
 //! How far a text goes on in one way.
-ghost use Rattle.std.specs.Prelude.{◌≡◌, false};
+ghost use Rattle.std.specs.Prelude.{◌≡◌, ◌≤◌, false, length, IfSome};
 ghost use Rattle.k_lex.specs.Bytes as bytes;
 ghost use Rattle.k_lex.specs.Scans as spec;
 
@@ -30,7 +30,8 @@ fn is_in(class: Class, b: u8) -> bool
 
 /// How many of the first bytes are in the class.
 pub fn span(class: Class, text: &[u8]) -> usize
-    ensures { result ≡ bytes.span (spec.is_in class) text.now }
+    ensures found { result ≡ bytes.span (spec.is_in class) text.now }
+    ensures within { result ≤ length text.now }
 {
     let mut rest = text;
     let mut count = 0;
@@ -46,7 +47,8 @@ pub fn span(class: Class, text: &[u8]) -> usize
 
 /// How many bytes go on as the number whose first byte stands before them.
 pub fn number_span(first: u8, text: &[u8]) -> usize
-    ensures { result ≡ spec.number_span first text.now }
+    ensures found { result ≡ spec.number_span first text.now }
+    ensures within { result ≤ length text.now }
 {
     let mut before = first;
     let mut rest = text;
@@ -64,7 +66,8 @@ pub fn number_span(first: u8, text: &[u8]) -> usize
 
 /// Behind how many bytes the closing quote ends.
 pub fn closing_quote(quote: u8, text: &[u8]) -> Option<usize>
-    ensures { result ≡ spec.close_at quote false 0 text.now }
+    ensures found { result ≡ spec.close_at quote false 0 text.now }
+    ensures within { IfSome result (λ count. count ≤ length text.now) }
 {
     let mut escaped = false;
     let mut rest = text;
@@ -85,7 +88,8 @@ pub fn closing_quote(quote: u8, text: &[u8]) -> Option<usize>
 
 /// Behind how many bytes a comment ends, of the text behind its `/*`.
 pub fn comment_end(text: &[u8]) -> Option<usize>
-    ensures { result ≡ spec.comment_at false 0 text.now }
+    ensures found { result ≡ spec.comment_at false 0 text.now }
+    ensures within { IfSome result (λ count. count ≤ length text.now) }
 {
     let mut star = false;
     let mut rest = text;
@@ -103,7 +107,8 @@ pub fn comment_end(text: &[u8]) -> Option<usize>
 
 /// Behind how many bytes a header's name ends, of the text behind its `<`.
 pub fn header_end(text: &[u8]) -> Option<usize>
-    ensures { result ≡ spec.header_at 0 text.now }
+    ensures found { result ≡ spec.header_at 0 text.now }
+    ensures within { IfSome result (λ count. count ≤ length text.now) }
 {
     let mut rest = text;
     let mut count = 0;
