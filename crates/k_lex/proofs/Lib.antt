@@ -2,3 +2,4 @@ pub mod Longest
 pub mod Tables
 pub mod Classes
 pub mod PieceLaws
+pub mod NumberLaws

@@ -1,6 +1,9 @@
 -- Look-ups in tables.
 use Rattle.std.proofs.Common.{◌≡◌, ℕ, zero, suc, Bool, true, false, not, ◌&&◌, if◌then◌else◌, List, [], ◌∷◌, Option, Some, None, refl, sym, ap, ◌∙◌, inl, inr, eqb}
 use Rattle.std.proofs.lemmas.Bool.{eqb-true, eq-eqb, and_parts, and_from, false≢true, cases_Bool}
+use Rattle.std.specs.Prelude.{nat_eq}
+use Rattle.std.specs.Cmp.Lexicographic.{pointwise}
+use Rattle.std.proofs.Math.Bool.{and_comm}
 use Rattle.k_lex.specs.Bytes.{same, look_up}
 
 pub same_true : (xs ys : List ℕ) → same xs ys ≡ true → xs ≡ ys
@@ -29,3 +32,9 @@ no_key {X} (row ∷ rows) passes key all fails =
     elim (cases_Bool (same row.0 key)) [
     inl e ↦ absurd (false≢true (sym fails ∙ ap passes (sym (same_true row.0 key e)) ∙ parts.0))
     | inr e ↦ (let chosen : Bool → Option X = λ v. if◌then◌else◌ v (Some row.1) (look_up rows key) in ap chosen e) ∙ no_key rows passes key parts.1 fails ]
+
+pub same_pointwise : (xs ys : List ℕ) → pointwise nat_eq xs ys ≡ same xs ys
+same_pointwise [] [] = refl
+same_pointwise [] (y ∷ ys) = refl
+same_pointwise (x ∷ xs) [] = refl
+same_pointwise (x ∷ xs) (y ∷ ys) = ap (λ v. nat_eq x y && v) (same_pointwise xs ys) ∙ and_comm (nat_eq x y) (same xs ys)

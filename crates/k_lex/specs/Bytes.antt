@@ -1,5 +1,5 @@
 -- Classes of bytes, lists of bytes, and places.
-use Rattle.std.specs.Prelude.{ℕ, suc, ◌+◌, ◌-◌, Bool, true, false, ◌&&◌, ◌||◌, List, [], ◌∷◌, Option, Some, None, nat_le, ◌==◌, if◌then◌else◌}
+use Rattle.std.specs.Prelude.{ℕ, suc, ◌<◌, ◌^◌, ◌+◌, ◌-◌, Bool, true, false, ◌&&◌, ◌||◌, List, [], ◌∷◌, Option, Some, None, nat_le, ◌==◌, if◌then◌else◌}
 use Rattle.k_num.specs.declared.place.Place.{Place}
 
 abbrev pub within : ℕ → ℕ → ℕ → Bool
@@ -60,6 +60,10 @@ look_up (row ∷ rows) key = if same row.0 key then Some row.1 else look_up rows
 -- the place behind a byte
 abbrev pub after : Place → ℕ → Place
 after p b = if b == 10 then record { line = p.line + 1; column = 1 } else record { line = p.line; column = p.column + 1 }
+
+-- the line and the column can grow by n
+abbrev pub HasRoom : Place → ℕ → Type 0
+HasRoom p n = (p.line + n < 2 ^ 32) × (p.column + n < 2 ^ 32)
 
 -- the place behind some bytes
 abbrev pub behind : Place → List ℕ → Place

@@ -1,5 +1,6 @@
 -- The keywords (C17 6.4.1).
 use Rattle.std.specs.Prelude.{ℕ, List, [], ◌∷◌, Option, codes}
+use Rattle.std.specs.Borrow.{Bor}
 use Rattle.k_lex.specs.Bytes.{look_up}
 use Rattle.k_tree.specs.declared.tokens.word.Word.{Word}
 use Rattle.k_tree.specs.declared.tokens.word.Word.TheVariants as w
@@ -54,3 +55,7 @@ words =
 
 abbrev pub word_of : List ℕ → Option Word
 word_of s = look_up words s
+
+-- a row of the code's table
+abbrev pub row : Bor (List ℕ) × Word → List ℕ × Word
+row r = (r.0.now, r.1)

@@ -8,7 +8,9 @@ mod lines;
 mod literals;
 mod macros;
 mod marks;
+mod numbers;
 mod pieces;
 mod scan;
+mod words;
 
 pub use fault::LexFault;
