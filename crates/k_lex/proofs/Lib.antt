@@ -3,3 +3,6 @@ pub mod Tables
 pub mod Classes
 pub mod PieceLaws
 pub mod NumberLaws
+pub mod LiteralLaws
+pub mod NameLaws
+pub mod MacroLaws

@@ -9,3 +9,4 @@ pub mod Macros
 pub mod Lines
 pub mod Tokens
 pub mod Scans
+pub mod Table

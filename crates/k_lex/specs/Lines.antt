@@ -117,7 +117,7 @@ in_define hash place s rest _ old = refused r.BadDirective hash
 abbrev pub in_body : Place → Place → List ℕ → Piece → State → Result State Fault
 in_body at place s p.Blank old = Ok old
 in_body at place s p.Comment old = Ok old
-in_body at place s p.Newline old = Ok (record old { mode = m.Start; body = []; macros = defined old.macros old.name old.body })
+in_body at place s p.Newline old = Ok (record old { mode = m.Start; name = []; body = []; macros = defined old.macros old.name old.body })
 in_body at place s piece old = token_of place s piece >>= λ what.
     if is_named old.name what then refused r.MacroOrder at
     else Ok (record old { body = old.body ++ lexeme what (length s) ∷ [] })

@@ -24,23 +24,30 @@ simple_escapes =
     (codes "v", 11) ∷
     []
 
+abbrev pub hexadecimal_value : List ℕ → Option ℕ
+hexadecimal_value bs = if span is_hexadecimal bs == 0 then None else Some (value 16 0 (take (span is_hexadecimal bs) bs))
+
 -- the value of the escape that the text behind a backslash begins with
 abbrev pub escape_value : List ℕ → Option ℕ
 escape_value [] = None
 escape_value (b ∷ bs) =
     if is_octal b then Some (value 8 0 (take (escape_length (b ∷ bs)) (b ∷ bs)))
-    else (if b == 120 then (if span is_hexadecimal bs == 0 then None else Some (value 16 0 (take (span is_hexadecimal bs) bs)))
+    else (if b == 120 then hexadecimal_value bs
     else look_up simple_escapes (b ∷ []))
 
 -- a value has to be that of a byte
+abbrev pub in_byte : Option ℕ → Option ℕ
+in_byte None = None
+in_byte (Some v) = if nat_le v 255 then Some v else None
+
 abbrev pub byte_or_fault : Place → Option ℕ → Result ℕ Fault
 byte_or_fault p None = refused BadEscape p
-byte_or_fault p (Some v) = if nat_le v 255 then Ok v else refused BadEscape p
+byte_or_fault p (Some v) = Ok v
 
 -- the byte that the first character or escape of the text stands for
 abbrev pub item_at : Place → List ℕ → Result ℕ Fault
 item_at p [] = refused BadEscape p
-item_at p (b ∷ bs) = if b == 92 then byte_or_fault p (escape_value bs) else Ok b
+item_at p (b ∷ bs) = if b == 92 then byte_or_fault p (in_byte (escape_value bs)) else Ok b
 
 -- the bytes that a text stands for, of which the first skip bytes belong to what came before
 abbrev pub content : Place → ℕ → List ℕ → Result (List ℕ) Fault

@@ -12,49 +12,58 @@ use Rattle.k_lex.specs.declared.macros.Header.{Header}
 use Rattle.k_lex.specs.declared.macros.Header.TheVariants as h
 use Rattle.k_lex.specs.Bytes.{same, look_up}
 
--- a macro: its body as it is written, and fully replaced
-pub record Macro : Type 0 where
-  pub name : List ℕ
-  pub body : List Lexeme
-  pub full : List Lexeme
+-- a macro as it is written: its name and its body
+abbrev pub Macro : Type 0
+Macro = List ℕ × List Lexeme
 
 abbrev pub lexeme : TokenKind → ℕ → Lexeme
 lexeme what size = record { what = what; size = size }
 
--- the number of the macro of this name
+-- the number of the macro of this name, where count macros came before
+abbrev pub find_from : ℕ → List Macro → List ℕ → Option ℕ
+find_from count [] name = None
+find_from count (m ∷ ms) name = if same m.0 name then Some count else find_from (count + 1) ms name
+
 abbrev pub find : List Macro → List ℕ → Option ℕ
-find [] name = None
-find (m ∷ ms) name = if same m.name name then Some 0 else option_map suc (find ms name)
+find table name = find_from 0 table name
 
 abbrev pub body_at : List Macro → ℕ → List Lexeme
 body_at [] k = []
-body_at (m ∷ ms) zero = m.body
+body_at (m ∷ ms) zero = m.1
 body_at (m ∷ ms) (suc k) = body_at ms k
 
-abbrev pub full_at : List Macro → ℕ → List Lexeme
+abbrev pub full_at : List (List Lexeme) → ℕ → List Lexeme
 full_at [] k = []
-full_at (m ∷ ms) zero = m.full
-full_at (m ∷ ms) (suc k) = full_at ms k
+full_at (xs ∷ lists) zero = xs
+full_at (xs ∷ lists) (suc k) = full_at lists k
 
 -- the macro that a token uses
 abbrev pub used : List Macro → TokenKind → Option ℕ
 used table (t.Name name) = find table name
 used table _ = None
 
-abbrev pub full_or : List Macro → Lexeme → Option ℕ → List Lexeme
-full_or table x None = x ∷ []
-full_or table x (Some k) = full_at table k
+abbrev pub full_or : List (List Lexeme) → Lexeme → Option ℕ → List Lexeme
+full_or lists x None = x ∷ []
+full_or lists x (Some k) = full_at lists k
+
+-- what a token is replaced by, where lists are the macros' tokens
+abbrev pub replaced_by : List Macro → List (List Lexeme) → Lexeme → List Lexeme
+replaced_by table lists x = full_or lists x (used table x.what)
+
+-- The token list of each macro, already fully replaced: its body, replaced by the macros before it.
+abbrev pub fulls_from : List Macro → List (List Lexeme) → List Macro → List (List Lexeme)
+fulls_from seen lists [] = lists
+fulls_from seen lists (m ∷ ms) = fulls_from (seen ++ m ∷ []) (lists ++ flat_map (replaced_by seen lists) m.1 ∷ []) ms
+
+unfoldable pub fulls : List Macro → List (List Lexeme)
+fulls table = fulls_from [] [] table
 
 -- what a token is replaced by
 abbrev pub replaced : List Macro → Lexeme → List Lexeme
-replaced table x = full_or table x (used table x.what)
-
--- a macro with its body, replaced by the macros before it
-abbrev pub macro_of : List Macro → List ℕ → List Lexeme → Macro
-macro_of table name body = record { name = name; body = body; full = flat_map (replaced table) body }
+replaced table x = replaced_by table (fulls table) x
 
 abbrev pub defined : List Macro → List ℕ → List Lexeme → List Macro
-defined table name body = table ++ macro_of table name body ∷ []
+defined table name body = table ++ (name, body) ∷ []
 
 abbrev pub is_named : List ℕ → TokenKind → Bool
 is_named name (t.Name n) = same n name
@@ -67,7 +76,7 @@ stands_in name (x ∷ xs) = is_named name x.what || stands_in name xs
 -- the name stands in the body of some macro
 abbrev pub mentions : List Macro → List ℕ → Bool
 mentions [] name = false
-mentions (m ∷ ms) name = stands_in name m.body || mentions ms name
+mentions (m ∷ ms) name = stands_in name m.1 || mentions ms name
 
 abbrev pub same_kind : TokenKind → TokenKind → Bool
 same_kind a b = equality.ghosts.eq a b
@@ -96,7 +105,7 @@ headers =
 abbrev pub header_of : List ℕ → Option Header
 header_of s = look_up headers s
 
-abbrev pub size_type : List ℕ × List Lexeme
+abbrev pub size_type : Macro
 size_type = (codes "size_t", lexeme (t.Word Unsigned) 8 ∷ lexeme (t.Word Long) 4 ∷ [])
 
 abbrev pub open_paren : Lexeme
@@ -112,7 +121,7 @@ abbrev pub one : Lexeme
 one = lexeme (t.Number I32 1) 1
 
 -- the macros of a header
-abbrev pub header_macros : Header → List (List ℕ × List Lexeme)
+abbrev pub header_macros : Header → List Macro
 header_macros h.Stdio = (codes "EOF", open_paren ∷ minus ∷ one ∷ close_paren ∷ []) ∷ size_type ∷ []
 header_macros h.Stdlib = size_type ∷ []
 header_macros h.Stddef = size_type ∷ []
@@ -126,7 +135,7 @@ header_macros h.Limits =
     []
 
 -- a new name that stands in an earlier body
-abbrev pub breaks_order : List Macro → List (List ℕ × List Lexeme) → Bool
+abbrev pub breaks_order : List Macro → List Macro → Bool
 breaks_order table [] = false
 breaks_order table (d ∷ ds) = (is_none (find table d.0) && mentions table d.0) || breaks_order table ds
 
@@ -135,12 +144,12 @@ differs table body None = false
 differs table body (Some k) = not (same_body (body_at table k) body)
 
 -- a known name with another body
-abbrev pub changes : List Macro → List (List ℕ × List Lexeme) → Bool
+abbrev pub changes : List Macro → List Macro → Bool
 changes table [] = false
 changes table (d ∷ ds) = differs table d.1 (find table d.0) || changes table ds
 
 -- the table with those of the macros that are new
-abbrev pub included : List Macro → List (List ℕ × List Lexeme) → List Macro
+abbrev pub included : List Macro → List Macro → List Macro
 included table [] = table
 included table (d ∷ ds) = if is_none (find table d.0) then included (defined table d.0 d.1) ds else included table ds
 

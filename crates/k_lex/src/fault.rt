@@ -71,3 +71,14 @@ impl From<NoMemory> for Stop {
         Stop::Memory
     }
 }
+
+impl From<Fault> for Stop {
+    ghost use Rattle.std.specs.Prelude.{◌≡◌};
+    ghost use Rattle.k_lex.specs.declared.fault.Stop.TheVariants.{Refused};
+
+    ghost from_gives = { λ f e. e ≡ Refused f };
+
+    fn from(fault: Fault) -> Stop {
+        Stop::Refused(fault)
+    }
+}

@@ -11,6 +11,7 @@ mod marks;
 mod numbers;
 mod pieces;
 mod scan;
+mod tokens;
 mod words;
 
 pub use fault::LexFault;
