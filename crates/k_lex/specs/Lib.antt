@@ -10,3 +10,4 @@ pub mod Lines
 pub mod Tokens
 pub mod Scans
 pub mod Table
+pub mod Shown

@@ -75,28 +75,35 @@ is_literal p.Str = true
 is_literal _ = false
 
 -- A token outside of directives. What is wrong inside a literal stands behind its first byte, so it comes last.
+abbrev pub token_in_text : Place → List ℕ → Piece → State → Result State Fault
+token_in_text place s piece old =
+    if is_literal piece && not (has_room old 1 (length s)) then refused r.TokensMany place
+    else token_of place s piece >>= λ what. add place (replaced old.macros (lexeme what (length s))) old
+
 abbrev pub in_text : Place → List ℕ → Piece → State → Result State Fault
 in_text place s p.Blank old = Ok old
 in_text place s p.Comment old = Ok old
 in_text place s p.Newline old = Ok (in_mode m.Start old)
-in_text place s piece old =
-    if is_literal piece && not (has_room old 1 (length s)) then refused r.TokensMany place
-    else token_of place s piece >>= λ what. add place (replaced old.macros (lexeme what (length s))) old
+in_text place s piece old = token_in_text place s piece old
 
 -- ---- directives
 
-abbrev pub directive : Place → List ℕ → State → Result State Fault
-directive hash s old =
-    if same s (codes "define") then Ok (in_mode (m.Define hash) old)
-    else (if same s (codes "include") then Ok (in_mode (m.Include hash) old)
-    else (if same s (codes "pragma") then Ok (in_mode m.Pragma old)
-    else refused r.BadDirective hash))
+abbrev pub directive_mode : Place → List ℕ → Option Mode
+directive_mode hash s =
+    if same s (codes "define") then Some (m.Define hash)
+    else (if same s (codes "include") then Some (m.Include hash)
+    else (if same s (codes "pragma") then Some m.Pragma
+    else None))
+
+abbrev pub directive : Place → Option Mode → State → Result State Fault
+directive hash None old = refused r.BadDirective hash
+directive hash (Some mode) old = Ok (in_mode mode old)
 
 abbrev pub in_hash : Place → List ℕ → Piece → State → Result State Fault
 in_hash hash s p.Blank old = Ok old
 in_hash hash s p.Comment old = Ok old
 in_hash hash s p.Newline old = Ok (in_mode m.Start old)
-in_hash hash s p.Name old = directive hash s old
+in_hash hash s p.Name old = directive hash (directive_mode hash s) old
 in_hash hash s _ old = refused r.BadDirective hash
 
 -- a macro's name is known, or it is new and stands in no earlier body
@@ -114,22 +121,33 @@ in_define hash place s rest p.Name old =
     else named place s (find old.macros s) old
 in_define hash place s rest _ old = refused r.BadDirective hash
 
+-- one token more of a new body
+abbrev pub body_token : Place → Place → List ℕ → Piece → State → Result State Fault
+body_token at place s piece old = token_of place s piece >>= λ what.
+    if is_named old.name what then refused r.MacroOrder at
+    else Ok (record old { body = old.body ++ lexeme what (length s) ∷ [] })
+
+abbrev pub end_body : State → State
+end_body old = record old { mode = m.Start; name = []; body = []; macros = defined old.macros old.name old.body }
+
 abbrev pub in_body : Place → Place → List ℕ → Piece → State → Result State Fault
 in_body at place s p.Blank old = Ok old
 in_body at place s p.Comment old = Ok old
-in_body at place s p.Newline old = Ok (record old { mode = m.Start; name = []; body = []; macros = defined old.macros old.name old.body })
-in_body at place s piece old = token_of place s piece >>= λ what.
-    if is_named old.name what then refused r.MacroOrder at
-    else Ok (record old { body = old.body ++ lexeme what (length s) ∷ [] })
+in_body at place s p.Newline old = Ok (end_body old)
+in_body at place s piece old = body_token at place s piece old
+
+-- one token more of a body that has to be the known one
+abbrev pub again_token : Place → ℕ → ℕ → Place → List ℕ → Piece → State → Result State Fault
+again_token at number count place s piece old = token_of place s piece >>= λ what.
+    if stands_at (body_at old.macros number) count what then Ok (in_mode (m.Again at number (count + 1)) old)
+    else refused r.MacroAgain at
 
 abbrev pub in_again : Place → ℕ → ℕ → Place → List ℕ → Piece → State → Result State Fault
 in_again at number count place s p.Blank old = Ok old
 in_again at number count place s p.Comment old = Ok old
 in_again at number count place s p.Newline old =
     if length (body_at old.macros number) == count then Ok (in_mode m.Start old) else refused r.MacroAgain at
-in_again at number count place s piece old = token_of place s piece >>= λ what.
-    if stands_at (body_at old.macros number) count what then Ok (in_mode (m.Again at number (count + 1)) old)
-    else refused r.MacroAgain at
+in_again at number count place s piece old = again_token at number count place s piece old
 
 abbrev pub in_include : Place → Place → List ℕ → Piece → State → Result State Fault
 in_include hash place s p.Blank old = Ok old
