@@ -6,3 +6,5 @@ pub mod NumberLaws
 pub mod LiteralLaws
 pub mod NameLaws
 pub mod MacroLaws
+pub mod StateLaws
+pub mod RunLaws

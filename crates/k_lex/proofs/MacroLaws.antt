@@ -1,5 +1,5 @@
 -- Tables of macros, and what each macro is replaced by.
-use Rattle.std.proofs.Common.{◌≡◌, ℕ, zero, suc, ◌+◌, ◌-◌, ◌<◌, ◌≤◌, List, [], ◌∷◌, ◌++◌, Option, Some, None, length, take, drop, map, get_or, refl, sym, ap, ◌∙◌, subst, append_assoc, inl, inr, ◌⊎◌, arith, length-append}
+use Rattle.std.proofs.Common.{◌≡◌, ℕ, zero, suc, ◌+◌, ◌-◌, ◌<◌, ◌≤◌, Bool, true, false, List, [], ◌∷◌, ◌++◌, Option, Some, None, length, take, drop, map, get_or, refl, sym, ap, ◌∙◌, subst, append_assoc, inl, inr, ◌⊎◌, arith, length-append}
 use Rattle.std.proofs.lemmas.List.{take-append-drop, map-append, append-nil, take_more}
 use Rattle.std.specs.List.{flat_map}
 use Rattle.k_lex.specs.declared.lines.Limits.{Limits}
@@ -8,8 +8,9 @@ use Rattle.k_lex.specs.declared.macros.Kept.{Kept}
 use Rattle.k_lex.specs.declared.macros.Full.{Full}
 use Rattle.k_lex.specs.declared.macros.Full.TheVariants as f
 use Rattle.k_lex.specs.declared.macros.Definition.{Definition}
-use Rattle.k_lex.specs.Macros.{Macro, fulls, fulls_from, full_at, full_or, used, replaced, replaced_by, defined, sizes}
-use Rattle.k_lex.specs.Table.{macro, Over, IsKept, IsFull, AllFull}
+use Rattle.k_lex.specs.Macros.{Macro, body_at, stands_at, same_kind, fulls, fulls_from, full_at, full_or, used, replaced, replaced_by, defined, sizes}
+use Rattle.k_lex.specs.Table.{macro, kept_list, kept_bytes, Over, IsKept, IsFull, AllFull}
+use Rattle.k_tree.specs.declared.tokens.TokenKind.{TokenKind}
 
 pub sizes-append : (xs ys : List Lexeme) → sizes (xs ++ ys) ≡ sizes xs + sizes ys
 sizes-append [] ys = omega arith
@@ -121,3 +122,30 @@ pub all_full_new : (limits : Limits) (ds new : List Definition) (d : Definition)
 all_full_new limits ds new d ts bs te be e all h =
     let P : List Lexeme → Type 0 = λ xs. IsFull limits d.full xs in
     all_full_defined limits ds new d e all (subst P (ap (λ t. flat_map (replaced (map macro t)) bs) te ∙ ap (flat_map (replaced (map macro ds))) be) h)
+
+-- ---- by number
+
+pub body_there : (ds : List Definition) (k : ℕ) (d : Definition) → k < length ds → d ≡ get_or ds k d → d.body ≡ body_at (map macro ds) k
+body_there [] k d lt e = absurd (omega arith)
+body_there (x ∷ ds) zero d lt e = ap (λ y. y.body) e
+body_there (x ∷ ds) (suc k) d lt e = body_there ds k d (omega arith) e
+
+pub body_past : (ds : List Definition) (k : ℕ) → length ds ≤ k → [] ≡ body_at (map macro ds) k
+body_past [] k le = refl
+body_past (x ∷ ds) zero le = absurd (omega arith)
+body_past (x ∷ ds) (suc k) le = body_past ds k (omega arith)
+
+pub stands_there : (body : List Lexeme) (k : ℕ) (x : Lexeme) (what : TokenKind) → k < length body → x ≡ get_or body k x → same_kind x.what what ≡ stands_at body k what
+stands_there [] k x what lt e = absurd (omega arith)
+stands_there (y ∷ body) zero x what lt e = ap (λ z. same_kind z.what what) e
+stands_there (y ∷ body) (suc k) x what lt e = stands_there body k x what (omega arith) e
+
+pub stands_past : (body : List Lexeme) (k : ℕ) (what : TokenKind) → length body ≤ k → false ≡ stands_at body k what
+stands_past [] k what le = refl
+stands_past (y ∷ body) zero what le = absurd (omega arith)
+stands_past (y ∷ body) (suc k) what le = stands_past body k what (omega arith)
+
+pub full_written : (limits : Limits) (full : Full) (xs : List Lexeme) → IsFull limits full xs → length xs ≤ limits.tokens → sizes xs ≤ limits.spelling → (kept_list full ≡ xs) × (kept_bytes full ≡ sizes xs)
+full_written limits (f.Kept kept) xs is count size = (is.list, is.bytes)
+full_written limits f.TooMany xs (inl h) count size = absurd (omega arith)
+full_written limits f.TooMany xs (inr h) count size = absurd (omega arith)

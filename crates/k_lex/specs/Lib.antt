@@ -11,3 +11,5 @@ pub mod Tokens
 pub mod Scans
 pub mod Table
 pub mod Shown
+pub mod Headers
+pub mod Held

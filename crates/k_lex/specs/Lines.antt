@@ -14,7 +14,7 @@ use Rattle.k_lex.specs.declared.lines.Mode.{Mode}
 use Rattle.k_lex.specs.declared.lines.Mode.TheVariants as m
 use Rattle.k_lex.specs.declared.lines.Limits.{Limits}
 use Rattle.k_lex.specs.declared.macros.Lexeme.{Lexeme}
-use Rattle.k_lex.specs.declared.macros.Header.{Header}
+use Rattle.k_lex.specs.declared.headers.Header.{Header}
 use Rattle.k_lex.specs.Bytes.{same, begins, after}
 use Rattle.k_lex.specs.Words.{word_of}
 use Rattle.k_lex.specs.Numbers.{number_of}
@@ -108,7 +108,7 @@ in_hash hash s _ old = refused r.BadDirective hash
 
 -- a macro's name is known, or it is new and stands in no earlier body
 abbrev pub named : Place → List ℕ → Option ℕ → State → Result State Fault
-named place s (Some number) old = Ok (in_mode (m.Again place number 0) old)
+named place s (Some number) old = Ok (in_mode (m.Again (record { name = place; number = number; at = 0 })) old)
 named place s None old =
     if mentions old.macros s then refused r.MacroOrder place
     else Ok (record old { mode = m.Body place; name = s; body = [] })
@@ -139,7 +139,7 @@ in_body at place s piece old = body_token at place s piece old
 -- one token more of a body that has to be the known one
 abbrev pub again_token : Place → ℕ → ℕ → Place → List ℕ → Piece → State → Result State Fault
 again_token at number count place s piece old = token_of place s piece >>= λ what.
-    if stands_at (body_at old.macros number) count what then Ok (in_mode (m.Again at number (count + 1)) old)
+    if stands_at (body_at old.macros number) count what then Ok (in_mode (m.Again (record { name = at; number = number; at = count + 1 })) old)
     else refused r.MacroAgain at
 
 abbrev pub in_again : Place → ℕ → ℕ → Place → List ℕ → Piece → State → Result State Fault
@@ -152,7 +152,7 @@ in_again at number count place s piece old = again_token at number count place s
 abbrev pub in_include : Place → Place → List ℕ → Piece → State → Result State Fault
 in_include hash place s p.Blank old = Ok old
 in_include hash place s p.Comment old = Ok old
-in_include hash place s p.Header old = Ok (in_mode (m.Header hash place (header_of s)) old)
+in_include hash place s p.Header old = Ok (in_mode (m.Header (record { hash = hash; name = place; header = header_of s })) old)
 in_include hash place s _ old =
     if begins (codes "<") s || begins (codes "\"") s then refused r.UnknownHeader place
     else refused r.BadDirective hash
@@ -166,31 +166,34 @@ include at (Some header) old =
     else Ok (record old { macros = included old.macros (header_macros header) }))
 
 -- Behind a header a token is wrong. What begins no token comes after what is wrong with the header.
-abbrev pub in_header : Place → Place → Option Header → Place → List ℕ → Piece → State → Result State Fault
-in_header hash at header place s p.Blank old = Ok old
-in_header hash at header place s p.Comment old = Ok old
-in_header hash at header place s p.Newline old = include at header old >>= λ new. Ok (in_mode m.Start new)
-in_header hash at header place s p.OpenComment old = include at header old >>= λ new. refused r.OpenComment place
-in_header hash at header place s p.OpenLiteral old = include at header old >>= λ new. refused r.OpenLiteral place
-in_header hash at header place s p.Unknown old = include at header old >>= λ new. refused r.BadByte place
-in_header hash at header place s _ old = refused r.BadDirective hash
+abbrev pub in_header : Place → Place → Option Header → Place → Piece → State → Result State Fault
+in_header hash at header place p.Blank old = Ok old
+in_header hash at header place p.Comment old = Ok old
+in_header hash at header place p.Newline old = include at header old >>= λ new. Ok (in_mode m.Start new)
+in_header hash at header place p.OpenComment old = include at header old >>= λ new. refused r.OpenComment place
+in_header hash at header place p.OpenLiteral old = include at header old >>= λ new. refused r.OpenLiteral place
+in_header hash at header place p.Unknown old = include at header old >>= λ new. refused r.BadByte place
+in_header hash at header place _ old = refused r.BadDirective hash
 
 abbrev pub in_pragma : Place → Piece → State → Result State Fault
 in_pragma place p.Newline old = Ok (in_mode m.Start old)
 in_pragma place p.OpenComment old = refused r.OpenComment place
 in_pragma place _ old = Ok old
 
+abbrev pub in_start : Place → List ℕ → Piece → State → Result State Fault
+in_start place s piece old = if same s (codes "#") then Ok (in_mode (m.Hash place) old) else in_text place s piece old
+
 -- ---- what a piece at this place does, with what stands behind it
 
 abbrev pub step_in : Mode → Place → List ℕ → List ℕ → Piece → State → Result State Fault
-step_in m.Start place s rest piece old = if same s (codes "#") then Ok (in_mode (m.Hash place) old) else in_text place s piece old
+step_in m.Start place s rest piece old = in_start place s piece old
 step_in m.Middle place s rest piece old = in_text place s piece old
 step_in (m.Hash hash) place s rest piece old = in_hash hash s piece old
 step_in (m.Define hash) place s rest piece old = in_define hash place s rest piece old
 step_in (m.Body at) place s rest piece old = in_body at place s piece old
-step_in (m.Again at number count) place s rest piece old = in_again at number count place s piece old
+step_in (m.Again a) place s rest piece old = in_again a.name a.number a.at place s piece old
 step_in (m.Include hash) place s rest piece old = in_include hash place s piece old
-step_in (m.Header hash at header) place s rest piece old = in_header hash at header place s piece old
+step_in (m.Header d) place s rest piece old = in_header d.hash d.name d.header place piece old
 step_in m.Pragma place s rest piece old = in_pragma place piece old
 
 abbrev pub step : Place → List ℕ → List ℕ → Piece → State → Result State Fault

@@ -8,8 +8,8 @@ use Rattle.k_tree.specs.declared.tokens.word.Word.TheVariants.{Unsigned, Long}
 use Rattle.k_tree.specs.contracts.tokens.TokenKindPartialEq.TheImpl as equality
 use Rattle.k_num.specs.declared.numbers.Kind.TheVariants.{I32, U32, I64, U64}
 use Rattle.k_lex.specs.declared.macros.Lexeme.{Lexeme}
-use Rattle.k_lex.specs.declared.macros.Header.{Header}
-use Rattle.k_lex.specs.declared.macros.Header.TheVariants as h
+use Rattle.k_lex.specs.declared.headers.Header.{Header}
+use Rattle.k_lex.specs.declared.headers.Header.TheVariants as h
 use Rattle.k_lex.specs.Bytes.{same, look_up}
 
 -- a macro as it is written: its name and its body

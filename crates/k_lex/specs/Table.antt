@@ -33,3 +33,16 @@ AllFull limits [] [] = Unit {0}
 AllFull limits [] (xs ∷ lists) = ⊥
 AllFull limits (d ∷ ds) [] = ⊥
 AllFull limits (d ∷ ds) (xs ∷ lists) = IsFull limits d.full xs × AllFull limits ds lists
+
+-- what is kept of a macro's list
+abbrev pub kept_list : Full → List Lexeme
+kept_list (f.Kept kept) = kept.list
+kept_list f.TooMany = []
+
+abbrev pub kept_bytes : Full → ℕ
+kept_bytes (f.Kept kept) = kept.bytes
+kept_bytes f.TooMany = 0
+
+abbrev pub IsWithin : Full → Type 0
+IsWithin (f.Kept kept) = Unit {0}
+IsWithin f.TooMany = ⊥

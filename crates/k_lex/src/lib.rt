@@ -4,6 +4,8 @@
 
 mod bytes;
 mod fault;
+mod headers;
+mod joined;
 mod lines;
 mod literals;
 mod macros;
@@ -11,7 +13,9 @@ mod marks;
 mod numbers;
 mod pieces;
 mod scan;
+mod source;
 mod tokens;
 mod words;
 
 pub use fault::LexFault;
+pub use source::lex;

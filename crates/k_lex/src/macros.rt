@@ -19,15 +19,6 @@ pub struct Lexeme {
     pub size: usize,
 }
 
-/// A header that may be included.
-#[derive(Clone, Copy, Debug, PartialEq, Eq)]
-pub enum Header {
-    Stdio,
-    Stdlib,
-    Stddef,
-    Limits,
-}
-
 /// Tokens, and how many bytes spell them.
 #[derive(Debug, Drop)]
 pub struct Kept {
