@@ -21,7 +21,7 @@ content_turn p (b ∷ bs) zero e low high = absurd (omega arith)
 content_turn p (b ∷ bs) (suc k) e low high =
     let count : item_length (b ∷ bs) - 1 ≡ k = omega arith in
     let rest : content (after p b) (item_length (b ∷ bs) - 1) bs ≡ content (behind (after p b) (take k bs)) 0 (drop k bs) =
-        ap (λ j. content (after p b) j bs) count ∙ content_skip (after p b) k bs (omega arith) in
+    ap (λ j. content (after p b) j bs) count ∙ content_skip (after p b) k bs (omega arith) in
     ap (λ r. item_at p (b ∷ bs) >>= λ v. r >>= λ vs. Ok (v ∷ vs)) rest
 
 pub front_turn : (out : List ℕ) (i : Result ℕ Fault) (r : Result (List ℕ) Fault) (v : ℕ) → i ≡ Ok v → ((i >>= λ w. r >>= λ vs. Ok (w ∷ vs)) >>= λ vs. Ok (out ++ vs)) ≡ (r >>= λ vs. Ok ((out ++ v ∷ []) ++ vs))

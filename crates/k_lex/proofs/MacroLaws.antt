@@ -47,7 +47,7 @@ all_full_defined limits ds new d e all h =
     let P : List Definition → Type 0 = λ n. AllFull limits n (fulls (map macro n)) in
     let Q : List (List Lexeme) → Type 0 = λ lists. AllFull limits (ds ++ d ∷ []) lists in
     subst P (sym e) (subst Q (sym (ap fulls (map-append macro ds (d ∷ [])) ∙ fulls-push (map macro ds) (macro d)))
-        (all_full_push limits ds (fulls (map macro ds)) d _ all h))
+    (all_full_push limits ds (fulls (map macro ds)) d _ all h))
 
 pub full_there : (limits : Limits) (ds : List Definition) (lists : List (List Lexeme)) (k : ℕ) (d : Definition) → AllFull limits ds lists → k < length ds → d ≡ get_or ds k d → IsFull limits d.full (full_at lists k)
 full_there limits [] lists k d all lt e = absurd (omega arith)
@@ -81,10 +81,10 @@ split_list xs i x lt e =
 pub over_take : (limits : Limits) (front list kl : List Lexeme) (i : ℕ) (x : Lexeme) → kl ≡ front ++ take i list → i < length list → x ≡ get_or list i x → Over limits (kl ++ x ∷ []) → Over limits (front ++ list)
 over_take limits front list kl i x e lt at h =
     let whole : (kl ++ x ∷ []) ++ drop (i + 1) list ≡ front ++ list =
-        ap (λ k. (k ++ x ∷ []) ++ drop (i + 1) list) e
-        ∙ ap (λ k. k ++ drop (i + 1) list) (append_assoc front (take i list) (x ∷ []))
-        ∙ append_assoc front (take i list ++ x ∷ []) (drop (i + 1) list)
-        ∙ ap (λ t. front ++ t) (split_list list i x lt at) in
+    ap (λ k. (k ++ x ∷ []) ++ drop (i + 1) list) e
+    ∙ ap (λ k. k ++ drop (i + 1) list) (append_assoc front (take i list) (x ∷ []))
+    ∙ append_assoc front (take i list ++ x ∷ []) (drop (i + 1) list)
+    ∙ ap (λ t. front ++ t) (split_list list i x lt at) in
     let P : List Lexeme → Type 0 = λ xs. Over limits xs in
     subst P whole (over_more limits (kl ++ x ∷ []) (drop (i + 1) list) h)
 
@@ -92,11 +92,11 @@ pub over_flat : (limits : Limits) (f : Lexeme → List Lexeme) (body kl : List L
 over_flat limits f body kl i x e lt at h =
     let one : flat_map f (x ∷ []) ≡ f x = append-nil (f x) in
     let whole : (kl ++ f x) ++ flat_map f (drop (i + 1) body) ≡ flat_map f body =
-        ap (λ k. (k ++ f x) ++ flat_map f (drop (i + 1) body)) e
-        ∙ ap (λ t. (flat_map f (take i body) ++ t) ++ flat_map f (drop (i + 1) body)) (sym one)
-        ∙ ap (λ t. t ++ flat_map f (drop (i + 1) body)) (sym (flat_map-append f (take i body) (x ∷ [])))
-        ∙ sym (flat_map-append f (take i body ++ x ∷ []) (drop (i + 1) body))
-        ∙ ap (flat_map f) (split_list body i x lt at) in
+    ap (λ k. (k ++ f x) ++ flat_map f (drop (i + 1) body)) e
+    ∙ ap (λ t. (flat_map f (take i body) ++ t) ++ flat_map f (drop (i + 1) body)) (sym one)
+    ∙ ap (λ t. t ++ flat_map f (drop (i + 1) body)) (sym (flat_map-append f (take i body) (x ∷ [])))
+    ∙ sym (flat_map-append f (take i body ++ x ∷ []) (drop (i + 1) body))
+    ∙ ap (flat_map f) (split_list body i x lt at) in
     let P : List Lexeme → Type 0 = λ xs. Over limits xs in
     subst P whole (over_more limits (kl ++ f x) (flat_map f (drop (i + 1) body)) h)
 

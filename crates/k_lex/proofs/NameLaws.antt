@@ -16,8 +16,9 @@ high_fails b le = or_from _ _ (or_from _ _ (or_from _ _
 
 in_name_low : (b : ℕ) → in_name b ≡ true → b < 128
 in_name_low b h = elim (cases_lt b 128) [
-    inl lt ↦ lt
-    | inr le ↦ absurd (false≢true (sym (high_fails b le) ∙ h)) ]
+  | inl lt ↦ lt
+  | inr le ↦ absurd (false≢true (sym (high_fails b le) ∙ h))
+]
 
 every_ascii : (bs : List ℕ) → every in_name bs ≡ true → IsAscii bs
 every_ascii [] h i = omega arith

@@ -46,11 +46,13 @@ longer_found class b c bs n x e le =
 
 letter_known : (b : ℕ) (t : List ℕ) → b < 256 → is_letter b ≡ true → known (b ∷ t) ≡ every in_name t
 letter_known b t lt h = elim (cases_Bool (every in_name t)) [
-    inl e ↦ ap is_known (Classes.class_name (b ∷ t) (and_from (is_letter b) (every in_name t) h e)) ∙ sym e
-    | inr e ↦ ap is_known (unmarked e) ∙ sym e ]
+  | inl e ↦ ap is_known (Classes.class_name (b ∷ t) (and_from (is_letter b) (every in_name t) h e)) ∙ sym e
+  | inr e ↦ ap is_known (unmarked e) ∙ sym e
+]
   where
     others : Classes.rest_after_letter b ≡ false
     others = Classes.letter_apart b lt h
+
     unmarked : every in_name t ≡ false → class_of (b ∷ t) ≡ p.Unknown
     unmarked e =
         let o1 = or_parts _ _ others in
@@ -74,7 +76,7 @@ unfolding piece_by
 name_is b bs n lt h e =
     let within = Longest.span_within in_name bs in
     let found : longest known (b ∷ bs) (suc (length bs)) ≡ suc n =
-        Longest.longest_up_to known b bs n (omega arith) (λ m le. letter_known b (take m bs) lt h ∙ Longest.every_take in_name bs m le ∙ ap (leb m) (sym e)) in
+    Longest.longest_up_to known b bs n (omega arith) (λ m le. letter_known b (take m bs) lt h ∙ Longest.every_take in_name bs m le ∙ ap (leb m) (sym e)) in
     let passed : every in_name (take n bs) ≡ true = Longest.every_take in_name bs n (omega arith) ∙ le-leb n (span in_name bs) (omega arith) in
     let o = or_parts _ _ (or_parts _ _ (or_parts _ _ (Classes.letter_apart b lt h)).0).0 in
     let class : class_of (b ∷ take n bs) ≡ p.Name = Classes.class_name (b ∷ take n bs) (and_from (is_letter b) _ h passed) in
@@ -85,13 +87,16 @@ name_is b bs n lt h e =
 
 number_known : (b : ℕ) (t : List ℕ) → b < 256 → Classes.digit_or_point b ≡ true → known (b ∷ t) ≡ Pieces.is_number (b ∷ t)
 number_known b t lt h = elim (cases_Bool (Pieces.is_number (b ∷ t))) [
-    inl e ↦ ap is_known (Classes.class_number (b ∷ t) (Classes.not_name b t letter) e) ∙ sym e
-    | inr e ↦ ap is_known (unmarked e) ∙ sym e ]
+  | inl e ↦ ap is_known (Classes.class_number (b ∷ t) (Classes.not_name b t letter) e) ∙ sym e
+  | inr e ↦ ap is_known (unmarked e) ∙ sym e
+]
   where
     others : (is_letter b ≡ false) × (eqb b 39 ≡ false) × (eqb b 34 ≡ false) × (eqb b 47 ≡ false) × (is_blank b ≡ false) × (eqb b 10 ≡ false)
     others = Classes.digit_is_not b lt h
+
     letter : is_letter b ≡ false
     letter = others.0
+
     unmarked : Pieces.is_number (b ∷ t) ≡ false → class_of (b ∷ t) ≡ p.Unknown
     unmarked e =
         Classes.class_mark (b ∷ t) (Classes.not_name b t letter) e
@@ -110,12 +115,13 @@ number_front : (b : ℕ) (bs : List ℕ) (m : ℕ) → m ≤ length bs → m ≡
 number_front b [] zero le e h = h
 number_front b [] (suc m) le e h = absurd (omega arith)
 number_front b (c ∷ cs) zero le e h = elim (or_cases (is_digit b) (eqb b 46 && is_digit c) h) [
-    inl d ↦ d
-    | inr d ↦
-        let digit : is_digit c ≡ true = (and_parts (eqb b 46) (is_digit c) d).1 in
-        let on : Pieces.goes_on b c ≡ true = or_left _ _ (or_left _ _ (or_right (is_letter c) (is_digit c) digit)) in
-        let count : 0 ≡ suc (number_span c cs) = e ∙ ap (λ v. if◌then◌else◌ v (suc (number_span c cs)) 0) on in
-        absurd (omega arith) ]
+  | inl d ↦ d
+  | inr d ↦
+      let digit : is_digit c ≡ true = (and_parts (eqb b 46) (is_digit c) d).1 in
+      let on : Pieces.goes_on b c ≡ true = or_left _ _ (or_left _ _ (or_right (is_letter c) (is_digit c) digit)) in
+      let count : 0 ≡ suc (number_span c cs) = e ∙ ap (λ v. if◌then◌else◌ v (suc (number_span c cs)) 0) on in
+      absurd (omega arith)
+]
 number_front b (c ∷ cs) (suc m) le e h =
     and_from _ _ h (Longest.number_take b (c ∷ cs) (suc m) le ∙ le-leb (suc m) (number_span b (c ∷ cs)) (omega arith))
 
@@ -126,8 +132,8 @@ number_is b bs n lt h e =
     let within = Longest.number_within b bs in
     let holds : Pieces.is_number (b ∷ take n bs) ≡ true = number_front b bs n (omega arith) e h in
     let found : longest known (b ∷ bs) (suc (length bs)) ≡ suc n =
-        Longest.longest_exact known b bs n (omega arith) (number_known b (take n bs) lt dp ∙ holds)
-        (λ m above le. number_known b (take m bs) lt dp ∙ number_fails b (take m bs) (Longest.number_take b bs m le ∙ lt-leb m (number_span b bs) (omega arith))) in
+    Longest.longest_exact known b bs n (omega arith) (number_known b (take n bs) lt dp ∙ holds)
+    (λ m above le. number_known b (take m bs) lt dp ∙ number_fails b (take m bs) (Longest.number_take b bs m le ∙ lt-leb m (number_span b bs) (omega arith))) in
     let others = Classes.digit_is_not b lt dp in
     let class : class_of (b ∷ take n bs) ≡ p.Number = Classes.class_number (b ∷ take n bs) (Classes.not_name b (take n bs) others.0) holds in
     let whole = piece_found class_of b bs n p.Number (no_slash b bs others.3) class in
@@ -136,18 +142,20 @@ number_is b bs n lt h e =
     starts_by : (b : ℕ) (bs : List ℕ) → starts_number b bs ≡ true → Classes.digit_or_point b ≡ true
     starts_by b [] h = or_left (is_digit b) (eqb b 46) h
     starts_by b (c ∷ cs) h = elim (or_cases (is_digit b) (eqb b 46 && is_digit c) h) [
-        inl d ↦ or_left (is_digit b) (eqb b 46) d
-        | inr d ↦ or_right (is_digit b) (eqb b 46) (and_parts (eqb b 46) (is_digit c) d).0 ]
+      | inl d ↦ or_left (is_digit b) (eqb b 46) d
+      | inr d ↦ or_right (is_digit b) (eqb b 46) (and_parts (eqb b 46) (is_digit c) d).0
+    ]
 
 -- ---- literals
 
 character_known : (t : List ℕ) → known (39 ∷ t) ≡ Pieces.is_character (39 ∷ t)
 character_known t = elim (cases_Bool (Pieces.is_character (39 ∷ t))) [
-    inl e ↦ ap is_known (Classes.class_character (39 ∷ t) (Classes.not_name 39 t refl) (Classes.not_number 39 t refl refl) e) ∙ sym e
-    | inr e ↦ ap is_known (
-        Classes.class_mark (39 ∷ t) (Classes.not_name 39 t refl) (Classes.not_number 39 t refl refl) e
-        (Classes.not_string 39 t refl) (Classes.not_comment 39 t refl) (Classes.not_blank 39 t refl) (Classes.not_newline 39 t refl)
-        ∙ Classes.no_mark (λ b. eqb b 39) 39 t refl refl) ∙ sym e ]
+  | inl e ↦ ap is_known (Classes.class_character (39 ∷ t) (Classes.not_name 39 t refl) (Classes.not_number 39 t refl refl) e) ∙ sym e
+  | inr e ↦ ap is_known (
+      Classes.class_mark (39 ∷ t) (Classes.not_name 39 t refl) (Classes.not_number 39 t refl refl) e
+      (Classes.not_string 39 t refl) (Classes.not_comment 39 t refl) (Classes.not_blank 39 t refl) (Classes.not_newline 39 t refl)
+      ∙ Classes.no_mark (λ b. eqb b 39) 39 t refl refl) ∙ sym e
+]
 
 -- a character constant's length
 pub character_is : (bs : List ℕ) (n : ℕ) → close_at 39 false 0 bs ≡ Some n → Pieces.item_length (take n bs) + 1 ≡ n → (p.Character, n + 1) ≡ piece_by class_of (39 ∷ bs)
@@ -157,12 +165,12 @@ character_is bs n at item =
     let closed = λ (m : ℕ) (le : m ≤ length bs). Longest.closes_take 39 false 0 bs m le ∙ ap (λ o. is_at o (0 + m)) at in
     let long : length (take n bs) ≡ n = length-take-le n bs within in
     let holds : Pieces.is_character (39 ∷ take n bs) ≡ true =
-        and_from _ _ (closed n within ∙ eq-eqb (0 + n) n (omega arith)) (eq-eqb _ _ (omega arith)) in
+    and_from _ _ (closed n within ∙ eq-eqb (0 + n) n (omega arith)) (eq-eqb _ _ (omega arith)) in
     let found : longest known (39 ∷ bs) (suc (length bs)) ≡ suc n =
-        Longest.longest_exact known 39 bs n within (character_known (take n bs) ∙ holds)
-        (λ m above le. character_known (take m bs) ∙ and_left _ _ (closed m le ∙ let ne : 0 + m ≢ n = omega arith in grind (arith, nat_tests))) in
+    Longest.longest_exact known 39 bs n within (character_known (take n bs) ∙ holds)
+    (λ m above le. character_known (take m bs) ∙ and_left _ _ (closed m le ∙ let ne : 0 + m ≢ n = omega arith in grind (arith, nat_tests))) in
     let class : class_of (39 ∷ take n bs) ≡ p.Character =
-        Classes.class_character (39 ∷ take n bs) (Classes.not_name 39 (take n bs) refl) (Classes.not_number 39 (take n bs) refl refl) holds in
+    Classes.class_character (39 ∷ take n bs) (Classes.not_name 39 (take n bs) refl) (Classes.not_number 39 (take n bs) refl refl) holds in
     let whole = piece_found class_of 39 bs n p.Character refl class in
     ap (λ k. (p.Character, k)) (add-one n) ∙ sym whole ∙ ap (piece_of_length class_of (39 ∷ bs)) (sym found)
 
@@ -170,27 +178,29 @@ pub character_open : (bs : List ℕ) → ((n : ℕ) → close_at 39 false 0 bs �
 unfolding piece_by
 character_open bs differs =
     let found : longest known (39 ∷ bs) (suc (length bs)) ≡ 0 =
-        Longest.longest_none known 39 bs (λ m le. character_known (take m bs) ∙ fails m le (close_at 39 false 0 bs) refl) in
+    Longest.longest_none known 39 bs (λ m le. character_known (take m bs) ∙ fails m le (close_at 39 false 0 bs) refl) in
     ap (piece_of_length class_of (39 ∷ bs)) (sym found)
   where
     fails : (m : ℕ) → m ≤ length bs → (o : Option ℕ) → close_at 39 false 0 bs ≡ o → Pieces.is_character (39 ∷ take m bs) ≡ false
     fails m le None e = and_left _ _ (Longest.closes_take 39 false 0 bs m le ∙ ap (λ o. is_at o (0 + m)) e)
     fails m le (Some n) e = elim (cases_eq m n) [
-        inl same_as ↦ and_right _ _ (
-            let long : length (take m bs) ≡ m = length-take-le m bs le in
-            let other : Pieces.item_length (take m bs) + 1 ≢ m = λ q. differs n e (ap (λ j. Pieces.item_length (take j bs) + 1) (sym same_as) ∙ q ∙ same_as) in
-            let ne : Pieces.item_length (take m bs) + 1 ≢ length (take m bs) = λ q. other (q ∙ long) in
-            let test : eqb (Pieces.item_length (take m bs) + 1) (length (take m bs)) ≡ false = grind (arith, nat_tests) in
-            test)
-        | inr ne ↦ and_left _ _ (Longest.closes_take 39 false 0 bs m le ∙ ap (λ o. is_at o (0 + m)) e ∙ (let test : eqb (0 + m) n ≡ false = grind (arith, nat_tests) in test)) ]
+      | inl same_as ↦ and_right _ _ (
+          let long : length (take m bs) ≡ m = length-take-le m bs le in
+          let other : Pieces.item_length (take m bs) + 1 ≢ m = λ q. differs n e (ap (λ j. Pieces.item_length (take j bs) + 1) (sym same_as) ∙ q ∙ same_as) in
+          let ne : Pieces.item_length (take m bs) + 1 ≢ length (take m bs) = λ q. other (q ∙ long) in
+          let test : eqb (Pieces.item_length (take m bs) + 1) (length (take m bs)) ≡ false = grind (arith, nat_tests) in
+          test)
+      | inr ne ↦ and_left _ _ (Longest.closes_take 39 false 0 bs m le ∙ ap (λ o. is_at o (0 + m)) e ∙ (let test : eqb (0 + m) n ≡ false = grind (arith, nat_tests) in test))
+    ]
 
 string_known : (t : List ℕ) → known (34 ∷ t) ≡ Pieces.closes 34 false t
 string_known t = elim (cases_Bool (Pieces.closes 34 false t)) [
-    inl e ↦ ap is_known (Classes.class_string (34 ∷ t) (Classes.not_name 34 t refl) (Classes.not_number 34 t refl refl) (Classes.not_character 34 t refl) e) ∙ sym e
-    | inr e ↦ ap is_known (
-        Classes.class_mark (34 ∷ t) (Classes.not_name 34 t refl) (Classes.not_number 34 t refl refl) (Classes.not_character 34 t refl) e
-        (Classes.not_comment 34 t refl) (Classes.not_blank 34 t refl) (Classes.not_newline 34 t refl)
-        ∙ Classes.no_mark (λ b. eqb b 34) 34 t refl refl) ∙ sym e ]
+  | inl e ↦ ap is_known (Classes.class_string (34 ∷ t) (Classes.not_name 34 t refl) (Classes.not_number 34 t refl refl) (Classes.not_character 34 t refl) e) ∙ sym e
+  | inr e ↦ ap is_known (
+      Classes.class_mark (34 ∷ t) (Classes.not_name 34 t refl) (Classes.not_number 34 t refl refl) (Classes.not_character 34 t refl) e
+      (Classes.not_comment 34 t refl) (Classes.not_blank 34 t refl) (Classes.not_newline 34 t refl)
+      ∙ Classes.no_mark (λ b. eqb b 34) 34 t refl refl) ∙ sym e
+]
 
 pub string_is : (bs : List ℕ) (n : ℕ) → close_at 34 false 0 bs ≡ Some n → (p.Str, n + 1) ≡ piece_by class_of (34 ∷ bs)
 unfolding piece_by
@@ -199,10 +209,10 @@ string_is bs n at =
     let closed = λ (m : ℕ) (le : m ≤ length bs). Longest.closes_take 34 false 0 bs m le ∙ ap (λ o. is_at o (0 + m)) at in
     let holds : Pieces.closes 34 false (take n bs) ≡ true = closed n within ∙ eq-eqb (0 + n) n (omega arith) in
     let found : longest known (34 ∷ bs) (suc (length bs)) ≡ suc n =
-        Longest.longest_exact known 34 bs n within (string_known (take n bs) ∙ holds)
-        (λ m above le. string_known (take m bs) ∙ closed m le ∙ let ne : 0 + m ≢ n = omega arith in grind (arith, nat_tests)) in
+    Longest.longest_exact known 34 bs n within (string_known (take n bs) ∙ holds)
+    (λ m above le. string_known (take m bs) ∙ closed m le ∙ let ne : 0 + m ≢ n = omega arith in grind (arith, nat_tests)) in
     let class : class_of (34 ∷ take n bs) ≡ p.Str =
-        Classes.class_string (34 ∷ take n bs) (Classes.not_name 34 (take n bs) refl) (Classes.not_number 34 (take n bs) refl refl) (Classes.not_character 34 (take n bs) refl) holds in
+    Classes.class_string (34 ∷ take n bs) (Classes.not_name 34 (take n bs) refl) (Classes.not_number 34 (take n bs) refl refl) (Classes.not_character 34 (take n bs) refl) holds in
     let whole = piece_found class_of 34 bs n p.Str refl class in
     ap (λ k. (p.Str, k)) (add-one n) ∙ sym whole ∙ ap (piece_of_length class_of (34 ∷ bs)) (sym found)
 
@@ -210,7 +220,7 @@ pub string_open : (bs : List ℕ) → close_at 34 false 0 bs ≡ None → (p.Ope
 unfolding piece_by
 string_open bs at =
     let found : longest known (34 ∷ bs) (suc (length bs)) ≡ 0 =
-        Longest.longest_none known 34 bs (λ m le. string_known (take m bs) ∙ Longest.closes_take 34 false 0 bs m le ∙ ap (λ o. is_at o (0 + m)) at) in
+    Longest.longest_none known 34 bs (λ m le. string_known (take m bs) ∙ Longest.closes_take 34 false 0 bs m le ∙ ap (λ o. is_at o (0 + m)) at) in
     ap (piece_of_length class_of (34 ∷ bs)) (sym found)
 
 -- ---- comments
@@ -220,10 +230,11 @@ opens_comment s = begins (47 ∷ 42 ∷ []) s
 
 comment_known : (t : List ℕ) → known (47 ∷ 42 ∷ t) ≡ Pieces.ends_comment false t
 comment_known t = elim (cases_Bool (Pieces.ends_comment false t)) [
-    inl e ↦ ap is_known (Classes.class_comment (47 ∷ 42 ∷ t) refl refl refl refl (or_left _ _ e)) ∙ sym e
-    | inr e ↦ ap is_known (
-        Classes.class_mark (47 ∷ 42 ∷ t) refl refl refl refl (or_from _ _ e refl) refl refl
-        ∙ ap Pieces.mark_piece (no_key marks (λ s. not (opens_comment s)) (47 ∷ 42 ∷ t) refl refl)) ∙ sym e ]
+  | inl e ↦ ap is_known (Classes.class_comment (47 ∷ 42 ∷ t) refl refl refl refl (or_left _ _ e)) ∙ sym e
+  | inr e ↦ ap is_known (
+      Classes.class_mark (47 ∷ 42 ∷ t) refl refl refl refl (or_from _ _ e refl) refl refl
+      ∙ ap Pieces.mark_piece (no_key marks (λ s. not (opens_comment s)) (47 ∷ 42 ∷ t) refl refl)) ∙ sym e
+]
 
 comment_some_length : (bs : List ℕ) (n : ℕ) → comment_at false 0 bs ≡ Some n → 1 ≤ n
 comment_some_length bs n at =
@@ -237,7 +248,7 @@ comment_by class opens closed bs n at =
     let ends = λ (m : ℕ) (le : m ≤ length bs). Longest.comment_take false 0 bs m le ∙ ap (λ o. is_at o (0 + m)) at in
     let holds : Pieces.ends_comment false (take n bs) ≡ true = ends n within ∙ eq-eqb (0 + n) n (omega arith) in
     let found : longest (λ s. is_known (class s)) (47 ∷ 42 ∷ bs) (suc (suc (length bs))) ≡ suc (suc n) =
-        Longest.longest_exact (λ s. is_known (class s)) 47 (42 ∷ bs) (suc n) (omega arith) (opens (take n bs) ∙ holds) (above ends) in
+    Longest.longest_exact (λ s. is_known (class s)) 47 (42 ∷ bs) (suc n) (omega arith) (opens (take n bs) ∙ holds) (above ends) in
     let whole = longer_found class 47 42 bs n p.Comment (closed (take n bs) holds) (comment_some_length bs n at) in
     let two : n + 2 ≡ suc (suc n) = omega arith in
     ap (λ k. (p.Comment, k)) two ∙ sym whole ∙ ap (piece_of_length class (47 ∷ 42 ∷ bs)) (sym found)
@@ -250,7 +261,7 @@ pub comment_open_by : (class : List ℕ → Piece) → ((t : List ℕ) → is_kn
 unfolding piece_by
 comment_open_by class opens slash bs at =
     let found : longest (λ s. is_known (class s)) (47 ∷ 42 ∷ bs) (suc (suc (length bs))) ≡ suc 0 =
-        Longest.longest_exact (λ s. is_known (class s)) 47 (42 ∷ bs) 0 (omega arith) slash above in
+    Longest.longest_exact (λ s. is_known (class s)) 47 (42 ∷ bs) 0 (omega arith) slash above in
     ap (piece_of_length class (47 ∷ 42 ∷ bs)) (sym found)
   where
     above : (m : ℕ) → 0 < m → m ≤ suc (length bs) → is_known (class (47 ∷ take m (42 ∷ bs))) ≡ false
@@ -265,10 +276,11 @@ comment_open bs at = comment_open_by class_of comment_known refl bs at
 
 line_known : (t : List ℕ) → known (47 ∷ 47 ∷ t) ≡ every Pieces.in_line t
 line_known t = elim (cases_Bool (every Pieces.in_line t)) [
-    inl e ↦ ap is_known (Classes.class_comment (47 ∷ 47 ∷ t) refl refl refl refl e) ∙ sym e
-    | inr e ↦ ap is_known (
-        Classes.class_mark (47 ∷ 47 ∷ t) refl refl refl refl e refl refl
-        ∙ ap Pieces.mark_piece (no_key marks (λ s. not (begins (47 ∷ 47 ∷ []) s)) (47 ∷ 47 ∷ t) refl refl)) ∙ sym e ]
+  | inl e ↦ ap is_known (Classes.class_comment (47 ∷ 47 ∷ t) refl refl refl refl e) ∙ sym e
+  | inr e ↦ ap is_known (
+      Classes.class_mark (47 ∷ 47 ∷ t) refl refl refl refl e refl refl
+      ∙ ap Pieces.mark_piece (no_key marks (λ s. not (begins (47 ∷ 47 ∷ []) s)) (47 ∷ 47 ∷ t) refl refl)) ∙ sym e
+]
 
 pub line_by : (class : List ℕ → Piece) → ((t : List ℕ) → is_known (class (47 ∷ 47 ∷ t)) ≡ every Pieces.in_line t) → ((t : List ℕ) → every Pieces.in_line t ≡ true → class (47 ∷ 47 ∷ t) ≡ p.Comment) → (bs : List ℕ) (n : ℕ) → n ≡ span Pieces.in_line bs → (p.Comment, n + 2) ≡ piece_by class (47 ∷ 47 ∷ bs)
 unfolding piece_by
@@ -276,7 +288,7 @@ line_by class opens closed bs n e =
     let within = Longest.span_within Pieces.in_line bs in
     let holds : every Pieces.in_line (take n bs) ≡ true = Longest.every_take Pieces.in_line bs n (omega arith) ∙ le-leb n (span Pieces.in_line bs) (omega arith) in
     let found : longest (λ s. is_known (class s)) (47 ∷ 47 ∷ bs) (suc (suc (length bs))) ≡ suc (suc n) =
-        Longest.longest_exact (λ s. is_known (class s)) 47 (47 ∷ bs) (suc n) (omega arith) (opens (take n bs) ∙ holds) above in
+    Longest.longest_exact (λ s. is_known (class s)) 47 (47 ∷ bs) (suc n) (omega arith) (opens (take n bs) ∙ holds) above in
     let whole = piece_found class 47 (47 ∷ bs) (suc n) p.Comment refl (closed (take n bs) holds) in
     let two : n + 2 ≡ suc (suc n) = omega arith in
     ap (λ k. (p.Comment, k)) two ∙ sym whole ∙ ap (piece_of_length class (47 ∷ 47 ∷ bs)) (sym found)
@@ -295,7 +307,7 @@ single_at : (class : List ℕ → Piece) (b : ℕ) (bs : List ℕ) (x : Piece) �
 unfolding piece_by
 single_at class b bs x clear e holds fails =
     let found : longest (λ s. is_known (class s)) (b ∷ bs) (suc (length bs)) ≡ suc 0 =
-        Longest.longest_exact (λ s. is_known (class s)) b bs 0 (omega arith) (ap is_known e ∙ holds) fails in
+    Longest.longest_exact (λ s. is_known (class s)) b bs 0 (omega arith) (ap is_known e ∙ holds) fails in
     sym (piece_found class b bs 0 x clear e) ∙ ap (piece_of_length class (b ∷ bs)) (sym found)
 
 single_is : (class : List ℕ → Piece) (b : ℕ) (bs : List ℕ) (x : Piece) → NoComment b bs → class (b ∷ []) ≡ x → is_known x ≡ true → ((c : ℕ) (t : List ℕ) → is_known (class (b ∷ c ∷ t)) ≡ false) → (x, 1) ≡ piece_by class (b ∷ bs)
@@ -311,10 +323,13 @@ blank_is b bs lt h = single_is class_of b bs p.Blank (no_slash b bs others.4) cl
   where
     others : (Classes.digit_or_letter b ≡ false) × (eqb b 46 ≡ false) × (eqb b 39 ≡ false) × (eqb b 34 ≡ false) × (eqb b 47 ≡ false) × (eqb b 10 ≡ false)
     others = Classes.blank_is_not b lt h
+
     two : (is_letter b ≡ false) × (is_digit b ≡ false)
     two = or_parts (is_letter b) (is_digit b) others.0
+
     class : class_of (b ∷ []) ≡ p.Blank
     class = Classes.class_blank (b ∷ []) (Classes.not_name b [] two.0) two.1 (Classes.not_character b [] others.2) (Classes.not_string b [] others.3) refl h
+
     fails : (c : ℕ) (t : List ℕ) → known (b ∷ c ∷ t) ≡ false
     fails c t = ap is_known (
         Classes.class_mark (b ∷ c ∷ t) (Classes.not_name b (c ∷ t) two.0) (Classes.not_number b (c ∷ t) two.1 others.1)
@@ -359,7 +374,7 @@ mark_is b (c ∷ []) clear q d class =
     let k1 : known (b ∷ []) ≡ is_known (Pieces.mark_piece (mark_of (b ∷ []))) = ap is_known (class 0 (omega arith)) in
     let k2 : known (b ∷ c ∷ []) ≡ is_known (Pieces.mark_piece (mark_of (b ∷ c ∷ []))) = ap is_known (class 1 (omega arith)) in
     sym (by_marks b (c ∷ []) 1 (mark_of (b ∷ c ∷ [])) _ _ clear (class 1 (omega arith))
-        (by_marks b (c ∷ []) 0 (mark_of (b ∷ [])) 0 (p.Unknown, 1) clear (class 0 (omega arith)) (unquoted b (c ∷ []) clear q d)))
+    (by_marks b (c ∷ []) 0 (mark_of (b ∷ [])) 0 (p.Unknown, 1) clear (class 0 (omega arith)) (unquoted b (c ∷ []) clear q d)))
     ∙ ap (λ v. piece_of_length class_of (b ∷ c ∷ []) (if v then 2 else of_some (mark_of (b ∷ [])) 1 0)) (sym k2)
     ∙ ap (λ v. piece_of_length class_of (b ∷ c ∷ []) (if known (b ∷ c ∷ []) then 2 else (if v then 1 else 0))) (sym k1)
 mark_is b (c ∷ e ∷ es) clear q d class =
@@ -367,10 +382,10 @@ mark_is b (c ∷ e ∷ es) clear q d class =
     let k2 : known (b ∷ c ∷ []) ≡ is_known (Pieces.mark_piece (mark_of (b ∷ c ∷ []))) = ap is_known (class 1 (omega arith)) in
     let k3 : known (b ∷ c ∷ e ∷ []) ≡ is_known (Pieces.mark_piece (mark_of (b ∷ c ∷ e ∷ []))) = ap is_known (class 2 (omega arith)) in
     let cut : longest known (b ∷ c ∷ e ∷ es) (suc (suc (suc (length es)))) ≡ longest known (b ∷ c ∷ e ∷ es) 3 =
-        Longest.longest_cut known (b ∷ c ∷ e ∷ es) 3 (suc (suc (suc (length es)))) (omega arith) (above es class) in
+    Longest.longest_cut known (b ∷ c ∷ e ∷ es) 3 (suc (suc (suc (length es)))) (omega arith) (above es class) in
     sym (by_marks b (c ∷ e ∷ es) 2 (mark_of (b ∷ c ∷ e ∷ [])) _ _ clear (class 2 (omega arith))
-        (by_marks b (c ∷ e ∷ es) 1 (mark_of (b ∷ c ∷ [])) _ _ clear (class 1 (omega arith))
-        (by_marks b (c ∷ e ∷ es) 0 (mark_of (b ∷ [])) 0 (p.Unknown, 1) clear (class 0 (omega arith)) (unquoted b (c ∷ e ∷ es) clear q d))))
+    (by_marks b (c ∷ e ∷ es) 1 (mark_of (b ∷ c ∷ [])) _ _ clear (class 1 (omega arith))
+    (by_marks b (c ∷ e ∷ es) 0 (mark_of (b ∷ [])) 0 (p.Unknown, 1) clear (class 0 (omega arith)) (unquoted b (c ∷ e ∷ es) clear q d))))
     ∙ ap (λ v. piece_of_length class_of (b ∷ c ∷ e ∷ es) (if v then 3 else of_some (mark_of (b ∷ c ∷ [])) 2 (of_some (mark_of (b ∷ [])) 1 0))) (sym k3)
     ∙ ap (λ v. piece_of_length class_of (b ∷ c ∷ e ∷ es) (if known (b ∷ c ∷ e ∷ []) then 3 else (if v then 2 else of_some (mark_of (b ∷ [])) 1 0))) (sym k2)
     ∙ ap (λ v. piece_of_length class_of (b ∷ c ∷ e ∷ es) (if known (b ∷ c ∷ e ∷ []) then 3 else (if known (b ∷ c ∷ []) then 2 else (if v then 1 else 0)))) (sym k1)
@@ -414,6 +429,7 @@ slash_is c cs s t = mark_is 47 (c ∷ cs) clear refl refl class
   where
     clear : begins (47 ∷ 42 ∷ []) (47 ∷ c ∷ cs) ≡ false
     clear = and_left (eqb 42 c) true (grind (arith, nat_tests))
+
     class : (m : ℕ) → m ≤ suc (length cs) → class_of (47 ∷ take m (c ∷ cs)) ≡ Pieces.mark_piece (mark_of (47 ∷ take m (c ∷ cs)))
     class zero le = refl
     class (suc m) le = slash_class (c ∷ take m cs) (or_from _ _ (and_left (eqb c 42) _ s) (and_left (eqb c 47) _ t))
@@ -433,13 +449,15 @@ no_single b c t h =
 
 pragma_opens : (t : List ℕ) → is_known (in_pragma (47 ∷ 42 ∷ t)) ≡ Pieces.ends_comment false t
 pragma_opens t = elim (cases_Bool (Pieces.ends_comment false t)) [
-    inl e ↦ ap is_known (pragma_comment t e) ∙ sym e
-    | inr e ↦ no_single 47 42 t (or_from _ _ e refl) ∙ sym e ]
+  | inl e ↦ ap is_known (pragma_comment t e) ∙ sym e
+  | inr e ↦ no_single 47 42 t (or_from _ _ e refl) ∙ sym e
+]
 
 pragma_line : (t : List ℕ) → is_known (in_pragma (47 ∷ 47 ∷ t)) ≡ every Pieces.in_line t
 pragma_line t = elim (cases_Bool (every Pieces.in_line t)) [
-    inl e ↦ (let h : Pieces.is_comment (47 ∷ 47 ∷ t) ≡ true = e in rw h refl)
-    | inr e ↦ no_single 47 47 t e ∙ sym e ]
+  | inl e ↦ (let h : Pieces.is_comment (47 ∷ 47 ∷ t) ≡ true = e in rw h refl)
+  | inr e ↦ no_single 47 47 t e ∙ sym e
+]
 
 pub pragma_comment_is : (bs : List ℕ) (n : ℕ) → comment_at false 0 bs ≡ Some n → (p.Comment, n + 2) ≡ piece_by Pieces.class_in_pragma (47 ∷ 42 ∷ bs)
 pragma_comment_is bs n at = comment_by in_pragma pragma_opens pragma_comment bs n at
@@ -462,6 +480,7 @@ pragma_slash_is c cs s t = single_at in_pragma 47 (c ∷ cs) p.Blank clear refl 
   where
     clear : begins (47 ∷ 42 ∷ []) (47 ∷ c ∷ cs) ≡ false
     clear = and_left (eqb 42 c) true (grind (arith, nat_tests))
+
     above : (m : ℕ) → 0 < m → m ≤ suc (length cs) → is_known (in_pragma (47 ∷ take m (c ∷ cs))) ≡ false
     above zero lt le = absurd (omega arith)
     above (suc m) lt le = no_single 47 c (take m cs) (or_from _ _ (and_left (eqb c 42) _ s) (and_left (eqb c 47) _ t))
@@ -484,8 +503,9 @@ in_include = Pieces.class_in_include
 
 header_known : (t : List ℕ) → is_known (in_include (60 ∷ t)) ≡ Pieces.closes_header t
 header_known t = elim (cases_Bool (Pieces.closes_header t)) [
-    inl e ↦ rw e refl
-    | inr e ↦ rw e refl ]
+  | inl e ↦ rw e refl
+  | inr e ↦ rw e refl
+]
 
 pub header_is : (bs : List ℕ) (n : ℕ) → header_at 0 bs ≡ Some n → (p.Header, n + 1) ≡ piece_by Pieces.class_in_include (60 ∷ bs)
 unfolding piece_by
@@ -494,8 +514,8 @@ header_is bs n at =
     let closed = λ (m : ℕ) (le : m ≤ length bs). Longest.header_take 0 bs m le ∙ ap (λ o. is_at o (0 + m)) at in
     let holds : Pieces.closes_header (take n bs) ≡ true = closed n within ∙ eq-eqb (0 + n) n (omega arith) in
     let found : longest (λ s. is_known (in_include s)) (60 ∷ bs) (suc (length bs)) ≡ suc n =
-        Longest.longest_exact (λ s. is_known (in_include s)) 60 bs n within (header_known (take n bs) ∙ holds)
-        (λ m above le. header_known (take m bs) ∙ closed m le ∙ (let ne : 0 + m ≢ n = omega arith in grind (arith, nat_tests))) in
+    Longest.longest_exact (λ s. is_known (in_include s)) 60 bs n within (header_known (take n bs) ∙ holds)
+    (λ m above le. header_known (take m bs) ∙ closed m le ∙ (let ne : 0 + m ≢ n = omega arith in grind (arith, nat_tests))) in
     let class : in_include (60 ∷ take n bs) ≡ p.Header = rw holds refl in
     let whole = piece_found in_include 60 bs n p.Header refl class in
     ap (λ k. (p.Header, k)) (add-one n) ∙ sym whole ∙ ap (piece_of_length in_include (60 ∷ bs)) (sym found)
@@ -504,7 +524,7 @@ pub header_open : (bs : List ℕ) → header_at 0 bs ≡ None → (p.Unknown, 1)
 unfolding piece_by
 header_open bs at =
     let found : longest (λ s. is_known (in_include s)) (60 ∷ bs) (suc (length bs)) ≡ 0 =
-        Longest.longest_none (λ s. is_known (in_include s)) 60 bs (λ m le. header_known (take m bs) ∙ Longest.header_take 0 bs m le ∙ ap (λ o. is_at o (0 + m)) at) in
+    Longest.longest_none (λ s. is_known (in_include s)) 60 bs (λ m le. header_known (take m bs) ∙ Longest.header_take 0 bs m le ∙ ap (λ o. is_at o (0 + m)) at) in
     ap (piece_of_length in_include (60 ∷ bs)) (sym found)
 
 pub include_other_is : (b : ℕ) (bs : List ℕ) → eqb b 60 ≡ false → piece_by class_of (b ∷ bs) ≡ piece_by Pieces.class_in_include (b ∷ bs)
@@ -516,6 +536,7 @@ include_other_is b bs e =
     agree : (m : ℕ) → class_of (take m (b ∷ bs)) ≡ in_include (take m (b ∷ bs))
     agree zero = refl
     agree (suc m) = let h : (eqb 60 b && true) ≡ false = and_left (eqb 60 b) true (grind (arith, nat_tests)) in rw h refl
+
     at_length : (n : ℕ) → piece_of_length class_of (b ∷ bs) n ≡ piece_of_length in_include (b ∷ bs) n
     at_length n = ap (λ x. if begins (47 ∷ 42 ∷ []) (b ∷ bs) && leb n 1 then (p.OpenComment, 1)
         else (if eqb n 0 then ((if begins (39 ∷ []) (b ∷ bs) || begins (34 ∷ []) (b ∷ bs) then p.OpenLiteral else p.Unknown), 1)
@@ -530,8 +551,9 @@ include_end_is = refl
 pub longest_within : (passes : List ℕ → Bool) (text : List ℕ) (k : ℕ) → longest passes text k ≤ k
 longest_within passes text zero = omega arith
 longest_within passes text (suc k) = elim (passes (take (suc k) text)) as (λ v. (if v then suc k else longest passes text k) ≤ suc k) [
-    true ↦ omega arith
-    | false ↦ omega (arith, longest_within passes text k) ]
+  | true ↦ omega arith
+  | false ↦ omega (arith, longest_within passes text k)
+]
 
 pub piece_length : (class : List ℕ → Piece) (b : ℕ) (bs : List ℕ) → (1 ≤ (piece_by class (b ∷ bs)).1) × ((piece_by class (b ∷ bs)).1 ≤ suc (length bs))
 unfolding piece_by
@@ -539,7 +561,9 @@ piece_length class b bs = by (longest (λ s. is_known (class s)) (b ∷ bs) (suc
   where
     by : (n : ℕ) → n ≤ suc (length bs) → (1 ≤ (piece_of_length class (b ∷ bs) n).1) × ((piece_of_length class (b ∷ bs) n).1 ≤ suc (length bs))
     by n le = elim (begins (47 ∷ 42 ∷ []) (b ∷ bs) && leb n 1) as (λ v. let x : Piece × ℕ = if v then (p.OpenComment, 1) else (if eqb n 0 then ((if begins (39 ∷ []) (b ∷ bs) || begins (34 ∷ []) (b ∷ bs) then p.OpenLiteral else p.Unknown), 1) else (class (take n (b ∷ bs)), n)) in (1 ≤ x.1) × (x.1 ≤ suc (length bs))) [
-        true ↦ (omega arith, omega arith)
-        | false ↦ elim (cases_eq n 0) [
-            inl z ↦ (let e : eqb n 0 ≡ true = eq-eqb n 0 z in rw e (omega arith, omega arith))
-            | inr z ↦ (let e : eqb n 0 ≡ false = grind (arith, nat_tests) in rw e (omega arith, le)) ] ]
+      | true ↦ (omega arith, omega arith)
+      | false ↦ elim (cases_eq n 0) [
+        | inl z ↦ (let e : eqb n 0 ≡ true = eq-eqb n 0 z in rw e (omega arith, omega arith))
+        | inr z ↦ (let e : eqb n 0 ≡ false = grind (arith, nat_tests) in rw e (omega arith, le))
+      ]
+    ]

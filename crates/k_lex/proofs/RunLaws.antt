@@ -14,7 +14,9 @@ use Rattle.k_lex.specs.Pieces
 use Rattle.k_lex.specs.Pieces.{piece_by, piece_of_length, longest, class_of, class_in_pragma, class_in_include, is_known, is_name}
 use Rattle.k_lex.specs.Lines.{State, step}
 use Rattle.k_lex.specs.Tokens.{run, turn, piece_in}
-use Rattle.k_lex.specs.Outcome.{◌>>=◌}
+use Rattle.k_lex.specs.Outcome.{◌>>=◌, Fails}
+use Rattle.k_lex.specs.declared.fault.Stop.{Stop}
+use Rattle.k_lex.specs.declared.fault.Stop.TheVariants as stop
 use Rattle.k_lex.proofs.PieceLaws.{piece_length}
 use Rattle.std.specs.Prelude.{Option, Some, None}
 
@@ -35,9 +37,10 @@ no_mark_name (Some m) h = cc
 
 class_named : (s : List ℕ) → class_of s ≡ p.Name → is_name s ≡ true
 class_named s h = elim (cases_Bool (is_name s)) [
-    inl e ↦ e
-    | inr e ↦ absurd (unnamed (Pieces.is_number s) (Pieces.is_character s) (Pieces.is_string s) (Pieces.is_comment s) (Pieces.is_blank_piece s) (same s (10 ∷ []))
-        (Pieces.mark_piece (mark_of s)) (no_mark_name (mark_of s)) (sym (rest_of e) ∙ h)) ]
+  | inl e ↦ e
+  | inr e ↦ absurd (unnamed (Pieces.is_number s) (Pieces.is_character s) (Pieces.is_string s) (Pieces.is_comment s) (Pieces.is_blank_piece s) (same s (10 ∷ []))
+      (Pieces.mark_piece (mark_of s)) (no_mark_name (mark_of s)) (sym (rest_of e) ∙ h))
+]
   where
     rest_of : is_name s ≡ false → class_of s ≡ (if Pieces.is_number s then p.Number else (if Pieces.is_character s then p.Character else (if Pieces.is_string s then p.Str else (if Pieces.is_comment s then p.Comment else (if Pieces.is_blank_piece s then p.Blank else (if same s (10 ∷ []) then p.Newline else Pieces.mark_piece (mark_of s)))))))
     rest_of e = rw e refl
@@ -109,7 +112,7 @@ run_turn : (place : Place) (s : State) (b : ℕ) (bs : List ℕ) (n : ℕ) → n
 run_turn place s b bs zero e low high = absurd (omega arith)
 run_turn place s b bs (suc k) e low high =
     bind_same (turn place s (b ∷ bs) (piece_in s.mode (b ∷ bs)))
-        (λ new. ap (λ j. run j (after place b) new bs) (let count : (piece_in s.mode (b ∷ bs)).1 - 1 ≡ k = omega arith in count) ∙ run_skip k (after place b) new bs (omega arith))
+    (λ new. ap (λ j. run j (after place b) new bs) (let count : (piece_in s.mode (b ∷ bs)).1 - 1 ≡ k = omega arith in count) ∙ run_skip k (after place b) new bs (omega arith))
   where
     bind_same : {f g : State → Result (State × Place) Fault} (r : Result State Fault) → ((new : State) → f new ≡ g new) → (r >>= f) ≡ (r >>= g)
     bind_same (Ok new) h = h new
@@ -126,9 +129,9 @@ run_step place next s new (b ∷ bs) front more piece n whole pe lt fe me ne se 
     let kind : piece ≡ x.0 = ap (λ (y : Piece × ℕ). y.0) pe in
     let within = piece_in_length s.mode b bs in
     let done : turn place s (b ∷ bs) x ≡ Ok new =
-        ap (λ k. step place (take k (b ∷ bs)) (drop k (b ∷ bs)) x.0 s) (sym count)
-        ∙ ap (λ k. step place (take n (b ∷ bs)) (drop n (b ∷ bs)) k s) (sym kind)
-        ∙ ap (λ t. step place t (drop n (b ∷ bs)) piece s) (sym fe) ∙ ap (λ t. step place front t piece s) (sym me) ∙ se in
+    ap (λ k. step place (take k (b ∷ bs)) (drop k (b ∷ bs)) x.0 s) (sym count)
+    ∙ ap (λ k. step place (take n (b ∷ bs)) (drop n (b ∷ bs)) k s) (sym kind)
+    ∙ ap (λ t. step place t (drop n (b ∷ bs)) piece s) (sym fe) ∙ ap (λ t. step place front t piece s) (sym me) ∙ se in
     ap (λ q. run 0 q new more) (ne ∙ ap (behind place) fe) ∙ ap (run 0 (behind place (take n (b ∷ bs))) new) me
     ∙ sym (ap (λ r. r >>= λ u. run 0 (behind place (take n (b ∷ bs))) u (drop n (b ∷ bs))) done)
     ∙ sym (run_turn place s b bs n count (omega (arith, within.0)) (omega (arith, within.1)))
@@ -143,7 +146,28 @@ run_stops place s (b ∷ bs) front more piece n f whole pe lt fe me se e =
     let count : n ≡ x.1 = ap (λ (y : Piece × ℕ). y.1) pe in
     let kind : piece ≡ x.0 = ap (λ (y : Piece × ℕ). y.0) pe in
     let done : turn place s (b ∷ bs) x ≡ Err f =
-        ap (λ k. step place (take k (b ∷ bs)) (drop k (b ∷ bs)) x.0 s) (sym count)
-        ∙ ap (λ k. step place (take n (b ∷ bs)) (drop n (b ∷ bs)) k s) (sym kind)
-        ∙ ap (λ t. step place t (drop n (b ∷ bs)) piece s) (sym fe) ∙ ap (λ t. step place front t piece s) (sym me) ∙ se in
+    ap (λ k. step place (take k (b ∷ bs)) (drop k (b ∷ bs)) x.0 s) (sym count)
+    ∙ ap (λ k. step place (take n (b ∷ bs)) (drop n (b ∷ bs)) k s) (sym kind)
+    ∙ ap (λ t. step place t (drop n (b ∷ bs)) piece s) (sym fe) ∙ ap (λ t. step place front t piece s) (sym me) ∙ se in
     sym e ∙ ap (λ r. r >>= λ u. run (x.1 - 1) (after place b) u bs) done
+
+pub read_name : (mode : Mode) (text front : List ℕ) (piece : Piece) (n : ℕ) → (piece, n) ≡ piece_in mode text → front ≡ take n text → piece ≡ p.Name → is_name front ≡ true
+read_name mode text front piece n pe fe h =
+    let count : n ≡ (piece_in mode text).1 = ap (λ (y : Piece × ℕ). y.1) pe in
+    let kind : piece ≡ (piece_in mode text).0 = ap (λ (y : Piece × ℕ). y.0) pe in
+    ap is_name (fe ∙ ap (λ k. take k text) count) ∙ piece_in_named mode text (sym kind ∙ h)
+
+pub fails_run : (place : Place) (s : State) (text front more : List ℕ) (piece : Piece) (n : ℕ) (e : Stop) (whole : Result (State × Place) Fault)
+    → (piece, n) ≡ piece_in s.mode text → 0 < length text → front ≡ take n text → more ≡ drop n text
+    → Fails e (step place front more piece s) → run 0 place s text ≡ whole → Fails e whole
+fails_run place s text front more piece n stop.Memory whole pe lt fe me h e = tt
+fails_run place s text front more piece n (stop.Refused f) whole pe lt fe me h e = run_stops place s text front more piece n f whole pe lt fe me h e
+
+pub end_ok : (place : Place) (s new : State) (text : List ℕ) (whole : Result (State × Place) Fault) → length text ≡ 0 → step place [] [] p.Newline s ≡ Ok new → run 0 place s text ≡ whole → whole ≡ Ok (new, place)
+end_ok place s new [] whole z h e = sym e ∙ ap (λ r. r >>= λ u. Ok (u, place)) h
+end_ok place s new (b ∷ bs) whole z h e = absurd (omega arith)
+
+pub end_fails : (place : Place) (s : State) (text : List ℕ) (e : Stop) (whole : Result (State × Place) Fault) → length text ≡ 0 → Fails e (step place [] [] p.Newline s) → run 0 place s text ≡ whole → Fails e whole
+end_fails place s text stop.Memory whole z h e = tt
+end_fails place s [] (stop.Refused f) whole z h e = sym e ∙ ap (λ r. r >>= λ u. Ok (u, place)) h
+end_fails place s (b ∷ bs) (stop.Refused f) whole z h e = absurd (omega arith)

@@ -31,8 +31,8 @@ pub added : (s : code.State) (place : Place) (full : Full) (xs : List Lexeme) (n
 added s place f.TooMany xs new bytes is fits ne be = absurd fits.2
 added s place (f.Kept kept) xs new bytes is fits ne be =
     let room : has_room (shown s) (length xs) (sizes xs) ≡ true =
-        and_from _ _ (le-leb (length s.tokens + length xs) s.limits.tokens (omega (arith, ap length is.list, fits.0)))
-        (le-leb (s.spelled + sizes xs) s.limits.spelling (omega (arith, is.bytes, fits.1))) in
+    and_from _ _ (le-leb (length s.tokens + length xs) s.limits.tokens (omega (arith, ap length is.list, fits.0)))
+    (le-leb (s.spelled + sizes xs) s.limits.spelling (omega (arith, is.bytes, fits.1))) in
     ap (λ v. if v then Ok (record (shown s) { mode = Middle; tokens = s.tokens ++ map (placed place) xs; spelled = s.spelled + sizes xs }) else refused TokensMany place) room
     ∙ ap (λ t. Ok (record (shown s) { mode = Middle; tokens = t; spelled = s.spelled + sizes xs })) (ap (λ l. s.tokens ++ map (placed place) l) (sym is.list) ∙ sym ne)
     ∙ ap (λ b. Ok (record (shown s) { mode = Middle; tokens = new; spelled = s.spelled + b })) (sym (be ∙ is.bytes))

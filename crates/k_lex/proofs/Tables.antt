@@ -30,8 +30,9 @@ no_key [] passes key all fails = refl
 no_key {X} (row ∷ rows) passes key all fails =
     let parts = and_parts (passes row.0) (all_keys passes rows) all in
     elim (cases_Bool (same row.0 key)) [
-    inl e ↦ absurd (false≢true (sym fails ∙ ap passes (sym (same_true row.0 key e)) ∙ parts.0))
-    | inr e ↦ (let chosen : Bool → Option X = λ v. if◌then◌else◌ v (Some row.1) (look_up rows key) in ap chosen e) ∙ no_key rows passes key parts.1 fails ]
+      | inl e ↦ absurd (false≢true (sym fails ∙ ap passes (sym (same_true row.0 key e)) ∙ parts.0))
+      | inr e ↦ (let chosen : Bool → Option X = λ v. if◌then◌else◌ v (Some row.1) (look_up rows key) in ap chosen e) ∙ no_key rows passes key parts.1 fails
+    ]
 
 pub same_pointwise : (xs ys : List ℕ) → pointwise nat_eq xs ys ≡ same xs ys
 same_pointwise [] [] = refl

@@ -62,7 +62,7 @@ abbrev pub tokens_within : Limits → List ℕ → Result (List Token) Fault
 tokens_within limits bytes =
     if nat_lt limits.source (length bytes) then refused r.SourceLong first_place
     else (run 0 first_place (nothing_read limits) bytes >>= λ end.
-      Ok (joined end.0.tokens ++ record { what = t.End; place = end.1 } ∷ []))
+    Ok (joined end.0.tokens ++ record { what = t.End; place = end.1 } ∷ []))
 
 abbrev pub fault_of : Refusal → Place → LexFault
 fault_of r.BadByte place = l.BadByte place

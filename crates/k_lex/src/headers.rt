@@ -46,38 +46,47 @@ const OPEN: Part = Part {
     what: Fixed::Mark(Mark::LeftParen),
     size: 1,
 };
+
 const CLOSE: Part = Part {
     what: Fixed::Mark(Mark::RightParen),
     size: 1,
 };
+
 const MINUS: Part = Part {
     what: Fixed::Mark(Mark::Minus),
     size: 1,
 };
+
 const ONE: Part = Part {
     what: Fixed::Number(Kind::I32, 1),
     size: 1,
 };
+
 const UNSIGNED: Part = Part {
     what: Fixed::Word(Word::Unsigned),
     size: 8,
 };
+
 const LONG: Part = Part {
     what: Fixed::Word(Word::Long),
     size: 4,
 };
+
 const GREATEST_INT: Part = Part {
     what: Fixed::Number(Kind::I32, 2_147_483_647),
     size: 10,
 };
+
 const GREATEST_UNSIGNED: Part = Part {
     what: Fixed::Number(Kind::U32, 4_294_967_295),
     size: 11,
 };
+
 const GREATEST_LONG: Part = Part {
     what: Fixed::Number(Kind::I64, 9_223_372_036_854_775_807),
     size: 20,
 };
+
 const GREATEST_UNSIGNED_LONG: Part = Part {
     what: Fixed::Number(Kind::U64, 18_446_744_073_709_551_615),
     size: 22,
@@ -155,10 +164,18 @@ fn of_stddef(alloc: Global) -> Result<Vec<Plain>, NoMemory>
 fn of_limits(alloc: Global) -> Result<Vec<Plain>, NoMemory>
     ensures { IfOk result (λ list. map plain list.items ≡ spec.header_macros Header.Limits) }
 {
-    let int_min = plain_of(alloc, b"INT_MIN", &[OPEN, MINUS, GREATEST_INT, MINUS, ONE, CLOSE])?;
+    let int_min = plain_of(
+        alloc,
+        b"INT_MIN",
+        &[OPEN, MINUS, GREATEST_INT, MINUS, ONE, CLOSE],
+    )?;
     let int_max = plain_of(alloc, b"INT_MAX", &[GREATEST_INT])?;
     let uint_max = plain_of(alloc, b"UINT_MAX", &[GREATEST_UNSIGNED])?;
-    let long_min = plain_of(alloc, b"LONG_MIN", &[OPEN, MINUS, GREATEST_LONG, MINUS, ONE, CLOSE])?;
+    let long_min = plain_of(
+        alloc,
+        b"LONG_MIN",
+        &[OPEN, MINUS, GREATEST_LONG, MINUS, ONE, CLOSE],
+    )?;
     let long_max = plain_of(alloc, b"LONG_MAX", &[GREATEST_LONG])?;
     let ulong_max = plain_of(alloc, b"ULONG_MAX", &[GREATEST_UNSIGNED_LONG])?;
     let mut list = Vec::new(alloc);

@@ -40,12 +40,7 @@ fn flush(held: Option<Held>, out: &mut Seq<Token>) -> Result<(), NoMemory>
 }
 
 /// A string goes on with another, or begins.
-fn join(
-    alloc: Global,
-    held: Option<Held>,
-    more: &[u8],
-    place: Place,
-) -> Result<Held, NoMemory>
+fn join(alloc: Global, held: Option<Held>, more: &[u8], place: Place) -> Result<Held, NoMemory>
     ensures { IfOk result (λ new. (rest : List Token) → spec.joined (held_tokens (Some new) ++ rest) ≡ spec.joined (held_tokens held ++ (record { what = TokenKind.Str more.now; place = place }) ∷ rest)) }
 {
     match held {

@@ -462,7 +462,11 @@ fn again_token(
     ensures sound { OnOk result (Sound state.new) }
 {
     let what = token_of(alloc, place, spelling, piece)?;
-    if !stands_at(body_at(state.table.as_slice(), again.number), again.at, &what) {
+    if !stands_at(
+        body_at(state.table.as_slice(), again.number),
+        again.at,
+        &what,
+    ) {
         return Err(refusal(Refusal::MacroAgain, again.name));
     }
     state.mode = Mode::Again(Again {
@@ -541,12 +545,7 @@ fn in_include(
 }
 
 /// The macros of a header come in.
-fn include(
-    alloc: Global,
-    state: &mut State,
-    at: Place,
-    header: Option<Header>,
-) -> Result<(), Stop>
+fn include(alloc: Global, state: &mut State, at: Place, header: Option<Header>) -> Result<(), Stop>
     requires { Sound state.old }
     ensures gives { Gives (λ _. shown state.new) result (spec.include at header (shown state.old)) }
     ensures sound { OnOk result (Sound state.new) }

@@ -35,12 +35,16 @@ fn read(alloc: Global, limits: Limits, bytes: &[u8]) -> Result<(State, Place), S
     while !rest.is_empty() {
         let (piece, length) = piece_in(state.mode(), rest);
         let (front, more) = rest.split_at(length);
-        step(alloc, &mut state, place, front, more, piece)?;
+        if let Err(stop) = step(alloc, &mut state, place, front, more, piece) {
+            return Err(stop);
+        }
         place = behind(place, front);
         rest = more;
     }
-    step(alloc, &mut state, place, &[], &[], Piece::Newline)?;
-    Ok((state, place))
+    match step(alloc, &mut state, place, &[], &[], Piece::Newline) {
+        Ok(()) => Ok((state, place)),
+        Err(stop) => Err(stop),
+    }
 }
 
 /// The tokens of a source within limits.

@@ -25,7 +25,7 @@ returns-clause-gives c =
     let xs = full_at (fulls (map macro s.table.items)) c.args.number in
     let there : IsFull s.limits c.index-2.result.now.full xs = full_there s.limits s.table.items (fulls (map macro s.table.items)) c.args.number c.index-2.result.now c.requires.sound.full c.requires.there c.index-2.ensures in
     let one : c.index.result.now ≡ c.index-2.result.now =
-        c.index.ensures ∙ get_or_default s.table.items c.args.number c.index.result.now c.index-2.result.now c.requires.there ∙ sym c.index-2.ensures in
+    c.index.ensures ∙ get_or_default s.table.items c.args.number c.index.result.now c.index-2.result.now c.requires.there ∙ sym c.index-2.ensures in
     let Fits : Definition → Type 0 = λ d. (length s.tokens + length (kept_list d.full) ≤ s.limits.tokens) × (s.spelled + kept_bytes d.full ≤ s.limits.spelling) × IsWithin d.full in
-    let fits = subst Fits one (c.if-not-has_room_for.ensures.fits tt) in
+    let fits = subst Fits one (c.if-not-has_room_for.ensures.fits refl) in
     StateLaws.added s c.args.place c.index-2.result.now.full xs c.write_full.new.tokens c.in_ok-bytes.bytes there fits c.in_ok-bytes.ensures.tokens c.in_ok-bytes.ensures.bytes
