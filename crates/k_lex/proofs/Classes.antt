@@ -1,13 +1,10 @@
 -- What a spelling is, by its first byte.
-use Rattle.std.proofs.Common.{◌≡◌, ℕ, zero, suc, ◌<◌, ◌≤◌, Bool, true, false, not, ◌&&◌, ◌||◌, if◌then◌else◌, eqb, leb, List, [], ◌∷◌, Option, Some, None, length, take, refl, sym, ap, ◌∙◌, inl, inr, arith}
-use Rattle.std.proofs.lemmas.Bool.{and_left, and_right, and_from, and_parts, or_parts, or_from, cases_Bool, false≢true, agree_below, agree_below_at, not_from_false}
-use Rattle.std.proofs.lemmas.Bool.Decides.{nat_tests}
-use Rattle.k_lex.specs.declared.pieces.Piece.{Piece}
+use Rattle.std.proofs.Common.{◌≡◌, ℕ, ◌<◌, Bool, true, false, not, ◌&&◌, ◌||◌, eqb, List, [], ◌∷◌, refl, sym, ap}
+use Rattle.std.proofs.lemmas.Bool.{and_left, and_right, or_parts, or_from, false≢true, agree_below, agree_below_at}
 use Rattle.k_lex.specs.declared.pieces.Piece.TheVariants as p
-use Rattle.k_lex.specs.Bytes.{is_letter, is_digit, in_name, is_blank, every, span, same, begins, look_up}
+use Rattle.k_lex.specs.Bytes.{is_letter, is_digit, in_name, is_blank, every, same}
 use Rattle.k_lex.specs.Marks.{marks, mark_of}
 use Rattle.k_lex.specs.Pieces
-use Rattle.k_lex.proofs.Longest
 use Rattle.k_lex.proofs.Tables.{no_key, all_keys}
 
 -- ---- by the tests in their order

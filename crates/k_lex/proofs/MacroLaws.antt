@@ -1,5 +1,5 @@
 -- Tables of macros, and what each macro is replaced by.
-use Rattle.std.proofs.Common.{◌≡◌, ℕ, zero, suc, ◌+◌, ◌-◌, ◌<◌, ◌≤◌, Bool, true, false, List, [], ◌∷◌, ◌++◌, Option, Some, None, length, take, drop, map, get_or, refl, sym, ap, ◌∙◌, subst, append_assoc, inl, inr, ◌⊎◌, arith, length-append}
+use Rattle.std.proofs.Common.{◌≡◌, ℕ, zero, suc, ◌+◌, ◌-◌, ◌<◌, ◌≤◌, false, List, [], ◌∷◌, ◌++◌, Some, length, take, drop, map, get_or, refl, sym, ap, ◌∙◌, subst, append_assoc, inl, inr, ◌⊎◌, arith, length-append}
 use Rattle.std.proofs.lemmas.List.{take-append-drop, map-append, append-nil, take_more}
 use Rattle.std.specs.List.{flat_map}
 use Rattle.k_lex.specs.declared.lines.Limits.{Limits}
@@ -8,7 +8,7 @@ use Rattle.k_lex.specs.declared.macros.Kept.{Kept}
 use Rattle.k_lex.specs.declared.macros.Full.{Full}
 use Rattle.k_lex.specs.declared.macros.Full.TheVariants as f
 use Rattle.k_lex.specs.declared.macros.Definition.{Definition}
-use Rattle.k_lex.specs.Macros.{Macro, body_at, stands_at, same_kind, fulls, fulls_from, full_at, full_or, used, replaced, replaced_by, defined, sizes}
+use Rattle.k_lex.specs.Macros.{Macro, body_at, stands_at, same_kind, fulls, fulls_from, full_at, full_or, used, replaced, replaced_by, sizes}
 use Rattle.k_lex.specs.Table.{macro, kept_list, kept_bytes, Over, IsKept, IsFull, AllFull}
 use Rattle.k_tree.specs.declared.tokens.TokenKind.{TokenKind}
 

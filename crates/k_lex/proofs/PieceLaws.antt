@@ -1,12 +1,11 @@
 -- The longest piece at the front of a text, by its first bytes.
 use Rattle.std.proofs.Common.{◌≡◌, ◌≢◌, ℕ, zero, suc, ◌+◌, ◌<◌, ◌≤◌, Bool, true, false, not, ◌&&◌, ◌||◌, if◌then◌else◌, eqb, leb, List, [], ◌∷◌, Option, Some, None, length, take, refl, sym, ap, ◌∙◌, inl, inr, arith, add-one}
-use Rattle.std.specs.Prelude.{codes}
-use Rattle.std.proofs.lemmas.Bool.{and_left, and_right, and_from, and_parts, or_parts, or_from, or_left, or_right, or_cases, cases_eq, cases_Bool, false≢true, lt-leb, le-leb, eq-eqb, eqb-true}
+use Rattle.std.proofs.lemmas.Bool.{and_left, and_right, and_from, and_parts, or_parts, or_from, or_left, or_right, or_cases, cases_eq, cases_Bool, false≢true, lt-leb, le-leb, eq-eqb}
 use Rattle.std.proofs.lemmas.Bool.Decides.{nat_tests}
 use Rattle.std.proofs.lemmas.List.{length-take-le}
 use Rattle.k_lex.specs.declared.pieces.Piece.{Piece}
 use Rattle.k_lex.specs.declared.pieces.Piece.TheVariants as p
-use Rattle.k_lex.specs.Bytes.{is_letter, is_digit, in_name, is_blank, every, span, same, begins, look_up}
+use Rattle.k_lex.specs.Bytes.{is_letter, is_digit, in_name, is_blank, every, span, begins}
 use Rattle.k_lex.specs.Marks.{marks, mark_of}
 use Rattle.k_lex.specs.Pieces
 use Rattle.k_lex.specs.Pieces.{piece_by, starts_number, piece_of_length, class_of, is_known, longest}

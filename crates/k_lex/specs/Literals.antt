@@ -1,5 +1,5 @@
 -- What is in a literal: characters and escapes (C17 6.4.4.4, 6.4.5).
-use Rattle.std.specs.Prelude.{ℕ, ℤ, pos, ◌-ℤ◌, zero, suc, ◌+◌, ◌-◌, Bool, true, false, List, [], ◌∷◌, Option, Some, None, Result, Ok, Err, nat_le, nat_lt, ◌==◌, if◌then◌else◌, length, take, drop, codes}
+use Rattle.std.specs.Prelude.{ℕ, ℤ, pos, ◌-ℤ◌, zero, suc, ◌-◌, Bool, false, List, [], ◌∷◌, Option, Some, None, Result, Ok, nat_le, nat_lt, ◌==◌, if◌then◌else◌, length, take, drop, codes}
 use Rattle.k_num.specs.declared.place.Place.{Place}
 use Rattle.k_lex.specs.declared.fault.Fault.{Fault}
 use Rattle.k_lex.specs.declared.fault.Refusal.TheVariants.{BadByte, BadEscape}

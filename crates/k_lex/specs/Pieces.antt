@@ -1,5 +1,5 @@
 -- The pieces of a text: which spellings are pieces, and the longest one at a point (C17 6.4p4).
-use Rattle.std.specs.Prelude.{ℕ, suc, zero, ◌+◌, ◌-◌, Bool, true, false, ◌&&◌, ◌||◌, not, List, [], ◌∷◌, Option, Some, None, nat_le, ◌==◌, if◌then◌else◌, length, take, drop, min, codes}
+use Rattle.std.specs.Prelude.{ℕ, suc, zero, ◌+◌, Bool, true, false, ◌&&◌, ◌||◌, not, List, [], ◌∷◌, Option, Some, None, nat_le, ◌==◌, if◌then◌else◌, length, take, min, codes}
 use Rattle.k_lex.specs.Bytes.{is_digit, is_letter, in_name, is_octal, is_hexadecimal, is_blank, every, span, same, begins}
 use Rattle.k_lex.specs.Marks.{mark_of}
 use Rattle.k_tree.specs.declared.tokens.mark.Mark.{Mark}

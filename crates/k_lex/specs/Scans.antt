@@ -1,5 +1,5 @@
 -- How far a text goes on in one way: what the scanners count.
-use Rattle.std.specs.Prelude.{ℕ, suc, ◌+◌, ◌-◌, Bool, true, false, ◌&&◌, not, List, [], ◌∷◌, Option, Some, None, ◌==◌, if◌then◌else◌}
+use Rattle.std.specs.Prelude.{ℕ, suc, ◌+◌, Bool, ◌&&◌, not, List, [], ◌∷◌, Option, Some, None, ◌==◌, if◌then◌else◌}
 use Rattle.k_tree.specs.declared.tokens.mark.Mark.{Mark}
 use Rattle.k_lex.specs.declared.scan.Class.{Class}
 use Rattle.k_lex.specs.declared.scan.Class.TheVariants as c

@@ -1,5 +1,5 @@
 -- How the code keeps what has been read.
-use Rattle.std.specs.Prelude.{◌≡◌, ℕ, ◌+◌, ◌^◌, ◌<◌, ◌≤◌, Bool, true, List, length, map}
+use Rattle.std.specs.Prelude.{◌≡◌, ℕ, ◌+◌, ◌^◌, ◌<◌, ◌≤◌, true, List, length, map}
 use Rattle.k_num.specs.declared.place.Place.{Place}
 use Rattle.k_lex.specs.declared.lines.Limits.{Limits}
 use Rattle.k_lex.specs.declared.lines.State as code

@@ -1,5 +1,5 @@
 -- How the code keeps macros.
-use Rattle.std.specs.Prelude.{◌≡◌, ℕ, ◌<◌, ◌≤◌, ◌⊎◌, List, [], ◌∷◌, ◌++◌, length}
+use Rattle.std.specs.Prelude.{◌≡◌, ℕ, ◌<◌, ◌≤◌, ◌⊎◌, List, [], ◌∷◌, length}
 use Rattle.k_lex.specs.declared.lines.Limits.{Limits}
 use Rattle.k_lex.specs.declared.macros.Lexeme.{Lexeme}
 use Rattle.k_lex.specs.declared.macros.Kept.{Kept}

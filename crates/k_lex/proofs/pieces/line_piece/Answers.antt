@@ -1,4 +1,3 @@
-use Rattle.std.proofs.Common.{sym, ap, ◌∙◌, arith}
 use Rattle.k_lex.proofs.PieceLaws
 use Rattle.k_lex.proofs.pieces.line_piece.Goals as goal
 

@@ -1,4 +1,4 @@
-use Rattle.std.proofs.Common.{sym, ap, ◌∙◌, arith}
+use Rattle.std.proofs.Common.{arith}
 use Rattle.k_lex.proofs.PieceLaws
 use Rattle.k_lex.proofs.pieces.number_piece.Goals as goal
 

@@ -1,4 +1,4 @@
-use Rattle.std.proofs.Common.{sym, ap, ◌∙◌, arith}
+use Rattle.std.proofs.Common.{sym}
 use Rattle.k_lex.proofs.PieceLaws
 use Rattle.k_lex.proofs.pieces.string_piece.Goals as goal
 

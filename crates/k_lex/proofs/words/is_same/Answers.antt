@@ -1,4 +1,4 @@
-use Rattle.std.proofs.Common.{◌∙◌, sym}
+use Rattle.std.proofs.Common.{◌∙◌}
 use Rattle.k_lex.proofs.Tables.{same_pointwise}
 use Rattle.k_lex.proofs.words.is_same.Goals as goal
 
