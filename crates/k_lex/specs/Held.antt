@@ -1,0 +1,13 @@
+-- How the code joins strings.
+use Rattle.std.specs.Prelude.{List, [], ◌∷◌, Option, Some, None}
+use Rattle.k_num.specs.declared.place.Place.{Place}
+use Rattle.k_tree.specs.declared.tokens.Token.{Token}
+use Rattle.k_tree.specs.declared.tokens.TokenKind.TheVariants as t
+use Rattle.k_lex.specs.declared.joined.Held.{Held}
+
+abbrev pub held_tokens : Option Held → List Token
+held_tokens None = []
+held_tokens (Some h) = record { what = t.Str h.bytes; place = h.place } ∷ []
+
+abbrev pub end_token : Place → Token
+end_token place = record { what = t.End; place = place }

@@ -1,0 +1,15 @@
+pub mod Bytes
+pub mod Marks
+pub mod Words
+pub mod Pieces
+pub mod Outcome
+pub mod Numbers
+pub mod Literals
+pub mod Macros
+pub mod Lines
+pub mod Tokens
+pub mod Scans
+pub mod Table
+pub mod Shown
+pub mod Headers
+pub mod Held

@@ -1,0 +1,84 @@
+//! Why a source has no tokens.
+
+use k_num::{NoMemory, Place};
+
+/// Why `lex` refuses a source, and where.
+#[derive(Clone, Copy, Debug, PartialEq, Eq)]
+pub enum LexFault {
+    /// A byte begins no token, or stands where it may not.
+    BadByte(Place),
+    /// A comment has no end.
+    OpenComment(Place),
+    /// A literal has no end in its line, or a character constant has not one character.
+    OpenLiteral(Place),
+    /// A backslash in a literal begins no escape, or its value is no byte.
+    BadEscape(Place),
+    /// A number is no integer constant, or no kind holds it.
+    BadNumber(Place),
+    /// A directive has another form than those that there are.
+    BadDirective(Place),
+    /// There is no such header.
+    UnknownHeader(Place),
+    /// A macro's name stands in its own body, or in that of an earlier macro.
+    MacroOrder(Place),
+    /// A macro is defined again with other tokens.
+    MacroAgain(Place),
+    /// The source has too many bytes.
+    SourceLong(Place),
+    /// There are too many tokens, or their spellings are too long.
+    TokensMany(Place),
+    /// No memory was found.
+    Memory,
+}
+
+/// Which refusal it is.
+#[derive(Clone, Copy, Debug, PartialEq, Eq)]
+pub enum Refusal {
+    BadByte,
+    OpenComment,
+    OpenLiteral,
+    BadEscape,
+    BadNumber,
+    BadDirective,
+    UnknownHeader,
+    MacroOrder,
+    MacroAgain,
+    SourceLong,
+    TokensMany,
+}
+
+/// A refusal and its place.
+#[derive(Clone, Copy, Debug, PartialEq, Eq)]
+pub struct Fault {
+    pub what: Refusal,
+    pub place: Place,
+}
+
+/// Why a part of the lexer stops.
+#[derive(Clone, Copy, Debug, PartialEq, Eq)]
+pub enum Stop {
+    Memory,
+    Refused(Fault),
+}
+
+impl From<NoMemory> for Stop {
+    ghost use Rattle.std.specs.Prelude.{◌≡◌};
+    ghost use Rattle.k_lex.specs.declared.fault.Stop.TheVariants.{Memory};
+
+    ghost from_gives = { λ _ e. e ≡ Memory };
+
+    fn from(_error: NoMemory) -> Stop {
+        Stop::Memory
+    }
+}
+
+impl From<Fault> for Stop {
+    ghost use Rattle.std.specs.Prelude.{◌≡◌};
+    ghost use Rattle.k_lex.specs.declared.fault.Stop.TheVariants.{Refused};
+
+    ghost from_gives = { λ f e. e ≡ Refused f };
+
+    fn from(fault: Fault) -> Stop {
+        Stop::Refused(fault)
+    }
+}
