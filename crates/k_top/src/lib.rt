@@ -13,3 +13,6 @@ mod top;
 
 pub use command::Usage;
 pub use top::kremlin;
+
+#[cfg(test)]
+mod tests;
