@@ -1,6 +1,8 @@
 -- What the words ended with meets each clause of the theorem on `kremlin`.
-use Rattle.std.proofs.Common.{ℕ, ◌≡◌, ◌<◌, ◌≤◌, ◌⊎◌, refl, ap, arith, subst, sym, ◌∙◌, List, [], length, Option, Some, None, Ok, Err, Vec, inl, inr}
+use Rattle.std.proofs.Common.{ℕ, ◌≡◌, ◌+◌, ◌<◌, ◌≤◌, ◌⊎◌, refl, ap, arith, subst, sym, ◌∙◌, List, [], length, Option, Some, None, Ok, Err, Vec, inl, inr}
 use Rattle.std.specs.declared.alloc.Global.{Global}
+use Rattle.std.specs.Prelude.{replicate}
+use Rattle.std.proofs.lemmas.List.{length-replicate}
 use Rattle.k_edge.specs.Fault.{Rose}
 use Rattle.k_edge.specs.SinkWords.{SinkState, Grows, GrowsInPart}
 use Rattle.k_edge.specs.FilesWords.{FilesState, Has, HasLonger, Loads}
@@ -13,19 +15,29 @@ use Rattle.k_top.specs.Pieces.{pieces, source_start}
 use Rattle.k_top.specs.Form.{Spells}
 use Rattle.k_top.specs.Answer
 use Rattle.k_top.specs.Answer.{IsAnswer, AnswersContent, AnswersSource, AnswersCommand, IsOutput, IsLineOf, source_limit, refusal, usage_line, absent_line, long_line, refused_line}
-use Rattle.k_top.specs.Clauses.{Answered, PartOfAnswer}
+use Rattle.k_top.specs.Clauses.{Answered, MayHold, PartOfAnswer}
 use Rattle.k_top.specs.Endings.{EndsWords, status_of, line_of}
 use Rattle.k_top.proofs.Growing.{grows_no_part, grows_nothing, grows_in_part}
 use Rattle.k_top.proofs.Unique.{one_program, one_output}
 
--- what a store that tells its content has
-content_told : (files : FilesState) (held : List ℕ → Option (List ℕ)) (file : List ℕ) (content : Option (List ℕ))
-    → files.held ≡ Some held → Has files.held file content → held file ≡ content
-content_told files held file content told has = subst (λ h. Has h file content) told has
+-- something that the files may hold
+any_content : (told : Option (List ℕ → Option (List ℕ))) → (held : List ℕ → Option (List ℕ)) × MayHold told held
+any_content None = (λ _. None, tt)
+any_content (Some told) = (told, refl)
 
-longer_told : (files : FilesState) (held : List ℕ → Option (List ℕ)) (file : List ℕ) (limit : ℕ)
-    → files.held ≡ Some held → HasLonger files.held file limit → (source : List ℕ) × (held file ≡ Some source) × (limit < length source)
-longer_told files held file limit told has = subst (λ h. HasLonger h file limit) told has
+-- something that the files may hold, with the content of the file that was loaded
+content_of_file : (told : Option (List ℕ → Option (List ℕ))) (file : List ℕ) (content : Option (List ℕ)) → Has told file content
+    → (held : List ℕ → Option (List ℕ)) × MayHold told held × (held file ≡ content)
+content_of_file None file content has = (λ _. content, tt, refl)
+content_of_file (Some told) file content has = (told, refl, has)
+
+-- the same, of a file that is too long
+long_content : (told : Option (List ℕ → Option (List ℕ))) (file : List ℕ) (limit : ℕ) → HasLonger told file limit
+    → (held : List ℕ → Option (List ℕ)) × MayHold told held × (source : List ℕ) × (held file ≡ Some source) × (limit < length source)
+long_content None file limit has =
+    let long = length-replicate {A = ℕ} (limit + 1) 0 in
+    (λ _. Some (replicate (limit + 1) 0), tt, replicate (limit + 1) 0, refl, omega (arith, long))
+long_content (Some told) file limit has = (told, refl, has.0, has.1, has.2)
 
 module _ (words : List (List ℕ)) (files files' : FilesState) (out out' : SinkState) where
   Ends : Ending → Type 0
@@ -66,17 +78,27 @@ module _ (words : List (List ℕ)) (files files' : FilesState) (out out' : SinkS
       of_content (inr short) = of_source short.1
 
   nothing_put : out' ≡ out → PartOfAnswer words files out out'
-  nothing_put same held told answer is =
-      subst (λ o. GrowsInPart out.written answer.out o.written) (sym same) (grows_no_part out.written answer.out)
+  nothing_put same =
+      let any = any_content files.held in
+      record {
+        held = any.0;
+        may_hold = any.1;
+        part = λ answer is. subst (λ o. GrowsInPart out.written answer.out o.written) (sym same) (grows_no_part out.written answer.out);
+      }
 
   -- a prefix of the program's output is one of the answer's
   program_put : (file : List ℕ) (source : Vec ℕ Global) (program : Program) (text : List ℕ) → command_of words ≡ Ok file
       → Loads (Ok source) file source_limit files files' → Spells source.items program → IsOutput program text
       → GrowsInPart out.written text out'.written → PartOfAnswer words files out out'
-  program_put file source program text command loads spells output grows held told answer is =
-      let content : held file ≡ Some source.items = content_told files held file (Some source.items) told loads.0 in
-      let same : answer.out ≡ text = answer_output held answer file source.items text program command content loads.1 spells output is in
-      subst (λ t. GrowsInPart out.written t out'.written) (sym same) grows
+  program_put file source program text command loads spells output grows =
+      let content = content_of_file files.held file (Some source.items) loads.0 in
+      let same = λ (answer : Answer.Answer) (is : IsAnswer words content.0 answer).
+      answer_output content.0 answer file source.items text program command content.2 loads.1 spells output is in
+      record {
+        held = content.0;
+        may_hold = content.1;
+        part = λ answer is. subst (λ t. GrowsInPart out.written t out'.written) (sym (same answer is)) grows;
+      }
 
   pub part_put : (ending : Ending) → EndsWords words ending files files' out out' → PartOfAnswer words files out out'
   part_put Done (file, command, (source, loads, (program, spells, (text, output, grows, faults)))) =
@@ -106,34 +128,64 @@ module _ (words : List (List ℕ)) (files files' : FilesState) (out out' : SinkS
   answer_of status answered = inr (inr (inr answered))
 
   pub answered : (ending : Ending) → EndsWords words ending files files' out out' → Unless (status_of ending)
-  answered Done (file, command, (source, loads, (program, spells, (text, output, grows, faults)))) = answer_of 0 (λ held told.
-      let answer : Answer.Answer = record { out = text; err = []; status = 0 } in (
-        answer,
-        is_answer held file (Some source.items) answer command (content_told files held file (Some source.items) told loads.0)
-            (inr (loads.1, inr (program, spells, text, output, refl))),
-        refl,
-        grows,
-      ))
-  answered Refused (file, command, (source, loads, (none, same))) = answer_of 3 (λ held told. (
-    refusal 3 refused_line,
-    is_answer held file (Some source.items) (refusal 3 refused_line) command (content_told files held file (Some source.items) told loads.0)
-        (inr (loads.1, inl (none, refl))),
-    refl,
-    refused (refusal 3 refused_line) refl same,
-  ))
-  answered (Usage usage) (command, kept, same) = answer_of 4 (λ held told.
+  answered Done (file, command, (source, loads, (program, spells, (text, output, grows, faults)))) =
+      let content = content_of_file files.held file (Some source.items) loads.0 in
+      let answer : Answer.Answer = record { out = text; err = []; status = 0 } in
+      answer_of 0 (record {
+        held = content.0;
+        may_hold = content.1;
+        answer = answer;
+        is_answer = is_answer content.0 file (Some source.items) answer command content.2 (inr (loads.1, inr (program, spells, text, output, refl)));
+        status_is = refl;
+        grows = grows;
+      })
+  answered Refused (file, command, (source, loads, (none, same))) =
+      let content = content_of_file files.held file (Some source.items) loads.0 in
+      let answer : Answer.Answer = refusal 3 refused_line in
+      answer_of 3 (record {
+        held = content.0;
+        may_hold = content.1;
+        answer = answer;
+        is_answer = is_answer content.0 file (Some source.items) answer command content.2 (inr (loads.1, inl (none, refl)));
+        status_is = refl;
+        grows = refused answer refl same;
+      })
+  answered (Usage usage) (command, kept, same) =
+      let any = any_content files.held in
       let answer : Answer.Answer = refusal 4 (usage_line usage) in
-      (answer, subst (λ c. AnswersCommand c held answer) (sym command) refl, refl, refused answer refl same))
-  answered (Absent name) (file, command, (named, loads, same)) = answer_of 5 (λ held told.
+      answer_of 4 (record {
+        held = any.0;
+        may_hold = any.1;
+        answer = answer;
+        is_answer = subst (λ c. AnswersCommand c any.0 answer) (sym command) refl;
+        status_is = refl;
+        grows = refused answer refl same;
+      })
+  answered (Absent name) (file, command, (named, loads, same)) =
+      let content = content_of_file files.held file None loads.0 in
       let answer : Answer.Answer = refusal 5 (absent_line file) in
-      (answer, is_answer held file None answer command (content_told files held file None told loads.0) refl, refl, refused answer refl same))
+      answer_of 5 (record {
+        held = content.0;
+        may_hold = content.1;
+        answer = answer;
+        is_answer = is_answer content.0 file None answer command content.2 refl;
+        status_is = refl;
+        grows = refused answer refl same;
+      })
   answered ReadFault (file, command, (loads, same)) = inl refl
   answered WriteFault (file, command, ends) = inr (inl refl)
   answered NoMemory ends = inr (inr (inl refl))
-  answered (TooLong name) (file, command, (named, loads, same)) = answer_of 12 (λ held told.
+  answered (TooLong name) (file, command, (named, loads, same)) =
+      let content = long_content files.held file source_limit loads.0 in
       let answer : Answer.Answer = refusal 12 (long_line file) in
-      let longer = longer_told files held file source_limit told loads.0 in
-      (answer, is_answer held file (Some longer.0) answer command longer.1 (inl (longer.2, refl)), refl, refused answer refl same))
+      answer_of 12 (record {
+        held = content.0;
+        may_hold = content.1;
+        answer = answer;
+        is_answer = is_answer content.0 file (Some content.2) answer command content.3 (inl (content.4, refl));
+        status_is = refl;
+        grows = refused answer refl same;
+      })
 
   -- what each ending leaves of the files
   abbrev pub FilesAfter : Ending → Type 0

@@ -1,5 +1,5 @@
 -- The theorem on `kremlin`: each clause is one sentence.
-use Rattle.std.specs.Prelude.{ℕ, ◌≡◌, ◌≢◌, ◌⊎◌, List, Option, Some, Err}
+use Rattle.std.specs.Prelude.{ℕ, ⊤, ◌≡◌, ◌≢◌, ◌⊎◌, List, Option, Some, None, Err}
 use Rattle.k_edge.specs.Fault.{Rose}
 use Rattle.k_edge.specs.SourceWords.{SourceState}
 use Rattle.k_edge.specs.SinkWords.{SinkState, Grows, GrowsInPart}
@@ -8,9 +8,10 @@ use Rattle.k_top.specs.declared.command.Usage.{Usage}
 use Rattle.k_top.specs.Command.{command_of}
 use Rattle.k_top.specs.Answer.{Answer, IsAnswer, IsLineOf}
 
--- P holds of what the files hold, where they tell it
-abbrev pub WhereTold : FilesState → ((List ℕ → Option (List ℕ)) → Type 0) → Type 0
-WhereTold files P = (held : List ℕ → Option (List ℕ)) → files.held ≡ Some held → P held
+-- what the files may hold: what they tell, and anything where they don't tell
+abbrev pub MayHold : Option (List ℕ → Option (List ℕ)) → (List ℕ → Option (List ℕ)) → Type 0
+MayHold None held = ⊤
+MayHold (Some told) held = told ≡ held
 
 -- a count did not rise, and does not stand at its last value
 abbrev pub DidNotRise : ℕ → ℕ → Type 0
@@ -23,15 +24,20 @@ pub record NoFault (files files' : FilesState) (input input' : SourceState) (out
   pub reads : DidNotRise input.faults input'.faults
   pub puts : DidNotRise out.faults out'.faults
 
--- the status is that of the whole answer, and out has grown by its bytes
-abbrev pub Answered : List (List ℕ) → ℕ → FilesState → SinkState → SinkState → Type 0
-Answered words status files out out' =
-    WhereTold files (λ held. (answer : Answer) × IsAnswer words held answer × (status ≡ answer.status) × Grows out.written answer.out out'.written)
+-- the status is that of the whole answer to what the files hold, and out has grown by its bytes
+pub record Answered (words : List (List ℕ)) (status : ℕ) (files : FilesState) (out out' : SinkState) : Type 0 where
+  pub held : List ℕ → Option (List ℕ)
+  pub may_hold : MayHold files.held held
+  pub answer : Answer
+  pub is_answer : IsAnswer words held answer
+  pub status_is : status ≡ answer.status
+  pub grows : Grows out.written answer.out out'.written
 
--- out has grown by a prefix of the bytes of the whole answer
-abbrev pub PartOfAnswer : List (List ℕ) → FilesState → SinkState → SinkState → Type 0
-PartOfAnswer words files out out' =
-    WhereTold files (λ held. (answer : Answer) → IsAnswer words held answer → GrowsInPart out.written answer.out out'.written)
+-- out has grown by a prefix of the bytes of the whole answer to what the files hold
+pub record PartOfAnswer (words : List (List ℕ)) (files : FilesState) (out out' : SinkState) : Type 0 where
+  pub held : List ℕ → Option (List ℕ)
+  pub may_hold : MayHold files.held held
+  pub part : (answer : Answer) → IsAnswer words held answer → GrowsInPart out.written answer.out out'.written
 
 -- the status of a refusal before the run
 abbrev pub IsRefusal : ℕ → Type 0

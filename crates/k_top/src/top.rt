@@ -29,7 +29,7 @@ pub fn kremlin<F: Files, S: Source, K: Sink, E: Sink>(
     out: &mut K,
     err: &mut E,
 ) -> u8
-    // Where no fault comes, the answer is the whole answer of the definitions, or want of memory.
+    // Where no fault comes, the answer is the whole answer to what the files hold, or want of memory.
     ensures exact { NoFault (F.seen files.old) (F.seen files.new) (S.seen input.old) (S.seen input.new) (K.seen out.old) (K.seen out.new)
         → (result ≡ 8) ⊎ Answered (map string_bytes words.now) result (F.seen files.old) (K.seen out.old) (K.seen out.new) }
     // On every status but 6, 7 and 8 it is that too, whatever the counts are.
