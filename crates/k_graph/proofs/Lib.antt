@@ -1,4 +1,5 @@
 pub mod Chaining
+pub mod Children
 pub mod Closings
 pub mod Conditions
 pub mod Entries

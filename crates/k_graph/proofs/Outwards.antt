@@ -24,7 +24,7 @@ abbrev pub IsAround : List Closed → Closed → Option ℕ → Type 0
 IsAround all i candidate = (j : ℕ) (o : Closed) → slice_get all j ≡ Some o → Encloses o i → IsAtSome all o j candidate
 
 module _ (all : List Closed) (nested : AreNested all) where
-  precedes_at : (i j : ℕ) (a b : Closed) → slice_get all i ≡ Some a → slice_get all j ≡ Some b → i < j → Precedes a b
+  pub precedes_at : (i j : ℕ) (a b : Closed) → slice_get all i ≡ Some a → slice_get all j ≡ Some b → i < j → Precedes a b
   precedes_at i j a b one other less =
       let within : j < length all = slice_get_within all j b other in
       let pair : Precedes (get_or all i a) (get_or all j a) = nested.apart i j a less within in

@@ -1,10 +1,11 @@
 -- What is listed of a run's instances.
-use Rattle.std.specs.Prelude.{ℕ, ◌≡◌, ◌<◌, ◌≤◌, List, Some, map, slice_get, All, AllPairs}
+use Rattle.std.specs.Prelude.{ℕ, ◌≡◌, ◌<◌, ◌==◌, Bool, false, List, Option, None, Some, filter, map, slice_get, All, AllPairs}
 use Rattle.k_optab.specs.declared.event.Event.{Event}
 use Rattle.k_optab.specs.Events.{Operation, operations}
 use Rattle.k_optab.specs.Graph.{Heaviest, work}
 use Rattle.k_optab.specs.Instances.{Closed, IsParent, tracked}
 use Rattle.k_optab.specs.InstanceLaws.{Precedes}
+use Rattle.k_optab.specs.Meaning.{HasBoundedPath}
 use Rattle.k_optab.specs.Tree.{Node, EachWith}
 use Rattle.k_graph.specs.declared.level.Measured.{Measured}
 use Rattle.k_graph.specs.declared.tree.Instance.{Instance}
@@ -52,7 +53,16 @@ abbrev pub EachHasParent : List Measured → List Instance → Type 0
 EachHasParent list tree = (place : ℕ) (m : Measured) (n : Instance) → slice_get list place ≡ Some m → slice_get tree place ≡ Some n
     → HasParent (map closed_of list) m n
 
--- the first meaning of the numbers of a list of instances: a path is at most its work, and at most the path of the parent
-pub record AreBounded (list : List Instance) : Type 0 where
-  pub work : (place : ℕ) (n : Instance) → slice_get list place ≡ Some n → n.path ≤ n.work
-  pub parent : (place p : ℕ) (n m : Instance) → slice_get list place ≡ Some n → n.parent ≡ Some p → slice_get list p ≡ Some m → n.path ≤ m.path
+-- a place that may be missing is this one
+abbrev pub is_at : ℕ → Option ℕ → Bool
+is_at place None = false
+is_at place (Some other) = other == place
+
+-- the children of the instance at a place: the listed instances whose parent it is
+abbrev pub children_of : ℕ → List Instance → List Instance
+children_of place list = filter (λ n. is_at place n.parent) list
+
+-- the path of each instance of the list is at most its work, at least each child's path, and at most the children's paths and
+-- its own work together
+abbrev pub AreBounded : List Instance → Type 0
+AreBounded list = (place : ℕ) (n : Instance) → slice_get list place ≡ Some n → HasBoundedPath (node_of n) (map node_of (children_of place list))

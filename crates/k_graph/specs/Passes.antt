@@ -18,6 +18,7 @@ pub record State : Type 0 where
   pub done : List Measured
   pub levels : List Level
 
+-- where a pass stands
 abbrev pub state : Pass → State
 state p = record { limit = p.limit; place = p.place; made = p.made; open_count = p.open_count; done = p.done; levels = p.levels.items }
 
@@ -25,12 +26,15 @@ state p = record { limit = p.limit; place = p.place; made = p.made; open_count =
 abbrev pub start_state : ℕ → State
 start_state limit = record { limit = limit; place = 0; made = 0; open_count = 0; done = []; levels = [] }
 
+-- behind an operation, which each level has now
 abbrev pub operated : ℕ → List Src → State → State
 operated latency sources s = record s { place = s.place + 1; made = s.made + 1; levels = map (added latency sources) s.levels }
 
+-- the level of an instance that is entered here: it has no operation yet
 abbrev pub new_level : ℕ → State → Level
 new_level region s = record { region = region; depth = s.open_count; enter = s.place; start = s.made; work = 0; path = 0; times = []; inner = [] }
 
+-- behind the Enter of an instance of this region, which is a level where its depth is tracked
 abbrev pub entered : ℕ → State → State
 entered region s = record s {
   place = s.place + 1;
@@ -52,12 +56,14 @@ close_into place made done (level ∷ next ∷ levels) = record {
   levels = record level { inner = (close_into place made level.inner (next ∷ levels)).done } ∷ (close_into place made level.inner (next ∷ levels)).levels;
 }
 
+-- the same place, with the innermost level closed
 abbrev pub closed : State → State
 closed s = record s {
   done = (close_into s.place s.made s.done s.levels).done;
   levels = (close_into s.place s.made s.done s.levels).levels;
 }
 
+-- behind an Exit: one that leaves nothing, one that leaves an instance that is not tracked, and one that closes a level
 abbrev pub exited : State → State
 exited s =
     if s.open_count == 0 then record s { place = s.place + 1 }
@@ -75,10 +81,11 @@ abbrev pub listed : List Measured → List Level → List Measured
 listed done [] = done
 listed done (level ∷ levels) = listed (done ++ level.inner) levels
 
--- an event comes next, and its numbers are small enough
+-- an operation comes next, and its numbers are small enough
 abbrev pub CanTakeOp : ℕ → List Src → State → Type 0
 CanTakeOp latency sources s = (s.place + 1 < 2 ^ 64) × (s.made + 1 < 2 ^ 64) × All (CanAdd latency sources) s.levels
 
+-- the same for an event of any kind
 abbrev pub CanTake : Event → State → Type 0
 CanTake (Op class latency sources place) s = CanTakeOp latency sources s
 CanTake (Enter region) s = (s.place + 1 < 2 ^ 64) × (s.open_count + 1 < 2 ^ 64) × (s.limit < 2 ^ 32)

@@ -230,7 +230,7 @@ module _ (ops : List Operation) (earlier : SourcesAreEarlier ops) where
   at_most_work s e k w weighs = weight_at_most_work ops earlier s e k w weighs.0 weighs.1
 
   -- the parts' work together is at most the work
-  parts_work : (s e : ℕ) (parts : List Part) → AreParts ops s e parts → (s ≤ e) × (sum_by (λ part. part.work) parts ≤ work ops s e)
+  pub parts_work : (s e : ℕ) (parts : List Part) → AreParts ops s e parts → (s ≤ e) × (sum_by (λ part. part.work) parts ≤ work ops s e)
   parts_work s e [] within = (within, omega arith)
   parts_work s e (part ∷ parts) are =
       let rest : (part.end ≤ e) × (sum_by (λ p. p.work) parts ≤ work ops part.end e) = parts_work part.end e parts are.4 in

@@ -4,4 +4,5 @@ pub mod Matching
 pub mod Crossing
 pub mod Nesting
 pub mod Paths
+pub mod Rows
 pub mod Heaviest

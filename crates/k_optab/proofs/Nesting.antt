@@ -1,6 +1,7 @@
 -- The intervals of closed instances lie as the instances do.
 use Rattle.std.proofs.Common.{◌≡◌, ℕ, zero, suc, ◌+◌, ◌-◌, ◌<◌, ◌≤◌, List, [], ◌∷◌, ◌++◌, length, Option, Some, None, refl, sym, ◌∙◌, ap, arith}
 use Rattle.std.specs.Prelude.{All, AllPairs, filter, nat_lt}
+use Rattle.std.proofs.lemmas.List.Elements.{All-filter}
 use Rattle.std.proofs.lemmas.List.Kept.{AllPairs-filter, AllPairs-cons}
 use Rattle.k_optab.specs.declared.event.Event.{Event}
 use Rattle.k_optab.specs.declared.event.Event.TheVariants.{Op, Enter, Exit}
@@ -114,3 +115,15 @@ lie_as_instances (Exit ∷ events) before made depth = lie_as_instances events (
 pub intervals_lie_as_instances : (depth : ℕ) (events : List Event) → AllPairs LieAsInstances (tracked depth events)
 intervals_lie_as_instances depth events =
     AllPairs-filter LieAsInstances (λ i. nat_lt i.depth depth) (closed_from events 0 0 0) (lie_as_instances events 0 0 0)
+
+-- an instance's interval ends where it starts or behind
+ordered : (events : List Event) (before made depth : ℕ) → All (λ i. i.start ≤ i.end) (closed_from events before made depth)
+ordered [] before made depth = λ k d within. absurd (omega arith)
+ordered (Op class latency sources place ∷ events) before made depth = ordered events (before + 1) (made + 1) depth
+ordered (Enter region ∷ events) before made depth =
+    all_with_instance (λ i. i.start ≤ i.end) region depth before made (until_exit events 0) (closed_from events (before + 1) made (depth + 1))
+    (λ inside is. omega arith) (ordered events (before + 1) made (depth + 1))
+ordered (Exit ∷ events) before made depth = ordered events (before + 1) made (depth - 1)
+
+pub intervals_are_ordered : (depth : ℕ) (events : List Event) → All (λ i. i.start ≤ i.end) (tracked depth events)
+intervals_are_ordered depth events = All-filter (λ i. nat_lt i.depth depth) (λ i. i.start ≤ i.end) (closed_from events 0 0 0) (ordered events 0 0 0)

@@ -17,10 +17,11 @@ pub record IsGreatestTime (ops : List Operation) (s : ℕ) (sources : List Src) 
 abbrev pub PathIsAtMostWork : Type 0
 PathIsAtMostWork = (ops : List Operation) → SourcesAreEarlier ops → (s e k w : ℕ) → Weighs ops s e k w → w ≤ work ops s e
 
--- the weight of a heaviest path of an interval, and of one that ends at an operation, is one number
+-- the weight of a heaviest path of an interval is one number
 abbrev pub HeaviestIsUnique : Type 0
 HeaviestIsUnique = (ops : List Operation) (s e p q : ℕ) → Heaviest ops s e p → Heaviest ops s e q → p ≡ q
 
+-- the weight of a heaviest path to an operation is one number
 abbrev pub HeaviestToIsUnique : Type 0
 HeaviestToIsUnique = (ops : List Operation) (s k p q : ℕ) → HeaviestTo ops s k p → HeaviestTo ops s k q → p ≡ q
 
@@ -33,18 +34,21 @@ HeaviestToExists = (ops : List Operation) → SourcesAreEarlier ops → (s k : �
 abbrev pub TimeBeforeIsZero : Type 0
 TimeBeforeIsZero = (ops : List Operation) (s q t : ℕ) → q < s → (IsTime ops s (Some q) t → t ≡ 0) × (t ≡ 0 → IsTime ops s (Some q) t)
 
--- what a longer history keeps of an interval within the shorter one
+-- a longer history keeps the paths of an interval within the shorter one, and gives it no others
 abbrev pub LongerHistoryKeepsPaths : Type 0
 LongerHistoryKeepsPaths = (ops more : List Operation) (s e k w : ℕ) (nodes : List ℕ) → e ≤ length ops
     → (Path ops s e k w nodes → Path (ops ++ more) s e k w nodes) × (Path (ops ++ more) s e k w nodes → Path ops s e k w nodes)
 
+-- a longer history keeps the work of an interval within the shorter one
 abbrev pub LongerHistoryKeepsWork : Type 0
 LongerHistoryKeepsWork = (ops more : List Operation) (s e : ℕ) → e ≤ length ops → work (ops ++ more) s e ≡ work ops s e
 
+-- a longer history keeps the weight of the heaviest path of such an interval
 abbrev pub LongerHistoryKeepsHeaviest : Type 0
 LongerHistoryKeepsHeaviest = (ops more : List Operation) (s e p : ℕ) → e ≤ length ops
     → (Heaviest ops s e p → Heaviest (ops ++ more) s e p) × (Heaviest (ops ++ more) s e p → Heaviest ops s e p)
 
+-- a longer history keeps the time that a value of an earlier operation has in an interval
 abbrev pub LongerHistoryKeepsTimes : Type 0
 LongerHistoryKeepsTimes = (ops more : List Operation) (s q t : ℕ) → q < length ops
     → (IsTime ops s (Some q) t → IsTime (ops ++ more) s (Some q) t) × (IsTime (ops ++ more) s (Some q) t → IsTime ops s (Some q) t)

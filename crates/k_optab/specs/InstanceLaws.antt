@@ -18,6 +18,7 @@ pub record Precedes (a b : Closed) : Type 0 where
 abbrev pub InstancesNeverCross : Type 0
 InstancesNeverCross = (depth : ℕ) (events : List Event) → AllPairs Precedes (tracked depth events)
 
+-- each closed instance is left after it is entered
 abbrev pub InstancesAreLeftLater : Type 0
 InstancesAreLeftLater = (depth : ℕ) (events : List Event) → All (λ i. i.enter < i.exit) (tracked depth events)
 
@@ -27,5 +28,6 @@ pub record LieAsInstances (a b : Closed) : Type 0 where
   pub within : b.exit < a.exit → (a.start ≤ b.start) × (b.end ≤ a.end)
   pub apart : a.exit < b.enter → a.end ≤ b.start
 
+-- the intervals of any two closed instances lie as the instances do
 abbrev pub IntervalsLieAsInstances : Type 0
 IntervalsLieAsInstances = (depth : ℕ) (events : List Event) → AllPairs LieAsInstances (tracked depth events)

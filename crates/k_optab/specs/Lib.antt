@@ -4,4 +4,5 @@ pub mod GraphLaws
 pub mod InstanceLaws
 pub mod Instances
 pub mod Latencies
+pub mod Meaning
 pub mod Tree

@@ -1,0 +1,40 @@
+-- *Meaning of the numbers*: how an instance's critical path stands to its work and to its children's numbers.
+use Rattle.std.specs.Prelude.{ℕ, ◌+◌, ◌-◌, ◌≤◌, ◌==◌, nat_lt, List, [], ◌∷◌, All, filter, sum_by, take_while}
+use Rattle.k_optab.specs.declared.event.Event.{Event}
+use Rattle.k_optab.specs.Events.{SourcesAreEarlier, operations}
+use Rattle.k_optab.specs.Instances.{Balanced}
+use Rattle.k_optab.specs.Tree.{Node, IsTree}
+
+-- the critical paths of instances together
+abbrev pub paths : List Node → ℕ
+paths nodes = sum_by (λ n. n.path) nodes
+
+-- the works of instances together
+abbrev pub works : List Node → ℕ
+works nodes = sum_by (λ n. n.work) nodes
+
+-- an instance's own work: its work less that of its children
+abbrev pub own_work : Node → List Node → ℕ
+own_work n children = n.work - works children
+
+-- an instance's path is at most its work, at least each child's path, and at most the children's paths and its own work
+-- together; and its children's work is part of its work
+pub record HasBoundedPath (n : Node) (children : List Node) : Type 0 where
+  pub work : n.path ≤ n.work
+  pub child : All (λ c. c.path ≤ n.path) children
+  pub part : works children ≤ n.work
+  pub parts : n.path ≤ paths children + own_work n children
+
+-- the children of an instance among those entered after it: one level deeper, before the first that is not deeper
+abbrev pub children : Node → List Node → List Node
+children node later = filter (λ n. n.depth == node.depth + 1) (take_while (λ n. nat_lt node.depth n.depth) later)
+
+-- each of these instances, which stand in order of entry, has a bounded path
+abbrev pub HaveBoundedPaths : List Node → Type 0
+HaveBoundedPaths [] = Unit {0}
+HaveBoundedPaths (node ∷ later) = HasBoundedPath node (children node later) × HaveBoundedPaths later
+
+-- in the tree of events that leave all that they enter, each instance has a bounded path
+abbrev pub TreesHaveBoundedPaths : Type 0
+TreesHaveBoundedPaths = (depth : ℕ) (events : List Event) (nodes : List Node) → Balanced events → SourcesAreEarlier (operations events)
+    → IsTree depth events nodes → HaveBoundedPaths nodes
