@@ -1,5 +1,5 @@
 -- The instances of a list that pass a test, with the closed instances that they are of: where these lie in a row.
-use Rattle.std.proofs.Common.{◌≡◌, ℕ, zero, suc, ◌+◌, ◌<◌, ◌≤◌, Bool, true, false, cond, List, [], ◌∷◌, Some, refl, arith, slice_get, filter}
+use Rattle.std.proofs.Common.{◌≡◌, ℕ, zero, suc, ◌<◌, ◌≤◌, Bool, true, false, cond, List, [], ◌∷◌, Some, refl, arith, slice_get, filter}
 use Rattle.std.proofs.lemmas.Bool.{cond_both}
 use Rattle.k_optab.specs.Instances.{Closed}
 use Rattle.k_optab.specs.Tree.{EachWith}
@@ -45,13 +45,16 @@ module _ (test : Instance → Bool) where
       cond_both (test n) (c ∷ passing cs ns) (passing cs ns) (AreInARow low high)
       (λ is.
       let first : Passes (c ∷ cs) (n ∷ ns) zero c = record { item = n; there = refl; here = refl; is = is } in
-      let lies = inside zero c first in
-      (lies.0, lies.1, passing_in_a_row c.end high cs ns lies.2
-      (λ k d p.
-      let later = passes_later c n cs ns k d p in
-      let its = inside (suc k) d later in
-      (apart zero (suc k) c d first later (omega arith), its.1, its.2))
-      rest))
+      let lies = inside zero c first in (
+        lies.0,
+        lies.1,
+        passing_in_a_row c.end high cs ns lies.2
+            (λ k d p.
+            let later = passes_later c n cs ns k d p in
+            let its = inside (suc k) d later in
+            (apart zero (suc k) c d first later (omega arith), its.1, its.2))
+            rest,
+      ))
       (λ _. passing_in_a_row low high cs ns less (λ k d p. inside (suc k) d (passes_later c n cs ns k d p)) rest)
     where
       rest : (k l : ℕ) (d e : Closed) → Passes cs ns k d → Passes cs ns l e → k < l → d.end ≤ e.start

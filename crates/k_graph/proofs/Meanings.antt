@@ -1,6 +1,5 @@
 -- What the numbers of a listing mean: the path of each instance is bounded by its work and by its children.
-use Rattle.std.proofs.Common.{◌≡◌, ℕ, zero, suc, ◌+◌, ◌<◌, ◌≤◌, ◌⊎◌, inl, inr, true, false, eqb-true, List, [], ◌∷◌, length, map, Option, Some, None, refl, sym, ◌∙◌, subst, ap, arith, slice_get, get_or}
-use Rattle.std.specs.Prelude.{All, AllPairs}
+use Rattle.std.proofs.Common.{◌≡◌, ℕ, zero, suc, ◌<◌, ◌≤◌, inl, inr, true, eqb-true, List, [], ◌∷◌, length, map, Option, Some, None, refl, sym, ◌∙◌, subst, ap, arith, slice_get, get_or}
 use Rattle.std.proofs.lemmas.Option.{slice_get_within, get_or_from_slice_get}
 use Rattle.k_optab.specs.declared.event.Event.{Event}
 use Rattle.k_optab.specs.Events.{operations, SourcesAreEarlier}

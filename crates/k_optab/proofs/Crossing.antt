@@ -1,6 +1,6 @@
 -- Closed instances stand in order of entry, and no two of them cross.
-use Rattle.std.proofs.Common.{◌≡◌, ℕ, zero, suc, ◌+◌, ◌-◌, ◌<◌, ◌≤◌, ◌⊎◌, inl, inr, List, [], ◌∷◌, ◌++◌, length, Option, Some, None, refl, sym, ◌∙◌, subst, ap, arith}
-use Rattle.std.specs.Prelude.{All, AllPairs, filter, nat_lt}
+use Rattle.std.proofs.Common.{◌≡◌, ℕ, zero, suc, ◌+◌, ◌-◌, ◌<◌, ◌≤◌, ◌⊎◌, inl, inr, List, [], ◌∷◌, ◌++◌, length, Option, Some, None, refl, ap, arith}
+use Rattle.std.specs.Prelude.{All, AllPairs, nat_lt}
 use Rattle.std.proofs.lemmas.List.Elements.{All-cons, All-filter}
 use Rattle.std.proofs.lemmas.List.Kept.{AllPairs-filter, AllPairs-cons}
 use Rattle.k_optab.specs.declared.event.Event.{Event}

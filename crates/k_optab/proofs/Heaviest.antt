@@ -1,15 +1,15 @@
 -- The weight of the heaviest path of an interval: there is one, and what it is bounded by.
-use Rattle.std.proofs.Common.{◌≡◌, ℕ, zero, suc, ◌+◌, ◌-◌, ◌<◌, ◌≤◌, ◌⊎◌, inl, inr, List, [], ◌∷◌, ◌++◌, length, Some, None, refl, sym, subst, ap, arith, slice_get, max, Bool, true, false}
+use Rattle.std.proofs.Common.{◌≡◌, ℕ, zero, suc, ◌+◌, ◌-◌, ◌<◌, ◌≤◌, ◌⊎◌, inl, inr, List, [], ◌∷◌, ◌++◌, length, Some, refl, subst, ap, arith, max, true, false}
 use Rattle.std.specs.Prelude.{sum_by}
 use Rattle.std.proofs.Common.{get_or}
 use Rattle.std.proofs.lemmas.Bool.{cases_lt, cases_Bool}
 use Rattle.std.proofs.lemmas.List.Sums.{sum_by-cons}
 use Rattle.std.proofs.lemmas.Option.{slice_get_within, slice_get-get_or}
 use Rattle.k_optab.specs.declared.event.Src.{Src}
-use Rattle.k_optab.specs.Events.{Operation, IsOperation, ListsUnbroken, AreBefore, SourcesAreEarlier}
+use Rattle.k_optab.specs.Events.{Operation, IsOperation, ListsUnbroken, SourcesAreEarlier}
 use Rattle.k_optab.specs.Graph.{IsNode, Path, alone, joined, Weighs, Heaviest, HeaviestTo, IsTime, work}
 use Rattle.k_optab.specs.GraphLaws.{AtMost, IsGreatestTime, Part, AreParts}
-use Rattle.k_optab.proofs.Intervals.{work_more, work_grows, work_at, work_split, work_empty}
+use Rattle.k_optab.proofs.Intervals.{work_split}
 use Rattle.k_optab.proofs.Paths.{last_node, widened, narrowed, source_before, weight_at_most_work}
 
 -- an operation has one number's worth of fields

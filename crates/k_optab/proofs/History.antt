@@ -1,9 +1,9 @@
 -- A longer history changes nothing of an interval within the shorter one.
-use Rattle.std.proofs.Common.{◌≡◌, ℕ, zero, suc, ◌+◌, ◌-◌, ◌<◌, ◌≤◌, ◌⊎◌, inl, inr, List, [], ◌∷◌, ◌++◌, length, Some, None, take, drop, refl, sym, ◌∙◌, subst, ap, arith, slice_get}
+use Rattle.std.proofs.Common.{◌≡◌, ℕ, zero, suc, ◌+◌, ◌-◌, ◌<◌, ◌≤◌, inl, inr, List, [], ◌∷◌, ◌++◌, length, Some, take, drop, refl, sym, ◌∙◌, ap, arith, slice_get}
 use Rattle.std.proofs.lemmas.Bool.{cases_lt}
 use Rattle.std.proofs.lemmas.List.{drop-append-le, take-append-le, length-drop}
-use Rattle.k_optab.specs.Events.{Operation, IsOperation, total_latency}
-use Rattle.k_optab.specs.Graph.{IsNode, Path, alone, joined, Weighs, Heaviest, HeaviestTo, IsTime, work}
+use Rattle.k_optab.specs.Events.{Operation, total_latency}
+use Rattle.k_optab.specs.Graph.{IsNode, Path, alone, joined, Heaviest, HeaviestTo, IsTime, work}
 
 pub slice_get-append : {X : Type 0} (xs ys : List X) (k : ℕ) → k < length xs → slice_get (xs ++ ys) k ≡ slice_get xs k
 slice_get-append [] ys k low = absurd (omega arith)

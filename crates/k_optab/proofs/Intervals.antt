@@ -1,9 +1,8 @@
 -- The work of intervals, and reads of the list of operations.
-use Rattle.std.proofs.Common.{◌≡◌, ℕ, zero, suc, ◌+◌, ◌-◌, ◌<◌, ◌≤◌, List, [], ◌∷◌, ◌++◌, length, Option, Some, None, take, drop, refl, sym, ap, ◌∙◌, arith, add_assoc, zero-add, slice_get, min}
+use Rattle.std.proofs.Common.{◌≡◌, ℕ, zero, suc, ◌+◌, ◌-◌, ◌≤◌, List, [], ◌∷◌, ◌++◌, Some, take, drop, refl, sym, ap, ◌∙◌, arith, add_assoc, zero-add, slice_get}
 use Rattle.std.proofs.Math.Seq.{take-add}
 use Rattle.std.proofs.lemmas.List.{drop-drop, take-append-drop}
-use Rattle.std.proofs.lemmas.Option.{slice_get_within}
-use Rattle.k_optab.specs.Events.{Operation, IsOperation, total_latency, interval}
+use Rattle.k_optab.specs.Events.{Operation, IsOperation, total_latency}
 use Rattle.k_optab.specs.Graph.{work}
 
 pub total_latency-append : (xs ys : List Operation) → total_latency (xs ++ ys) ≡ total_latency xs + total_latency ys

@@ -5,4 +5,5 @@ pub mod Crossing
 pub mod Nesting
 pub mod Paths
 pub mod Rows
+pub mod Trees
 pub mod Heaviest

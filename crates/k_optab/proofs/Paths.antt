@@ -1,9 +1,9 @@
 -- Paths of an interval: where they lie, and how they change with it.
-use Rattle.std.proofs.Common.{◌≡◌, ℕ, zero, suc, ◌+◌, ◌<◌, ◌≤◌, ◌⊎◌, inl, inr, List, [], ◌∷◌, ◌++◌, length, Some, None, refl, sym, subst, arith, slice_get}
+use Rattle.std.proofs.Common.{◌≡◌, ℕ, ◌+◌, ◌<◌, ◌≤◌, inl, inr, List, [], ◌∷◌, arith}
 use Rattle.k_optab.specs.Events.{Operation, IsOperation, ListsUnbroken, AreBefore, SourcesAreEarlier}
-use Rattle.k_optab.specs.Graph.{IsNode, Path, alone, joined, Weighs, Heaviest, HeaviestTo, work}
+use Rattle.k_optab.specs.Graph.{IsNode, Path, alone, joined, work}
 use Rattle.k_optab.specs.declared.event.Src.{Src}
-use Rattle.k_optab.proofs.Intervals.{work_more, work_grows, work_at}
+use Rattle.k_optab.proofs.Intervals.{work_more, work_grows}
 
 -- a source that is listed before k lies before k
 pub listed_before : (k j : ℕ) (sources : List Src) → AreBefore k sources → ListsUnbroken sources j → j < k

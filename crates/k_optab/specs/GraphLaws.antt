@@ -1,5 +1,5 @@
 -- What holds of paths, of work and of times, whatever the run: the statements of the laws.
-use Rattle.std.specs.Prelude.{ℕ, ◌≡◌, ◌+◌, ◌-◌, ◌<◌, ◌≤◌, ◌⊎◌, max, List, [], ◌∷◌, ◌++◌, length, Option, Some, None, sum_by}
+use Rattle.std.specs.Prelude.{ℕ, ◌≡◌, ◌+◌, ◌-◌, ◌<◌, ◌≤◌, ◌⊎◌, max, List, [], ◌∷◌, ◌++◌, length, Some, sum_by}
 use Rattle.k_optab.specs.declared.event.Src.{Src}
 use Rattle.k_optab.specs.Events.{Operation, IsOperation, ListsUnbroken, SourcesAreEarlier}
 use Rattle.k_optab.specs.Graph.{Path, Weighs, Heaviest, HeaviestTo, IsTime, work}

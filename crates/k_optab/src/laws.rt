@@ -17,6 +17,7 @@ ghost use Rattle.k_optab.specs.GraphLaws.{
   PathIsAtMostPartsAndOwnWork,
 };
 ghost use Rattle.k_optab.specs.InstanceLaws.{ExitIsMatching, InstancesAreLeftLater, InstancesNeverCross, IntervalsLieAsInstances};
+ghost use Rattle.k_optab.specs.Meaning.{TreesHaveBoundedPaths};
 
 /// A path weighs at most the work of its interval.
 pub fn path_is_at_most_work()
@@ -63,6 +64,12 @@ pub fn meaning_of_numbers()
     ensures work { HeaviestIsAtMostWork }
     ensures inner { InnerPathIsAtMostOuter }
     ensures parts { PathIsAtMostPartsAndOwnWork }
+{}
+
+/// What the numbers of a run's instances mean, where all that is entered is left: the path of each is at most its work, at
+/// least each child's path, and at most its children's paths and its own work.
+pub fn meaning_of_trees()
+    ensures { TreesHaveBoundedPaths }
 {}
 
 /// The events before an instance's matching Exit are the balanced ones that an Exit follows.
