@@ -1,5 +1,5 @@
 -- *Meaning of the numbers*: how an instance's critical path stands to its work and to its children's numbers.
-use Rattle.std.specs.Prelude.{ℕ, ◌+◌, ◌-◌, ◌≤◌, ◌==◌, nat_lt, List, [], ◌∷◌, All, filter, sum_by, take_while}
+use Rattle.std.specs.Prelude.{ℕ, ◌+◌, ◌-◌, ◌≤◌, ◌==◌, nat_lt, if◌then◌else◌, List, [], ◌∷◌, All, filter, sum_by, take_while}
 use Rattle.k_optab.specs.declared.event.Event.{Event}
 use Rattle.k_optab.specs.Events.{SourcesAreEarlier, operations}
 use Rattle.k_optab.specs.Instances.{Balanced}
@@ -38,3 +38,18 @@ HaveBoundedPaths (node ∷ later) = HasBoundedPath node (children node later) ×
 abbrev pub TreesHaveBoundedPaths : Type 0
 TreesHaveBoundedPaths = (depth : ℕ) (events : List Event) (nodes : List Node) → Balanced events → SourcesAreEarlier (operations events)
     → IsTree depth events nodes → HaveBoundedPaths nodes
+
+-- the time that an instance takes where its children come one behind the other, each in the time of its path: their paths, and
+-- its own work
+abbrev pub serial : Node → List Node → ℕ
+serial node later = paths (children node later) + own_work node (children node later)
+
+-- the serial times of all instances of a region together
+abbrev pub serial_of : ℕ → List Node → ℕ
+serial_of region [] = 0
+serial_of region (node ∷ later) = (if node.region == region then serial node later else 0) + serial_of region later
+
+-- the paths of a region's instances together are at most their serial times: a self-parallelism, which is the quotient of the
+-- serial times by the paths, is never below 1
+abbrev pub RegionsAreBounded : Type 0
+RegionsAreBounded = (region : ℕ) (nodes : List Node) → HaveBoundedPaths nodes → paths (filter (λ n. n.region == region) nodes) ≤ serial_of region nodes

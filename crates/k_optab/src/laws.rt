@@ -17,7 +17,7 @@ ghost use Rattle.k_optab.specs.GraphLaws.{
   PathIsAtMostPartsAndOwnWork,
 };
 ghost use Rattle.k_optab.specs.InstanceLaws.{ExitIsMatching, InstancesAreLeftLater, InstancesNeverCross, IntervalsLieAsInstances};
-ghost use Rattle.k_optab.specs.Meaning.{TreesHaveBoundedPaths};
+ghost use Rattle.k_optab.specs.Meaning.{RegionsAreBounded, TreesHaveBoundedPaths};
 
 /// A path weighs at most the work of its interval.
 pub fn path_is_at_most_work()
@@ -67,9 +67,11 @@ pub fn meaning_of_numbers()
 {}
 
 /// What the numbers of a run's instances mean, where all that is entered is left: the path of each is at most its work, at
-/// least each child's path, and at most its children's paths and its own work.
+/// least each child's path, and at most its children's paths and its own work. So the paths of a region's instances
+/// together are at most their children's paths and their own work together.
 pub fn meaning_of_trees()
-    ensures { TreesHaveBoundedPaths }
+    ensures instances { TreesHaveBoundedPaths }
+    ensures regions { RegionsAreBounded }
 {}
 
 /// The events before an instance's matching Exit are the balanced ones that an Exit follows.
