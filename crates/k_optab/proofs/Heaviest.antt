@@ -16,6 +16,11 @@ use Rattle.k_optab.proofs.Paths.{last_node, widened, narrowed, source_before, we
 pub same_operation : (ops : List Operation) (k : ℕ) (a b : Operation) → IsOperation ops k a → IsOperation ops k b → a ≡ b
 same_operation ops k a b p q = cc
 
+-- an operation stands at each number
+operation_there : (ops : List Operation) (k : ℕ) → k < length ops → (op : Operation) × IsOperation ops k op
+operation_there [] k within = absurd (omega arith)
+operation_there (op ∷ ops) k within = (get_or (op ∷ ops) k op, slice_get-get_or (op ∷ ops) k op within)
+
 -- the weight of a heaviest path is one number
 at_most_other : (ops : List Operation) (s e p q : ℕ) → Heaviest ops s e p → Heaviest ops s e q → p ≤ q
 at_most_other ops s e p q one other =
@@ -184,6 +189,19 @@ module _ (ops : List Operation) (earlier : SourcesAreEarlier ops) where
 
   pub heaviest_to_exists : (s k : ℕ) (op : Operation) → s ≤ k → IsOperation ops k op → (p : ℕ) × HeaviestTo ops s k p
   heaviest_to_exists s k op low made = exists_below (k + 1) s k op (omega arith) low made
+
+  -- there is a heaviest path of each interval of the run
+  pub heaviest_exists : (s e : ℕ) → e ≤ length ops → (p : ℕ) × Heaviest ops s e p
+  heaviest_exists s zero within = (0, heaviest_empty ops s 0 (omega arith))
+  heaviest_exists s (suc e) within = elim (cases_lt e s) [
+    | inl before ↦ (0, heaviest_empty ops s (suc e) (omega arith))
+    | inr from ↦
+        (let so_far : (p : ℕ) × Heaviest ops s e p = heaviest_exists s e (omega arith) in
+        let there : (op : Operation) × IsOperation ops e op = operation_there ops e (omega arith) in
+        let new : (q : ℕ) × HeaviestTo ops s e q = heaviest_to_exists s e there.0 from there.1 in
+        let more : e + 1 ≡ suc e = omega arith in
+        (max so_far.0 new.0, subst (λ n. Heaviest ops s n (max so_far.0 new.0)) more (heaviest_of_one_more s e so_far.0 new.0 from so_far.1 new.1)))
+  ]
 
   -- each unbroken source of an operation has a time
   pub time_exists : (s k : ℕ) (op : Operation) → IsOperation ops k op → (j : ℕ) → ListsUnbroken op.sources j → (t : ℕ) × IsTime ops s (Some j) t

@@ -5,5 +5,6 @@ pub mod Crossing
 pub mod Nesting
 pub mod Paths
 pub mod Rows
+pub mod Single
 pub mod Trees
 pub mod Heaviest

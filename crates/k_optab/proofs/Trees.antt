@@ -176,7 +176,7 @@ module _ (ops : List Operation) where
         (each_filter (d + 1) inner parts.0 parts.3) (roots_in_a_row (d + 1) i.start i.end inner within) in
         (subst (λ l. HasBoundedPath n l) (sym its) one, subst (λ l. HaveBoundedPaths l) (sym shape) rest)
 
-operations-append : (xs ys : List Event) → operations (xs ++ ys) ≡ operations xs ++ operations ys
+pub operations-append : (xs ys : List Event) → operations (xs ++ ys) ≡ operations xs ++ operations ys
 operations-append [] ys = refl
 operations-append (Op class latency sources place ∷ xs) ys =
     ap (λ l. record { class = class; latency = latency; sources = sources; place = place } ∷ l) (operations-append xs ys)

@@ -5,4 +5,5 @@ pub mod InstanceLaws
 pub mod Instances
 pub mod Latencies
 pub mod Meaning
+pub mod Single
 pub mod Tree

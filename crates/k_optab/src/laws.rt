@@ -18,6 +18,14 @@ ghost use Rattle.k_optab.specs.GraphLaws.{
 };
 ghost use Rattle.k_optab.specs.InstanceLaws.{ExitIsMatching, InstancesAreLeftLater, InstancesNeverCross, IntervalsLieAsInstances};
 ghost use Rattle.k_optab.specs.Meaning.{RegionsAreBounded, TreesHaveBoundedPaths};
+ghost use Rattle.k_optab.specs.Single.{
+  OneInstanceIsBalanced,
+  OperationsOfOneInstance,
+  SingleExists,
+  SingleIsBounded,
+  SingleIsUnique,
+  TreeOfOneInstance,
+};
 
 /// A path weighs at most the work of its interval.
 pub fn path_is_at_most_work()
@@ -84,4 +92,15 @@ pub fn instances_never_cross()
     ensures left { InstancesAreLeftLater }
     ensures apart { InstancesNeverCross }
     ensures intervals { IntervalsLieAsInstances }
+{}
+
+/// A run that enters one instance, makes operations within it, and leaves it, has a tree of one node, whose work is that of
+/// all operations and whose path is their heaviest one.
+pub fn tree_of_one_instance()
+    ensures operations { OperationsOfOneInstance }
+    ensures balanced { OneInstanceIsBalanced }
+    ensures tree { TreeOfOneInstance }
+    ensures exists { SingleExists }
+    ensures unique { SingleIsUnique }
+    ensures bounded { SingleIsBounded }
 {}
