@@ -1,26 +1,8 @@
 -- *Rows*: what the profile says of each region, by the tree of its instances.
-use Rattle.std.specs.Prelude.{ℕ, zero, suc, ◌≡◌, ◌+◌, ◌-◌, ◌*◌, ◌<◌, ◌⊎◌, ◌==◌, nat_lt, List, [], ◌∷◌, ◌++◌, filter, take_while, length, if◌then◌else◌}
+use Rattle.std.specs.Prelude.{ℕ, zero, suc, ◌≡◌, ◌*◌, ◌<◌, ◌⊎◌, ◌==◌, nat_lt, List, [], ◌∷◌, ◌++◌, filter, length}
+use Rattle.k_optab.specs.Meaning.{paths, serial_of, works}
 use Rattle.k_optab.specs.Tree.{Node, EachWith}
 use Rattle.k_top.specs.declared.rows.Row.{Row}
-
--- the sum of a measure of instances
-abbrev pub total : (Node → ℕ) → List Node → ℕ
-total measure [] = 0
-total measure (node ∷ nodes) = measure node + total measure nodes
-
--- the children of an instance among those entered after it: one level deeper, before the first that is not deeper
-abbrev pub children : Node → List Node → List Node
-children node later = filter (λ n. n.depth == node.depth + 1) (take_while (λ n. nat_lt node.depth n.depth) later)
-
--- the time that an instance would take if only its children ran in parallel: their critical paths, and its own work
-abbrev pub serial : Node → List Node → ℕ
-serial node later =
-    total (λ n. n.path) (children node later) + (node.work - total (λ n. n.work) (children node later))
-
--- the same, of all instances of a region together
-abbrev pub serial_of : ℕ → List Node → ℕ
-serial_of region [] = 0
-serial_of region (node ∷ later) = (if node.region == region then serial node later else 0) + serial_of region later
 
 -- a number divides another
 abbrev pub Divides : ℕ → ℕ → Type 0
@@ -41,8 +23,8 @@ instances_of region nodes = filter (λ n. n.region == region) nodes
 pub record IsRow (nodes : List Node) (region : ℕ) (row : Row) : Type 0 where
   pub number : row.region ≡ region
   pub instances : row.instances ≡ length (instances_of region nodes)
-  pub work : row.work ≡ total (λ n. n.work) (instances_of region nodes)
-  pub path : row.path ≡ total (λ n. n.path) (instances_of region nodes)
+  pub work : row.work ≡ works (instances_of region nodes)
+  pub path : row.path ≡ paths (instances_of region nodes)
   pub self_parallelism : IsRatio (serial_of region nodes) row.path row.parallel row.of
 
 -- the numbers below n
