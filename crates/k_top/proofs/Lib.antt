@@ -4,6 +4,7 @@ mod FormLemmas
 mod ReportLemmas
 mod RunLemmas
 mod EndingLemmas
+mod OneRow
 mod Unique
 mod TopLemmas
 mod ClauseLemmas
