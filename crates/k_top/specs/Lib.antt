@@ -10,3 +10,5 @@ pub mod Answer
 pub mod Clauses
 pub mod Endings
 pub mod Only
+pub mod Names
+pub mod KnownNames

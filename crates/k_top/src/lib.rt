@@ -4,6 +4,7 @@
 mod command;
 mod ending;
 mod form;
+mod names;
 mod output;
 mod pieces;
 mod report;
