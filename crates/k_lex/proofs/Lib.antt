@@ -6,5 +6,6 @@ pub mod NumberLaws
 pub mod LiteralLaws
 pub mod NameLaws
 pub mod MacroLaws
-pub mod StateLaws
 pub mod RunLaws
+pub mod IndexLaws
+pub mod PlanLaws

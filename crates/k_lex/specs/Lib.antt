@@ -9,6 +9,7 @@ pub mod Macros
 pub mod Lines
 pub mod Tokens
 pub mod Scans
+pub mod Steps
 pub mod Table
 pub mod Shown
 pub mod Headers

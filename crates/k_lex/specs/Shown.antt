@@ -1,5 +1,5 @@
 -- How the code keeps what has been read.
-use Rattle.std.specs.Prelude.{◌≡◌, ℕ, ◌+◌, ◌^◌, ◌<◌, ◌≤◌, true, List, length, map}
+use Rattle.std.specs.Prelude.{◌≡◌, ℕ, ◌+◌, ◌^◌, ◌<◌, ◌≤◌, true, List, length}
 use Rattle.k_num.specs.declared.place.Place.{Place}
 use Rattle.k_lex.specs.declared.lines.Limits.{Limits}
 use Rattle.k_lex.specs.declared.lines.State as code
@@ -7,20 +7,20 @@ use Rattle.k_lex.specs.declared.pieces.Piece.{Piece}
 use Rattle.k_lex.specs.declared.pieces.Piece.TheVariants.{Name}
 use Rattle.k_lex.specs.Bytes.{HasRoom}
 use Rattle.k_lex.specs.Pieces.{is_name}
-use Rattle.k_lex.specs.Macros.{fulls}
 use Rattle.k_lex.specs.Lines.{State}
-use Rattle.k_lex.specs.Table.{macro, AllFull}
+use Rattle.k_lex.specs.Table.{listed, IsIndexed, ArePlanned}
 
 -- what the code's state stands for
 abbrev pub shown : code.State → State
-shown s = record { limits = s.limits; mode = s.mode; name = s.name; body = s.body; macros = map macro s.table.items; tokens = s.tokens; spelled = s.spelled }
+shown s = record { limits = s.limits; mode = s.mode; name = s.name; body = s.body; macros = listed s.macros; tokens = s.tokens; spelled = s.spelled }
 
 abbrev pub IsSmall : Limits → Type 0
 IsSmall limits = (limits.tokens < 2 ^ 32) × (limits.spelling < 2 ^ 32)
 
 pub record Sound (s : code.State) : Type 0 where
   pub small : IsSmall s.limits
-  pub full : AllFull s.limits s.table.items (fulls (map macro s.table.items))
+  pub indexed : IsIndexed s.macros
+  pub planned : ArePlanned s.macros
   pub tokens : length s.tokens ≤ s.limits.tokens
   pub spelled : s.spelled ≤ s.limits.spelling
 

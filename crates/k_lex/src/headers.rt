@@ -1,11 +1,10 @@
 //! The headers and their macros.
 ghost use Rattle.std.specs.Prelude.{◌≡◌, [], ◌∷◌, map, IfOk, OnOk};
 ghost use Rattle.k_lex.specs.Macros as spec;
-ghost use Rattle.k_lex.specs.Table.{macro, AllFull};
+ghost use Rattle.k_lex.specs.Table.{listed, IsIndexed, ArePlanned};
 ghost use Rattle.k_lex.specs.Headers.{plain, lexeme_of};
 
-use crate::lines::Limits;
-use crate::macros::{Definition, Lexeme, define, find, mentions, same_body};
+use crate::macros::{Lexeme, Macros, same_body};
 use crate::tokens::{copy_of, copy_of_bytes};
 use crate::words::is_same;
 use k_num::{Kind, NoMemory, Seq};
@@ -200,32 +199,35 @@ pub fn macros_of(alloc: Global, header: Header) -> Result<Vec<Plain>, NoMemory>
 }
 
 /// Whether a new name stands in the body of an earlier macro.
-pub fn breaks_order(table: &[Definition], list: &[Plain]) -> bool
-    ensures { result ≡ spec.breaks_order (map macro table.now) (map plain list.now) }
+pub fn breaks_order(macros: &Macros, list: &[Plain]) -> bool
+    requires { IsIndexed macros.now }
+    ensures { result ≡ spec.breaks_order (listed macros.now) (map plain list.now) }
 {
     for new in list {
-        if find(table, new.name.as_slice()).is_none() && mentions(table, new.name.as_slice()) {
+        if macros.find(new.name.as_slice()).is_none() && macros.mentions(new.name.as_slice()) {
             return true;
         }
     }
     false
 }
 
-fn differs(table: &[Definition], new: &Plain) -> bool
-    ensures { result ≡ spec.differs (map macro table.now) new.now.body (spec.find (map macro table.now) new.now.name) }
+fn differs(macros: &Macros, new: &Plain) -> bool
+    requires { IsIndexed macros.now }
+    ensures { result ≡ spec.differs (listed macros.now) new.now.body (spec.find (listed macros.now) new.now.name) }
 {
-    match find(table, new.name.as_slice()) {
+    match macros.find(new.name.as_slice()) {
         None => false,
-        Some(number) => !same_body(table[number].body.as_slice(), new.body.as_slice()),
+        Some(number) => !same_body(macros.body_at(number), new.body.as_slice()),
     }
 }
 
 /// Whether a known name has another body.
-pub fn changes(table: &[Definition], list: &[Plain]) -> bool
-    ensures { result ≡ spec.changes (map macro table.now) (map plain list.now) }
+pub fn changes(macros: &Macros, list: &[Plain]) -> bool
+    requires { IsIndexed macros.now }
+    ensures { result ≡ spec.changes (listed macros.now) (map plain list.now) }
 {
     for new in list {
-        if differs(table, new) {
+        if differs(macros, new) {
             return true;
         }
     }
@@ -244,21 +246,18 @@ fn copy_of_body(alloc: Global, body: &[Lexeme]) -> Result<Seq<Lexeme>, NoMemory>
 }
 
 /// Adds those of the macros that are new.
-pub fn add_new(
-    alloc: Global,
-    limits: Limits,
-    list: &[Plain],
-    table: &mut Vec<Definition>,
-) -> Result<(), NoMemory>
-    requires { AllFull limits table.old.items (spec.fulls (map macro table.old.items)) }
-    ensures table { OnOk result (map macro table.new.items ≡ spec.included (map macro table.old.items) (map plain list.now)) }
-    ensures full { OnOk result (AllFull limits table.new.items (spec.fulls (map macro table.new.items))) }
+pub fn add_new(alloc: Global, list: &[Plain], macros: &mut Macros) -> Result<(), NoMemory>
+    requires indexed { IsIndexed macros.old }
+    requires planned { ArePlanned macros.old }
+    ensures listed { OnOk result (listed macros.new ≡ spec.included (listed macros.old) (map plain list.now)) }
+    ensures indexed { OnOk result (IsIndexed macros.new) }
+    ensures planned { OnOk result (ArePlanned macros.new) }
 {
     for new in list {
-        if find(table.as_slice(), new.name.as_slice()).is_none() {
+        if macros.find(new.name.as_slice()).is_none() {
             let name = copy_of_bytes(alloc, new.name.as_slice())?;
             let body = copy_of_body(alloc, new.body.as_slice())?;
-            define(alloc, limits, table, name, body)?;
+            macros.define(alloc, name, body)?;
         }
     }
     Ok(())

@@ -12,6 +12,7 @@ mod macros;
 mod marks;
 mod numbers;
 mod pieces;
+mod plans;
 mod scan;
 mod source;
 mod tokens;

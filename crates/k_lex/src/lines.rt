@@ -5,15 +5,14 @@ ghost use Rattle.k_lex.specs.Bytes as bytes;
 ghost use Rattle.k_lex.specs.Macros as macros;
 ghost use Rattle.k_lex.specs.Lines as spec;
 ghost use Rattle.k_lex.specs.Tokens as tokens;
-ghost use Rattle.k_lex.specs.Table.{macro, kept_list, kept_bytes, IsWithin};
 ghost use Rattle.k_lex.specs.Shown.{shown, Sound, IsSmall, IsReadable};
 ghost use Rattle.k_lex.specs.Outcome.{Gives};
 
 use crate::fault::{Refusal, Stop};
 use crate::headers::{Header, add_new, breaks_order, changes, header_of, macros_of};
-use crate::macros::{Definition, Full, Lexeme, define, find, is_named, mentions, used};
+use crate::macros::{Lexeme, Macros, is_named};
 use crate::pieces::{Piece, piece_at, piece_in_include, piece_in_pragma};
-use crate::tokens::{copy_of, copy_of_bytes, refusal, token_of};
+use crate::tokens::{copy_of_bytes, refusal, token_of};
 use crate::words::{is_same, word_of};
 use k_num::{NoMemory, Place, Seq};
 use k_tree::{Token, TokenKind};
@@ -76,7 +75,7 @@ pub struct State {
     /// The name of the macro that is being defined.
     name: Seq<u8>,
     body: Seq<Lexeme>,
-    table: Vec<Definition>,
+    macros: Macros,
     tokens: Seq<Token>,
     /// How many bytes spell the tokens.
     spelled: usize,
@@ -98,22 +97,6 @@ impl State {
     }
 }
 
-/// Adds copies of the tokens, all at one place.
-fn write_out(
-    alloc: Global,
-    place: Place,
-    list: &[Lexeme],
-    tokens: &mut Seq<Token>,
-) -> Result<(), NoMemory>
-    ensures { OnOk result (tokens.new ≡ tokens.old ++ map (spec.placed place) list.now) }
-{
-    for x in list {
-        let what = copy_of(alloc, &x.what)?;
-        tokens.push(Token { what, place })?;
-    }
-    Ok(())
-}
-
 /// Nothing has been read.
 pub fn nothing_read(alloc: Global, limits: Limits) -> State
     requires { IsSmall limits }
@@ -125,7 +108,7 @@ pub fn nothing_read(alloc: Global, limits: Limits) -> State
         mode: Mode::Start,
         name: Seq::new(alloc),
         body: Seq::new(alloc),
-        table: Vec::new(alloc),
+        macros: Macros::new(alloc),
         tokens: Seq::new(alloc),
         spelled: 0,
     }
@@ -154,48 +137,20 @@ fn add_one(state: &mut State, place: Place, what: TokenKind, size: usize) -> Res
     Ok(())
 }
 
-/// Adds what a macro is replaced by to the tokens, and answers how many bytes spell it.
-fn write_full(
-    alloc: Global,
-    place: Place,
-    full: &Full,
-    tokens: &mut Seq<Token>,
-) -> Result<usize, NoMemory>
-    ensures tokens { OnOk result (tokens.new ≡ tokens.old ++ map (spec.placed place) (kept_list full.now)) }
-    ensures bytes { IfOk result (λ bytes. bytes ≡ kept_bytes full.now) }
-{
-    match full {
-        Full::TooMany => Ok(0),
-        Full::Kept(kept) => {
-            write_out(alloc, place, kept.list.as_slice(), tokens)?;
-            Ok(kept.bytes)
-        }
-    }
-}
-
-/// Whether there is room for what a macro is replaced by.
-fn has_room_for(state: &State, full: &Full) -> bool
-    requires { Sound state.now }
-    ensures fits { IsTrue result → (length state.now.tokens + length (kept_list full.now) ≤ state.now.limits.tokens) × (state.now.spelled + kept_bytes full.now ≤ state.now.limits.spelling) × IsWithin full.now }
-    ensures full { result ≡ false → IsWithin full.now → spec.has_room (shown state.now) (length (kept_list full.now)) (kept_bytes full.now) ≡ false }
-{
-    match full {
-        Full::TooMany => false,
-        Full::Kept(kept) => has_room(state, kept.list.len(), kept.bytes),
-    }
-}
-
 /// Adds the tokens of the macro of this number.
 fn add_macro(alloc: Global, state: &mut State, place: Place, number: usize) -> Result<(), Stop>
     requires sound { Sound state.old }
-    requires there { number < length state.old.table.items }
+    requires there { number < length state.old.macros.list.items }
     ensures gives { Gives (λ _. shown state.new) result (spec.add place (macros.full_at (macros.fulls (shown state.old).macros) number) (shown state.old)) }
     ensures sound { OnOk result (Sound state.new) }
 {
-    if !has_room_for(state, &state.table[number].full) {
+    let (count, bytes) = state.macros.size_of(number);
+    if !has_room(state, count, bytes) {
         return Err(refusal(Refusal::TokensMany, place));
     }
-    let bytes = write_full(alloc, place, &state.table[number].full, &mut state.tokens)?;
+    state
+        .macros
+        .write_out(alloc, place, number, &mut state.tokens)?;
     state.spelled += bytes;
     state.mode = Mode::Middle;
     Ok(())
@@ -213,7 +168,7 @@ fn add(
     ensures gives { Gives (λ _. shown state.new) result (spec.add place (macros.replaced (shown state.old).macros (macros.lexeme what size)) (shown state.old)) }
     ensures sound { OnOk result (Sound state.new) }
 {
-    match used(state.table.as_slice(), &what) {
+    match state.macros.used(&what) {
         None => add_one(state, place, what, size),
         Some(number) => add_macro(alloc, state, place, number),
     }
@@ -310,7 +265,7 @@ fn named(alloc: Global, state: &mut State, place: Place, spelling: &[u8]) -> Res
     ensures gives { Gives (λ _. shown state.new) result (spec.named place spelling.now (macros.find (shown state.old).macros spelling.now) (shown state.old)) }
     ensures sound { OnOk result (Sound state.new) }
 {
-    match find(state.table.as_slice(), spelling) {
+    match state.macros.find(spelling) {
         Some(number) => {
             state.mode = Mode::Again(Again {
                 name: place,
@@ -320,7 +275,7 @@ fn named(alloc: Global, state: &mut State, place: Place, spelling: &[u8]) -> Res
             Ok(())
         }
         None => {
-            if mentions(state.table.as_slice(), spelling) {
+            if state.macros.mentions(spelling) {
                 return Err(refusal(Refusal::MacroOrder, place));
             }
             state.name = copy_of_bytes(alloc, spelling)?;
@@ -399,7 +354,7 @@ fn end_body(alloc: Global, state: &mut State) -> Result<(), Stop>
 {
     let name = mem::replace(&mut state.name, Seq::new(alloc));
     let body = mem::replace(&mut state.body, Seq::new(alloc));
-    define(alloc, state.limits, &mut state.table, name, body)?;
+    state.macros.define(alloc, name, body)?;
     state.mode = Mode::Start;
     Ok(())
 }
@@ -421,17 +376,6 @@ fn in_body(
         Piece::Blank | Piece::Comment => Ok(()),
         Piece::Newline => end_body(alloc, state),
         _ => body_token(alloc, state, at, place, spelling, piece),
-    }
-}
-
-/// The body of the macro of this number.
-fn body_at(table: &[Definition], number: usize) -> &[Lexeme]
-    ensures { result.now ≡ macros.body_at (map macro table.now) number }
-{
-    if number < table.len() {
-        table[number].body.as_slice()
-    } else {
-        &[]
     }
 }
 
@@ -462,11 +406,7 @@ fn again_token(
     ensures sound { OnOk result (Sound state.new) }
 {
     let what = token_of(alloc, place, spelling, piece)?;
-    if !stands_at(
-        body_at(state.table.as_slice(), again.number),
-        again.at,
-        &what,
-    ) {
+    if !stands_at(state.macros.body_at(again.number), again.at, &what) {
         return Err(refusal(Refusal::MacroAgain, again.name));
     }
     state.mode = Mode::Again(Again {
@@ -493,7 +433,7 @@ fn in_again(
     match piece {
         Piece::Blank | Piece::Comment => Ok(()),
         Piece::Newline => {
-            if body_at(state.table.as_slice(), again.number).len() != again.at {
+            if state.macros.body_at(again.number).len() != again.at {
                 return Err(refusal(Refusal::MacroAgain, again.name));
             }
             state.mode = Mode::Start;
@@ -554,13 +494,13 @@ fn include(alloc: Global, state: &mut State, at: Place, header: Option<Header>) 
         None => Err(refusal(Refusal::UnknownHeader, at)),
         Some(header) => {
             let list = macros_of(alloc, header)?;
-            if breaks_order(state.table.as_slice(), list.as_slice()) {
+            if breaks_order(&state.macros, list.as_slice()) {
                 return Err(refusal(Refusal::MacroOrder, at));
             }
-            if changes(state.table.as_slice(), list.as_slice()) {
+            if changes(&state.macros, list.as_slice()) {
                 return Err(refusal(Refusal::MacroAgain, at));
             }
-            add_new(alloc, state.limits, list.as_slice(), &mut state.table)?;
+            add_new(alloc, list.as_slice(), &mut state.macros)?;
             Ok(())
         }
     }

@@ -1,16 +1,18 @@
-//! Macros and their bodies.
-ghost use Rattle.std.specs.Prelude.{◌≡◌, ◌<◌, map, length, ◌++◌, [], ◌∷◌, IfOk, IfSome, OnOk};
-ghost use Rattle.std.specs.Bool.{OnTrue, OnFalse};
-ghost use Rattle.std.specs.List.{flat_map};
+//! Macros: found by number and by name, and written out.
+ghost use Rattle.std.specs.Prelude.{◌≡◌, ℕ, ◌+◌, ◌<◌, ◌||◌, List, length, map, take, ◌++◌, [], ◌∷◌, Some, None, if◌then◌else◌, IfOk, IfSome, OnOk};
+ghost use Rattle.std.specs.Option.{option_or};
+ghost use Rattle.k_lex.specs.Bytes as bytes;
 ghost use Rattle.k_lex.specs.Macros as spec;
-ghost use Rattle.k_lex.specs.Table.{macro, Over, IsKept, IsFull, AllFull};
+ghost use Rattle.k_lex.specs.Lines as lines;
+ghost use Rattle.k_lex.specs.Table.{listed, number_in, is_in, IsIndexed, token_at, owed, turns, sizes_shown, AreSteps, IsNewPlan, ArePlanned};
 
-use crate::lines::Limits;
+use crate::plans::{Plan, Step, push_steps};
 use crate::tokens::copy_of;
 use crate::words::is_same;
-use k_num::{NoMemory, Seq};
-use k_tree::TokenKind;
+use k_num::{NoMemory, Place, Seq};
+use k_tree::{Token, TokenKind};
 use std::alloc::Global;
+use std::collections::{HashMap, HashSet};
 
 /// A token of a macro's body, and how many bytes spell it.
 #[derive(Debug, PartialEq, Eq, Drop)]
@@ -19,51 +21,22 @@ pub struct Lexeme {
     pub size: usize,
 }
 
-/// Tokens, and how many bytes spell them.
+/// A macro: its body as it is written, and how what it is replaced by is written out.
 #[derive(Debug, Drop)]
-pub struct Kept {
-    pub list: Seq<Lexeme>,
-    pub bytes: usize,
+struct Definition {
+    name: Seq<u8>,
+    body: Seq<Lexeme>,
+    plan: Plan,
 }
 
-/// What a macro is replaced by.
-#[derive(Debug, Drop)]
-pub enum Full {
-    Kept(Kept),
-    /// More tokens or bytes than any source may have.
-    TooMany,
-}
-
-/// A macro: its body as it is written, and what it is replaced by.
-#[derive(Debug, Drop)]
-pub struct Definition {
-    pub name: Seq<u8>,
-    pub body: Seq<Lexeme>,
-    pub full: Full,
-}
-
-/// The number of the macro of this name.
-pub fn find(table: &[Definition], name: &[u8]) -> Option<usize>
-    ensures found { result ≡ spec.find (map macro table.now) name.now }
-    ensures within { IfSome result (λ k. k < length table.now) }
-{
-    for (k, definition) in table.iter().enumerate() {
-        if is_same(definition.name.as_slice(), name) {
-            return Some(k);
-        }
-    }
-    None
-}
-
-/// The number of the macro that a token uses.
-pub fn used(table: &[Definition], what: &TokenKind) -> Option<usize>
-    ensures found { result ≡ spec.used (map macro table.now) what.now }
-    ensures within { IfSome result (λ k. k < length table.now) }
-{
-    match what {
-        TokenKind::Name(name) => find(table, name.as_str().as_bytes()),
-        _ => None,
-    }
+/// The macros so far, which are found by their numbers and by their names.
+#[derive(Drop)]
+pub struct Macros {
+    list: Vec<Definition>,
+    /// The number of each macro, by its name.
+    numbers: HashMap<Vec<u8>, usize>,
+    /// The names that stand in the bodies.
+    mentioned: HashSet<Vec<u8>>,
 }
 
 /// Whether the token is this name.
@@ -74,30 +47,6 @@ pub fn is_named(name: &[u8], what: &TokenKind) -> bool
         TokenKind::Name(other) => is_same(other.as_str().as_bytes(), name),
         _ => false,
     }
-}
-
-/// Whether the name stands in the body.
-fn stands_in(name: &[u8], body: &[Lexeme]) -> bool
-    ensures { result ≡ spec.stands_in name.now body.now }
-{
-    for x in body {
-        if is_named(name, &x.what) {
-            return true;
-        }
-    }
-    false
-}
-
-/// Whether the name stands in the body of some macro.
-pub fn mentions(table: &[Definition], name: &[u8]) -> bool
-    ensures { result ≡ spec.mentions (map macro table.now) name.now }
-{
-    for definition in table {
-        if stands_in(name, definition.body.as_slice()) {
-            return true;
-        }
-    }
-    false
 }
 
 /// Whether two bodies have equal tokens.
@@ -121,103 +70,226 @@ pub fn same_body(a: &[Lexeme], b: &[Lexeme]) -> bool
     right.is_empty()
 }
 
-/// Adds a copy of a token. It answers whether the list is still within the limits.
-fn append_one(
+/// Adds a copy of the token at a place of a body.
+fn write_token(
     alloc: Global,
-    limits: Limits,
-    what: &TokenKind,
-    size: usize,
-    kept: &mut Kept,
-) -> Result<bool, NoMemory>
-    requires { IsKept limits kept.old kept.old.list }
-    ensures more { IfOk result (λ within. OnTrue within (IsKept limits kept.new (kept.old.list ++ spec.lexeme what.now size ∷ []))) }
-    ensures over { IfOk result (λ within. OnFalse within (Over limits (kept.old.list ++ spec.lexeme what.now size ∷ []))) }
-{
-    if kept.list.len() >= limits.tokens || size > limits.spelling - kept.bytes {
-        return Ok(false);
-    }
-    let copy = copy_of(alloc, what)?;
-    kept.list.push(Lexeme { what: copy, size })?;
-    kept.bytes += size;
-    Ok(true)
-}
-
-/// Adds copies of the tokens. It answers whether the list is still within the limits.
-fn append_all(
-    alloc: Global,
-    limits: Limits,
-    list: &[Lexeme],
-    kept: &mut Kept,
-) -> Result<bool, NoMemory>
-    requires { IsKept limits kept.old kept.old.list }
-    ensures more { IfOk result (λ within. OnTrue within (IsKept limits kept.new (kept.old.list ++ list.now))) }
-    ensures over { IfOk result (λ within. OnFalse within (Over limits (kept.old.list ++ list.now))) }
-{
-    for x in list {
-        if !append_one(alloc, limits, &x.what, x.size, kept)? {
-            return Ok(false);
-        }
-    }
-    Ok(true)
-}
-
-/// Adds copies of what a token is replaced by.
-fn append_replaced(
-    alloc: Global,
-    limits: Limits,
-    table: &[Definition],
-    x: &Lexeme,
-    kept: &mut Kept,
-) -> Result<bool, NoMemory>
-    requires kept { IsKept limits kept.old kept.old.list }
-    requires table { AllFull limits table.now (spec.fulls (map macro table.now)) }
-    ensures more { IfOk result (λ within. OnTrue within (IsKept limits kept.new (kept.old.list ++ spec.replaced (map macro table.now) x.now))) }
-    ensures over { IfOk result (λ within. OnFalse within (Over limits (kept.old.list ++ spec.replaced (map macro table.now) x.now))) }
-{
-    match used(table, &x.what) {
-        None => append_one(alloc, limits, &x.what, x.size, kept),
-        Some(k) => match &table[k].full {
-            Full::TooMany => Ok(false),
-            Full::Kept(full) => append_all(alloc, limits, full.list.as_slice(), kept),
-        },
-    }
-}
-
-/// What a body is replaced by.
-fn full_of(
-    alloc: Global,
-    limits: Limits,
-    table: &[Definition],
+    place: Place,
     body: &[Lexeme],
-) -> Result<Full, NoMemory>
-    requires { AllFull limits table.now (spec.fulls (map macro table.now)) }
-    ensures { IfOk result (λ full. IsFull limits full (flat_map (spec.replaced (map macro table.now)) body.now)) }
+    at: usize,
+    tokens: &mut Seq<Token>,
+) -> Result<(), NoMemory>
+    requires { at < length body.now }
+    ensures { OnOk result (tokens.new ≡ tokens.old ++ map (lines.placed place) (token_at body.now at)) }
 {
-    let mut kept = Kept {
-        list: Seq::new(alloc),
-        bytes: 0,
-    };
-    for x in body {
-        if !append_replaced(alloc, limits, table, x, &mut kept)? {
-            return Ok(Full::TooMany);
-        }
-    }
-    Ok(Full::Kept(kept))
+    let what = copy_of(alloc, &body[at].what)?;
+    tokens.push(Token { what, place })?;
+    Ok(())
 }
 
-/// Adds a macro to the table.
-pub fn define(
+/// Adds a name with its number, unless there is one of this name.
+fn add_number(
     alloc: Global,
-    limits: Limits,
-    table: &mut Vec<Definition>,
-    name: Seq<u8>,
-    body: Seq<Lexeme>,
+    numbers: &mut HashMap<Vec<u8>, usize>,
+    name: &[u8],
+    number: usize,
 ) -> Result<(), NoMemory>
-    requires { AllFull limits table.old.items (spec.fulls (map macro table.old.items)) }
-    ensures table { OnOk result (map macro table.new.items ≡ spec.defined (map macro table.old.items) name body) }
-    ensures full { OnOk result (AllFull limits table.new.items (spec.fulls (map macro table.new.items))) }
+    ensures { OnOk result ((q : List ℕ) → number_in numbers.new q ≡ option_or (number_in numbers.old q) (if bytes.same name.now q then Some number else None)) }
 {
-    let full = full_of(alloc, limits, table.as_slice(), body.as_slice())?;
-    table.push(Definition { name, body, full })?;
+    if !numbers.contains_key(name) {
+        let key = Vec::from_slice(alloc, name)?;
+        numbers.insert(key, number)?;
+    }
     Ok(())
+}
+
+/// Adds a name to the set.
+fn add_name(alloc: Global, names: &mut HashSet<Vec<u8>>, name: &[u8]) -> Result<(), NoMemory>
+    ensures { OnOk result ((q : List ℕ) → is_in names.new q ≡ (is_in names.old q || bytes.same name.now q)) }
+{
+    if !names.contains(name) {
+        let key = Vec::from_slice(alloc, name)?;
+        names.insert(key)?;
+    }
+    Ok(())
+}
+
+/// Adds the name that a token is.
+fn add_named(alloc: Global, names: &mut HashSet<Vec<u8>>, what: &TokenKind) -> Result<(), NoMemory>
+    ensures { OnOk result ((q : List ℕ) → is_in names.new q ≡ (is_in names.old q || spec.is_named q what.now)) }
+{
+    match what {
+        TokenKind::Name(name) => add_name(alloc, names, name.as_str().as_bytes()),
+        _ => Ok(()),
+    }
+}
+
+/// Adds the names that stand in a body.
+fn add_names(alloc: Global, names: &mut HashSet<Vec<u8>>, body: &[Lexeme]) -> Result<(), NoMemory>
+    ensures { OnOk result ((q : List ℕ) → is_in names.new q ≡ (is_in names.old q || spec.stands_in q body.now)) }
+{
+    for x in body {
+        add_named(alloc, names, &x.what)?;
+    }
+    Ok(())
+}
+
+impl Macros {
+    /// No macros.
+    pub fn new(alloc: Global) -> Macros
+        ensures empty { result.list.items ≡ [] }
+        ensures indexed { IsIndexed result }
+    {
+        Macros {
+            list: Vec::new(alloc),
+            numbers: HashMap::new(alloc),
+            mentioned: HashSet::new(alloc),
+        }
+    }
+
+    /// The number of the macro of this name.
+    pub fn find(&self, name: &[u8]) -> Option<usize>
+        requires { IsIndexed self.now }
+        ensures found { result ≡ spec.find (listed self.now) name.now }
+        ensures within { IfSome result (λ k. k < length self.now.list.items) }
+    {
+        self.numbers.get(name).copied()
+    }
+
+    /// The number of the macro that a token uses.
+    pub fn used(&self, what: &TokenKind) -> Option<usize>
+        requires { IsIndexed self.now }
+        ensures found { result ≡ spec.used (listed self.now) what.now }
+        ensures within { IfSome result (λ k. k < length self.now.list.items) }
+    {
+        match what {
+            TokenKind::Name(name) => self.find(name.as_str().as_bytes()),
+            _ => None,
+        }
+    }
+
+    /// Whether the name stands in the body of some macro.
+    pub fn mentions(&self, name: &[u8]) -> bool
+        requires { IsIndexed self.now }
+        ensures { result ≡ spec.mentions (listed self.now) name.now }
+    {
+        self.mentioned.contains(name)
+    }
+
+    /// The body of the macro of this number.
+    pub fn body_at(&self, number: usize) -> &[Lexeme]
+        ensures { result.now ≡ spec.body_at (listed self.now) number }
+    {
+        if number < self.list.len() {
+            self.list[number].body.as_slice()
+        } else {
+            &[]
+        }
+    }
+
+    /// How many tokens the macro of this number is replaced by, and how many bytes spell them; no count goes
+    /// beyond the greatest number.
+    pub fn size_of(&self, number: usize) -> (usize, usize)
+        requires planned { ArePlanned self.now }
+        requires there { number < length self.now.list.items }
+        ensures { result ≡ sizes_shown (spec.full_at (spec.fulls (listed self.now)) number) }
+    {
+        let plan = &self.list[number].plan;
+        (plan.count, plan.bytes)
+    }
+
+    /// Goes one step on in writing out a macro: a token is written, or the steps of a macro come in.
+    fn take_step(
+        &self,
+        alloc: Global,
+        place: Place,
+        step: Step,
+        left: &mut Vec<Step>,
+        tokens: &mut Seq<Token>,
+    ) -> Result<(), NoMemory>
+        requires planned { ArePlanned self.now }
+        requires step { AreSteps self.now (step ∷ []) }
+        requires left { AreSteps self.now left.old.items }
+        ensures tokens { OnOk result (tokens.new ++ map (lines.placed place) (owed self.now left.new.items) ≡ tokens.old ++ map (lines.placed place) (owed self.now (left.old.items ++ step ∷ []))) }
+        ensures left { OnOk result (AreSteps self.now left.new.items) }
+        ensures nearer { OnOk result (turns self.now left.new.items < turns self.now (left.old.items ++ step ∷ [])) }
+    {
+        match step {
+            Step::Token { number, at } => {
+                write_token(alloc, place, self.body_at(number), at, tokens)?;
+            }
+            Step::Whole(number) => {
+                push_steps(left, self.list[number].plan.steps.as_slice())?;
+            }
+        }
+        Ok(())
+    }
+
+    /// Adds copies of what the macro of this number is replaced by, all at one place.
+    pub fn write_out(
+        &self,
+        alloc: Global,
+        place: Place,
+        number: usize,
+        tokens: &mut Seq<Token>,
+    ) -> Result<(), NoMemory>
+        requires planned { ArePlanned self.now }
+        requires there { number < length self.now.list.items }
+        ensures { OnOk result (tokens.new ≡ tokens.old ++ map (lines.placed place) (spec.full_at (spec.fulls (listed self.now)) number)) }
+    {
+        let mut left = Vec::new(alloc);
+        push_steps(&mut left, self.list[number].plan.steps.as_slice())?;
+        while let Some(step) = left.pop() {
+            self.take_step(alloc, place, step, &mut left, tokens)?;
+        }
+        Ok(())
+    }
+
+    /// Adds the step for a token of a new body.
+    fn add_step(&self, plan: &mut Plan, body: &[Lexeme], at: usize) -> Result<(), NoMemory>
+        requires indexed { IsIndexed self.now }
+        requires planned { ArePlanned self.now }
+        requires there { at < length body.now }
+        requires plan { IsNewPlan self.now body.now plan.old (take at body.now) }
+        ensures { OnOk result (IsNewPlan self.now body.now plan.new (take (at + 1) body.now)) }
+    {
+        let x = &body[at];
+        match self.used(&x.what) {
+            None => plan.add_token(self.list.len(), at, x.size)?,
+            Some(number) => plan.add_macro(number, &self.list[number].plan)?,
+        }
+        Ok(())
+    }
+
+    /// How what a new body is replaced by is written out.
+    fn plan_of(&self, alloc: Global, body: &[Lexeme]) -> Result<Plan, NoMemory>
+        requires indexed { IsIndexed self.now }
+        requires planned { ArePlanned self.now }
+        ensures { IfOk result (λ plan. IsNewPlan self.now body.now plan body.now) }
+    {
+        let mut plan = Plan::new(alloc);
+        for at in 0..body.len() {
+            self.add_step(&mut plan, body, at)?;
+        }
+        Ok(plan)
+    }
+
+    /// Adds a macro.
+    pub fn define(
+        &mut self,
+        alloc: Global,
+        name: Seq<u8>,
+        body: Seq<Lexeme>,
+    ) -> Result<(), NoMemory>
+        requires indexed { IsIndexed self.old }
+        requires planned { ArePlanned self.old }
+        ensures listed { OnOk result (listed self.new ≡ spec.defined (listed self.old) name body) }
+        ensures indexed { OnOk result (IsIndexed self.new) }
+        ensures planned { OnOk result (ArePlanned self.new) }
+    {
+        let plan = self.plan_of(alloc, body.as_slice())?;
+        add_number(alloc, &mut self.numbers, name.as_slice(), self.list.len())?;
+        add_names(alloc, &mut self.mentioned, body.as_slice())?;
+        self.list.push(Definition { name, body, plan })?;
+        Ok(())
+    }
 }
