@@ -5,7 +5,7 @@ mod command;
 mod ending;
 mod form;
 mod output;
-mod pieces;
+mod refusal;
 mod report;
 mod rows;
 mod run;
