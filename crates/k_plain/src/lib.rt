@@ -1,13 +1,15 @@
-// A library with one function.
+//! The listing interpreter: the run of a source as its events, its output and its end. Its definitions, *Evaluation* and
+//! *Run*, say what a program means.
 #![tactic(auto)]
 
-ghost use Rattle.std.specs.Prelude.{◌≡◌};
-ghost use Rattle.k_plain.specs.Echo.{echo_of};
+mod evaluator;
+mod expression;
+mod flow;
+mod listing;
+mod operand;
+mod statement;
+mod stop;
+mod variables;
+mod work;
 
-// The `ensures` clause is the contract: what `echo` returns is `echo_of` of its argument, a definition
-// in `specs/Echo.antt`, which a caller's clause can cite too.
-pub fn echo(x: usize) -> usize
-    ensures { result ≡ echo_of x }
-{
-    x
-}
+pub use listing::{Listing, plain};
