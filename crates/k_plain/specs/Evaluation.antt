@@ -17,15 +17,15 @@ use Rattle.k_code.specs.World.{World}
 use Rattle.k_plain.specs.declared.operand.Operand.{Operand}
 use Rattle.k_plain.specs.declared.operand.Operand.TheVariants.{Constant, Given, Variable}
 use Rattle.k_plain.specs.declared.work.Work.TheVariants.{Moved, Combined, Byte}
-use Rattle.k_plain.specs.State.{State, Goes, Part, ◌>>=◌, gives, makes, holding}
+use Rattle.k_plain.specs.State.{Goes, Part, ◌>>=◌, gives, makes, holding}
 
 -- nothing happens, and the value is 0
 abbrev pub nothing : Part Operand
 nothing = gives (Constant (pos 0))
 
--- the variable of this name holds this from now on; what is given is the variable
-abbrev pub sets : List ℕ → Option Held → Part Operand
-sets name slot s = Goes (Variable name) (record s { variables = holding s.variables name slot })
+-- the variable of this name holds this from now on
+abbrev pub sets : List ℕ → Option Held → Part (Unit {0})
+sets name slot s = Goes tt (record s { variables = holding s.variables name slot })
 
 -- the operators `*`, `+` and `-` (6.5.5, 6.5.6)
 abbrev pub operator_of : Mark → Option Bin
@@ -46,7 +46,7 @@ combines place (Some op) a b = makes (class_of op) place (Combined op) (a ∷ b 
 
 -- The value is moved to the variable, which is the expression's value (6.5.16p3): it is read again when it is used.
 abbrev pub assigns : Place → Operand → Operand → Part Operand
-assigns place (Variable name) a = makes class.Move place Moved (a ∷ []) >>= λ held. sets name (Some held)
+assigns place (Variable name) a = makes class.Move place Moved (a ∷ []) >>= λ held. sets name (Some held) >>= λ done. gives (Variable name)
 assigns place target a = nothing
 
 -- what the cell OUT holds: the number of the last output operation, on which the next one depends

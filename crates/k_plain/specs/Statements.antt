@@ -30,25 +30,27 @@ in_order [] = goes_on
 in_order (part ∷ parts) = part >>= unless_returned (in_order parts)
 
 -- a value is moved to the variable of this name (6.7.9p11)
-abbrev pub initialises : Place → List ℕ → Operand → Part Flow
-initialises place name a = makes class.Move place Moved (a ∷ []) >>= λ held. sets name (Some held) >>= λ variable. goes_on
+abbrev pub initialises : Place → List ℕ → Operand → Part (Unit {0})
+initialises place name a = makes class.Move place Moved (a ∷ []) >>= λ held. sets name (Some held)
 
 -- an initialiser of the variable of this name, whose declarator stands at this place
-abbrev pub init_step : Place → List ℕ → Init-F (Part Flow) → Part Flow
+abbrev pub init_step : Place → List ℕ → Init-F (Part (Unit {0})) → Part (Unit {0})
 init_step place name (Init-F.One at value) = eval value >>= initialises place name
-init_step place name (Init-F.List at items comma) = goes_on
+init_step place name (Init-F.List at items comma) = gives tt
 
-abbrev pub initialised : Place → List ℕ → Option Init → Part Flow
-initialised place name None = goes_on
-initialised place name (Some init) = fold-Init (Part Flow) (init_step place name) init
+-- an initialiser, if there is one
+abbrev pub initialised : Place → List ℕ → Option Init → Part (Unit {0})
+initialised place name None = gives tt
+initialised place name (Some init) = fold-Init (Part (Unit {0})) (init_step place name) init
 
 -- A declarator makes its variable unset each time it is reached (6.2.4p6), and then initialises it.
-abbrev pub declared : Declarator → Part Flow
-declared d = sets d.name None >>= λ variable. initialised d.place d.name d.init
+abbrev pub declared : Declarator → Part (Unit {0})
+declared d = sets d.name None >>= λ done. initialised d.place d.name d.init
 
 -- declarators in order (6.7.6p3)
-abbrev pub declarators : List Declarator → Part Flow
-declarators list = in_order (map declared list)
+abbrev pub declarators : List Declarator → Part (Unit {0})
+declarators [] = gives tt
+declarators (d ∷ list) = declared d >>= λ done. declarators list
 
 -- `return a;` at this place: its value is moved (6.8.6.4p3)
 abbrev pub returns_value : Place → Operand → Part Flow
@@ -63,7 +65,7 @@ returned place (Some value) = eval value >>= returns_value place
 abbrev pub does_step : Stmt-F (Part Flow) → Part Flow
 does_step (Stmt-F.Expr place value) = eval value >>= λ unused. goes_on
 does_step (Stmt-F.Return place value) = returned place value
-does_step (Stmt-F.Declare place specs list) = declarators list
+does_step (Stmt-F.Declare place specs list) = declarators list >>= λ done. goes_on
 does_step other = goes_on
 
 -- a statement

@@ -1,5 +1,5 @@
 -- What operations do with the values of their operands. An operand that is not there counts as 0.
-use Rattle.std.specs.Prelude.{ℕ, ℤ, pos, List, [], ◌∷◌, Result, Ok, Err}
+use Rattle.std.specs.Prelude.{ℤ, pos, List, [], ◌∷◌, Result, Ok, Err}
 use Rattle.k_num.specs.declared.numbers.Bin.{Bin}
 use Rattle.k_num.specs.declared.numbers.Kind.TheVariants.{I32, U8}
 use Rattle.k_num.specs.declared.numbers.NumTrap.{NumTrap}

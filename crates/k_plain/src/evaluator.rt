@@ -70,7 +70,13 @@ impl Evaluator {
     }
 
     /// Makes an operation, or says how the run ends before it.
-    pub fn operation(&mut self, class: Class, place: Place, work: Work, operands: &[Operand]) -> Result<Held, Stop>
+    pub fn operation(
+        &mut self,
+        class: Class,
+        place: Place,
+        work: Work,
+        operands: &[Operand],
+    ) -> Result<Held, Stop>
         ensures { Comes result (makes class place work operands.now (state self.old)) (state self.new) }
     {
         if self.made >= self.budget {
@@ -110,6 +116,7 @@ impl Evaluator {
     }
 
     /// What operands hold now, where each of them is set.
+    #[tactic(auto, using(crate::proofs::Slots::read_more))]
     fn all_set(&self, operands: &[Operand]) -> Result<Option<Seq<Held>>, NoMemory>
         ensures { IfOk result (λ held. held ≡ all_set_meant (map (slot_of (held_in self.now.variables)) operands.now)) }
     {

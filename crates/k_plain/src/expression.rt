@@ -19,7 +19,10 @@ impl Evaluator {
         ensures { Comes result (eval expr.now (state self.old)) (state self.new) }
     {
         match expr {
-            Expr::Name { name, .. } => Ok(Operand::Variable(Text::copy_of(self.alloc, name.as_str())?)),
+            Expr::Name { name, .. } => Ok(Operand::Variable(Text::copy_of(
+                self.alloc,
+                name.as_str(),
+            )?)),
             Expr::Number { value, .. } => Ok(Operand::Constant(int_of(*value))),
             Expr::Char { value, .. } => Ok(Operand::Constant(*value)),
             Expr::Paren { of, .. } => self.expression(of.get()),
@@ -66,7 +69,13 @@ impl Evaluator {
     }
 
     /// A binary operator on two operands.
-    fn combine(&mut self, place: Place, op: Option<Bin>, a: Operand, b: Operand) -> Result<Operand, Stop>
+    fn combine(
+        &mut self,
+        place: Place,
+        op: Option<Bin>,
+        a: Operand,
+        b: Operand,
+    ) -> Result<Operand, Stop>
         ensures { Comes result (combines place op a b (state self.old)) (state self.new) }
     {
         match op {
@@ -85,7 +94,8 @@ impl Evaluator {
         match target {
             Operand::Variable(name) => {
                 let held = self.operation(Class::Move, place, Work::Moved, &[a])?;
-                self.variables.set(Text::copy_of(self.alloc, name.as_str())?, held)?;
+                self.variables
+                    .set(Text::copy_of(self.alloc, name.as_str())?, held)?;
                 Ok(Operand::Variable(name))
             }
             _ => Ok(Operand::Constant(0)),

@@ -21,7 +21,12 @@ pub struct Listing {
 
 /// The run of a source in which at most `budget` operations are made, each with the latency of its class. The source's first
 /// function is its `main`.
-pub fn plain(alloc: Global, unit: &Unit, latencies: &Latencies, budget: u64) -> Result<Listing, NoMemory>
+pub fn plain(
+    alloc: Global,
+    unit: &Unit,
+    latencies: &Latencies,
+    budget: u64,
+) -> Result<Listing, NoMemory>
     ensures { IfOk result (λ listing. listing ≡ run_of latencies.now budget unit.now) }
 {
     let mut evaluator = Evaluator::new(alloc, latencies, budget)?;

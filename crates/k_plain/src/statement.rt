@@ -47,7 +47,10 @@ impl Evaluator {
                 Ok(Flow::Normal)
             }
             Stmt::Return { place, value } => self.give_back(*place, value),
-            Stmt::Declare { list, .. } => self.declarators(list),
+            Stmt::Declare { list, .. } => {
+                self.declarators(list)?;
+                Ok(Flow::Normal)
+            }
             _ => Ok(Flow::Normal),
         }
     }
@@ -67,17 +70,17 @@ impl Evaluator {
     }
 
     /// Declarators in order.
-    fn declarators(&mut self, list: &Seq<Declarator>) -> Result<Flow, Stop>
+    fn declarators(&mut self, list: &Seq<Declarator>) -> Result<(), Stop>
         ensures { Comes result (declarators_meant list.now (state self.old)) (state self.new) }
     {
         for declarator in list.as_slice() {
             self.declarator(declarator)?;
         }
-        Ok(Flow::Normal)
+        Ok(())
     }
 
     /// A declarator and its initialiser.
-    fn declarator(&mut self, declarator: &Declarator) -> Result<Flow, Stop>
+    fn declarator(&mut self, declarator: &Declarator) -> Result<(), Stop>
         ensures { Comes result (declared declarator.now (state self.old)) (state self.new) }
     {
         self.variables.unset(&declarator.name);
@@ -86,16 +89,17 @@ impl Evaluator {
                 let a = self.expression(value)?;
                 self.initialise(declarator.place, &declarator.name, a)
             }
-            _ => Ok(Flow::Normal),
+            _ => Ok(()),
         }
     }
 
     /// A value is moved to the variable of this name.
-    fn initialise(&mut self, place: Place, name: &Text, a: Operand) -> Result<Flow, Stop>
+    fn initialise(&mut self, place: Place, name: &Text, a: Operand) -> Result<(), Stop>
         ensures { Comes result (initialises place name.now a (state self.old)) (state self.new) }
     {
         let held = self.operation(Class::Move, place, Work::Moved, &[a])?;
-        self.variables.set(Text::copy_of(self.alloc, name.as_str())?, held)?;
-        Ok(Flow::Normal)
+        self.variables
+            .set(Text::copy_of(self.alloc, name.as_str())?, held)?;
+        Ok(())
     }
 }

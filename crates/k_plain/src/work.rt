@@ -1,12 +1,13 @@
 //! What an operation does with the values of its operands.
-ghost use Rattle.std.specs.Prelude.{◌≡◌, pos};
-ghost use Rattle.k_num.specs.Kind.{converted, remainder};
+ghost use Rattle.std.specs.Prelude.{◌≡◌, pos, IsTrue, IfOk};
+ghost use Rattle.k_num.specs.Kind.{converted, remainder, is_held};
+ghost use Rattle.k_num.specs.Arithmetic.{value as value_of};
 ghost use Rattle.k_num.specs.declared.numbers.Kind.TheVariants.{I32, U8};
 ghost use Rattle.k_code.specs.World.{values_of};
 ghost use Rattle.k_plain.specs.Works.{combined, worked_on, first, second};
 
 use k_code::{Held, Trap, trap_of};
-use k_num::{Bin, Kind, binary, convert};
+use k_num::{Bin, Kind, NumTrap, binary, convert};
 
 /// What an operation does with the values of its operands.
 #[derive(Clone, Copy, Debug)]
@@ -54,10 +55,18 @@ fn second_value(operands: &[Held]) -> i32
 fn combine(op: Bin, a: i32, b: i32) -> Result<i32, Trap>
     ensures { result ≡ combined op a b }
 {
-    match binary(op, Kind::I32, i128::from(a), i128::from(b)) {
+    match on_ints(op, a, b) {
         Ok(value) => Ok(value as i32),
         Err(trap) => Err(trap_of(trap)),
     }
+}
+
+/// The value of a binary operator on two ints, which is an int too.
+fn on_ints(op: Bin, a: i32, b: i32) -> Result<i128, NumTrap>
+    ensures value { result ≡ value_of op I32 a b }
+    ensures held { IfOk result (λ v. IsTrue (is_held I32 v)) }
+{
+    binary(op, Kind::I32, i128::from(a), i128::from(b))
 }
 
 /// A number modulo 256.
