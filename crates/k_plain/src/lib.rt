@@ -13,3 +13,6 @@ mod variables;
 mod work;
 
 pub use listing::{Listing, plain};
+
+#[cfg(test)]
+mod tests;
