@@ -3,6 +3,7 @@
 
 mod ending;
 mod held;
+pub mod laws;
 
 pub use ending::{End, Trap, name, trap_of};
 pub use held::Held;
