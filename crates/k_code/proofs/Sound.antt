@@ -1,19 +1,18 @@
 -- Operations keep a world sound.
-use Rattle.std.proofs.Common.{◌≡◌, ℕ, zero, suc, ◌+◌, ◌-◌, ◌*◌, ◌<◌, ◌≤◌, ◌⊎◌, inl, inr, ℤ, List, [], ◌∷◌, ◌++◌, length, Option, Some, None, Result, Ok, Err, Bool, true, false, nat_eq, IfSome, if◌then◌else◌, refl, sym, ◌∙◌, subst, ap, arith, slice_get, length-append}
+use Rattle.std.proofs.Common.{◌≡◌, ℕ, zero, suc, ◌+◌, ◌*◌, ◌≤◌, inl, inr, ℤ, List, [], ◌∷◌, ◌++◌, length, Option, Some, None, Result, Ok, Err, Bool, true, false, nat_eq, IfSome, if◌then◌else◌, refl, sym, ◌∙◌, subst, ap, arith, slice_get, length-append}
 use Rattle.std.proofs.lemmas.Bool.{cases_lt, eqb-false}
-use Rattle.std.proofs.lemmas.Option.{slice_get_within}
 use Rattle.k_num.specs.declared.place.Place.{Place}
 use Rattle.k_optab.specs.declared.class.Class.{Class}
 use Rattle.k_optab.specs.declared.event.Event.{Event}
 use Rattle.k_optab.specs.declared.event.Event.TheVariants.{Op, Enter, Exit}
 use Rattle.k_optab.specs.declared.event.Src.{Src}
-use Rattle.k_optab.specs.Events.{Operation, operations, IsOperation, SourcesAreEarlier, AreBefore, total_latency}
+use Rattle.k_optab.specs.Events.{Operation, operations, SourcesAreEarlier, AreBefore, total_latency}
 use Rattle.k_optab.proofs.History.{slice_get-append}
-use Rattle.k_code.specs.declared.ending.End.TheVariants.{Trapped, OutOfSteps}
+use Rattle.k_code.specs.declared.ending.End.TheVariants.{OutOfSteps}
 use Rattle.k_code.specs.declared.ending.Trap.{Trap}
 use Rattle.k_code.specs.declared.held.Held.{Held}
-use Rattle.k_code.specs.World.{World, Made, Gives, Ends, operation, with_operands, worked, counted, all_set, set_before, sources_of, source_before, values_of}
-use Rattle.k_code.specs.WorldLaws.{IsMade, ComesFrom, AllComeFrom, IsSound, LeavesSound, OperationsStaySound}
+use Rattle.k_code.specs.World.{World, Ends, operation, with_operands, worked, counted, all_set, set_before, sources_of, source_before, values_of}
+use Rattle.k_code.specs.WorldLaws.{IsMade, AllComeFrom, IsSound, LeavesSound, OperationsStaySound}
 
 -- the operations of two lists of events, one behind the other
 pub operations-append : (xs ys : List Event) → operations (xs ++ ys) ≡ operations xs ++ operations ys
@@ -94,18 +93,22 @@ module _ (budget most : ℕ) (class : Class) (latency : ℕ) (place : Place) (wo
       }
 
   worked_sound : (operands : List Held) → OperandsCome world.made operands → (nat_eq world.left 0 ≡ false) → (done : Result ℤ Trap) → LeavesSound budget most world (worked class latency place operands world done)
-  worked_sound operands come some_left (Ok v) = (counted_sound operands come some_left, omega arith, omega arith)
-  worked_sound operands come some_left (Err trap) = sound
+  worked_sound operands come some_left (Ok v) =
+      ( counted_sound operands come some_left,
+        omega arith,
+        omega arith,
+        record { class = class; latency = latency; sources = sources_of operands; place = place; is = refl } )
+  worked_sound operands come some_left (Err trap) = (tt, refl)
 
   operands_sound : (work : List ℤ → Result ℤ Trap) (operands : Option (List Held)) → IfSome operands (OperandsCome world.made) → (nat_eq world.left 0 ≡ false) → LeavesSound budget most world (with_operands class latency place work world operands)
-  operands_sound work None come some_left = sound
+  operands_sound work None come some_left = (tt, refl)
   operands_sound work (Some operands) come some_left = worked_sound operands come some_left (work (values_of operands))
 
   pub operation_sound : (work : List ℤ → Result ℤ Trap) (slots : List (Option Held)) → AllComeFrom world.made slots → LeavesSound budget most world (operation class latency place work slots world)
   operation_sound work slots come = by (nat_eq world.left 0) refl
     where
       by : (none : Bool) → nat_eq world.left 0 ≡ none → LeavesSound budget most world (if none then Ends OutOfSteps world else with_operands class latency place work world (all_set slots))
-      by true e = sound
+      by true e = (tt, refl)
       by false e = operands_sound work (all_set slots) (all_come world.made slots come) e
 
 pub operations_sound : OperationsStaySound
