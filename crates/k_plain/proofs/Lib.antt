@@ -1,0 +1,4 @@
+pub mod Ints
+pub mod Names
+pub mod Slots
+pub mod Probe
