@@ -1,0 +1,8 @@
+use Rattle.k_plain.proofs.Runs.{kept_budget, bounded_time}
+use Rattle.k_plain.proofs.laws.work_is_bounded.Goals as goal
+
+pub returns-clause-count : goal.returns-clause-count
+returns-clause-count c = kept_budget
+
+pub returns-clause-time : goal.returns-clause-time
+returns-clause-time c = bounded_time
