@@ -1,12 +1,12 @@
 -- What holds of every run, by what its parts keep.
-use Rattle.std.proofs.Common.{◌≡◌, ℕ, ◌+◌, ◌*◌, ◌≤◌, ℤ, pos, List, [], ◌∷◌, ◌++◌, length, refl, sym, ◌∙◌, subst, ap, arith}
+use Rattle.std.proofs.Common.{◌≡◌, ℕ, ◌+◌, ◌*◌, ◌^◌, ◌<◌, ◌≤◌, ℤ, pos, List, [], ◌∷◌, ◌++◌, length, refl, sym, ◌∙◌, subst, ap, arith, lit≤}
 use Rattle.std.proofs.Math.Nat.{mul-le-mul_right}
 use Rattle.std.proofs.lemmas.List.{append-nil}
 use Rattle.k_optab.specs.declared.class.Class.TheVariants.{Move, Conv, Simple, Mul, Div, Load, Store, Test, Call, Input, Output}
 use Rattle.k_optab.specs.declared.event.Event.{Event}
 use Rattle.k_optab.specs.declared.event.Event.TheVariants.{Exit}
 use Rattle.k_optab.specs.Events.{operations, SourcesAreEarlier, total_latency}
-use Rattle.k_optab.specs.Latencies.{latency}
+use Rattle.k_optab.specs.Latencies.{latency, standard_latencies}
 use Rattle.k_code.specs.declared.ending.End.{End}
 use Rattle.k_code.specs.declared.ending.End.TheVariants as ends
 use Rattle.k_code.specs.World.{World}
@@ -19,7 +19,7 @@ use Rattle.k_plain.specs.declared.listing.Listing.{Listing}
 use Rattle.k_plain.specs.State.{State, Outcome, Goes, Stops}
 use Rattle.k_plain.specs.Statements.{body}
 use Rattle.k_plain.specs.Run.{main_of, entered, left_main, finished, listed, run_of}
-use Rattle.k_plain.specs.Laws.{AreAtMost, IsOpen, IsClosed, HasShape, RunsHaveEarlierSources, RunsKeepTheBudget, RunsTakeBoundedTime, RunsHaveShape, RunsWriteBytes}
+use Rattle.k_plain.specs.Laws.{AreAtMost, IsOpen, IsClosed, HasShape, RunsHaveEarlierSources, RunsKeepTheBudget, RunsTakeBoundedTime, StandardRunsAreShort, RunsHaveShape, RunsWriteBytes}
 use Rattle.k_plain.proofs.Kept.{Anything, IsGood, Keeps}
 use Rattle.k_plain.proofs.Statements.{body_kept}
 
@@ -129,6 +129,25 @@ kept_budget latencies budget unit = (any_run latencies budget unit).counted
 
 pub bounded_time : RunsTakeBoundedTime
 bounded_time latencies budget most unit short = (run_sound latencies budget most unit short).work
+
+-- each standard latency is at most 20
+pub standard_at_most : AreAtMost 20 standard_latencies
+standard_at_most Move = lit≤ tt
+standard_at_most Conv = lit≤ tt
+standard_at_most Simple = lit≤ tt
+standard_at_most Mul = lit≤ tt
+standard_at_most Div = lit≤ tt
+standard_at_most Load = lit≤ tt
+standard_at_most Store = lit≤ tt
+standard_at_most Test = lit≤ tt
+standard_at_most Call = lit≤ tt
+standard_at_most Input = lit≤ tt
+standard_at_most Output = lit≤ tt
+
+pub standard_short : StandardRunsAreShort
+standard_short budget unit few =
+    let time : total_latency (operations (run_of standard_latencies budget unit).events) ≤ budget * 20 = bounded_time standard_latencies budget 20 unit standard_at_most in
+    omega (arith, time, few)
 
 pub shape : RunsHaveShape
 shape latencies budget unit = (any_run latencies budget unit).shape

@@ -1,10 +1,10 @@
 -- What holds of every run.
-use Rattle.std.specs.Prelude.{ℕ, ◌≡◌, ◌*◌, ◌≤◌, List, [], ◌∷◌, ◌++◌, length}
+use Rattle.std.specs.Prelude.{ℕ, ◌≡◌, ◌*◌, ◌^◌, ◌<◌, ◌≤◌, List, [], ◌∷◌, ◌++◌, length}
 use Rattle.k_optab.specs.declared.class.Class.{Class}
 use Rattle.k_optab.specs.declared.event.Event.{Event}
 use Rattle.k_optab.specs.declared.event.Event.TheVariants.{Op, Enter, Exit}
 use Rattle.k_optab.specs.Events.{operations, SourcesAreEarlier, total_latency}
-use Rattle.k_optab.specs.Latencies.{latency}
+use Rattle.k_optab.specs.Latencies.{latency, standard_latencies}
 use Rattle.k_code.specs.declared.ending.End.{End}
 use Rattle.k_code.specs.declared.ending.End.TheVariants.{Returned}
 use Rattle.k_code.specs.WorldLaws.{AreBytes}
@@ -52,6 +52,13 @@ RunsTakeBoundedTime =
     (latencies : List ℕ) (budget most : ℕ) (unit : source.Unit)
     → AreAtMost most latencies
     → total_latency (operations (run_of latencies budget unit).events) ≤ budget * most
+
+-- with the standard latencies and at most a billion operations, the time is far from the greatest number of 64 bits
+abbrev pub StandardRunsAreShort : Type 0
+StandardRunsAreShort =
+    (budget : ℕ) (unit : source.Unit)
+    → budget ≤ 1000000000
+    → total_latency (operations (run_of standard_latencies budget unit).events) < 2 ^ 62
 
 -- main alone is entered, and it is left where it returns
 abbrev pub RunsHaveShape : Type 0

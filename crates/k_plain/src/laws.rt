@@ -1,5 +1,5 @@
 //! What holds of every run: each function's contract is a law, and its body does nothing.
-ghost use Rattle.k_plain.specs.Laws.{RunsHaveEarlierSources, RunsKeepTheBudget, RunsTakeBoundedTime, RunsHaveShape, RunsWriteBytes};
+ghost use Rattle.k_plain.specs.Laws.{RunsHaveEarlierSources, RunsKeepTheBudget, RunsTakeBoundedTime, StandardRunsAreShort, RunsHaveShape, RunsWriteBytes};
 
 /// Each source of an operation is an earlier operation.
 pub fn sources_are_earlier()
@@ -10,6 +10,7 @@ pub fn sources_are_earlier()
 pub fn work_is_bounded()
     ensures count { RunsKeepTheBudget }
     ensures time { RunsTakeBoundedTime }
+    ensures standard { StandardRunsAreShort }
 {}
 
 /// The events are an Enter, operations, and an Exit where main returned.
