@@ -37,8 +37,8 @@ get_last (y ∷ ops) x (suc k) op low e = let rest = get_last ops x k op (omega 
 pub earlier_more : (ops : List Operation) (x : Operation) → SourcesAreEarlier ops → AreBefore (length ops) x.sources → SourcesAreEarlier (ops ++ x ∷ [])
 earlier_more ops x earlier last k op is =
     elim (cases_lt k (length ops)) [
-      inl low ↦ earlier k op (sym (slice_get-append ops (x ∷ []) k low) ∙ is)
-    | inr high ↦ let found = get_last ops x k op high is in rw found.0 (subst (λ (o : Operation). AreBefore (length ops) o.sources) found.1 last)
+      | inl low ↦ earlier k op (sym (slice_get-append ops (x ∷ []) k low) ∙ is)
+      | inr high ↦ let found = get_last ops x k op high is in rw found.0 (subst (λ (o : Operation). AreBefore (length ops) o.sources) found.1 last)
     ]
 
 -- what these operands hold came from the first operations
@@ -93,11 +93,12 @@ module _ (budget most : ℕ) (class : Class) (latency : ℕ) (place : Place) (wo
       }
 
   worked_sound : (operands : List Held) → OperandsCome world.made operands → (nat_eq world.left 0 ≡ false) → (done : Result ℤ Trap) → LeavesSound budget most world (worked class latency place operands world done)
-  worked_sound operands come some_left (Ok v) =
-      ( counted_sound operands come some_left,
-        omega arith,
-        omega arith,
-        record { class = class; latency = latency; sources = sources_of operands; place = place; is = refl } )
+  worked_sound operands come some_left (Ok v) = (
+    counted_sound operands come some_left,
+    omega arith,
+    omega arith,
+    record { class = class; latency = latency; sources = sources_of operands; place = place; is = refl },
+  )
   worked_sound operands come some_left (Err trap) = (tt, refl)
 
   operands_sound : (work : List ℤ → Result ℤ Trap) (operands : Option (List Held)) → IfSome operands (OperandsCome world.made) → (nat_eq world.left 0 ≡ false) → LeavesSound budget most world (with_operands class latency place work world operands)

@@ -5,6 +5,7 @@
 mod evaluator;
 mod expression;
 mod flow;
+pub mod laws;
 mod listing;
 mod operand;
 mod statement;

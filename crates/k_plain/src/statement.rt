@@ -63,8 +63,8 @@ impl Evaluator {
             None => Ok(Flow::Normal),
             Some(value) => {
                 let a = self.expression(value.get())?;
-                let held = self.operation(Class::Move, place, Work::Moved, &[a])?;
-                Ok(Flow::Returned(held))
+                let given = self.operation(Class::Move, place, Work::Moved, &[a])?;
+                Ok(Flow::Returned(given))
             }
         }
     }

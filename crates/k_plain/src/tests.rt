@@ -1,4 +1,4 @@
 //! Runs of small sources, whose trees are built by hand.
-mod example;
 mod ends;
+mod example;
 mod source;

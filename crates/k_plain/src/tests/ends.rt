@@ -25,22 +25,34 @@ fn reading_what_is_not_set(rt: HostRuntime) -> Result<(), Fail> {
     let mut main = Main::new(alloc);
     main.declare(1, "x", None)?;
     main.give_back(8, name(alloc, "x")?)?;
-    assert_eq!(rt; plain(alloc, &main.source()?, &standard(), 9)?.end, uninit(8));
+    assert_eq!(rt;
+        plain(alloc, &main.source()?, &standard(), 9)?.end,
+        uninit(8)
+    );
 
     let mut main = Main::new(alloc);
     main.declare(1, "x", None)?;
     main.declare(9, "y", Some(name(alloc, "x")?))?;
-    assert_eq!(rt; plain(alloc, &main.source()?, &standard(), 9)?.end, uninit(9));
+    assert_eq!(rt;
+        plain(alloc, &main.source()?, &standard(), 9)?.end,
+        uninit(9)
+    );
 
     let mut main = Main::new(alloc);
     main.declare(1, "x", None)?;
     main.value(binary(alloc, 10, Mark::Plus, name(alloc, "x")?, number(1))?)?;
-    assert_eq!(rt; plain(alloc, &main.source()?, &standard(), 9)?.end, uninit(10));
+    assert_eq!(rt;
+        plain(alloc, &main.source()?, &standard(), 9)?.end,
+        uninit(10)
+    );
 
     let mut main = Main::new(alloc);
     main.declare(1, "x", None)?;
     main.value(put(alloc, 11, name(alloc, "x")?)?)?;
-    assert_eq!(rt; plain(alloc, &main.source()?, &standard(), 9)?.end, uninit(11));
+    assert_eq!(rt;
+        plain(alloc, &main.source()?, &standard(), 9)?.end,
+        uninit(11)
+    );
     Ok(())
 }
 

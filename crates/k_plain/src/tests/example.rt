@@ -42,17 +42,23 @@ fn source(alloc: Global) -> Result<Unit, NoMemory> {
 fn is_listed(listing: &Listing, k: usize) -> bool {
     let (wanted, time, numbers, column) = OPERATIONS[k % 10];
     match listing.events.as_slice().get(k % 10 + 1) {
-        Some(Event::Op {
-            class,
-            latency,
-            sources,
-            place,
-        }) => {
+        Some(
+            Event::Op {
+                class,
+                latency,
+                sources,
+                place,
+            },
+        ) => {
             *class == wanted
                 && *latency == time
                 && *place == at(column)
                 && sources.len() == numbers.len()
-                && sources.as_slice().iter().zip(numbers.iter()).all(|(src, number)| src.number == *number && !src.broken)
+                && sources
+                    .as_slice()
+                    .iter()
+                    .zip(numbers.iter())
+                    .all(|(src, number)| src.number == *number && !src.broken)
         }
         _ => false,
     }

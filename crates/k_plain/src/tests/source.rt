@@ -27,7 +27,13 @@ pub fn number(value: u64) -> Expr {
 }
 
 /// `left op right`
-pub fn binary(alloc: Global, column: u32, op: Mark, left: Expr, right: Expr) -> Result<Expr, NoMemory> {
+pub fn binary(
+    alloc: Global,
+    column: u32,
+    op: Mark,
+    left: Expr,
+    right: Expr,
+) -> Result<Expr, NoMemory> {
     Ok(Expr::Binary {
         place: at(column),
         op,
@@ -92,7 +98,12 @@ impl Main {
     }
 
     /// `int text ;` or `int text = value ;`
-    pub fn declare(&mut self, column: u32, text: &str, value: Option<Expr>) -> Result<(), NoMemory> {
+    pub fn declare(
+        &mut self,
+        column: u32,
+        text: &str,
+        value: Option<Expr>,
+    ) -> Result<(), NoMemory> {
         let init = match value {
             None => None,
             Some(value) => Some(Init::One {
@@ -136,6 +147,9 @@ impl Main {
             body: statements,
             close: at(99),
         })?;
-        Ok(Unit { items, end: at(100) })
+        Ok(Unit {
+            items,
+            end: at(100),
+        })
     }
 }
