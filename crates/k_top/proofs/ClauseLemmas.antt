@@ -10,7 +10,7 @@ use Rattle.k_top.specs.declared.ending.Ending.TheVariants.{Done, Refused, Usage,
 use Rattle.k_top.specs.Command.{command_of}
 use Rattle.k_top.specs.Clauses.{Answered, IsRefusal, NoFault, SameFaults, Told, ToldFault}
 use Rattle.k_top.specs.Endings.{EndsWords, Tells, status_of, line_of}
-use Rattle.k_top.proofs.TopLemmas.{FilesAfter, OutAfter, Unless, files_after, out_after, command_after, answered}
+use Rattle.k_top.proofs.TopLemmas.{FilesAfter, OutAfter, files_after, out_after, command_after, answered}
 
 not_refusal : (status : ℕ) → (status ≡ 0) ⊎ (status ≡ 7) ⊎ (status ≡ 8) → IsRefusal status → ⊥
 not_refusal status other refusal = grind (arith, other, refusal)

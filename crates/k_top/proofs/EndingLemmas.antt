@@ -1,18 +1,16 @@
 -- What a token list ended with, its source ended with, and so did its file and the words.
-use Rattle.std.proofs.Common.{ℕ, ◌≡◌, ◌⊎◌, refl, List, Vec, Ok, Err, inl, inr}
+use Rattle.std.proofs.Common.{ℕ, ◌≡◌, List, Vec, Ok, inr}
 use Rattle.std.specs.declared.alloc.Global.{Global}
 use Rattle.k_edge.specs.SinkWords.{SinkState}
 use Rattle.k_edge.specs.FilesWords.{FilesState, Loads}
 use Rattle.k_tree.specs.declared.tokens.Token.{Token}
-use Rattle.k_lex.specs.declared.fault.LexFault.{LexFault}
-use Rattle.k_lex.specs.declared.fault.LexFault.TheVariants as l
 use Rattle.k_lex.specs.Tokens.{tokens}
 use Rattle.k_top.specs.declared.ending.Ending.{Ending}
 use Rattle.k_top.specs.declared.ending.Ending.TheVariants.{Done, Refused, Usage, Absent, ReadFault, WriteFault, NoMemory, TooLong}
 use Rattle.k_top.specs.declared.refusal.SourceFault.TheVariants.{Lex, NotBuilt}
 use Rattle.k_top.specs.Command.{command_of}
 use Rattle.k_top.specs.Answer.{source_limit}
-use Rattle.k_top.specs.Endings.{EndsTokens, EndsSource, EndsFile, EndsWords, ending_without_tokens}
+use Rattle.k_top.specs.Endings.{EndsTokens, EndsSource, EndsFile, EndsWords}
 
 pub source_ended : (source : List ℕ) (list : List Token) (ending : Ending) (out out' : SinkState)
     → tokens source ≡ Ok list → EndsTokens list ending out out' → EndsSource source ending out out'
@@ -25,13 +23,6 @@ source_ended source list ReadFault out out' lexed ends = absurd ends.2
 source_ended source list WriteFault out out' lexed ends = (list, lexed, ends)
 source_ended source list NoMemory out out' lexed ends = inr (list, lexed, ends)
 source_ended source list (TooLong name) out out' lexed ends = absurd ends.2
-
--- a fault of the tokens is a refusal, or want of memory
-pub fault_ended : (source : List ℕ) (fault : LexFault) (out : SinkState)
-    → (fault ≡ l.Memory) ⊎ (tokens source ≡ Err fault) → EndsSource source (ending_without_tokens fault) out out
-fault_ended source l.Memory out why = inl refl
-fault_ended source _ out (inl memory) = absurd (cc memory)
-fault_ended source _ out (inr refused) = (refused, refl)
 
 pub file_ended : (file : List ℕ) (source : Vec ℕ Global) (ending : Ending) (files files' : FilesState) (out out' : SinkState)
     → Loads (Ok source) file source_limit files files' → EndsSource source.items ending out out' → EndsFile file ending files files' out out'

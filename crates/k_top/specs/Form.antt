@@ -1,5 +1,5 @@
 -- The programs that are run: `int main(void){return n;}`, where n is an integer or a character constant that an int holds.
-use Rattle.std.specs.Prelude.{ℕ, ℤ, pos, nat_le, ◌≡◌, List, [], ◌∷◌, map, codes, slice_get, Option, Some, None, if◌then◌else◌}
+use Rattle.std.specs.Prelude.{ℤ, pos, nat_le, ◌≡◌, List, [], ◌∷◌, map, codes, slice_get, Option, Some, None, if◌then◌else◌}
 use Rattle.k_num.specs.declared.numbers.Kind.TheVariants.{I32}
 use Rattle.k_tree.specs.declared.tokens.Token.{Token}
 use Rattle.k_tree.specs.declared.tokens.TokenKind.{TokenKind}

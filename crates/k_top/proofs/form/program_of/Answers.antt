@@ -1,5 +1,5 @@
 use Rattle.std.proofs.Common.{◌≡◌, arith, sym, ◌∙◌, ap}
-use Rattle.k_top.specs.Form.{kinds_with, constant_of}
+use Rattle.k_top.specs.Form.{kinds_with}
 use Rattle.k_top.proofs.FormLemmas.{constant_seen}
 use Rattle.k_top.proofs.form.program_of.Goals as goal
 

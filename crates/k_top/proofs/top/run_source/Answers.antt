@@ -1,4 +1,4 @@
-use Rattle.k_top.proofs.EndingLemmas.{source_ended, fault_ended}
+use Rattle.k_top.proofs.EndingLemmas.{source_ended}
 use Rattle.k_top.proofs.top.run_source.Goals as goal
 
 pub returns-in-Ok : goal.returns-in-Ok
