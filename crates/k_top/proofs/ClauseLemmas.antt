@@ -8,11 +8,9 @@ use Rattle.k_top.specs.declared.command.Usage as usages
 use Rattle.k_top.specs.declared.ending.Ending.{Ending}
 use Rattle.k_top.specs.declared.ending.Ending.TheVariants.{Done, Refused, Usage, Absent, ReadFault, WriteFault, NoMemory, TooLong}
 use Rattle.k_top.specs.Command.{command_of}
-use Rattle.k_top.specs.Answer
-use Rattle.k_top.specs.Answer.{IsLineOf, memory_line}
-use Rattle.k_top.specs.Clauses.{Answered, IsRefusal, NoFault, SameFaults, Told}
+use Rattle.k_top.specs.Clauses.{Answered, IsRefusal, NoFault, SameFaults, Told, ToldFault}
 use Rattle.k_top.specs.Endings.{EndsWords, Tells, status_of, line_of}
-use Rattle.k_top.proofs.TopLemmas.{FilesAfter, OutAfter, Unless, files_after, out_after, command_after, answered}
+use Rattle.k_top.proofs.TopLemmas.{FilesAfter, OutAfter, files_after, out_after, command_after, answered}
 
 not_refusal : (status : ℕ) → (status ≡ 0) ⊎ (status ≡ 7) ⊎ (status ≡ 8) → IsRefusal status → ⊥
 not_refusal status other refusal = grind (arith, other, refusal)
@@ -21,7 +19,7 @@ module _ (words : List (List ℕ)) (files files' : FilesState) (out out' : SinkS
   absent_cause : (e : Ending) → FilesAfter words files files' out out' e → status_of e ≡ 5 → Rose files.counts.misses files'.counts.misses
   absent_cause (Absent name) after five = after.0
   absent_cause Done after five = absurd (omega (arith, five))
-  absent_cause Refused after five = absurd (omega (arith, five))
+  absent_cause (Refused fault) after five = absurd (omega (arith, five))
   absent_cause (Usage usage) after five = absurd (omega (arith, five))
   absent_cause ReadFault after five = absurd (omega (arith, five))
   absent_cause WriteFault after five = absurd (omega (arith, five))
@@ -32,7 +30,7 @@ module _ (words : List (List ℕ)) (files files' : FilesState) (out out' : SinkS
   long_cause (TooLong name) after twelve = after.0
   long_cause (Absent name) after twelve = absurd (omega (arith, twelve))
   long_cause Done after twelve = absurd (omega (arith, twelve))
-  long_cause Refused after twelve = absurd (omega (arith, twelve))
+  long_cause (Refused fault) after twelve = absurd (omega (arith, twelve))
   long_cause (Usage usage) after twelve = absurd (omega (arith, twelve))
   long_cause ReadFault after twelve = absurd (omega (arith, twelve))
   long_cause WriteFault after twelve = absurd (omega (arith, twelve))
@@ -52,7 +50,7 @@ module _ (words : List (List ℕ)) (files files' : FilesState) (out out' : SinkS
 
   pub file_facts : (e : Ending) → FilesAfter words files files' out out' e → FileFacts (status_of e)
   file_facts Done after = kept_files 0 (λ e. omega (arith, e)) after
-  file_facts Refused after = kept_files 3 (λ e. omega (arith, e)) after
+  file_facts (Refused fault) after = kept_files 3 (λ e. omega (arith, e)) after
   file_facts (Usage usage) after = kept_files 4 (λ e. omega (arith, e)) after
   file_facts (Absent name) after =
       (λ e. absurd (omega (arith, e)), inr (ap (λ (f : FilesState). f.counts.load_faults) after.1), ap (λ (f : FilesState). f.counts.save_faults) after.1, ap (λ (f : FilesState). f.held) after.1)
@@ -78,7 +76,7 @@ module _ (words : List (List ℕ)) (files files' : FilesState) (out out' : SinkS
   out_facts Done after = faultless_out 0 (λ e. omega (arith, e)) (not_refusal 0 (inl refl)) after
   out_facts WriteFault after = (λ e. after, inl refl, λ r. absurd (not_refusal 7 (inr (inl refl)) r))
   out_facts NoMemory after = faultless_out 8 (λ e. omega (arith, e)) (not_refusal 8 (inr (inr refl))) after
-  out_facts Refused after = kept_out 3 (λ e. omega (arith, e)) after
+  out_facts (Refused fault) after = kept_out 3 (λ e. omega (arith, e)) after
   out_facts (Usage usage) after = kept_out 4 (λ e. omega (arith, e)) after
   out_facts (Absent name) after = kept_out 5 (λ e. omega (arith, e)) after
   out_facts ReadFault after = kept_out 6 (λ e. omega (arith, e)) after
@@ -91,11 +89,26 @@ module _ (words : List (List ℕ)) (files files' : FilesState) (out out' : SinkS
     facts_of_out : OutFacts (status_of e)
     facts_of_out = out_facts e (out_after words files files' out out' e ends)
 
-    pub answered_clause : Unless words files files' out out' status
-    answered_clause = elim is [
-      | inl same ↦ subst (Unless words files files' out out') (sym same) (answered words files files' out out' e ends)
-      | inr eight ↦ inr (inr (inl eight))
+    -- the status is 6, 7 or 8, or status, out and err are those of the answer
+    abbrev pub AnsweredUnless : SinkState → SinkState → Type 0
+    AnsweredUnless err err' = (status ≡ 6) ⊎ (status ≡ 7) ⊎ (status ≡ 8) ⊎ Answered words status files out out' err err'
+
+    pub answered_clause : (err err' : SinkState) → Tells e status err err' → AnsweredUnless err err'
+    answered_clause err err' (inl (same, part, whole)) = elim (answered words files files' out out' e ends) [
+      | inl six ↦ inl (same ∙ six)
+      | inr (inl seven) ↦ inr (inl (same ∙ seven))
+      | inr (inr (inl eight)) ↦ inr (inr (inl (same ∙ eight)))
+      | inr (inr (inr found)) ↦ inr (inr (inr (record {
+        held = found.held;
+        may_hold = found.may_hold;
+        answer = found.answer;
+        is_answer = found.is_answer;
+        status_is = same ∙ found.status_is;
+        grows = found.grows;
+        told = subst (λ line. Told line err err') found.line_is (record { part = part; whole = whole });
+      })))
     ]
+    answered_clause err err' (inr (eight, part)) = inr (inr (inl eight))
 
     pub nothing_clause : IsRefusal status → out' ≡ out
     nothing_clause refusal = elim is [
@@ -156,8 +169,9 @@ module _ (words : List (List ℕ)) (files files' : FilesState) (out out' : SinkS
       | inr eight ↦ absurd (omega (arith, zero, eight))
     ]
 
-    pub exact_clause : (input input' : SourceState) → NoFault files files' input input' out out' → (status ≡ 8) ⊎ Answered words status files out out'
-    exact_clause input input' none = elim answered_clause [
+    pub exact_clause : (input input' : SourceState) (err err' : SinkState) → Tells e status err err'
+        → NoFault files files' input input' out out' → (status ≡ 8) ⊎ Answered words status files out out' err err'
+    exact_clause input input' err err' tells none = elim (answered_clause err err' tells) [
       | inl six ↦ absurd (none.loads (read_fault_clause six))
       | inr (inl seven) ↦ absurd (none.puts (write_fault_clause seven))
       | inr (inr answer) ↦ answer
@@ -183,17 +197,37 @@ pub status_told : (e : Ending) (status : ℕ) (err err' : SinkState) → Tells e
 status_told e status err err' (inl same) = inl same.0
 status_told e status err err' (inr eight) = inr eight.0
 
-pub told_clause : (words : List (List ℕ)) (e : Ending) (status : ℕ) (err err' : SinkState) → IsLineOf words (status_of e) (line_of e)
-    → Tells e status err err' → Told words status err err'
-told_clause words e status err err' line (inl same) = record {
-  line = line_of e;
-  of_status = subst (λ s. IsLineOf words s (line_of e)) (sym same.0) line;
-  part = same.1;
-  whole = λ other still. same.2 still;
+-- with another status than 6, 7 and 8 there is no line of a fault
+no_fault_told : (status : ℕ) (err err' : SinkState) → (status ≡ 6 → ⊥) → (status ≡ 7 → ⊥) → (status ≡ 8 → ⊥) → ToldFault status err err'
+no_fault_told status err err' six seven eight =
+    record { read_fault = λ e. absurd (six e); write_fault = λ e. absurd (seven e); no_memory = λ e. absurd (eight e) }
+
+told_as : (e : Ending) (status : ℕ) (err err' : SinkState) → status ≡ status_of e → Told (line_of e) err err' → ToldFault status err err'
+told_as ReadFault status err err' same told = record {
+  read_fault = λ six. told;
+  write_fault = λ seven. absurd (omega (arith, same, seven));
+  no_memory = λ eight. absurd (omega (arith, same, eight));
 }
-told_clause words e status err err' line (inr eight) = record {
-  line = memory_line;
-  of_status = subst (λ s. IsLineOf words s memory_line) (sym eight.0) Answer.no_memory;
-  part = eight.1;
-  whole = λ other still. absurd (other eight.0);
+told_as WriteFault status err err' same told = record {
+  read_fault = λ six. absurd (omega (arith, same, six));
+  write_fault = λ seven. told;
+  no_memory = λ eight. absurd (omega (arith, same, eight));
+}
+told_as NoMemory status err err' same told = record {
+  read_fault = λ six. absurd (omega (arith, same, six));
+  write_fault = λ seven. absurd (omega (arith, same, seven));
+  no_memory = λ eight. told.part;
+}
+told_as Done status err err' same told = no_fault_told status err err' (λ e. omega (arith, same, e)) (λ e. omega (arith, same, e)) (λ e. omega (arith, same, e))
+told_as (Refused fault) status err err' same told = no_fault_told status err err' (λ e. omega (arith, same, e)) (λ e. omega (arith, same, e)) (λ e. omega (arith, same, e))
+told_as (Usage usage) status err err' same told = no_fault_told status err err' (λ e. omega (arith, same, e)) (λ e. omega (arith, same, e)) (λ e. omega (arith, same, e))
+told_as (Absent name) status err err' same told = no_fault_told status err err' (λ e. omega (arith, same, e)) (λ e. omega (arith, same, e)) (λ e. omega (arith, same, e))
+told_as (TooLong name) status err err' same told = no_fault_told status err err' (λ e. omega (arith, same, e)) (λ e. omega (arith, same, e)) (λ e. omega (arith, same, e))
+
+pub told_clause : (e : Ending) (status : ℕ) (err err' : SinkState) → Tells e status err err' → ToldFault status err err'
+told_clause e status err err' (inl (same, part, whole)) = told_as e status err err' same (record { part = part; whole = whole })
+told_clause e status err err' (inr (eight, part)) = record {
+  read_fault = λ six. absurd (omega (arith, eight, six));
+  write_fault = λ seven. absurd (omega (arith, eight, seven));
+  no_memory = λ e. part;
 }

@@ -1,5 +1,4 @@
 mod Growing
-mod FirstPiece
 mod FormLemmas
 mod ReportLemmas
 mod RunLemmas

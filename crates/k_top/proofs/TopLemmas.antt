@@ -1,21 +1,24 @@
 -- What the words ended with meets each clause of the theorem on `kremlin`.
-use Rattle.std.proofs.Common.{ℕ, ◌≡◌, ◌+◌, ◌<◌, ◌≤◌, ◌⊎◌, refl, ap, arith, subst, sym, ◌∙◌, List, [], length, Option, Some, None, Ok, Err, Vec, inl, inr}
+use Rattle.std.proofs.Common.{ℕ, ◌≡◌, ◌+◌, ◌<◌, ◌≤◌, ◌⊎◌, refl, ap, arith, subst, sym, ◌∙◌, List, [], length, Option, Some, None, Result, Ok, Err, Vec, inl, inr}
 use Rattle.std.specs.declared.alloc.Global.{Global}
 use Rattle.std.specs.Prelude.{replicate}
 use Rattle.std.proofs.lemmas.List.{length-replicate}
 use Rattle.k_edge.specs.Fault.{Rose}
 use Rattle.k_edge.specs.SinkWords.{SinkState, Grows, GrowsInPart}
 use Rattle.k_edge.specs.FilesWords.{FilesState, Has, HasLonger, Loads}
+use Rattle.k_tree.specs.declared.tokens.Token.{Token}
+use Rattle.k_lex.specs.declared.fault.LexFault.{LexFault}
+use Rattle.k_lex.specs.Tokens.{tokens}
 use Rattle.k_top.specs.declared.command.Usage as usages
 use Rattle.k_top.specs.declared.ending.Ending.{Ending}
 use Rattle.k_top.specs.declared.ending.Ending.TheVariants.{Done, Refused, Usage, Absent, ReadFault, WriteFault, NoMemory, TooLong}
 use Rattle.k_top.specs.declared.form.Program.{Program}
+use Rattle.k_top.specs.declared.refusal.SourceFault.TheVariants.{Lex, NotBuilt}
 use Rattle.k_top.specs.Command.{command_of}
-use Rattle.k_top.specs.Pieces.{pieces, source_start}
 use Rattle.k_top.specs.Form.{Spells}
 use Rattle.k_top.specs.Answer
-use Rattle.k_top.specs.Answer.{IsAnswer, AnswersContent, AnswersSource, AnswersCommand, IsOutput, IsLineOf, source_limit, refusal, usage_line, absent_line, long_line, refused_line}
-use Rattle.k_top.specs.Clauses.{Answered, MayHold, PartOfAnswer}
+use Rattle.k_top.specs.Answer.{IsAnswer, AnswersCommand, AnswersContent, AnswersSource, AnswersTokens, IsOutput, source_limit, refusal, usage_line, absent_line, long_line, refused_line}
+use Rattle.k_top.specs.Clauses.{MayHold, PartOfAnswer}
 use Rattle.k_top.specs.Endings.{EndsWords, status_of, line_of}
 use Rattle.k_top.proofs.Growing.{grows_no_part, grows_nothing, grows_in_part}
 use Rattle.k_top.proofs.Unique.{one_program, one_output}
@@ -39,43 +42,48 @@ long_content None file limit has =
     (λ _. Some (replicate (limit + 1) 0), tt, replicate (limit + 1) 0, refl, omega (arith, long))
 long_content (Some told) file limit has = (told, refl, has.0, has.1, has.2)
 
+-- the answer that was found: its status and its line are these, and out has grown by its bytes
+pub record FoundAnswer (words : List (List ℕ)) (status : ℕ) (line : List ℕ) (files : FilesState) (out out' : SinkState) : Type 0 where
+  pub held : List ℕ → Option (List ℕ)
+  pub may_hold : MayHold files.held held
+  pub answer : Answer.Answer
+  pub is_answer : IsAnswer words held answer
+  pub status_is : status ≡ answer.status
+  pub line_is : line ≡ answer.err
+  pub grows : Grows out.written answer.out out'.written
+
+-- what the tokens of a source decide
+by_tokens : (source : List ℕ) (found : Result (List Token) LexFault) (answer : Answer.Answer) → tokens source ≡ found
+    → AnswersTokens found answer → AnswersSource source answer
+by_tokens source found answer lexed answers = subst (λ f. AnswersTokens f answer) (sym lexed) answers
+
+of_tokens : (source : List ℕ) (found : Result (List Token) LexFault) (answer : Answer.Answer) → tokens source ≡ found
+    → AnswersSource source answer → AnswersTokens found answer
+of_tokens source found answer lexed answers = subst (λ f. AnswersTokens f answer) lexed answers
+
 module _ (words : List (List ℕ)) (files files' : FilesState) (out out' : SinkState) where
-  Ends : Ending → Type 0
-  Ends ending = EndsWords words ending files files' out out'
-
-  -- the line is that of the status
-  pub line_told : (ending : Ending) → EndsWords words ending files files' out out' → IsLineOf words (status_of ending) (line_of ending)
-  line_told Done ends = Answer.done
-  line_told Refused ends = Answer.refused
-  line_told (Usage usage) ends = Answer.usage usage ends.0
-  line_told (Absent file) ends = Answer.absent file.now (ends.1 ∙ ap Ok (sym ends.2.0))
-  line_told ReadFault ends = Answer.read_fault
-  line_told WriteFault ends = Answer.write_fault
-  line_told NoMemory ends = Answer.no_memory
-  line_told (TooLong file) ends = Answer.too_long file.now (ends.1 ∙ ap Ok (sym ends.2.0))
-
   is_answer : (held : List ℕ → Option (List ℕ)) (file : List ℕ) (content : Option (List ℕ)) (answer : Answer.Answer)
       → command_of words ≡ Ok file → held file ≡ content → AnswersContent file content answer → IsAnswer words held answer
   is_answer held file content answer command holds answers =
       subst (λ c. AnswersCommand c held answer) (sym command) (subst (λ c. AnswersContent file c answer) (sym holds) answers)
 
-  -- the output of the answer is that of the program that the file's source spells
-  answer_output : (held : List ℕ → Option (List ℕ)) (answer : Answer.Answer) (file source text : List ℕ) (program : Program)
-      → command_of words ≡ Ok file → held file ≡ Some source → length source ≤ source_limit → Spells source program → IsOutput program text
-      → IsAnswer words held answer → answer.out ≡ text
-  answer_output held answer file source text program command content fits spells output is =
+  -- the output of the answer is that of the program that the file's tokens spell
+  answer_output : (held : List ℕ → Option (List ℕ)) (answer : Answer.Answer) (file source text : List ℕ) (list : List Token) (program : Program)
+      → command_of words ≡ Ok file → held file ≡ Some source → length source ≤ source_limit → tokens source ≡ Ok list
+      → Spells list program → IsOutput program text → IsAnswer words held answer → answer.out ≡ text
+  answer_output held answer file source text list program command content fits lexed spells output is =
       of_content (subst (λ c. AnswersContent file c answer) content (subst (λ c. AnswersCommand c held answer) command is))
     where
-      of_source : AnswersSource source answer → answer.out ≡ text
-      of_source (inl refused) = absurd (refused.0 program spells)
-      of_source (inr (other, other_spells, out_text, other_output, same)) =
-          let one : other ≡ program = one_program (pieces source source_start) other program other_spells spells in
+      of_list : AnswersTokens (Ok list) answer → answer.out ≡ text
+      of_list (inl refused) = absurd (refused.0 program spells)
+      of_list (inr (other, other_spells, (out_text, other_output, same))) =
+          let one : other ≡ program = one_program list other program other_spells spells in
           ap (λ (a : Answer.Answer). a.out) same
           ∙ one_output program out_text text (subst (λ p. IsOutput p out_text) one other_output) output
 
       of_content : AnswersContent file (Some source) answer → answer.out ≡ text
       of_content (inl long) = absurd (omega (arith, fits, long.0))
-      of_content (inr short) = of_source short.1
+      of_content (inr short) = of_list (of_tokens source (Ok list) answer lexed short.1)
 
   nothing_put : out' ≡ out → PartOfAnswer words files out out'
   nothing_put same =
@@ -87,13 +95,13 @@ module _ (words : List (List ℕ)) (files files' : FilesState) (out out' : SinkS
       }
 
   -- a prefix of the program's output is one of the answer's
-  program_put : (file : List ℕ) (source : Vec ℕ Global) (program : Program) (text : List ℕ) → command_of words ≡ Ok file
-      → Loads (Ok source) file source_limit files files' → Spells source.items program → IsOutput program text
+  program_put : (file : List ℕ) (source : Vec ℕ Global) (list : List Token) (program : Program) (text : List ℕ) → command_of words ≡ Ok file
+      → Loads (Ok source) file source_limit files files' → tokens source.items ≡ Ok list → Spells list program → IsOutput program text
       → GrowsInPart out.written text out'.written → PartOfAnswer words files out out'
-  program_put file source program text command loads spells output grows =
+  program_put file source list program text command loads lexed spells output grows =
       let content = content_of_file files.held file (Some source.items) loads.0 in
       let same = λ (answer : Answer.Answer) (is : IsAnswer words content.0 answer).
-      answer_output content.0 answer file source.items text program command content.2 loads.1 spells output is in
+      answer_output content.0 answer file source.items text list program command content.2 loads.1 lexed spells output is in
       record {
         held = content.0;
         may_hold = content.1;
@@ -101,75 +109,84 @@ module _ (words : List (List ℕ)) (files files' : FilesState) (out out' : SinkS
       }
 
   pub part_put : (ending : Ending) → EndsWords words ending files files' out out' → PartOfAnswer words files out out'
-  part_put Done (file, command, (source, loads, (program, spells, (text, output, grows, faults)))) =
-      program_put file source program text command loads spells output (grows_in_part out.written text out'.written grows)
-  part_put Refused (file, command, (source, loads, (none, same))) = nothing_put same
+  part_put Done (file, command, (source, loads, (list, lexed, (program, spells, (text, output, grows, faults))))) =
+      program_put file source list program text command loads lexed spells output (grows_in_part out.written text out'.written grows)
+  part_put (Refused (Lex fault)) (file, command, (source, loads, (lexed, same))) = nothing_put same
+  part_put (Refused NotBuilt) (file, command, (source, loads, (list, lexed, (none, same)))) = nothing_put same
   part_put (Usage usage) (command, kept, same) = nothing_put same
   part_put (Absent name) (file, command, (named, loads, same)) = nothing_put same
   part_put ReadFault (file, command, (loads, same)) = nothing_put same
-  part_put WriteFault (file, command, (source, loads, (program, spells, ((text, output, grows), fault)))) =
-      program_put file source program text command loads spells output grows
+  part_put WriteFault (file, command, (source, loads, (list, lexed, (program, spells, ((text, output, grows), fault))))) =
+      program_put file source list program text command loads lexed spells output grows
   part_put NoMemory (file, command, inl (kept, same)) = nothing_put same
   part_put NoMemory (file, command, inr (source, loads, inl same)) = nothing_put same
-  part_put NoMemory (file, command, inr (source, loads, inr (program, spells, (inl same, faults)))) = nothing_put same
-  part_put NoMemory (file, command, inr (source, loads, inr (program, spells, (inr (text, output, grows), faults)))) =
-      program_put file source program text command loads spells output grows
+  part_put NoMemory (file, command, inr (source, loads, inr (list, lexed, (program, spells, (inl same, faults))))) = nothing_put same
+  part_put NoMemory (file, command, inr (source, loads, inr (list, lexed, (program, spells, (inr (text, output, grows), faults))))) =
+      program_put file source list program text command loads lexed spells output grows
   part_put (TooLong name) (file, command, (named, loads, same)) = nothing_put same
 
   -- out grows by nothing
   refused : (answer : Answer.Answer) → answer.out ≡ [] → out' ≡ out → Grows out.written answer.out out'.written
   refused answer empty same = subst (λ t. Grows out.written t out'.written) (sym empty) (subst (λ o. Grows out.written [] o.written) (sym same) (grows_nothing out.written))
 
-  -- the status is 6, 7 or 8, or that of the answer
-  abbrev pub Unless : ℕ → Type 0
-  Unless status = (status ≡ 6) ⊎ (status ≡ 7) ⊎ (status ≡ 8) ⊎ Answered words status files out out'
+  -- the status is 6, 7 or 8, or status and line are those of the answer
+  abbrev pub Unless : ℕ → List ℕ → Type 0
+  Unless status line = (status ≡ 6) ⊎ (status ≡ 7) ⊎ (status ≡ 8) ⊎ FoundAnswer words status line files out out'
 
-  answer_of : (status : ℕ) → Answered words status files out out' → Unless status
-  answer_of status answered = inr (inr (inr answered))
+  answer_of : (status : ℕ) (line : List ℕ) → FoundAnswer words status line files out out' → Unless status line
+  answer_of status line found = inr (inr (inr found))
 
-  pub answered : (ending : Ending) → EndsWords words ending files files' out out' → Unless (status_of ending)
-  answered Done (file, command, (source, loads, (program, spells, (text, output, grows, faults)))) =
+  -- the source was loaded, and this is its answer
+  by_source : (file : List ℕ) (source : Vec ℕ Global) (answer : Answer.Answer) → command_of words ≡ Ok file
+      → Loads (Ok source) file source_limit files files' → AnswersSource source.items answer → Grows out.written answer.out out'.written
+      → FoundAnswer words answer.status answer.err files out out'
+  by_source file source answer command loads answers grows =
       let content = content_of_file files.held file (Some source.items) loads.0 in
-      let answer : Answer.Answer = record { out = text; err = []; status = 0 } in
-      answer_of 0 (record {
+      record {
         held = content.0;
         may_hold = content.1;
         answer = answer;
-        is_answer = is_answer content.0 file (Some source.items) answer command content.2 (inr (loads.1, inr (program, spells, text, output, refl)));
+        is_answer = is_answer content.0 file (Some source.items) answer command content.2 (inr (loads.1, answers));
         status_is = refl;
+        line_is = refl;
         grows = grows;
-      })
-  answered Refused (file, command, (source, loads, (none, same))) =
-      let content = content_of_file files.held file (Some source.items) loads.0 in
-      let answer : Answer.Answer = refusal 3 refused_line in
-      answer_of 3 (record {
-        held = content.0;
-        may_hold = content.1;
-        answer = answer;
-        is_answer = is_answer content.0 file (Some source.items) answer command content.2 (inr (loads.1, inl (none, refl)));
-        status_is = refl;
-        grows = refused answer refl same;
-      })
+      }
+
+  pub answered : (ending : Ending) → EndsWords words ending files files' out out' → Unless (status_of ending) (line_of ending)
+  answered Done (file, command, (source, loads, (list, lexed, (program, spells, (text, output, grows, faults))))) =
+      let answer : Answer.Answer = record { out = text; err = []; status = 0 } in
+      let answers = by_tokens source.items (Ok list) answer lexed (inr (program, spells, (text, output, refl))) in
+      answer_of 0 [] (by_source file source answer command loads answers grows)
+  answered (Refused (Lex fault)) (file, command, (source, loads, (lexed, same))) =
+      let answer : Answer.Answer = refusal 3 (refused_line (Lex fault)) in
+      let answers = by_tokens source.items (Err fault) answer lexed refl in
+      answer_of 3 (refused_line (Lex fault)) (by_source file source answer command loads answers (refused answer refl same))
+  answered (Refused NotBuilt) (file, command, (source, loads, (list, lexed, (none, same)))) =
+      let answer : Answer.Answer = refusal 3 (refused_line NotBuilt) in
+      let answers = by_tokens source.items (Ok list) answer lexed (inl (none, refl)) in
+      answer_of 3 (refused_line NotBuilt) (by_source file source answer command loads answers (refused answer refl same))
   answered (Usage usage) (command, kept, same) =
       let any = any_content files.held in
       let answer : Answer.Answer = refusal 4 (usage_line usage) in
-      answer_of 4 (record {
+      answer_of 4 (usage_line usage) (record {
         held = any.0;
         may_hold = any.1;
         answer = answer;
         is_answer = subst (λ c. AnswersCommand c any.0 answer) (sym command) refl;
         status_is = refl;
+        line_is = refl;
         grows = refused answer refl same;
       })
   answered (Absent name) (file, command, (named, loads, same)) =
       let content = content_of_file files.held file None loads.0 in
       let answer : Answer.Answer = refusal 5 (absent_line file) in
-      answer_of 5 (record {
+      answer_of 5 (absent_line name.now) (record {
         held = content.0;
         may_hold = content.1;
         answer = answer;
         is_answer = is_answer content.0 file None answer command content.2 refl;
         status_is = refl;
+        line_is = ap absent_line named;
         grows = refused answer refl same;
       })
   answered ReadFault (file, command, (loads, same)) = inl refl
@@ -178,12 +195,13 @@ module _ (words : List (List ℕ)) (files files' : FilesState) (out out' : SinkS
   answered (TooLong name) (file, command, (named, loads, same)) =
       let content = long_content files.held file source_limit loads.0 in
       let answer : Answer.Answer = refusal 12 (long_line file) in
-      answer_of 12 (record {
+      answer_of 12 (long_line name.now) (record {
         held = content.0;
         may_hold = content.1;
         answer = answer;
         is_answer = is_answer content.0 file (Some content.2) answer command content.3 (inl (content.4, refl));
         status_is = refl;
+        line_is = ap long_line named;
         grows = refused answer refl same;
       })
 
@@ -199,7 +217,7 @@ module _ (words : List (List ℕ)) (files files' : FilesState) (out out' : SinkS
 
   pub files_after : (ending : Ending) → EndsWords words ending files files' out out' → FilesAfter ending
   files_after Done (file, command, (source, loads, ends)) = loads.2
-  files_after Refused (file, command, (source, loads, ends)) = loads.2
+  files_after (Refused fault) (file, command, (source, loads, ends)) = loads.2
   files_after (Usage usage) (command, kept, same) = kept
   files_after (Absent name) (file, command, (named, loads, same)) = (loads.1, loads.2)
   files_after ReadFault (file, command, (loads, same)) = (loads.0, loads.1)
@@ -216,22 +234,23 @@ module _ (words : List (List ℕ)) (files files' : FilesState) (out out' : SinkS
   OutAfter ending = out' ≡ out
 
   pub out_after : (ending : Ending) → EndsWords words ending files files' out out' → OutAfter ending
-  out_after Done (file, command, (source, loads, (program, spells, (text, output, grows, faults)))) = faults
-  out_after Refused (file, command, (source, loads, (none, same))) = same
+  out_after Done (file, command, (source, loads, (list, lexed, (program, spells, (text, output, grows, faults))))) = faults
+  out_after (Refused (Lex fault)) (file, command, (source, loads, (lexed, same))) = same
+  out_after (Refused NotBuilt) (file, command, (source, loads, (list, lexed, (none, same)))) = same
   out_after (Usage usage) (command, kept, same) = same
   out_after (Absent name) (file, command, (named, loads, same)) = same
   out_after ReadFault (file, command, (loads, same)) = same
-  out_after WriteFault (file, command, (source, loads, (program, spells, (put, fault)))) = fault
+  out_after WriteFault (file, command, (source, loads, (list, lexed, (program, spells, (put, fault))))) = fault
   out_after NoMemory (file, command, inl (kept, same)) = ap (λ (o : SinkState). o.faults) same
   out_after NoMemory (file, command, inr (source, loads, inl same)) = ap (λ (o : SinkState). o.faults) same
-  out_after NoMemory (file, command, inr (source, loads, inr (program, spells, (put, faults)))) = faults
+  out_after NoMemory (file, command, inr (source, loads, inr (list, lexed, (program, spells, (put, faults))))) = faults
   out_after (TooLong name) (file, command, (named, loads, same)) = same
 
   pub command_after : (ending : Ending) → EndsWords words ending files files' out out'
       → ((usage : usages.Usage) × (command_of words ≡ Err usage) × (status_of ending ≡ 4))
       ⊎ ((file : List ℕ) × (command_of words ≡ Ok file) × ((status_of ending ≡ 4) → ⊥))
   command_after Done ends = inr (ends.0, ends.1, λ e. omega (arith, e))
-  command_after Refused ends = inr (ends.0, ends.1, λ e. omega (arith, e))
+  command_after (Refused fault) ends = inr (ends.0, ends.1, λ e. omega (arith, e))
   command_after (Usage usage) ends = inl (usage, ends.0, refl)
   command_after (Absent name) ends = inr (ends.0, ends.1, λ e. omega (arith, e))
   command_after ReadFault ends = inr (ends.0, ends.1, λ e. omega (arith, e))

@@ -1,13 +1,11 @@
 -- The whole answer is one: a source spells one program, and a program has one output.
 use Rattle.std.proofs.Common.{ℕ, ◌≡◌, ap, arith, subst, sym, ◌∙◌, List, [], ◌∷◌, length, Some, inl, inr}
 use Rattle.std.specs.Prelude.{slice_get}
-use Rattle.std.specs.Fmt.{decimal}
-use Rattle.std.proofs.lemmas.Fmt.{decimal_injective}
 use Rattle.k_optab.specs.Events.{operations}
+use Rattle.k_tree.specs.declared.tokens.Token.{Token}
 use Rattle.k_top.specs.declared.form.Program.{Program}
 use Rattle.k_top.specs.declared.rows.Row.{Row}
-use Rattle.k_top.specs.Pieces.{Piece}
-use Rattle.k_top.specs.Form.{ArePiecesOf}
+use Rattle.k_top.specs.Form.{Spells, constant_of}
 use Rattle.k_top.specs.Run.{run_of, regions_of}
 use Rattle.k_top.specs.Rows.{AreRows}
 use Rattle.k_top.specs.Report.{report_text, with_report}
@@ -17,11 +15,11 @@ use Rattle.k_top.proofs.RunLemmas.{main_node, main_row, one_tree}
 some_same : {A : Type 0} (a b : A) → Some a ≡ Some b → a ≡ b
 some_same {A} a b e = cc
 
--- pieces are those of one program
-pub one_program : (ps : List Piece) (p q : Program) → ArePiecesOf p ps → ArePiecesOf q ps → p ≡ q
-one_program ps p q one two =
-    let written : decimal p.value ≡ decimal q.value = some_same _ _ (ap (λ texts. slice_get texts 7) (sym one.texts ∙ two.texts)) in
-    let value : p.value ≡ q.value = decimal_injective p.value q.value (omega (arith, one.fits)) (omega (arith, two.fits)) written in
+-- a token list spells one program
+pub one_program : (list : List Token) (p q : Program) → Spells list p → Spells list q → p ≡ q
+one_program list p q one two =
+    let constant : one.constant ≡ two.constant = some_same _ _ (ap (λ kinds. slice_get kinds 7) (sym one.kinds ∙ two.kinds)) in
+    let value : p.value ≡ q.value = some_same _ _ (sym one.value ∙ ap constant_of constant ∙ two.value) in
     let name : p.name ≡ q.name = some_same _ _ (sym one.name ∙ two.name) in
     let place : p.return_place ≡ q.return_place = some_same _ _ (sym one.return ∙ two.return) in
     λ i. record { value = value i; name = name i; return_place = place i }

@@ -3,11 +3,17 @@ use Rattle.std.specs.Prelude.{ℕ, ◌≡◌, ◌≤◌, ◌<◌, ◌⊎◌, Lis
 use Rattle.std.specs.Fmt.{decimal}
 use Rattle.k_optab.specs.Events.{operations}
 use Rattle.k_optab.specs.Tree.{Node, IsTree}
+use Rattle.k_tree.specs.declared.tokens.Token.{Token}
+use Rattle.k_lex.specs.declared.fault.LexFault.{LexFault}
+use Rattle.k_lex.specs.Tokens.{tokens}
 use Rattle.k_top.specs.declared.command.Usage.{Usage}
 use Rattle.k_top.specs.declared.command.Usage.TheVariants.{NoCommand, UnknownWord, NoFile}
 use Rattle.k_top.specs.declared.form.Program.{Program}
+use Rattle.k_top.specs.declared.refusal.SourceFault.{SourceFault}
+use Rattle.k_top.specs.declared.refusal.SourceFault.TheVariants.{Lex, NotBuilt}
 use Rattle.k_top.specs.declared.rows.Row.{Row}
 use Rattle.k_top.specs.Command.{command_of}
+use Rattle.k_top.specs.Refusal.{fault_text}
 use Rattle.k_top.specs.Form.{Spells}
 use Rattle.k_top.specs.Run.{run_of, regions_of}
 use Rattle.k_top.specs.Rows.{AreRows}
@@ -27,32 +33,27 @@ source_limit = 16777216
 abbrev pub tracked_depth : ℕ
 tracked_depth = 24
 
+-- why the words are no command, and at which of them
 abbrev pub usage_name : Usage → List ℕ
 usage_name NoCommand = codes "NoCommand"
 usage_name (UnknownWord index) = codes "UnknownWord at word " ++ decimal index
 usage_name NoFile = codes "NoFile"
 
+-- the line of words that are no command
 abbrev pub usage_line : Usage → List ℕ
 usage_line usage = codes "kremlin: usage: " ++ usage_name usage ++ codes "\n"
 
+-- the line of a file that is not there
 abbrev pub absent_line : List ℕ → List ℕ
 absent_line file = codes "kremlin: no such file: " ++ file ++ codes "\n"
 
+-- the line of a file that is too long
 abbrev pub long_line : List ℕ → List ℕ
 long_line file = codes "kremlin: file too long: " ++ file ++ codes "\n"
 
--- a source that is not of the form
-abbrev pub refused_line : List ℕ
-refused_line = codes "kremlin: source refused: NotBuilt at 1:1\n"
-
-abbrev pub read_fault_line : List ℕ
-read_fault_line = codes "kremlin: read fault\n"
-
-abbrev pub write_fault_line : List ℕ
-write_fault_line = codes "kremlin: write fault\n"
-
-abbrev pub memory_line : List ℕ
-memory_line = codes "kremlin: no memory\n"
+-- the line of a source that is refused
+abbrev pub refused_line : SourceFault → List ℕ
+refused_line fault = codes "kremlin: source refused: " ++ fault_text fault ++ codes "\n"
 
 -- nothing is put on out
 abbrev pub refusal : ℕ → List ℕ → Answer
@@ -70,12 +71,21 @@ IsOutput program out =
     × (out ≡ with_report (run_of program).output
     (report_text (regions_of program) (run_of program).exit (length (operations (run_of program).events)) rows))
 
--- a source is refused where it spells no program, and else the program is run
+-- the run decides: its output and its report
+abbrev pub AnswersRun : Program → Answer → Type 0
+AnswersRun program answer =
+    (out : List ℕ) × IsOutput program out × (answer ≡ record { out = out; err = []; status = 0 })
+
+-- the tokens decide: a source without tokens is refused, and so is one whose tokens spell no program
+abbrev pub AnswersTokens : Result (List Token) LexFault → Answer → Type 0
+AnswersTokens (Err fault) answer = answer ≡ refusal 3 (refused_line (Lex fault))
+AnswersTokens (Ok list) answer =
+    (((program : Program) → Spells list program → ⊥) × (answer ≡ refusal 3 (refused_line NotBuilt)))
+    ⊎ ((program : Program) × Spells list program × AnswersRun program answer)
+
+-- the source decides
 abbrev pub AnswersSource : List ℕ → Answer → Type 0
-AnswersSource source answer =
-    (((program : Program) → Spells source program → ⊥) × (answer ≡ refusal 3 refused_line))
-    ⊎ ((program : Program) × Spells source program × (out : List ℕ) × IsOutput program out
-    × (answer ≡ record { out = out; err = []; status = 0 }))
+AnswersSource source answer = AnswersTokens (tokens source) answer
 
 -- the content of the file decides
 abbrev pub AnswersContent : List ℕ → Option (List ℕ) → Answer → Type 0
@@ -92,14 +102,3 @@ AnswersCommand (Ok file) held answer = AnswersContent file (held file) answer
 -- the answer to these words, where each name holds that content
 abbrev pub IsAnswer : List (List ℕ) → (List ℕ → Option (List ℕ)) → Answer → Type 0
 IsAnswer words held answer = AnswersCommand (command_of words) held answer
-
--- the line of each status
-pub data IsLineOf (words : List (List ℕ)) : ℕ → List ℕ → Type 0 where
-  done : IsLineOf words 0 []
-  refused : IsLineOf words 3 refused_line
-  usage : (usage : Usage) → command_of words ≡ Err usage → IsLineOf words 4 (usage_line usage)
-  absent : (file : List ℕ) → command_of words ≡ Ok file → IsLineOf words 5 (absent_line file)
-  read_fault : IsLineOf words 6 read_fault_line
-  write_fault : IsLineOf words 7 write_fault_line
-  no_memory : IsLineOf words 8 memory_line
-  too_long : (file : List ℕ) → command_of words ≡ Ok file → IsLineOf words 12 (long_line file)

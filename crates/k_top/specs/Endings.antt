@@ -5,16 +5,23 @@ use Rattle.k_edge.specs.Fault.{Rose}
 use Rattle.k_edge.specs.SinkWords.{SinkState, Grows, GrowsInPart}
 use Rattle.k_edge.specs.FilesWords.{FilesState, Loads}
 use Rattle.k_edge.specs.declared.files.LoadFault.TheVariants as load
+use Rattle.k_tree.specs.declared.tokens.Token.{Token}
+use Rattle.k_lex.specs.declared.fault.LexFault.{LexFault}
+use Rattle.k_lex.specs.declared.fault.LexFault.TheVariants as l
+use Rattle.k_lex.specs.Tokens.{tokens}
 use Rattle.k_top.specs.declared.ending.Ending.{Ending}
 use Rattle.k_top.specs.declared.ending.Ending.TheVariants.{Done, Refused, Usage, Absent, ReadFault, WriteFault, NoMemory, TooLong}
 use Rattle.k_top.specs.declared.form.Program.{Program}
+use Rattle.k_top.specs.declared.refusal.SourceFault.TheVariants.{Lex, NotBuilt}
 use Rattle.k_top.specs.Command.{command_of}
 use Rattle.k_top.specs.Form.{Spells}
-use Rattle.k_top.specs.Answer.{IsOutput, source_limit, usage_line, absent_line, long_line, refused_line, read_fault_line, write_fault_line, memory_line}
+use Rattle.k_top.specs.Answer.{IsOutput, source_limit, usage_line, absent_line, long_line, refused_line}
+use Rattle.k_top.specs.Clauses.{read_fault_line, write_fault_line, memory_line}
 
+-- the exit status of an ending
 abbrev pub status_of : Ending → ℕ
 status_of Done = 0
-status_of Refused = 3
+status_of (Refused fault) = 3
 status_of (Usage usage) = 4
 status_of (Absent file) = 5
 status_of ReadFault = 6
@@ -22,9 +29,10 @@ status_of WriteFault = 7
 status_of NoMemory = 8
 status_of (TooLong file) = 12
 
+-- the line of an ending on standard error
 abbrev pub line_of : Ending → List ℕ
 line_of Done = []
-line_of Refused = refused_line
+line_of (Refused fault) = refused_line fault
 line_of (Usage usage) = usage_line usage
 line_of (Absent file) = absent_line file.now
 line_of ReadFault = read_fault_line
@@ -44,12 +52,22 @@ EndsProgram program WriteFault out out' = PutsPart program out out' × Rose out.
 EndsProgram program NoMemory out out' = ((out' ≡ out) ⊎ PutsPart program out out') × (out'.faults ≡ out.faults)
 EndsProgram program _ out out' = ⊥
 
+-- how a token list ended
+abbrev pub EndsTokens : List Token → Ending → SinkState → SinkState → Type 0
+EndsTokens list (Refused NotBuilt) out out' = ((program : Program) → Spells list program → ⊥) × (out' ≡ out)
+EndsTokens list ending out out' = (program : Program) × Spells list program × EndsProgram program ending out out'
+
+-- how a source without tokens ends
+abbrev pub ending_without_tokens : LexFault → Ending
+ending_without_tokens l.Memory = NoMemory
+ending_without_tokens fault = Refused (Lex fault)
+
 -- how a source ended
 abbrev pub EndsSource : List ℕ → Ending → SinkState → SinkState → Type 0
-EndsSource source Refused out out' = ((program : Program) → Spells source program → ⊥) × (out' ≡ out)
+EndsSource source (Refused (Lex fault)) out out' = (tokens source ≡ Err fault) × (out' ≡ out)
 EndsSource source NoMemory out out' =
-    (out' ≡ out) ⊎ ((program : Program) × Spells source program × EndsProgram program NoMemory out out')
-EndsSource source ending out out' = (program : Program) × Spells source program × EndsProgram program ending out out'
+    (out' ≡ out) ⊎ ((list : List Token) × (tokens source ≡ Ok list) × EndsTokens list NoMemory out out')
+EndsSource source ending out out' = (list : List Token) × (tokens source ≡ Ok list) × EndsTokens list ending out out'
 
 -- how a file ended
 abbrev pub EndsFile : List ℕ → Ending → FilesState → FilesState → SinkState → SinkState → Type 0

@@ -1,7 +1,7 @@
 pub mod Command
-pub mod Pieces
-pub mod Cursors
 pub mod Form
+pub mod Wanted
+pub mod Refusal
 pub mod Output
 pub mod Run
 pub mod Rows

@@ -1,5 +1,5 @@
 -- *Evaluation* and *Run*: what a program does when it runs.
-use Rattle.std.specs.Prelude.{ℕ, ℤ, pos, List, [], ◌∷◌, codes}
+use Rattle.std.specs.Prelude.{ℕ, ℤ, List, [], ◌∷◌, codes}
 use Rattle.k_optab.specs.declared.class.Class.TheVariants.{Move}
 use Rattle.k_optab.specs.Latencies.{latency, standard_latencies}
 use Rattle.k_optab.specs.declared.event.Event.{Event}
@@ -19,7 +19,7 @@ abbrev pub run_of : Program → Run
 run_of program = record {
   events = Enter 0 ∷ Op Move (latency standard_latencies Move) [] program.return_place ∷ Exit ∷ [];
   output = [];
-  exit = pos program.value;
+  exit = program.value;
 }
 
 -- the regions of a program: its one function

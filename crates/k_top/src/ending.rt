@@ -3,8 +3,10 @@ ghost use Rattle.std.specs.Prelude.{◌≡◌, ◌++◌, ℕ, IfOk, OnOk, codes}
 ghost use Rattle.std.specs.Fmt.{decimal};
 ghost use Rattle.k_top.specs.Endings.{status_of, line_of};
 ghost use Rattle.k_top.specs.Answer.{usage_name};
+ghost use Rattle.k_top.specs.Refusal.{fault_text};
 
 use crate::Usage;
+use crate::refusal::{SourceFault, push_fault};
 use crate::report::{push, push_number};
 use k_num::NoMemory;
 use std::alloc::Global;
@@ -14,8 +16,8 @@ use std::alloc::Global;
 pub enum Ending<'a> {
     /// The command ran to its end.
     Done,
-    /// The source is not one that is run.
-    Refused,
+    /// The source is refused.
+    Refused(SourceFault),
     /// The words are no command.
     Usage(Usage),
     /// There is no file of this name.
@@ -37,7 +39,7 @@ impl Ending<'_> {
     {
         match self {
             Ending::Done => 0,
-            Ending::Refused => 3,
+            Ending::Refused(_) => 3,
             Ending::Usage(_) => 4,
             Ending::Absent(_) => 5,
             Ending::ReadFault => 6,
@@ -54,7 +56,7 @@ impl Ending<'_> {
         let mut line = Vec::new(alloc);
         match self {
             Ending::Done => {}
-            Ending::Refused => push(&mut line, "kremlin: source refused: NotBuilt at 1:1\n")?,
+            Ending::Refused(fault) => push_refused(&mut line, "kremlin: source refused: ", *fault)?,
             Ending::Usage(usage) => push_usage(&mut line, "kremlin: usage: ", *usage)?,
             Ending::Absent(file) => push_named(&mut line, "kremlin: no such file: ", file)?,
             Ending::ReadFault => push(&mut line, "kremlin: read fault\n")?,
@@ -64,6 +66,14 @@ impl Ending<'_> {
         }
         Ok(line)
     }
+}
+
+fn push_refused(line: &mut Vec<u8>, what: &str, fault: SourceFault) -> Result<(), NoMemory>
+    ensures { OnOk result (line.new.items ≡ line.old.items ++ (what.now ++ fault_text fault ++ codes "\n")) }
+{
+    push(line, what)?;
+    push_fault(line, fault)?;
+    push(line, "\n")
 }
 
 fn push_usage(line: &mut Vec<u8>, what: &str, usage: Usage) -> Result<(), NoMemory>

@@ -1,50 +1,45 @@
-//! The programs that are run, and how a source is read as one.
-ghost use Rattle.std.specs.Prelude.{◌≡◌, ◌≢◌, ◌+◌, ◌<◌, ◌≤◌, ◌^◌, ◌↔◌, ℕ, map, length, IsTrue, IfOk, MatchOption};
-ghost use Rattle.std.specs.Fmt.{decimal};
-ghost use Rattle.k_top.specs.Cursors.{seen_piece};
-ghost use Rattle.k_top.specs.Form.{ArePiecesOf, Spells, texts_with};
+//! The programs that are run, and how a token list is read as one.
+ghost use Rattle.std.specs.Prelude.{◌≡◌, ◌↔◌, map, IsTrue, MatchOption, None};
+ghost use Rattle.k_tree.specs.declared.tokens.TokenKind.TheVariants as t;
+ghost use Rattle.k_top.specs.Form.{Spells, constant_of, kinds_with};
+ghost use Rattle.k_top.specs.Wanted.{Returns, kind_wanted};
 
-use crate::pieces::{Piece, first_pieces};
-use itoa::Buffer;
-use k_num::{NoMemory, Place};
-use std::alloc::Global;
+use k_num::{Kind, Place};
+use k_tree::{Mark, Token, TokenKind, Word};
 
-/// A program that returns a number.
+/// A program that returns a constant.
 #[derive(Clone, Copy, Debug, PartialEq, Eq)]
 pub struct Program {
-    /// The number, at most 2147483647.
-    pub value: u32,
+    /// The constant's value.
+    pub value: i32,
     /// Where `main` stands.
     pub name: Place,
     /// Where `return` stands.
     pub return_place: Place,
 }
 
-/// The program that a source spells.
-pub fn read(alloc: Global, source: &[u8]) -> Result<Option<Program>, NoMemory>
-    requires { length source.now + 1 < 2 ^ 32 }
-    ensures { IfOk result (λ found. MatchOption found ((p : _) → Spells source.now p → ⊥) (Spells source.now)) }
-{
-    let pieces = first_pieces(alloc, source, 11)?;
-    Ok(program_of(pieces.as_slice()))
+/// The kind that a token has to be. A name takes no memory here.
+#[derive(Clone, Copy)]
+enum Wanted<'a> {
+    Word(Word),
+    Name(&'a str),
+    Mark(Mark),
+    Number(u64),
+    Char(i32),
+    End,
 }
 
-/// The program whose pieces these are.
-fn program_of(pieces: &[Piece<'_>]) -> Option<Program>
-    ensures { MatchOption result ((p : _) → ArePiecesOf p (map seen_piece pieces.now) → ⊥)
-        (λ p. ArePiecesOf p (map seen_piece pieces.now)) }
+/// The program that a token list spells.
+pub fn program_of(tokens: &[Token]) -> Option<Program>
+    ensures { MatchOption result ((p : _) → Spells tokens.now p → ⊥) (λ p. Spells tokens.now p) }
 {
-    let [_, name, _, _, _, _, keyword, number, ..] = pieces else {
+    let [_, name, _, _, _, _, keyword, constant, ..] = tokens else {
         return None;
     };
-    match number_value(number.text) {
-        Some(value) => {
-            if has_texts(pieces, &form_of(number.text)) {
-                Some(Program {
-                    value,
-                    name: name.place,
-                    return_place: keyword.place,
-                })
+    match program_with(name.place, keyword.place, &constant.what) {
+        Some((program, wanted)) => {
+            if are(tokens, &form_of(wanted)) {
+                Some(program)
             } else {
                 None
             }
@@ -53,57 +48,137 @@ fn program_of(pieces: &[Piece<'_>]) -> Option<Program>
     }
 }
 
-/// The texts of a program that returns the number of this text.
-fn form_of(number: &[u8]) -> [&[u8]; 10]
-    ensures { map (λ text. text.now) result ≡ texts_with number.now }
+/// The program that has its name and its `return` at these places and returns this constant of kind int; and the
+/// kind of the constant's token.
+fn program_with(
+    name: Place,
+    return_place: Place,
+    constant: &TokenKind,
+) -> Option<(Program, Wanted<'static>)>
+    ensures { MatchOption result (constant_of constant.now ≡ None) (λ found. Returns found.0 name return_place constant.now × (kind_wanted found.1 ≡ constant.now)) }
+{
+    match constant {
+        TokenKind::Number(Kind::I32, value) => {
+            if *value <= 2_147_483_647 {
+                let program = Program {
+                    value: *value as i32,
+                    name,
+                    return_place,
+                };
+                Some((program, Wanted::Number(*value)))
+            } else {
+                None
+            }
+        }
+        TokenKind::Char(value) => {
+            let program = Program {
+                value: *value,
+                name,
+                return_place,
+            };
+            Some((program, Wanted::Char(*value)))
+        }
+        _ => None,
+    }
+}
+
+/// The tokens of a program that returns the constant of this kind.
+fn form_of(constant: Wanted<'_>) -> [Wanted<'_>; 11]
+    ensures { map kind_wanted result ≡ kinds_with (kind_wanted constant.entry) }
 {
     [
-        b"int", b"main", b"(", b"void", b")", b"{", b"return", number, b";", b"}",
+        Wanted::Word(Word::Int),
+        Wanted::Name("main"),
+        Wanted::Mark(Mark::LeftParen),
+        Wanted::Word(Word::Void),
+        Wanted::Mark(Mark::RightParen),
+        Wanted::Mark(Mark::LeftBrace),
+        Wanted::Word(Word::Return),
+        constant,
+        Wanted::Mark(Mark::Semicolon),
+        Wanted::Mark(Mark::RightBrace),
+        Wanted::End,
     ]
 }
 
-/// Whether the pieces have these texts.
-fn has_texts(pieces: &[Piece<'_>], texts: &[&[u8]]) -> bool
-    ensures { IsTrue result ↔ (map (λ piece. piece.text.now) pieces.now ≡ map (λ text. text.now) texts.now) }
+/// Whether the tokens are of these kinds.
+fn are(tokens: &[Token], wanted: &[Wanted<'_>]) -> bool
+    ensures { IsTrue result ↔ (map (λ token. token.what) tokens.now ≡ map kind_wanted wanted.now) }
 {
-    match (pieces.split_first(), texts.split_first()) {
+    match (tokens.split_first(), wanted.split_first()) {
         (None, None) => true,
-        (Some((piece, pieces)), Some((text, texts))) => {
-            piece.text == *text && has_texts(pieces, texts)
+        (Some((token, tokens)), Some((kind, wanted))) => {
+            is(&token.what, *kind) && are(tokens, wanted)
         }
         _ => false,
     }
 }
 
-/// The number that fits an `int` and is written so in decimal.
-fn number_value(text: &[u8]) -> Option<u32>
-    ensures { MatchOption result ((n : ℕ) → n ≤ 2147483647 → text.now ≢ decimal n) (λ n. (n ≤ 2147483647) × (text.now ≡ decimal n)) }
+/// Whether a token is of this kind.
+fn is(kind: &TokenKind, wanted: Wanted<'_>) -> bool
+    ensures { IsTrue result ↔ (kind.now ≡ kind_wanted wanted.entry) }
 {
-    match str::from_utf8(text) {
-        Ok(text) => text_value(text),
-        Err(_) => None,
+    match wanted {
+        Wanted::Word(word) => is_word(kind, word),
+        Wanted::Name(name) => is_name(kind, name),
+        Wanted::Mark(mark) => is_mark(kind, mark),
+        Wanted::Number(value) => is_number(kind, value),
+        Wanted::Char(value) => is_char(kind, value),
+        Wanted::End => is_end(kind),
     }
 }
 
-/// The same, of a text.
-fn text_value(text: &str) -> Option<u32>
-    ensures { MatchOption result ((n : ℕ) → n ≤ 2147483647 → text.now ≢ decimal n) (λ n. (n ≤ 2147483647) × (text.now ≡ decimal n)) }
+fn is_word(kind: &TokenKind, word: Word) -> bool
+    ensures { IsTrue result ↔ (kind.now ≡ t.Word word) }
 {
-    match text.parse::<u32>() {
-        Ok(value) => {
-            if value <= 2_147_483_647 && writes(value, text) {
-                Some(value)
-            } else {
-                None
-            }
-        }
-        Err(_) => None,
+    match kind {
+        TokenKind::Word(other) => *other == word,
+        _ => false,
     }
 }
 
-/// Whether a number is written so in decimal.
-fn writes(value: u32, text: &str) -> bool
-    ensures { IsTrue result ↔ (text.now ≡ decimal value) }
+fn is_name(kind: &TokenKind, name: &str) -> bool
+    ensures { IsTrue result ↔ (kind.now ≡ t.Name name.now) }
 {
-    Buffer::new().format(value) == text
+    match kind {
+        TokenKind::Name(other) => other.as_str() == name,
+        _ => false,
+    }
+}
+
+fn is_mark(kind: &TokenKind, mark: Mark) -> bool
+    ensures { IsTrue result ↔ (kind.now ≡ t.Mark mark) }
+{
+    match kind {
+        TokenKind::Mark(other) => *other == mark,
+        _ => false,
+    }
+}
+
+/// Whether it is a number of kind int with this value.
+fn is_number(kind: &TokenKind, value: u64) -> bool
+    ensures { IsTrue result ↔ (kind.now ≡ t.Number Kind.I32 value) }
+{
+    match kind {
+        TokenKind::Number(Kind::I32, other) => *other == value,
+        _ => false,
+    }
+}
+
+fn is_char(kind: &TokenKind, value: i32) -> bool
+    ensures { IsTrue result ↔ (kind.now ≡ t.Char value) }
+{
+    match kind {
+        TokenKind::Char(other) => *other == value,
+        _ => false,
+    }
+}
+
+fn is_end(kind: &TokenKind) -> bool
+    ensures { IsTrue result ↔ (kind.now ≡ t.End) }
+{
+    match kind {
+        TokenKind::End => true,
+        _ => false,
+    }
 }

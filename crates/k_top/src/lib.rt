@@ -6,7 +6,7 @@ mod ending;
 mod form;
 mod names;
 mod output;
-mod pieces;
+mod refusal;
 mod report;
 mod rows;
 mod run;

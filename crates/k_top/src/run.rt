@@ -1,5 +1,5 @@
 //! A program's run as a list of events, and its profile.
-ghost use Rattle.std.specs.Prelude.{◌≡◌, [], ◌∷◌, ◌≤◌, length, map, IfOk};
+ghost use Rattle.std.specs.Prelude.{◌≡◌, [], ◌∷◌, length, map, IfOk};
 ghost use Rattle.k_optab.specs.Events.{operations};
 ghost use Rattle.k_top.specs.Run.{run_of, regions_of};
 ghost use Rattle.k_optab.specs.Tree.{IsTree};
@@ -20,7 +20,6 @@ const TRACKED_DEPTH: u32 = 24;
 
 /// The output of a program's run, and the report behind it.
 pub fn output(alloc: Global, program: &Program) -> Result<Vec<u8>, NoMemory>
-    requires { program.now.value ≤ 2147483647 }
     ensures { IfOk result (λ out. IsOutput program.now out.items) }
 {
     let events = events(alloc, program)?;
@@ -28,7 +27,7 @@ pub fn output(alloc: Global, program: &Program) -> Result<Vec<u8>, NoMemory>
     let ops = operation_count(events.as_slice());
     let tree = instances(alloc, &events, TRACKED_DEPTH)?;
     let rows = profile(alloc, program, tree.as_slice())?;
-    report(alloc, &regions, program.value as i32, ops, rows.as_slice())
+    report(alloc, &regions, program.value, ops, rows.as_slice())
 }
 
 /// The events of a program's run.

@@ -1,16 +1,21 @@
 //! The top call over files, sources and sinks in memory.
-mod answers;
 mod faults;
+mod programs;
 mod puts;
+mod refusals;
 
 use crate::kremlin;
 use k_edge::{Failed, MemFiles, MemSink, MemSource, Source, SureFiles, SureSink, SureSource};
 use k_num::NoMemory;
 use std::alloc::Global;
-use std::process::Abort;
 
-/// The report of `int main(void){return 0;}`.
-const RETURN_ZERO: &str = "== kremlin ==\nexit 0\nops 1\nfunc main 1:5 n=1 work=0 path=0 sp=1/1\n";
+/// The source of a program that returns 0.
+const RETURN_ZERO: &[u8] = b"int main(void){return 0;}";
+
+/// Its report.
+const ZERO_REPORT: &str = "== kremlin ==\nexit 0\nops 1\nfunc main 1:5 n=1 work=0 path=0 sp=1/1\n";
+
+const RUN: &[&str] = &["run", "a.c"];
 
 /// The numbers of the loads, and of the puts on out and on err, that fail.
 #[derive(Clone, Copy)]
@@ -42,16 +47,16 @@ fn owned(alloc: Global, words: &[&str]) -> Result<Vec<String>, NoMemory> {
     Ok(owned)
 }
 
-/// Calls with files of the kind that fails as listed, where `a.c` holds the source. The input's first read fails,
-/// which shows that the call read nothing.
-fn expect_mem(
-    rt: &impl Abort,
+/// Whether the answer is what is wanted, with files of the kind that fails as listed, where `a.c` holds the source.
+/// The input's first read fails, which shows that the call read nothing.
+fn mem_answers(
     alloc: Global,
     words: &[&str],
     source: Option<&[u8]>,
     failing: Failing<'_>,
     wanted: Wanted<'_>,
-) -> Result<(), NoMemory> {
+) -> Result<bool, NoMemory> {
+    let words = owned(alloc, words)?;
     let mut files = MemFiles::new(alloc, failing.loads)?;
     if let Some(source) = source {
         files.add("a.c", source)?;
@@ -61,27 +66,24 @@ fn expect_mem(
     let mut err = MemSink::new(alloc, failing.err)?;
     let status = kremlin(
         alloc,
-        owned(alloc, words)?.as_slice(),
+        words.as_slice(),
         &mut files,
         &mut input,
         &mut out,
         &mut err,
     );
-    assert_eq!(rt; status, wanted.status);
-    assert!(rt; out.bytes() == wanted.out.as_bytes());
-    assert!(rt; err.bytes() == wanted.err.as_bytes());
-    assert!(rt; input.read(&mut [0]) == Err(Failed));
-    Ok(())
+    let untouched = input.read(&mut [0]) == Err(Failed);
+    Ok(untouched && is_wanted(status, out.bytes(), err.bytes(), wanted))
 }
 
 /// The same, with files of the kind that never fails.
-fn expect_sure(
-    rt: &impl Abort,
+fn sure_answers(
     alloc: Global,
     words: &[&str],
     source: Option<&[u8]>,
     wanted: Wanted<'_>,
-) -> Result<(), NoMemory> {
+) -> Result<bool, NoMemory> {
+    let words = owned(alloc, words)?;
     let mut files = SureFiles::new(alloc)?;
     if let Some(source) = source {
         files.add("a.c", source)?;
@@ -91,27 +93,49 @@ fn expect_sure(
     let mut err = SureSink::new(alloc)?;
     let status = kremlin(
         alloc,
-        owned(alloc, words)?.as_slice(),
+        words.as_slice(),
         &mut files,
         &mut input,
         &mut out,
         &mut err,
     );
-    assert_eq!(rt; status, wanted.status);
-    assert!(rt; out.bytes() == wanted.out.as_bytes());
-    assert!(rt; err.bytes() == wanted.err.as_bytes());
-    assert!(rt; input.read(&mut [0, 0]) == Ok(1));
-    Ok(())
+    let untouched = input.read(&mut [0, 0]) == Ok(1);
+    Ok(untouched && is_wanted(status, out.bytes(), err.bytes(), wanted))
 }
 
-/// Both.
-fn expect(
-    rt: &impl Abort,
+fn is_wanted(status: u8, out: &[u8], err: &[u8], wanted: Wanted<'_>) -> bool {
+    status == wanted.status && out == wanted.out.as_bytes() && err == wanted.err.as_bytes()
+}
+
+/// Whether the answer is what is wanted, with files of both kinds.
+fn answers(
     alloc: Global,
     words: &[&str],
     source: Option<&[u8]>,
     wanted: Wanted<'_>,
-) -> Result<(), NoMemory> {
-    expect_mem(rt, alloc, words, source, NOTHING_FAILS, wanted)?;
-    expect_sure(rt, alloc, words, source, wanted)
+) -> Result<bool, NoMemory> {
+    Ok(
+        mem_answers(alloc, words, source, NOTHING_FAILS, wanted)?
+            && sure_answers(alloc, words, source, wanted)?,
+    )
+}
+
+/// Whether a source is run with this on out.
+fn runs(alloc: Global, source: &[u8], out: &str) -> Result<bool, NoMemory> {
+    let wanted = Wanted {
+        status: 0,
+        out,
+        err: "",
+    };
+    answers(alloc, RUN, Some(source), wanted)
+}
+
+/// Whether a source is refused with this line.
+fn is_refused(alloc: Global, source: &[u8], err: &str) -> Result<bool, NoMemory> {
+    let wanted = Wanted {
+        status: 3,
+        out: "",
+        err,
+    };
+    answers(alloc, RUN, Some(source), wanted)
 }

@@ -1,17 +1,18 @@
 //! The top call.
-ghost use Rattle.std.specs.Prelude.{◌≡◌, ◌<◌, ◌≤◌, ◌⊎◌, length, map, string_bytes};
+ghost use Rattle.std.specs.Prelude.{◌≡◌, ◌<◌, ◌⊎◌, map, string_bytes};
 ghost use Rattle.k_edge.specs.Fault.{Rose};
-ghost use Rattle.k_top.specs.Answer.{source_limit, memory_line};
-ghost use Rattle.k_top.specs.Clauses.{Answered, IsRefusal, IsUsage, NoFault, PartOfAnswer, SameFaults, Told};
-ghost use Rattle.k_top.specs.Endings.{EndsProgram, EndsSource, EndsFile, EndsWords, PutsLine, Tells};
+ghost use Rattle.k_top.specs.Clauses.{Answered, IsRefusal, IsUsage, NoFault, PartOfAnswer, SameFaults, ToldFault};
+ghost use Rattle.k_top.specs.Endings.{EndsProgram, EndsTokens, EndsSource, EndsFile, EndsWords, ending_without_tokens, PutsLine, Tells};
 
 use crate::command::file_to_run;
 use crate::ending::Ending;
-use crate::form;
-use crate::form::Program;
+use crate::form::{Program, program_of};
 use crate::output::put_all;
+use crate::refusal::SourceFault;
 use crate::run::output;
 use k_edge::{Files, LoadFault, PutFault, Sink, Source};
+use k_lex::{LexFault, lex};
+use k_tree::Token;
 use std::alloc::Global;
 
 /// How many bytes a source may have.
@@ -31,10 +32,10 @@ pub fn kremlin<F: Files, S: Source, K: Sink, E: Sink>(
 ) -> u8
     // Where no fault comes, the answer is the whole answer to what the files hold, or want of memory.
     ensures exact { NoFault (F.seen files.old) (F.seen files.new) (S.seen input.old) (S.seen input.new) (K.seen out.old) (K.seen out.new)
-        → (result ≡ 8) ⊎ Answered (map string_bytes words.now) result (F.seen files.old) (K.seen out.old) (K.seen out.new) }
+        → (result ≡ 8) ⊎ Answered (map string_bytes words.now) result (F.seen files.old) (K.seen out.old) (K.seen out.new) (E.seen err.old) (E.seen err.new) }
     // On every status but 6, 7 and 8 it is that too, whatever the counts are.
     ensures answered { (result ≡ 6) ⊎ (result ≡ 7) ⊎ (result ≡ 8)
-        ⊎ Answered (map string_bytes words.now) result (F.seen files.old) (K.seen out.old) (K.seen out.new) }
+        ⊎ Answered (map string_bytes words.now) result (F.seen files.old) (K.seen out.old) (K.seen out.new) (E.seen err.old) (E.seen err.new) }
 
     // What is put on out is in every case a prefix of the answer's bytes, and nothing where nothing ran.
     ensures part { PartOfAnswer (map string_bytes words.now) (F.seen files.old) (K.seen out.old) (K.seen out.new) }
@@ -53,8 +54,8 @@ pub fn kremlin<F: Files, S: Source, K: Sink, E: Sink>(
     ensures too_long { result ≡ 12 → Rose (F.seen files.old).counts.longs (F.seen files.new).counts.longs }
     ensures usage { IsUsage (map string_bytes words.now) result }
 
-    // The line on err is that of the status.
-    ensures told { Told (map string_bytes words.now) result (E.seen err.old) (E.seen err.new) }
+    // The line on err is that of the answer; on 6, 7 and 8 it names the fault.
+    ensures told { ToldFault result (E.seen err.old) (E.seen err.new) }
 
     // The input is not touched, and no file changes.
     ensures input { S.seen input.new ≡ S.seen input.old }
@@ -100,19 +101,36 @@ fn run_file<'a, F: Files, K: Sink>(
 
 /// Runs a source.
 fn run_source<K: Sink>(alloc: Global, source: &[u8], out: &mut K) -> Ending<'static>
-    requires { length source.now ≤ source_limit }
     ensures { EndsSource source.now result (K.seen out.old) (K.seen out.new) }
 {
-    match form::read(alloc, source) {
-        Ok(Some(program)) => run_program(alloc, &program, out),
-        Ok(None) => Ending::Refused,
-        Err(_) => Ending::NoMemory,
+    match lex(alloc, source) {
+        Ok(tokens) => run_tokens(alloc, tokens.as_slice(), out),
+        Err(fault) => without_tokens(fault),
+    }
+}
+
+/// How a source ends that has no tokens.
+fn without_tokens(fault: LexFault) -> Ending<'static>
+    ensures { result ≡ ending_without_tokens fault }
+{
+    match fault {
+        LexFault::Memory => Ending::NoMemory,
+        fault => Ending::Refused(SourceFault::Lex(fault)),
+    }
+}
+
+/// Runs a token list.
+fn run_tokens<K: Sink>(alloc: Global, tokens: &[Token], out: &mut K) -> Ending<'static>
+    ensures { EndsTokens tokens.now result (K.seen out.old) (K.seen out.new) }
+{
+    match program_of(tokens) {
+        Some(program) => run_program(alloc, &program, out),
+        None => Ending::Refused(SourceFault::NotBuilt),
     }
 }
 
 /// Runs a program, and puts its output and its report on out.
 fn run_program<K: Sink>(alloc: Global, program: &Program, out: &mut K) -> Ending<'static>
-    requires { program.now.value ≤ 2147483647 }
     ensures { EndsProgram program.now result (K.seen out.old) (K.seen out.new) }
 {
     match output(alloc, program) {

@@ -1,5 +1,5 @@
 //! What is answered where the outside fails, or a sink finds no memory.
-use super::{Failing, RETURN_ZERO, Wanted, expect_mem, owned};
+use super::{Failing, RETURN_ZERO, RUN, Wanted, ZERO_REPORT, mem_answers, owned};
 use crate::kremlin;
 use k_edge::{MemFiles, MemSink, MemSource, PutFault, Sink};
 use std::test::Fail;
@@ -17,13 +17,13 @@ type Row = (
     (u8, &'static str, &'static str),
 );
 
-const ROWS: [Row; 9] = [
+static ROWS: [Row; 9] = [
     (&["run", "a.c"], &[0], &[], &[], (6, "", READ_FAULT)),
     (&["run", "none.c"], &[0], &[], &[], (6, "", READ_FAULT)),
     (&["run", "a.c"], &[], &[0], &[], (7, "", WRITE_FAULT)),
     (&["run", "a.c"], &[], &[0], &[1], (7, "", WRITE_FAULT)),
     // One load and one put are all that is asked.
-    (&["run", "a.c"], &[1], &[1], &[0], (0, RETURN_ZERO, "")),
+    (&["run", "a.c"], &[1], &[1], &[0], (0, ZERO_REPORT, "")),
     (&[], &[0], &[0], &[0], (4, "", "")),
     (&["run", "none.c"], &[], &[], &[0], (5, "", "")),
     (&["run", "a.c"], &[0], &[0], &[0], (6, "", "")),
@@ -32,15 +32,18 @@ const ROWS: [Row; 9] = [
 
 #[test]
 fn faults(rt: HostRuntime) -> Result<(), Fail> {
-    let source = b"int main(void){return 0;}";
-    for (words, loads, puts, lines, (status, out, err)) in ROWS {
+    for (words, loads, puts, lines, (status, out, err)) in &ROWS {
         let failing = Failing {
             loads,
             out: puts,
             err: lines,
         };
-        let wanted = Wanted { status, out, err };
-        expect_mem(&rt, rt.alloc(), words, Some(source), failing, wanted)?;
+        let wanted = Wanted {
+            status: *status,
+            out,
+            err,
+        };
+        assert!(rt; mem_answers(rt.alloc(), words, Some(RETURN_ZERO), failing, wanted)?);
     }
     Ok(())
 }
@@ -62,10 +65,10 @@ impl Sink for Cramped {
 #[test]
 fn sinks_without_memory(rt: HostRuntime) -> Result<(), Fail> {
     let alloc = rt.alloc();
-    let run = owned(alloc, &["run", "a.c"])?;
+    let run = owned(alloc, RUN)?;
     let go = owned(alloc, &["go"])?;
     let mut files = MemFiles::new(alloc, &[])?;
-    files.add("a.c", b"int main(void){return 0;}")?;
+    files.add("a.c", RETURN_ZERO)?;
     let mut input = MemSource::new(alloc, b"", &[])?;
     let mut sink = MemSink::new(alloc, &[])?;
 

@@ -1,6 +1,6 @@
 use Rattle.std.proofs.Common.{refl, map}
 use Rattle.std.specs.Prelude.{string_bytes}
-use Rattle.k_top.proofs.TopLemmas.{line_told, part_put}
+use Rattle.k_top.proofs.TopLemmas.{part_put}
 use Rattle.k_top.proofs.ClauseLemmas.{status_told, told_clause, exact_clause, answered_clause, nothing_clause, clean_clause, loads_clause, puts_clause, saves_clause, absent_clause, read_fault_clause, write_fault_clause, long_clause, usage_clause, held_clause}
 use Rattle.k_top.proofs.top.kremlin.Goals as goal
 
@@ -19,10 +19,10 @@ returns g c =
     let is = status_told ending c.tell.result err err' c.tell.ensures in
     record {
       part = part_put words files files' out out' ending ends;
-      told = told_clause words ending c.tell.result err err' (line_told words files files' out out' ending ends) c.tell.ensures;
+      told = told_clause ending c.tell.result err err' c.tell.ensures;
       input = refl;
-      exact = exact_clause words files files' out out' c.tell.result ending ends is input input;
-      answered = answered_clause words files files' out out' c.tell.result ending ends is;
+      exact = exact_clause words files files' out out' c.tell.result ending ends is input input err err' c.tell.ensures;
+      answered = answered_clause words files files' out out' c.tell.result ending ends is err err' c.tell.ensures;
       nothing = nothing_clause words files files' out out' c.tell.result ending ends is;
       clean = clean_clause words files files' out out' c.tell.result ending ends is input input refl;
       load_fault = loads_clause words files files' out out' c.tell.result ending ends is;

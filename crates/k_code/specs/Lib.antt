@@ -1,0 +1,3 @@
+pub mod Traps
+pub mod World
+pub mod WorldLaws

@@ -1,0 +1,4 @@
+//! Runs of small sources, whose trees are built by hand.
+mod ends;
+mod example;
+mod source;

@@ -1,0 +1,32 @@
+-- Why a source is refused, and how that is written: a name and a place.
+use Rattle.std.specs.Prelude.{ℕ, List, [], ◌++◌, codes}
+use Rattle.k_num.specs.declared.place.Place.{Place}
+use Rattle.k_lex.specs.declared.fault.LexFault.{LexFault}
+use Rattle.k_lex.specs.declared.fault.LexFault.TheVariants as l
+use Rattle.k_top.specs.declared.refusal.SourceFault.{SourceFault}
+use Rattle.k_top.specs.declared.refusal.SourceFault.TheVariants.{Lex, NotBuilt}
+use Rattle.k_top.specs.Report.{place_text}
+
+-- a name and a place, as NAME at line:column
+abbrev pub named_at : List ℕ → Place → List ℕ
+named_at name place = name ++ codes " at " ++ place_text place
+
+-- the name of each fault of the tokens, and its place; want of memory is no refusal, and is not written
+abbrev pub lex_fault_text : LexFault → List ℕ
+lex_fault_text (l.BadByte place) = named_at (codes "BadByte") place
+lex_fault_text (l.OpenComment place) = named_at (codes "OpenComment") place
+lex_fault_text (l.OpenLiteral place) = named_at (codes "OpenLiteral") place
+lex_fault_text (l.BadEscape place) = named_at (codes "BadEscape") place
+lex_fault_text (l.BadNumber place) = named_at (codes "BadNumber") place
+lex_fault_text (l.BadDirective place) = named_at (codes "BadDirective") place
+lex_fault_text (l.UnknownHeader place) = named_at (codes "UnknownHeader") place
+lex_fault_text (l.MacroOrder place) = named_at (codes "MacroOrder") place
+lex_fault_text (l.MacroAgain place) = named_at (codes "MacroAgain") place
+lex_fault_text (l.SourceLong place) = named_at (codes "SourceLong") place
+lex_fault_text (l.TokensMany place) = named_at (codes "TokensMany") place
+lex_fault_text l.Memory = []
+
+-- the name and the place of a refusal: a source whose tokens are not of the form is refused as a whole
+abbrev pub fault_text : SourceFault → List ℕ
+fault_text (Lex fault) = lex_fault_text fault
+fault_text NotBuilt = named_at (codes "NotBuilt") (record { line = 1; column = 1 })

@@ -1,0 +1,54 @@
+//! Why a source is refused, and how that is written.
+ghost use Rattle.std.specs.Prelude.{◌≡◌, ◌++◌, OnOk, codes};
+ghost use Rattle.k_top.specs.Refusal.{named_at, lex_fault_text, fault_text};
+
+use crate::report::{push, push_place};
+use k_lex::LexFault;
+use k_num::{NoMemory, Place};
+
+/// Why a source is refused.
+#[derive(Clone, Copy, Debug, PartialEq, Eq)]
+pub enum SourceFault {
+    /// It has no tokens.
+    Lex(LexFault),
+    /// Its tokens are not of the form that is run so far.
+    NotBuilt,
+}
+
+/// A refusal's name and place.
+pub fn push_fault(line: &mut Vec<u8>, fault: SourceFault) -> Result<(), NoMemory>
+    ensures { OnOk result (line.new.items ≡ line.old.items ++ fault_text fault) }
+{
+    match fault {
+        SourceFault::Lex(fault) => push_lex_fault(line, fault),
+        SourceFault::NotBuilt => push_named(line, "NotBuilt", Place { line: 1, column: 1 }),
+    }
+}
+
+/// The same, of a fault of the tokens. Want of memory is no refusal, and has no name here.
+fn push_lex_fault(line: &mut Vec<u8>, fault: LexFault) -> Result<(), NoMemory>
+    ensures { OnOk result (line.new.items ≡ line.old.items ++ lex_fault_text fault) }
+{
+    match fault {
+        LexFault::BadByte(place) => push_named(line, "BadByte", place),
+        LexFault::OpenComment(place) => push_named(line, "OpenComment", place),
+        LexFault::OpenLiteral(place) => push_named(line, "OpenLiteral", place),
+        LexFault::BadEscape(place) => push_named(line, "BadEscape", place),
+        LexFault::BadNumber(place) => push_named(line, "BadNumber", place),
+        LexFault::BadDirective(place) => push_named(line, "BadDirective", place),
+        LexFault::UnknownHeader(place) => push_named(line, "UnknownHeader", place),
+        LexFault::MacroOrder(place) => push_named(line, "MacroOrder", place),
+        LexFault::MacroAgain(place) => push_named(line, "MacroAgain", place),
+        LexFault::SourceLong(place) => push_named(line, "SourceLong", place),
+        LexFault::TokensMany(place) => push_named(line, "TokensMany", place),
+        LexFault::Memory => Ok(()),
+    }
+}
+
+fn push_named(line: &mut Vec<u8>, name: &str, place: Place) -> Result<(), NoMemory>
+    ensures { OnOk result (line.new.items ≡ line.old.items ++ named_at name.now place) }
+{
+    push(line, name)?;
+    push(line, " at ")?;
+    push_place(line, place)
+}
