@@ -9,7 +9,7 @@ use Rattle.k_top.specs.declared.ending.Ending.{Ending}
 use Rattle.k_top.specs.declared.ending.Ending.TheVariants.{Done, Refused, Usage, Absent, ReadFault, WriteFault, NoMemory, TooLong}
 use Rattle.k_top.specs.declared.refusal.SourceFault.TheVariants.{Lex, NotBuilt}
 use Rattle.k_top.specs.Command.{command_of}
-use Rattle.k_top.specs.Answer.{source_limit}
+use Rattle.k_top.specs.Answer.{file_limit}
 use Rattle.k_top.specs.Endings.{EndsTokens, EndsSource, EndsFile, EndsWords}
 
 pub source_ended : (source : List ℕ) (list : List Token) (ending : Ending) (out out' : SinkState)
@@ -25,7 +25,7 @@ source_ended source list NoMemory out out' lexed ends = inr (list, lexed, ends)
 source_ended source list (TooLong name) out out' lexed ends = absurd ends.2
 
 pub file_ended : (file : List ℕ) (source : Vec ℕ Global) (ending : Ending) (files files' : FilesState) (out out' : SinkState)
-    → Loads (Ok source) file source_limit files files' → EndsSource source.items ending out out' → EndsFile file ending files files' out out'
+    → Loads (Ok source) file file_limit files files' → EndsSource source.items ending out out' → EndsFile file ending files files' out out'
 file_ended file source Done files files' out out' loads ends = (source, loads, ends)
 file_ended file source (Refused fault) files files' out out' loads ends = (source, loads, ends)
 file_ended file source (Usage usage) files files' out out' loads ends = absurd ends.2.2

@@ -17,7 +17,7 @@ use Rattle.k_top.specs.declared.refusal.SourceFault.TheVariants.{Lex, NotBuilt}
 use Rattle.k_top.specs.Command.{command_of}
 use Rattle.k_top.specs.Form.{Spells}
 use Rattle.k_top.specs.Answer
-use Rattle.k_top.specs.Answer.{IsAnswer, AnswersCommand, AnswersContent, AnswersSource, AnswersTokens, IsOutput, source_limit, refusal, usage_line, absent_line, long_line, refused_line}
+use Rattle.k_top.specs.Answer.{IsAnswer, AnswersCommand, AnswersContent, AnswersSource, AnswersTokens, IsOutput, file_limit, refusal, usage_line, absent_line, long_line, refused_line}
 use Rattle.k_top.specs.Clauses.{MayHold, PartOfAnswer}
 use Rattle.k_top.specs.Endings.{EndsWords, status_of, line_of}
 use Rattle.k_top.proofs.Growing.{grows_no_part, grows_nothing, grows_in_part}
@@ -69,7 +69,7 @@ module _ (words : List (List ℕ)) (files files' : FilesState) (out out' : SinkS
 
   -- the output of the answer is that of the program that the file's tokens spell
   answer_output : (held : List ℕ → Option (List ℕ)) (answer : Answer.Answer) (file source text : List ℕ) (list : List Token) (program : Program)
-      → command_of words ≡ Ok file → held file ≡ Some source → length source ≤ source_limit → tokens source ≡ Ok list
+      → command_of words ≡ Ok file → held file ≡ Some source → length source ≤ file_limit → tokens source ≡ Ok list
       → Spells list program → IsOutput program text → IsAnswer words held answer → answer.out ≡ text
   answer_output held answer file source text list program command content fits lexed spells output is =
       of_content (subst (λ c. AnswersContent file c answer) content (subst (λ c. AnswersCommand c held answer) command is))
@@ -96,7 +96,7 @@ module _ (words : List (List ℕ)) (files files' : FilesState) (out out' : SinkS
 
   -- a prefix of the program's output is one of the answer's
   program_put : (file : List ℕ) (source : Vec ℕ Global) (list : List Token) (program : Program) (text : List ℕ) → command_of words ≡ Ok file
-      → Loads (Ok source) file source_limit files files' → tokens source.items ≡ Ok list → Spells list program → IsOutput program text
+      → Loads (Ok source) file file_limit files files' → tokens source.items ≡ Ok list → Spells list program → IsOutput program text
       → GrowsInPart out.written text out'.written → PartOfAnswer words files out out'
   program_put file source list program text command loads lexed spells output grows =
       let content = content_of_file files.held file (Some source.items) loads.0 in
@@ -138,7 +138,7 @@ module _ (words : List (List ℕ)) (files files' : FilesState) (out out' : SinkS
 
   -- the source was loaded, and this is its answer
   by_source : (file : List ℕ) (source : Vec ℕ Global) (answer : Answer.Answer) → command_of words ≡ Ok file
-      → Loads (Ok source) file source_limit files files' → AnswersSource source.items answer → Grows out.written answer.out out'.written
+      → Loads (Ok source) file file_limit files files' → AnswersSource source.items answer → Grows out.written answer.out out'.written
       → FoundAnswer words answer.status answer.err files out out'
   by_source file source answer command loads answers grows =
       let content = content_of_file files.held file (Some source.items) loads.0 in
@@ -193,7 +193,7 @@ module _ (words : List (List ℕ)) (files files' : FilesState) (out out' : SinkS
   answered WriteFault (file, command, ends) = inr (inl refl)
   answered NoMemory ends = inr (inr (inl refl))
   answered (TooLong name) (file, command, (named, loads, same)) =
-      let content = long_content files.held file source_limit loads.0 in
+      let content = long_content files.held file file_limit loads.0 in
       let answer : Answer.Answer = refusal 12 (long_line file) in
       answer_of 12 (long_line name.now) (record {
         held = content.0;

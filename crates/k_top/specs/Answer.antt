@@ -25,9 +25,9 @@ pub record Answer : Type 0 where
   pub err : List ℕ
   pub status : ℕ
 
--- how many bytes a source may have
-abbrev pub source_limit : ℕ
-source_limit = 16777216
+-- how many bytes a file may have
+abbrev pub file_limit : ℕ
+file_limit = 16777216
 
 -- instances below this depth are in the profile
 abbrev pub tracked_depth : ℕ
@@ -91,8 +91,8 @@ AnswersSource source answer = AnswersTokens (tokens source) answer
 abbrev pub AnswersContent : List ℕ → Option (List ℕ) → Answer → Type 0
 AnswersContent file None answer = answer ≡ refusal 5 (absent_line file)
 AnswersContent file (Some source) answer =
-    ((source_limit < length source) × (answer ≡ refusal 12 (long_line file)))
-    ⊎ ((length source ≤ source_limit) × AnswersSource source answer)
+    ((file_limit < length source) × (answer ≡ refusal 12 (long_line file)))
+    ⊎ ((length source ≤ file_limit) × AnswersSource source answer)
 
 -- the command decides
 abbrev pub AnswersCommand : Result (List ℕ) Usage → (List ℕ → Option (List ℕ)) → Answer → Type 0

@@ -74,7 +74,7 @@ write_fault_line = codes "kremlin: write fault\n"
 abbrev pub memory_line : List ℕ
 memory_line = codes "kremlin: no memory\n"
 
--- with status 6, 7 or 8 the line of that fault was told on err; of that of 8 it may be a prefix
+-- with status 6, 7 or 8 the line of that fault was told on err, with 8 perhaps a prefix of it
 pub record ToldFault (status : ℕ) (err err' : SinkState) : Type 0 where
   pub read_fault : status ≡ 6 → Told read_fault_line err err'
   pub write_fault : status ≡ 7 → Told write_fault_line err err'

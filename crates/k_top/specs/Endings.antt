@@ -15,7 +15,7 @@ use Rattle.k_top.specs.declared.form.Program.{Program}
 use Rattle.k_top.specs.declared.refusal.SourceFault.TheVariants.{Lex, NotBuilt}
 use Rattle.k_top.specs.Command.{command_of}
 use Rattle.k_top.specs.Form.{Spells}
-use Rattle.k_top.specs.Answer.{IsOutput, source_limit, usage_line, absent_line, long_line, refused_line}
+use Rattle.k_top.specs.Answer.{IsOutput, file_limit, usage_line, absent_line, long_line, refused_line}
 use Rattle.k_top.specs.Clauses.{read_fault_line, write_fault_line, memory_line}
 
 -- the exit status of an ending
@@ -72,15 +72,15 @@ EndsSource source ending out out' = (list : List Token) × (tokens source ≡ Ok
 -- how a file ended
 abbrev pub EndsFile : List ℕ → Ending → FilesState → FilesState → SinkState → SinkState → Type 0
 EndsFile file (Absent name) files files' out out' =
-    (name.now ≡ file) × Loads (Err load.Absent) file source_limit files files' × (out' ≡ out)
+    (name.now ≡ file) × Loads (Err load.Absent) file file_limit files files' × (out' ≡ out)
 EndsFile file (TooLong name) files files' out out' =
-    (name.now ≡ file) × Loads (Err load.TooLong) file source_limit files files' × (out' ≡ out)
-EndsFile file ReadFault files files' out out' = Loads (Err load.Failed) file source_limit files files' × (out' ≡ out)
+    (name.now ≡ file) × Loads (Err load.TooLong) file file_limit files files' × (out' ≡ out)
+EndsFile file ReadFault files files' out out' = Loads (Err load.Failed) file file_limit files files' × (out' ≡ out)
 EndsFile file NoMemory files files' out out' =
     ((files' ≡ files) × (out' ≡ out))
-    ⊎ ((source : Vec ℕ Global) × Loads (Ok source) file source_limit files files' × EndsSource source.items NoMemory out out')
+    ⊎ ((source : Vec ℕ Global) × Loads (Ok source) file file_limit files files' × EndsSource source.items NoMemory out out')
 EndsFile file ending files files' out out' =
-    (source : Vec ℕ Global) × Loads (Ok source) file source_limit files files' × EndsSource source.items ending out out'
+    (source : Vec ℕ Global) × Loads (Ok source) file file_limit files files' × EndsSource source.items ending out out'
 
 -- how the words ended
 abbrev pub EndsWords : List (List ℕ) → Ending → FilesState → FilesState → SinkState → SinkState → Type 0

@@ -2,5 +2,6 @@
 use Rattle.k_graph.specs.declared.tree.Instance.{Instance}
 use Rattle.k_top.specs.declared.rows.Row.{Row}
 
+-- its row
 abbrev pub only_row : Instance → Row
 only_row n = record { region = n.region; instances = 1; work = n.work; path = n.path; parallel = 1; of = 1 }

@@ -12,6 +12,7 @@ use Rattle.k_top.specs.declared.rows.Row.{Row}
 abbrev pub place_text : Place → List ℕ
 place_text place = decimal place.line ++ codes ":" ++ decimal place.column
 
+-- the word for a kind of region
 abbrev pub kind_text : RegionKind → List ℕ
 kind_text Func = codes "func"
 kind_text Loop = codes "loop"

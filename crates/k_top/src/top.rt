@@ -15,8 +15,8 @@ use k_lex::{LexFault, lex};
 use k_tree::Token;
 use std::alloc::Global;
 
-/// How many bytes a source may have.
-const SOURCE_LIMIT: u64 = 16_777_216;
+/// How many bytes a file may have.
+const FILE_LIMIT: u64 = 16_777_216;
 
 /// Runs the command that the words say, and answers the exit status: 0 where it is done, 3 where the source is
 /// refused, 4 where the words are no command, 5 where there is no such file, 6 where a read failed, 7 where a write
@@ -89,7 +89,7 @@ fn run_file<'a, F: Files, K: Sink>(
 ) -> Ending<'a>
     ensures { EndsFile file.entry.now result (F.seen files.old) (F.seen files.new) (K.seen out.old) (K.seen out.new) }
 {
-    let source = match files.load(alloc, file, SOURCE_LIMIT) {
+    let source = match files.load(alloc, file, FILE_LIMIT) {
         Ok(source) => source,
         Err(LoadFault::Absent) => return Ending::Absent(file),
         Err(LoadFault::TooLong) => return Ending::TooLong(file),
