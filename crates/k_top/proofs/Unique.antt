@@ -1,4 +1,4 @@
--- The whole answer is one: a source spells one program, and a program has one output.
+-- The whole answer is one: a token list spells one program, and a program has one output.
 use Rattle.std.proofs.Common.{ℕ, ◌≡◌, ap, arith, subst, sym, ◌∙◌, List, [], ◌∷◌, length, Some, inl, inr}
 use Rattle.std.specs.Prelude.{slice_get}
 use Rattle.k_optab.specs.Events.{operations}
