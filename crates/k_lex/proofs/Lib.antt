@@ -9,3 +9,4 @@ pub mod MacroLaws
 pub mod RunLaws
 pub mod IndexLaws
 pub mod PlanLaws
+pub mod CutLaws

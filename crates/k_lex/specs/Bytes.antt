@@ -2,23 +2,27 @@
 use Rattle.std.specs.Prelude.{ℕ, suc, ◌<◌, ◌^◌, ◌+◌, ◌-◌, Bool, true, false, ◌&&◌, ◌||◌, List, [], ◌∷◌, Option, Some, None, nat_le, ◌==◌, if◌then◌else◌}
 use Rattle.k_num.specs.declared.place.Place.{Place}
 
+-- the byte lies between low and high, both included
 abbrev pub within : ℕ → ℕ → ℕ → Bool
 within low high b = nat_le low b && nat_le b high
 
--- C17 6.4.2.1: the digits and the nondigits
+-- a digit (C17 6.4.2.1)
 abbrev pub is_digit : ℕ → Bool
 is_digit b = within 48 57 b
 
+-- a nondigit: a letter or `_` (C17 6.4.2.1)
 abbrev pub is_letter : ℕ → Bool
 is_letter b = within 97 122 b || within 65 90 b || b == 95
 
+-- a byte that may stand in a name (C17 6.4.2.1)
 abbrev pub in_name : ℕ → Bool
 in_name b = is_letter b || is_digit b
 
--- C17 6.4.4.1
+-- an octal digit (C17 6.4.4.1)
 abbrev pub is_octal : ℕ → Bool
 is_octal b = within 48 55 b
 
+-- a hexadecimal digit (C17 6.4.4.1)
 abbrev pub is_hexadecimal : ℕ → Bool
 is_hexadecimal b = is_digit b || within 97 102 b || within 65 70 b
 
@@ -47,6 +51,7 @@ same [] (y ∷ ys) = false
 same (x ∷ xs) [] = false
 same (x ∷ xs) (y ∷ ys) = same xs ys && x == y
 
+-- the first list stands at the front of the second
 abbrev pub begins : List ℕ → List ℕ → Bool
 begins [] text = true
 begins (x ∷ xs) [] = false

@@ -8,13 +8,16 @@ use Rattle.k_lex.specs.declared.headers.Fixed.TheVariants as f
 use Rattle.k_lex.specs.declared.macros.Lexeme.{Lexeme}
 use Rattle.k_lex.specs.Macros.{Macro, lexeme}
 
+-- the macro that an entry of the code stands for
 abbrev pub plain : Plain → Macro
 plain p = (p.name, p.body)
 
+-- what a part of a macro is, as a token
 abbrev pub kind_of : Fixed → TokenKind
 kind_of (f.Word w) = t.Word w
 kind_of (f.Mark m) = t.Mark m
 kind_of (f.Number k v) = t.Number k v
 
+-- a part of a macro, as a token of its body
 abbrev pub lexeme_of : Part → Lexeme
 lexeme_of p = lexeme (kind_of p.what) p.size

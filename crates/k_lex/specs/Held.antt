@@ -5,9 +5,11 @@ use Rattle.k_tree.specs.declared.tokens.Token.{Token}
 use Rattle.k_tree.specs.declared.tokens.TokenKind.TheVariants as t
 use Rattle.k_lex.specs.declared.joined.Held.{Held}
 
+-- the string that the next token may go on with, as a list of one token or none
 abbrev pub held_tokens : Option Held → List Token
 held_tokens None = []
 held_tokens (Some h) = record { what = t.Str h.bytes; place = h.place } ∷ []
 
+-- the end of the source, as the last token
 abbrev pub end_token : Place → Token
 end_token place = record { what = t.End; place = place }

@@ -14,3 +14,4 @@ pub mod Table
 pub mod Shown
 pub mod Headers
 pub mod Held
+pub mod Cuts

@@ -32,15 +32,18 @@ pub record State : Type 0 where
   pub tokens : List Token
   pub spelled : ℕ
 
+-- the state in another mode
 abbrev pub in_mode : Mode → State → State
 in_mode mode s = record s { mode = mode }
 
 -- ---- tokens
 
+-- a word, or a name that is no word (C17 6.4.1, 6.4.2)
 abbrev pub name_token : List ℕ → Option Word → TokenKind
 name_token s None = t.Name s
 name_token s (Some w) = t.Word w
 
+-- a number with its kind, or BadNumber (C17 6.4.4.1)
 abbrev pub number_token : Place → Option (Kind × ℕ) → Result TokenKind Fault
 number_token place None = refused r.BadNumber place
 number_token place (Some n) = Ok (t.Number n.0 n.1)
@@ -56,9 +59,11 @@ token_of place s p.OpenComment = refused r.OpenComment place
 token_of place s p.OpenLiteral = refused r.OpenLiteral place
 token_of place s _ = refused r.BadByte place
 
+-- so many tokens more, spelled with so many bytes, are within the limits
 abbrev pub has_room : State → ℕ → ℕ → Bool
 has_room s count bytes = nat_le (length s.tokens + count) s.limits.tokens && nat_le (s.spelled + bytes) s.limits.spelling
 
+-- a token of a body, at the place of its use
 abbrev pub placed : Place → Lexeme → Token
 placed place x = record { what = x.what; place = place }
 
@@ -69,6 +74,7 @@ add place xs s =
     then Ok (record s { mode = m.Middle; tokens = s.tokens ++ map (placed place) xs; spelled = s.spelled + sizes xs })
     else refused r.TokensMany place
 
+-- a character constant or a string
 abbrev pub is_literal : Piece → Bool
 is_literal p.Character = true
 is_literal p.Str = true
@@ -80,6 +86,7 @@ token_in_text place s piece old =
     if is_literal piece && not (has_room old 1 (length s)) then refused r.TokensMany place
     else token_of place s piece >>= λ what. add place (replaced old.macros (lexeme what (length s))) old
 
+-- a piece outside of directives
 abbrev pub in_text : Place → List ℕ → Piece → State → Result State Fault
 in_text place s p.Blank old = Ok old
 in_text place s p.Comment old = Ok old
@@ -88,6 +95,7 @@ in_text place s piece old = token_in_text place s piece old
 
 -- ---- directives
 
+-- what the word behind `#` begins, if it is one of the three (C17 6.10.2, 6.10.3, 6.10.6)
 abbrev pub directive_mode : Place → List ℕ → Option Mode
 directive_mode hash s =
     if same s (codes "define") then Some (m.Define hash)
@@ -95,10 +103,12 @@ directive_mode hash s =
     else (if same s (codes "pragma") then Some m.Pragma
     else None))
 
+-- the line goes on as that directive, or there is none of this name
 abbrev pub directive : Place → Option Mode → State → Result State Fault
 directive hash None old = refused r.BadDirective hash
 directive hash (Some mode) old = Ok (in_mode mode old)
 
+-- a piece behind the `#`: a directive with nothing behind the `#` does nothing (C17 6.10.7)
 abbrev pub in_hash : Place → List ℕ → Piece → State → Result State Fault
 in_hash hash s p.Blank old = Ok old
 in_hash hash s p.Comment old = Ok old
@@ -113,6 +123,7 @@ named place s None old =
     if mentions old.macros s then refused r.MacroOrder place
     else Ok (record old { mode = m.Body place; name = s; body = [] })
 
+-- a piece behind `#define`: the name, which is no word and has no parameters (C17 6.10.3)
 abbrev pub in_define : Place → Place → List ℕ → List ℕ → Piece → State → Result State Fault
 in_define hash place s rest p.Blank old = Ok old
 in_define hash place s rest p.Comment old = Ok old
@@ -127,9 +138,11 @@ body_token at place s piece old = token_of place s piece >>= λ what.
     if is_named old.name what then refused r.MacroOrder at
     else Ok (record old { body = old.body ++ lexeme what (length s) ∷ [] })
 
+-- the macro that has been read comes into the table
 abbrev pub end_body : State → State
 end_body old = record old { mode = m.Start; name = []; body = []; macros = defined old.macros old.name old.body }
 
+-- a piece behind the name of a new macro
 abbrev pub in_body : Place → Place → List ℕ → Piece → State → Result State Fault
 in_body at place s p.Blank old = Ok old
 in_body at place s p.Comment old = Ok old
@@ -142,6 +155,7 @@ again_token at number count place s piece old = token_of place s piece >>= λ wh
     if stands_at (body_at old.macros number) count what then Ok (in_mode (m.Again (record { name = at; number = number; at = count + 1 })) old)
     else refused r.MacroAgain at
 
+-- a piece behind the name of a known macro (C17 6.10.3p2)
 abbrev pub in_again : Place → ℕ → ℕ → Place → List ℕ → Piece → State → Result State Fault
 in_again at number count place s p.Blank old = Ok old
 in_again at number count place s p.Comment old = Ok old
@@ -149,6 +163,7 @@ in_again at number count place s p.Newline old =
     if length (body_at old.macros number) == count then Ok (in_mode m.Start old) else refused r.MacroAgain at
 in_again at number count place s piece old = again_token at number count place s piece old
 
+-- a piece behind `#include` (C17 6.10.2)
 abbrev pub in_include : Place → Place → List ℕ → Piece → State → Result State Fault
 in_include hash place s p.Blank old = Ok old
 in_include hash place s p.Comment old = Ok old
@@ -175,16 +190,19 @@ in_header hash at header place p.OpenLiteral old = include at header old >>= λ 
 in_header hash at header place p.Unknown old = include at header old >>= λ new. refused r.BadByte place
 in_header hash at header place _ old = refused r.BadDirective hash
 
+-- a piece behind `#pragma`, which is skipped (C17 6.10.6)
 abbrev pub in_pragma : Place → Piece → State → Result State Fault
 in_pragma place p.Newline old = Ok (in_mode m.Start old)
 in_pragma place p.OpenComment old = refused r.OpenComment place
 in_pragma place _ old = Ok old
 
+-- a piece where the line has had blanks and comments alone: `#` begins a directive (C17 6.10p2)
 abbrev pub in_start : Place → List ℕ → Piece → State → Result State Fault
 in_start place s piece old = if same s (codes "#") then Ok (in_mode (m.Hash place) old) else in_text place s piece old
 
 -- ---- what a piece at this place does, with what stands behind it
 
+-- what a piece does, by what has been read of its line
 abbrev pub step_in : Mode → Place → List ℕ → List ℕ → Piece → State → Result State Fault
 step_in m.Start place s rest piece old = in_start place s piece old
 step_in m.Middle place s rest piece old = in_text place s piece old
@@ -196,5 +214,6 @@ step_in (m.Include hash) place s rest piece old = in_include hash place s piece 
 step_in (m.Header d) place s rest piece old = in_header d.hash d.name d.header place piece old
 step_in m.Pragma place s rest piece old = in_pragma place piece old
 
+-- what a piece at this place does, with what stands behind it
 abbrev pub step : Place → List ℕ → List ℕ → Piece → State → Result State Fault
 step place s rest piece old = step_in old.mode place s rest piece old

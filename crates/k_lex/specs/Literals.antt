@@ -24,6 +24,7 @@ simple_escapes =
     (codes "v", 11) ∷
     []
 
+-- the value of the hexadecimal digits behind `\x`, of which there is at least one
 abbrev pub hexadecimal_value : List ℕ → Option ℕ
 hexadecimal_value bs = if span is_hexadecimal bs == 0 then None else Some (value 16 0 (take (span is_hexadecimal bs) bs))
 
@@ -40,6 +41,7 @@ abbrev pub in_byte : Option ℕ → Option ℕ
 in_byte None = None
 in_byte (Some v) = if nat_le v 255 then Some v else None
 
+-- the value of an escape, or BadEscape at its backslash
 abbrev pub byte_or_fault : Place → Option ℕ → Result ℕ Fault
 byte_or_fault p None = refused BadEscape p
 byte_or_fault p (Some v) = Ok v
@@ -59,13 +61,15 @@ content p zero (b ∷ bs) = item_at p (b ∷ bs) >>= λ v. content (after p b) (
 abbrev pub inside : List ℕ → List ℕ
 inside s = take (length s - 2) (drop 1 s)
 
--- C17 6.4.4.4p10, where a char is signed
+-- the value of a byte as a char, which is signed (C17 6.4.4.4p10)
 abbrev pub as_char : ℕ → ℤ
 as_char b = if nat_lt b 128 then pos b else pos b -ℤ pos 256
 
+-- the first byte is 128 or more
 abbrev pub begins_high : List ℕ → Bool
 begins_high [] = false
 begins_high (b ∷ bs) = nat_le 128 b
 
+-- the value of a character constant without its quotes (C17 6.4.4.4p10)
 abbrev pub character_of : Place → List ℕ → Result ℤ Fault
 character_of p text = if begins_high text then refused BadByte p else item_at p text >>= λ v. Ok (as_char v)

@@ -16,6 +16,7 @@ use Rattle.k_lex.specs.Bytes.{same, look_up}
 abbrev pub Macro : Type 0
 Macro = List ℕ × List Lexeme
 
+-- a token of a body, and how many bytes spell it
 abbrev pub lexeme : TokenKind → ℕ → Lexeme
 lexeme what size = record { what = what; size = size }
 
@@ -24,14 +25,17 @@ abbrev pub find_from : ℕ → List Macro → List ℕ → Option ℕ
 find_from count [] name = None
 find_from count (m ∷ ms) name = if same m.0 name then Some count else find_from (count + 1) ms name
 
+-- the number of the macro of this name, counted from 0 in the order of the lines
 abbrev pub find : List Macro → List ℕ → Option ℕ
 find table name = find_from 0 table name
 
+-- the body of the macro of this number
 abbrev pub body_at : List Macro → ℕ → List Lexeme
 body_at [] k = []
 body_at (m ∷ ms) zero = m.1
 body_at (m ∷ ms) (suc k) = body_at ms k
 
+-- the list of this number
 abbrev pub full_at : List (List Lexeme) → ℕ → List Lexeme
 full_at [] k = []
 full_at (xs ∷ lists) zero = xs
@@ -42,6 +46,7 @@ abbrev pub used : List Macro → TokenKind → Option ℕ
 used table (t.Name name) = find table name
 used table _ = None
 
+-- the token itself, or the list of the macro that it uses
 abbrev pub full_or : List (List Lexeme) → Lexeme → Option ℕ → List Lexeme
 full_or lists x None = x ∷ []
 full_or lists x (Some k) = full_at lists k
@@ -55,6 +60,7 @@ abbrev pub fulls_from : List Macro → List (List Lexeme) → List Macro → Lis
 fulls_from seen lists [] = lists
 fulls_from seen lists (m ∷ ms) = fulls_from (seen ++ m ∷ []) (lists ++ flat_map (replaced_by seen lists) m.1 ∷ []) ms
 
+-- the token list of each macro, already fully replaced, in the order of the lines
 unfoldable pub fulls : List Macro → List (List Lexeme)
 fulls table = fulls_from [] [] table
 
@@ -62,13 +68,16 @@ fulls table = fulls_from [] [] table
 abbrev pub replaced : List Macro → Lexeme → List Lexeme
 replaced table x = replaced_by table (fulls table) x
 
+-- the table with a macro more
 abbrev pub defined : List Macro → List ℕ → List Lexeme → List Macro
 defined table name body = table ++ (name, body) ∷ []
 
+-- the token is this name
 abbrev pub is_named : List ℕ → TokenKind → Bool
 is_named name (t.Name n) = same n name
 is_named name _ = false
 
+-- the name stands in the body
 abbrev pub stands_in : List ℕ → List Lexeme → Bool
 stands_in name [] = false
 stands_in name (x ∷ xs) = is_named name x.what || stands_in name xs
@@ -78,6 +87,7 @@ abbrev pub mentions : List Macro → List ℕ → Bool
 mentions [] name = false
 mentions (m ∷ ms) name = stands_in name m.1 || mentions ms name
 
+-- the two are one token: of one kind, with one value
 abbrev pub same_kind : TokenKind → TokenKind → Bool
 same_kind a b = equality.ghosts.eq a b
 
@@ -87,6 +97,7 @@ stands_at [] k what = false
 stands_at (x ∷ xs) zero what = same_kind x.what what
 stands_at (x ∷ xs) (suc k) what = stands_at xs k what
 
+-- the two bodies have equal tokens (C17 6.10.3p1), however they are spelled
 abbrev pub same_body : List Lexeme → List Lexeme → Bool
 same_body [] [] = true
 same_body [] (y ∷ ys) = false
@@ -102,21 +113,27 @@ headers =
     (codes "<limits.h>", h.Limits) ∷
     []
 
+-- the header of this spelling
 abbrev pub header_of : List ℕ → Option Header
 header_of s = look_up headers s
 
+-- `size_t` is `unsigned long` (C17 7.19)
 abbrev pub size_type : Macro
 size_type = (codes "size_t", lexeme (t.Word Unsigned) 8 ∷ lexeme (t.Word Long) 4 ∷ [])
 
+-- the token `(`
 abbrev pub open_paren : Lexeme
 open_paren = lexeme (t.Mark LeftParen) 1
 
+-- the token `)`
 abbrev pub close_paren : Lexeme
 close_paren = lexeme (t.Mark RightParen) 1
 
+-- the token `-`
 abbrev pub minus : Lexeme
 minus = lexeme (t.Mark Minus) 1
 
+-- the token `1`
 abbrev pub one : Lexeme
 one = lexeme (t.Number I32 1) 1
 
@@ -139,6 +156,7 @@ abbrev pub breaks_order : List Macro → List Macro → Bool
 breaks_order table [] = false
 breaks_order table (d ∷ ds) = (is_none (find table d.0) && mentions table d.0) || breaks_order table ds
 
+-- the macro of this number has another body, if there is one
 abbrev pub differs : List Macro → List Lexeme → Option ℕ → Bool
 differs table body None = false
 differs table body (Some k) = not (same_body (body_at table k) body)

@@ -4,6 +4,7 @@ use Rattle.k_lex.specs.Bytes.{look_up}
 use Rattle.k_tree.specs.declared.tokens.mark.Mark.{Mark}
 use Rattle.k_tree.specs.declared.tokens.mark.Mark.TheVariants as m
 
+-- the punctuators, each with its spelling
 abbrev pub marks : List (List ℕ × Mark)
 marks =
     (codes "[", m.LeftBracket) ∷
@@ -51,5 +52,6 @@ marks =
     (codes ",", m.Comma) ∷
     []
 
+-- the punctuator of this spelling
 abbrev pub mark_of : List ℕ → Option Mark
 mark_of s = look_up marks s

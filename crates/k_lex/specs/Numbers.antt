@@ -41,6 +41,7 @@ kinds false (false, true) = I64 ∷ U64 ∷ []
 kinds true (false, false) = I32 ∷ I64 ∷ []
 kinds false (false, false) = I32 ∷ U32 ∷ I64 ∷ U64 ∷ []
 
+-- the greatest value of a kind (C17 5.2.4.2.1)
 abbrev pub greatest : Kind → ℕ
 greatest I8 = 127
 greatest U8 = 255
@@ -61,6 +62,7 @@ abbrev pub value : ℕ → ℕ → List ℕ → ℕ
 value base so_far [] = so_far
 value base so_far (d ∷ ds) = value base (so_far * base + digit_value d) ds
 
+-- the value in the first kind that the suffix lets it have and that holds it
 abbrev pub with_suffix : Bool → ℕ → Option (Bool × Bool) → Option (Kind × ℕ)
 with_suffix decimal v None = None
 with_suffix decimal v (Some suffix) = first_kind (kinds decimal suffix) v

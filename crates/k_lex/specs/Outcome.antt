@@ -6,11 +6,13 @@ use Rattle.k_lex.specs.declared.fault.Refusal.{Refusal}
 use Rattle.k_lex.specs.declared.fault.Stop.{Stop}
 use Rattle.k_lex.specs.declared.fault.Stop.TheVariants as stop
 
+-- go on with the value, or keep the first fault
 infixl 10 ◌>>=◌
 abbrev pub ◌>>=◌ : {A B : Type 0} → Result A Fault → (A → Result B Fault) → Result B Fault
 (Ok x) >>= f = f x
 (Err e) >>= f = Err e
 
+-- a fault at a place, and no value
 abbrev pub refused : {A : Type 0} → Refusal → Place → Result A Fault
 refused what place = Err (record { what = what; place = place })
 

@@ -6,18 +6,20 @@ use Rattle.k_tree.specs.declared.tokens.mark.Mark.{Mark}
 use Rattle.k_lex.specs.declared.pieces.Piece.{Piece}
 use Rattle.k_lex.specs.declared.pieces.Piece.TheVariants as p
 
--- C17 6.4.2.1, keywords included
+-- a name, or a keyword (C17 6.4.1, 6.4.2.1)
 abbrev pub is_name : List ℕ → Bool
 is_name [] = false
 is_name (b ∷ bs) = is_letter b && every in_name bs
 
--- C17 6.4.8: digits, letters and points, and a sign behind an exponent's letter
+-- a letter behind which a sign belongs to a number (C17 6.4.8)
 abbrev pub takes_sign : ℕ → Bool
 takes_sign b = b == 101 || b == 69 || b == 112 || b == 80
 
+-- a number goes on with the byte, where another byte stands before it (C17 6.4.8)
 abbrev pub goes_on : ℕ → ℕ → Bool
 goes_on before b = in_name b || b == 46 || (takes_sign before && (b == 43 || b == 45))
 
+-- a number goes on with each of the bytes (C17 6.4.8)
 abbrev pub number_goes_on : ℕ → List ℕ → Bool
 number_goes_on before [] = true
 number_goes_on before (b ∷ bs) = goes_on before b && number_goes_on b bs
@@ -27,6 +29,7 @@ abbrev pub starts_number : ℕ → List ℕ → Bool
 starts_number b [] = is_digit b
 starts_number b (c ∷ cs) = is_digit b || (b == 46 && is_digit c)
 
+-- a number: a digit, or a point and a digit, and what goes on (C17 6.4.8)
 abbrev pub is_number : List ℕ → Bool
 is_number [] = false
 is_number (b ∷ []) = is_digit b
@@ -40,6 +43,7 @@ closes quote escaped (b ∷ bs) =
     if not escaped && b == quote then same bs []
     else not (b == 10) && closes quote (not escaped && b == 92) bs
 
+-- a string, with its quotes (C17 6.4.5)
 abbrev pub is_string : List ℕ → Bool
 is_string [] = false
 is_string (b ∷ bs) = b == 34 && closes 34 false bs
@@ -54,37 +58,42 @@ abbrev pub item_length : List ℕ → ℕ
 item_length [] = 0
 item_length (b ∷ bs) = if b == 92 then suc (escape_length bs) else 1
 
--- C17 6.4.4.4, of one character or escape
+-- a character constant of one character or escape, with its quotes (C17 6.4.4.4)
 abbrev pub is_character : List ℕ → Bool
 is_character [] = false
 is_character (b ∷ bs) = b == 39 && closes 39 false bs && (item_length bs + 1 == length bs)
 
--- C17 6.4.9
+-- What stands behind `/*` ends with the first `*/` (C17 6.4.9); star says whether a `*` came before.
 abbrev pub ends_comment : Bool → List ℕ → Bool
 ends_comment star [] = false
 ends_comment star (b ∷ bs) = if star && b == 47 then same bs [] else ends_comment (b == 42) bs
 
+-- no end of line
 abbrev pub in_line : ℕ → Bool
 in_line b = not (b == 10)
 
+-- a comment, in either form (C17 6.4.9)
 abbrev pub is_comment : List ℕ → Bool
 is_comment [] = false
 is_comment (b ∷ []) = false
 is_comment (b ∷ c ∷ cs) = b == 47 && ((c == 42 && ends_comment false cs) || (c == 47 && every in_line cs))
 
--- C17 6.4.7, with the brackets
+-- What stands behind `<` ends with the first `>` of the line (C17 6.4.7).
 abbrev pub closes_header : List ℕ → Bool
 closes_header [] = false
 closes_header (b ∷ bs) = if b == 62 then same bs [] else not (b == 10) && closes_header bs
 
+-- the name of a header, with its brackets (C17 6.4.7)
 abbrev pub is_header : List ℕ → Bool
 is_header [] = false
 is_header (b ∷ bs) = b == 60 && closes_header bs
 
+-- one blank
 abbrev pub is_blank_piece : List ℕ → Bool
 is_blank_piece [] = false
 is_blank_piece (b ∷ bs) = same bs [] && is_blank b
 
+-- the piece that a punctuator is, if there is one
 abbrev pub mark_piece : Option Mark → Piece
 mark_piece None = p.Unknown
 mark_piece (Some m) = p.Mark m
@@ -115,6 +124,7 @@ class_in_include s =
     if begins (codes "<") s then (if is_header s then p.Header else p.Unknown)
     else class_of s
 
+-- the spelling is a piece
 abbrev pub is_known : Piece → Bool
 is_known p.Unknown = false
 is_known _ = true
@@ -131,5 +141,6 @@ piece_of_length class text n =
     else (if n == 0 then ((if begins (codes "'") text || begins (codes "\"") text then p.OpenLiteral else p.Unknown), 1)
     else (class (take n text), n))
 
+-- the longest piece at the front of a text, and its length, where class says what a spelling is (C17 6.4p4)
 unfoldable pub piece_by : (List ℕ → Piece) → List ℕ → Piece × ℕ
 piece_by class text = piece_of_length class text (longest (λ s. is_known (class s)) text (length text))

@@ -9,6 +9,7 @@ use Rattle.k_lex.specs.Bytes.{is_digit, in_name, is_octal, is_hexadecimal}
 use Rattle.k_lex.specs.Marks.{mark_of}
 use Rattle.k_lex.specs.Pieces.{goes_on, in_line}
 
+-- the byte is of the class
 abbrev pub is_in : Class → ℕ → Bool
 is_in c.Name b = in_name b
 is_in c.Digit b = is_digit b
@@ -29,10 +30,12 @@ close_at quote escaped count (b ∷ bs) =
     else (if b == 10 then None
     else close_at quote (not escaped && b == 92) (count + 1) bs)
 
+-- behind how many bytes the comment ends, where count bytes came before
 abbrev pub comment_at : Bool → ℕ → List ℕ → Option ℕ
 comment_at star count [] = None
 comment_at star count (b ∷ bs) = if star && b == 47 then Some (count + 1) else comment_at (b == 42) (count + 1) bs
 
+-- behind how many bytes a header's name ends, where count bytes came before
 abbrev pub header_at : ℕ → List ℕ → Option ℕ
 header_at count [] = None
 header_at count (b ∷ bs) =

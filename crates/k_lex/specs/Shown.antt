@@ -14,9 +14,11 @@ use Rattle.k_lex.specs.Table.{listed, IsIndexed, ArePlanned}
 abbrev pub shown : code.State → State
 shown s = record { limits = s.limits; mode = s.mode; name = s.name; body = s.body; macros = listed s.macros; tokens = s.tokens; spelled = s.spelled }
 
+-- the limits are so small that no count passes 32 bits
 abbrev pub IsSmall : Limits → Type 0
 IsSmall limits = (limits.tokens < 2 ^ 32) × (limits.spelling < 2 ^ 32)
 
+-- what is true of the state between two pieces: the macros are found and planned, and the tokens are within the limits
 pub record Sound (s : code.State) : Type 0 where
   pub small : IsSmall s.limits
   pub indexed : IsIndexed s.macros

@@ -43,17 +43,21 @@ abbrev pub join_kinds : Token → List Token → Token → TokenKind → TokenKi
 join_kinds a ts b (t.Str x) (t.Str y) = record { what = t.Str (x ++ y); place = a.place } ∷ ts
 join_kinds a ts b _ _ = a ∷ b ∷ ts
 
+-- a token before a list that is already joined
 abbrev pub join : Token → List Token → List Token
 join a [] = a ∷ []
 join a (b ∷ ts) = join_kinds a ts b a.what b.what
 
+-- the tokens with neighbouring strings joined, at the place of the first of them (C17 5.1.1.2, phase 6)
 abbrev pub joined : List Token → List Token
 joined [] = []
 joined (a ∷ ts) = join a (joined ts)
 
+-- the place of the first byte
 abbrev pub first_place : Place
 first_place = record { line = 1; column = 1 }
 
+-- the state before the first byte
 abbrev pub nothing_read : Limits → State
 nothing_read limits = record { limits = limits; mode = m.Start; name = []; body = []; macros = []; tokens = []; spelled = 0 }
 
@@ -64,6 +68,7 @@ tokens_within limits bytes =
     else (run 0 first_place (nothing_read limits) bytes >>= λ end.
     Ok (joined end.0.tokens ++ record { what = t.End; place = end.1 } ∷ []))
 
+-- a fault as the caller sees it
 abbrev pub fault_of : Refusal → Place → LexFault
 fault_of r.BadByte place = l.BadByte place
 fault_of r.OpenComment place = l.OpenComment place
@@ -77,6 +82,7 @@ fault_of r.MacroAgain place = l.MacroAgain place
 fault_of r.SourceLong place = l.SourceLong place
 fault_of r.TokensMany place = l.TokensMany place
 
+-- the token list, or the fault as the caller sees it
 abbrev pub answer : Result (List Token) Fault → Result (List Token) LexFault
 answer (Ok list) = Ok list
 answer (Err f) = Err (fault_of f.what f.place)

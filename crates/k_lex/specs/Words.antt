@@ -5,6 +5,7 @@ use Rattle.k_lex.specs.Bytes.{look_up}
 use Rattle.k_tree.specs.declared.tokens.word.Word.{Word}
 use Rattle.k_tree.specs.declared.tokens.word.Word.TheVariants as w
 
+-- the keywords, each with its spelling
 abbrev pub words : List (List ℕ × Word)
 words =
     (codes "auto", w.Auto) ∷
@@ -53,6 +54,7 @@ words =
     (codes "_Thread_local", w.ThreadLocal) ∷
     []
 
+-- the keyword of this spelling
 abbrev pub word_of : List ℕ → Option Word
 word_of s = look_up words s
 

@@ -6,6 +6,7 @@ mod bytes;
 mod fault;
 mod headers;
 mod joined;
+pub mod laws;
 mod lines;
 mod literals;
 mod macros;

@@ -1,0 +1,7 @@
+use Rattle.std.proofs.Common.{arith}
+use Rattle.k_lex.specs.Tokens.{first_place, nothing_read}
+use Rattle.k_lex.proofs.CutLaws
+use Rattle.k_lex.proofs.laws.only_the_rest_is_left.Goals as goal
+
+pub returns : goal.returns
+returns c = λ limits text. CutLaws.cuts_front 0 first_place (nothing_read limits) text (omega arith)
