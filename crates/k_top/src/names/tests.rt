@@ -1,16 +1,23 @@
 //! Blocks built by hand, whose names stand or don't.
 use super::names_stand;
-use k_num::{Box, Kind, NoMemory, Place, Seq, Text};
-use k_tree::{Declarator, Expr, Head, Init, Item, Mark, Params, Stmt, Unit, Word};
+use k_num::{Box, NoMemory, Place, Seq, Text};
+use k_tree::{Declarator, Expr, Head, Init, Item, Params, Stmt, Unit};
 use std::alloc::Global;
 use std::test::Fail;
 
 const HERE: Place = Place { line: 1, column: 1 };
 
-fn one<T: Drop>(alloc: Global, item: T) -> Result<Seq<T>, NoMemory> {
-    let mut list = Seq::new(alloc);
-    list.push(item)?;
-    Ok(list)
+/// A statement of a block.
+#[derive(Clone, Copy)]
+enum Part<'a> {
+    /// `int name;`
+    Plain(&'a str),
+    /// `int name = value;`
+    With(&'a str, &'a str),
+    /// `return name;`
+    Return(&'a str),
+    /// `;`
+    Empty,
 }
 
 fn name(alloc: Global, text: &str) -> Result<Expr, NoMemory> {
@@ -20,117 +27,111 @@ fn name(alloc: Global, text: &str) -> Result<Expr, NoMemory> {
     })
 }
 
-/// `1 + text`
-fn one_more(alloc: Global, text: &str) -> Result<Expr, NoMemory> {
-    let number = Expr::Number {
-        place: HERE,
-        kind: Kind::I32,
-        value: 1,
-    };
-    Ok(Expr::Binary {
-        place: HERE,
-        op: Mark::Plus,
-        left: Box::new(alloc, number)?,
-        right: Box::new(alloc, name(alloc, text)?)?,
-    })
-}
-
-/// `int text;`, or `int text = value;`
-fn declare(alloc: Global, text: &str, value: Option<Expr>) -> Result<Stmt, NoMemory> {
-    let init = match value {
-        None => None,
-        Some(value) => Some(Init::One { place: HERE, value }),
-    };
-    let declarator = Declarator {
+fn declaration(alloc: Global, text: &str, init: Option<Init>) -> Result<Stmt, NoMemory> {
+    let mut list = Seq::new(alloc);
+    list.push(Declarator {
         place: HERE,
         stars: Seq::new(alloc),
         name: Text::copy_of(alloc, text)?,
         dims: Seq::new(alloc),
         init,
-    };
+    })?;
     Ok(Stmt::Declare {
         place: HERE,
-        specs: one(alloc, Word::Int)?,
-        list: one(alloc, declarator)?,
+        specs: Seq::new(alloc),
+        list,
     })
 }
 
-/// `return 1 + text;`
-fn give(alloc: Global, text: &str) -> Result<Stmt, NoMemory> {
+fn initialised(alloc: Global, text: &str, value: &str) -> Result<Stmt, NoMemory> {
+    let value = name(alloc, value)?;
+    declaration(alloc, text, Some(Init::One { place: HERE, value }))
+}
+
+fn returned(alloc: Global, text: &str) -> Result<Stmt, NoMemory> {
+    let value = Box::new(alloc, name(alloc, text)?)?;
     Ok(Stmt::Return {
         place: HERE,
-        value: Some(Box::new(alloc, one_more(alloc, text)?)?),
+        value: Some(value),
     })
 }
 
-/// Whether the names of `int main(void) { first second }` stand.
-fn stand(alloc: Global, first: Stmt, second: Stmt) -> Result<bool, NoMemory> {
+fn statement(alloc: Global, part: Part<'_>) -> Result<Stmt, NoMemory> {
+    match part {
+        Part::Plain(text) => declaration(alloc, text, None),
+        Part::With(text, value) => initialised(alloc, text, value),
+        Part::Return(text) => returned(alloc, text),
+        Part::Empty => Ok(Stmt::Empty { place: HERE }),
+    }
+}
+
+fn block(alloc: Global, parts: &[Part<'_>]) -> Result<Seq<Stmt>, NoMemory> {
     let mut body = Seq::new(alloc);
-    body.push(first)?;
-    body.push(second)?;
+    for part in parts {
+        body.push(statement(alloc, *part)?)?;
+    }
+    Ok(body)
+}
+
+fn unit_of(alloc: Global, body: Seq<Stmt>) -> Result<Unit, NoMemory> {
     let head = Head {
-        specs: one(alloc, Word::Int)?,
+        specs: Seq::new(alloc),
         stars: Seq::new(alloc),
         name: Text::copy_of(alloc, "main")?,
         name_place: HERE,
         params: Params::Void,
     };
-    let item = Item::Function {
+    let mut items = Seq::new(alloc);
+    items.push(Item::Function {
         place: HERE,
         head,
         body,
         close: HERE,
-    };
-    let unit = Unit {
-        items: one(alloc, item)?,
-        end: HERE,
-    };
+    })?;
+    Ok(Unit { items, end: HERE })
+}
+
+/// Whether the names of a program with these statements stand.
+fn stand(alloc: Global, parts: &[Part<'_>]) -> Result<bool, NoMemory> {
+    let body = block(alloc, parts)?;
+    let unit = unit_of(alloc, body)?;
     names_stand(alloc, &unit)
 }
 
 #[test]
 fn a_name_is_declared_before_its_use(rt: HostRuntime) -> Result<(), Fail> {
-    let a = rt.alloc();
-    assert!(rt; stand(a, declare(a, "x", None)?, give(a, "x")?)?);
-    assert!(rt; !stand(a, give(a, "x")?, declare(a, "x", None)?)?);
-    assert!(rt; !stand(a, declare(a, "y", None)?, give(a, "x")?)?);
+    assert!(rt; stand(rt.alloc(), &[Part::Plain("x"), Part::Return("x")])?);
+    assert!(rt; !stand(rt.alloc(), &[Part::Return("x"), Part::Plain("x")])?);
     Ok(())
 }
 
 #[test]
 fn a_name_is_declared_once(rt: HostRuntime) -> Result<(), Fail> {
-    let a = rt.alloc();
-    assert!(rt; stand(a, declare(a, "x", None)?, declare(a, "y", None)?)?);
-    assert!(rt; !stand(a, declare(a, "x", None)?, declare(a, "x", None)?)?);
+    assert!(rt; stand(rt.alloc(), &[Part::Plain("x"), Part::Plain("y")])?);
+    assert!(rt; !stand(rt.alloc(), &[Part::Plain("x"), Part::Plain("x")])?);
     Ok(())
 }
 
 #[test]
 fn a_name_is_known_in_its_own_initialiser(rt: HostRuntime) -> Result<(), Fail> {
-    let a = rt.alloc();
-    let own = declare(a, "x", Some(one_more(a, "x")?))?;
-    assert!(rt; stand(a, own, give(a, "x")?)?);
-    let early = declare(a, "x", Some(one_more(a, "y")?))?;
-    assert!(rt; !stand(a, early, declare(a, "y", None)?)?);
+    assert!(rt; stand(rt.alloc(), &[Part::With("x", "x"), Part::Return("x")])?);
+    assert!(rt; !stand(rt.alloc(), &[Part::With("x", "y"), Part::Plain("y")])?);
     Ok(())
 }
 
 #[test]
 fn names_of_the_library_are_taken(rt: HostRuntime) -> Result<(), Fail> {
-    let a = rt.alloc();
-    for text in ["getchar", "putchar", "printf", "puts"] {
-        assert!(rt; !stand(a, declare(a, text, None)?, give(a, text)?)?);
+    for taken in ["getchar", "putchar", "printf", "puts"] {
+        assert!(rt; !stand(rt.alloc(), &[Part::Plain(taken)])?);
     }
-    for text in ["main", "put", "putss"] {
-        assert!(rt; stand(a, declare(a, text, None)?, give(a, text)?)?);
+    for free in ["main", "put", "putss"] {
+        assert!(rt; stand(rt.alloc(), &[Part::Plain(free)])?);
     }
     Ok(())
 }
 
 #[test]
 fn other_statements_are_not_read(rt: HostRuntime) -> Result<(), Fail> {
-    let a = rt.alloc();
-    let empty = Stmt::Empty { place: HERE };
-    assert!(rt; !stand(a, declare(a, "x", None)?, empty)?);
+    assert!(rt; !stand(rt.alloc(), &[Part::Plain("x"), Part::Empty])?);
     Ok(())
 }
