@@ -69,15 +69,15 @@ module _ (budget most : ℕ) where
       ]) in
       subst (DoneKept budget most) (sym (fold-roll-Init (Part (Unit {0})) (init_step place name) x)) parts)
 
-  initialised_kept : (place : Place) (name : List ℕ) (init : Option Init) → DoneKept budget most (initialised place name init)
-  initialised_kept place name None = done_kept
-  initialised_kept place name (Some init) = init_kept place name init
-
   unset_kept : (name : List ℕ) → DoneKept budget most (sets name None)
   unset_kept name s good = (holding_good budget most s name None good tt, tt, omega arith)
 
+  initialised_kept : (place : Place) (name : List ℕ) (init : Option Init) → DoneKept budget most (initialised place name init)
+  initialised_kept place name None = unset_kept name
+  initialised_kept place name (Some init) = init_kept place name init
+
   declared_kept : (d : Declarator) → DoneKept budget most (declared d)
-  declared_kept d = behind_kept (sets d.name None) (λ done. initialised d.place d.name d.init) (unset_kept d.name) (λ done. initialised_kept d.place d.name d.init)
+  declared_kept d = initialised_kept d.place d.name d.init
 
   declarators_kept : (list : List Declarator) → DoneKept budget most (declarators list)
   declarators_kept [] = done_kept

@@ -38,14 +38,14 @@ abbrev pub init_step : Place → List ℕ → Init-F (Part (Unit {0})) → Part 
 init_step place name (Init-F.One at value) = eval value >>= initialises place name
 init_step place name (Init-F.List at items comma) = gives tt
 
--- an initialiser, if there is one
+-- an initialiser gives the variable its value; without one the variable is unset each time its declarator is reached (6.2.4p6)
 abbrev pub initialised : Place → List ℕ → Option Init → Part (Unit {0})
-initialised place name None = gives tt
+initialised place name None = sets name None
 initialised place name (Some init) = fold-Init (Part (Unit {0})) (init_step place name) init
 
--- A declarator makes its variable unset each time it is reached (6.2.4p6), and then initialises it.
+-- A declarator. With an initialiser its variable keeps what it holds until the value is moved to it.
 abbrev pub declared : Declarator → Part (Unit {0})
-declared d = sets d.name None >>= λ done. initialised d.place d.name d.init
+declared d = initialised d.place d.name d.init
 
 -- declarators in order (6.7.6p3)
 abbrev pub declarators : List Declarator → Part (Unit {0})

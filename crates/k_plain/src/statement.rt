@@ -83,13 +83,16 @@ impl Evaluator {
     fn declarator(&mut self, declarator: &Declarator) -> Result<(), Stop>
         ensures { Comes result (declared declarator.now (state self.old)) (state self.new) }
     {
-        self.variables.unset(&declarator.name);
         match &declarator.init {
+            None => {
+                self.variables.unset(&declarator.name);
+                Ok(())
+            }
             Some(Init::One { value, .. }) => {
                 let a = self.expression(value)?;
                 self.initialise(declarator.place, &declarator.name, a)
             }
-            _ => Ok(()),
+            Some(Init::List { .. }) => Ok(()),
         }
     }
 
