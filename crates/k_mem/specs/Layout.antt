@@ -37,9 +37,13 @@ Ascend low (e ∷ extents) made = (low ≤ e.number) × Ascend (e.number + 1) ex
 
 -- these extents can be those of `end` cells, where `made` objects were made
 pub record AreKept (extents : List Extent) (end made : ℕ) : Type 0 where
+  -- the extents fill the cells, from the first to the last
   pub fill : Fill 0 extents end
+  -- their numbers rise, and are below the count of objects made
   pub ascend : Ascend 0 extents made
+  -- there are at most 4,194,304 cells
   pub few_elements : end ≤ 4194304
+  -- there were at most 2^62 objects
   pub few_objects : made ≤ 2 ^ 62
 
 -- these extents are kept, among however many cells

@@ -14,9 +14,11 @@ use Rattle.k_mem.specs.Memory.{Object, Memory, live_elements, FollowOn, Rise}
 use Rattle.k_mem.specs.Calls.{where_live, where_within, value_read, with_value, next_object, is_over_limit, push_of}
 use Rattle.k_mem.specs.Laws.{ElementsAreLive, ElementsDiffer, KeepsOverPush, KeepsOverStore, KeepsOverPop, LoadsLastStored, LoadsOthersAsBefore, DeadForGood, MakesNext}
 
+-- the first of these objects with that number
 abbrev with_number : List Object → ℕ → Option Object
 with_number objects number = find (λ o. eqb o.number number) objects
 
+-- how many elements an object has
 abbrev size : Object → ℕ
 size o = length o.elements
 
@@ -28,6 +30,7 @@ element_at objects number offset = where_live (with_number objects number) (λ o
 within_is : {len offset n k : ℕ} → where_within len offset (Ok n) ≡ Ok k → (offset < len) × (n ≡ k)
 within_is {len = len} {offset = offset} answer = elim (leb_tells (suc offset) len) [ inl below ↦ grind arith | inr past ↦ grind arith ]
 
+-- an element's number lies among those of the objects it was found in
 lies : (objects : List Object) (start number offset k : ℕ) → FollowOn start objects → element_at objects number offset ≡ Ok k
     → (start ≤ k) × (k < start + sum_by size objects)
 lies [] start number offset k follow answer = absurd (cc)
@@ -40,9 +43,11 @@ lies (o ∷ objects) start number offset k follow answer =
           (omega (arith, rest.0), omega (arith, rest.1, total))
     ]
 
+-- an element's number is below the count of live elements
 pub elements_are_live : ElementsAreLive
 elements_are_live m at n laid answer = omega (arith, (lies m.live 0 at.object at.offset n laid.follow_on answer).1)
 
+-- in objects one after another, one number is that of one element only
 differ : (objects : List Object) (start a i b j k : ℕ) → FollowOn start objects → element_at objects a i ≡ Ok k → element_at objects b j ≡ Ok k
     → (a ≡ b) × (i ≡ j)
 differ [] start a i b j k follow answer answer' = absurd (cc)
@@ -67,6 +72,7 @@ differ (o ∷ objects) start a i b j k follow answer answer' =
           ]
     ]
 
+-- two pointers to the element of one number have one object and one offset
 pub elements_differ : ElementsDiffer
 elements_differ m a b n laid answer answer' = differ m.live 0 a.object a.offset b.object b.offset n laid.follow_on answer answer'
 
@@ -80,6 +86,7 @@ pushed_is m m' start count pushed =
     let same : next ≡ m' = is (is_over_limit (live_elements m) count m.made) pushed in
     (sym (ap (λ (n : Memory). n.live) same), sym (ap (λ (n : Memory). n.made) same))
 
+-- more objects behind these change no element's number
 keeps_before : (objects more : List Object) (number offset k : ℕ) → element_at objects number offset ≡ Ok k
     → element_at (objects ++ more) number offset ≡ Ok k
 keeps_before [] more number offset k answer = absurd (cc)
@@ -88,10 +95,12 @@ keeps_before (o ∷ objects) more number offset k answer = elim (eqb_tells o.num
   | inr other ↦ rw other.0 (keeps_before objects more number offset k (rw other.0 at answer))
 ]
 
+-- an element keeps its number over a push
 pub keeps_over_push : KeepsOverPush
 keeps_over_push m m' start count at n pushed answer =
     rw ((pushed_is m m' start count pushed).0) (keeps_before m.live (next_object m start count ∷ []) at.object at.offset n answer)
 
+-- an element that the oldest objects have, all of them have, with the same number
 keeps_oldest : (objects : List Object) (keep number offset k : ℕ) → element_at (take keep objects) number offset ≡ Ok k
     → element_at objects number offset ≡ Ok k
 keeps_oldest objects zero number offset k answer = absurd (cc)
@@ -101,6 +110,7 @@ keeps_oldest (o ∷ objects) (suc keep) number offset k answer = elim (eqb_tells
   | inr other ↦ rw other.0 (keeps_oldest objects keep number offset k (rw other.0 at answer))
 ]
 
+-- an element that is live after a pop had that number before it
 pub keeps_over_pop : KeepsOverPop
 keeps_over_pop m keep at n answer = keeps_oldest m.live keep at.object at.offset n answer
 
@@ -108,6 +118,7 @@ keeps_over_pop m keep at n answer = keeps_oldest m.live keep at.object at.offset
 abbrev written : ℕ → ℕ → ℤ → Object → Object
 written number offset v o = cond (eqb o.number number) (with_value o offset v) o
 
+-- writing one object changes no element's number
 keeps_written : (objects : List Object) (to i : ℕ) (v : ℤ) (number offset : ℕ)
     → element_at (map (written to i v) objects) number offset ≡ element_at objects number offset
 keeps_written [] to i v number offset = refl
@@ -124,6 +135,7 @@ keeps_written (o ∷ objects) to i v number offset =
       ]
     ]
 
+-- an element keeps its number over a store
 pub keeps_over_store : KeepsOverStore
 keeps_over_store m to at v = keeps_written m.live to.object to.offset v at.object at.offset
 
@@ -131,14 +143,17 @@ keeps_over_store m to at v = keeps_written m.live to.object to.offset v at.objec
 abbrev load_at : List Object → ℕ → ℕ → Result (ℤ × ℕ) MemTrap
 load_at objects number offset = where_live (with_number objects number) (λ o. value_read (slice_get o.elements offset) (o.first + offset))
 
+-- the number of the element written, at an offset of the object of a number
 abbrev store_at : List Object → ℕ → ℕ → Result ℕ MemTrap
 store_at objects number offset =
     where_live (with_number objects number) (λ o. where_within (length o.elements) offset (cond o.writable (Ok (o.first + offset)) (Err ReadOnly)))
 
+-- the entry that was set is the one that was put there
 get-set_same : (xs : List (Option ℤ)) (i : ℕ) (x : Option ℤ) → i < length xs → slice_get (set xs i x) i ≡ Some x
 get-set_same xs i x below =
     slice_get-get_or (set xs i x) i None (omega (arith, length-set xs i x)) ∙ ap Some (get_or-set_same xs i x None below)
 
+-- every other entry is as before
 get-set_other : (xs : List (Option ℤ)) (i j : ℕ) (x : Option ℤ) → j ≢ i → slice_get (set xs i x) j ≡ slice_get xs j
 get-set_other xs i j x other = elim (cases_lt j (length xs)) [
   | inl below ↦ slice_get-get_or (set xs i x) j None (omega (arith, length-set xs i x)) ∙ ap Some (get_or-set_other xs i j x None other)
@@ -152,6 +167,7 @@ answered : (writable : Bool) (len offset n element : ℕ) → where_within len o
 answered true len offset n element answer = elim (leb_tells (suc offset) len) [ inl below ↦ grind arith | inr past ↦ grind arith ]
 answered false len offset n element answer = elim (leb_tells (suc offset) len) [ inl below ↦ grind arith | inr past ↦ grind arith ]
 
+-- the element written has the value that was written last
 last_stored : (objects : List Object) (number offset n : ℕ) (v : ℤ) → store_at objects number offset ≡ Ok n
     → load_at (map (written number offset v) objects) number offset ≡ Ok (v, n)
 last_stored [] number offset n v answer = absurd (cc)
@@ -162,9 +178,11 @@ last_stored (o ∷ objects) number offset n v answer = elim (eqb_tells o.number 
   | inr other ↦ rw (other.0, other.0) (last_stored objects number offset n v (rw other.0 at answer))
 ]
 
+-- a load reads what was stored last
 pub loads_last_stored : LoadsLastStored
 loads_last_stored m at v n answer = last_stored m.live at.object at.offset n v answer
 
+-- every other element has its value as before
 others_stay : (objects : List Object) (to i : ℕ) (v : ℤ) (number offset : ℕ) → (to ≢ number) ⊎ (i ≢ offset)
     → load_at (map (written to i v) objects) number offset ≡ load_at objects number offset
 others_stay [] to i v number offset differs = refl
@@ -183,6 +201,7 @@ others_stay (o ∷ objects) to i v number offset differs =
       ]
     ]
 
+-- a store changes no element but the one written
 pub loads_others_as_before : LoadsOthersAsBefore
 loads_others_as_before m to at v differs = others_stay m.live to.object to.offset v at.object at.offset differs
 
@@ -198,6 +217,7 @@ found_new (o ∷ objects) next number none = elim (eqb_tells o.number number) [
     none_some : {x : Object} → Some x ≡ None → ⊥
     none_some p = cc
 
+-- an object that died is never live again
 pub dead_for_good : DeadForGood
 dead_for_good m m' start count number pushed before none =
     let is = pushed_is m m' start count pushed in
@@ -221,6 +241,7 @@ not_made (o ∷ objects) low made rise = elim (eqb_tells o.number made) [
     rise_le [] low made rise = rise
     rise_le (o ∷ objects) low made rise = omega (arith, rise.0, rise_le objects (o.number + 1) made rise.1)
 
+-- a push makes the object that is next, and that object is live after it
 pub makes_next : MakesNext
 makes_next m m' start count laid pushed =
     let new = found_new m.live (next_object m start count) m.made (not_made m.live 0 m.made laid.rise) in

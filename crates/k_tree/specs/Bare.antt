@@ -21,7 +21,7 @@ use Rattle.k_tree.specs.declared.tree.unit.Item.{Item}
 use Rattle.k_tree.specs.declared.tree.unit.Item.TheVariants as item
 use Rattle.k_tree.specs.declared.tree.unit.Unit as source
 
--- the one place that each node gets
+-- the one place that every node gets, so that places no longer tell trees apart
 abbrev pub nowhere : Place
 nowhere = record { line = 0; column = 0 }
 
@@ -30,6 +30,7 @@ abbrev pub where_given : {A B : Type 0} → (A → B) → Option A → Option B
 where_given f None = None
 where_given f (Some x) = Some (f x)
 
+-- C17 6.5: an expression without its own place, whose parts have none either
 abbrev pub bare_expr_step : Expr-F Expr → Expr
 bare_expr_step (Expr-F.Name place name) = expr.Name nowhere name
 bare_expr_step (Expr-F.Number place kind value) = expr.Number nowhere kind value
@@ -49,38 +50,48 @@ bare_expr_step (Expr-F.Cond place test chosen other) = expr.Cond nowhere test ch
 bare_expr_step (Expr-F.Assign place op left right) = expr.Assign nowhere op left right
 bare_expr_step (Expr-F.Comma place left right) = expr.Comma nowhere left right
 
+-- C17 6.5: an expression without the places in it
 abbrev pub bare_expr : Expr → Expr
 bare_expr = fold-Expr Expr bare_expr_step
 
+-- C17 6.7.6.2: the dimensions of an array without the places in their sizes
 abbrev pub bare_dims : List (Option Expr) → List (Option Expr)
 bare_dims dims = map (where_given bare_expr) dims
 
+-- C17 6.7.9: an initialiser without its own place, whose items have none either
 abbrev pub bare_init_step : Init-F Init → Init
 bare_init_step (Init-F.One place value) = init.One nowhere (bare_expr value)
 bare_init_step (Init-F.List place items comma) = init.List nowhere items comma
 
+-- C17 6.7.9: an initialiser without the places in it
 abbrev pub bare_init : Init → Init
 bare_init = fold-Init Init bare_init_step
 
+-- C17 6.7.6: a declarator, with its dimensions and initialiser, without the places in it
 abbrev pub bare_declarator : Declarator → Declarator
 bare_declarator d = record d { place = nowhere; dims = bare_dims d.dims; init = where_given bare_init d.init }
 
+-- C17 6.7.6.3: a parameter without the places in it
 abbrev pub bare_param : Param → Param
 bare_param p = record p { place = nowhere; dims = bare_dims p.dims }
 
+-- C17 6.7.6.3: what stands between the parentheses of a head, without the places in it
 abbrev pub bare_params : Params → Params
 bare_params params.Empty = params.Empty
 bare_params params.Void = params.Void
 bare_params (params.List list) = params.List (map bare_param list)
 
+-- C17 6.7.6.3, 6.9.1: the head of a function without the places in it
 abbrev pub bare_head : Head → Head
 bare_head h = record h { name_place = nowhere; params = bare_params h.params }
 
+-- C17 6.8.5.3: the first part of a `for` without the places in it
 abbrev pub bare_first : First → First
 bare_first first.Nothing = first.Nothing
 bare_first (first.Value value) = first.Value (bare_expr value)
 bare_first (first.Declare specs list) = first.Declare specs (map bare_declarator list)
 
+-- C17 6.8: a statement without its own place, whose statements have none either
 abbrev pub bare_stmt_step : Stmt-F Stmt → Stmt
 bare_stmt_step (Stmt-F.Expr place value) = stmt.Expr nowhere (bare_expr value)
 bare_stmt_step (Stmt-F.Empty place) = stmt.Empty nowhere
@@ -95,13 +106,16 @@ bare_stmt_step (Stmt-F.Continue place) = stmt.Continue nowhere
 bare_stmt_step (Stmt-F.Return place value) = stmt.Return nowhere (where_given bare_expr value)
 bare_stmt_step (Stmt-F.Declare place specs list) = stmt.Declare nowhere specs (map bare_declarator list)
 
+-- C17 6.8: a statement without the places in it
 abbrev pub bare_stmt : Stmt → Stmt
 bare_stmt = fold-Stmt Stmt bare_stmt_step
 
+-- C17 6.9: an item without the places in it
 abbrev pub bare_item : Item → Item
 bare_item (item.Function place head body close) = item.Function nowhere (bare_head head) (map bare_stmt body) nowhere
 bare_item (item.Prototype place head) = item.Prototype nowhere (bare_head head)
 bare_item (item.Objects place specs list) = item.Objects nowhere specs (map bare_declarator list)
 
+-- C17 6.9: a source without the places in it
 abbrev pub bare : source.Unit → source.Unit
 bare unit = record { items = map bare_item unit.items; end = nowhere }

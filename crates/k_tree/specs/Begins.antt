@@ -8,10 +8,12 @@ use Rattle.k_tree.specs.declared.tokens.word.Word.{Word}
 use Rattle.k_tree.specs.declared.tokens.word.Word.TheVariants as word
 use Rattle.k_tree.specs.Ranked.{is_spec, is_step, is_unary}
 
+-- C17 6.5.1: `(`, which begins an expression in parentheses or a cast
 abbrev pub is_open_paren : Mark → Bool
 is_open_paren mark.LeftParen = true
 is_open_paren _ = false
 
+-- C17 6.5.3.4: the keyword `sizeof`, the only one that begins an expression
 abbrev pub is_sizeof : Word → Bool
 is_sizeof word.Sizeof = true
 is_sizeof _ = false
@@ -37,6 +39,7 @@ is_stmt_word word.Continue = true
 is_stmt_word word.Return = true
 is_stmt_word _ = false
 
+-- C17 6.8.2, 6.8.3: `{` and `;`, the marks that begin a block and the empty statement
 abbrev pub is_stmt_mark : Mark → Bool
 is_stmt_mark mark.Semicolon = true
 is_stmt_mark mark.LeftBrace = true

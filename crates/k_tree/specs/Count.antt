@@ -16,12 +16,12 @@ use Rattle.k_tree.specs.declared.tree.unit.Item.{Item}
 use Rattle.k_tree.specs.declared.tree.unit.Item.TheVariants as item
 use Rattle.k_tree.specs.declared.tree.unit.Unit as source
 
--- the count of what may be left out
+-- the count of what may be left out, 0 where it is left out
 abbrev pub of_option : Option ℕ → ℕ
 of_option None = 0
 of_option (Some n) = n
 
--- C17 6.5: an expression and the expressions in it
+-- C17 6.5: the count of an expression, whose parts are counted
 abbrev pub expr_step : Expr-F ℕ → ℕ
 expr_step (Expr-F.Name place name) = 1
 expr_step (Expr-F.Number place kind value) = 1
@@ -41,24 +41,29 @@ expr_step (Expr-F.Cond place test chosen other) = 1 + test + chosen + other
 expr_step (Expr-F.Assign place op left right) = 1 + left + right
 expr_step (Expr-F.Comma place left right) = 1 + left + right
 
+-- C17 6.5: how many expressions there are in an expression, itself among them
 abbrev pub expr_count : Expr → ℕ
 expr_count = fold-Expr ℕ expr_step
 
+-- how many expressions there are in one that may be left out
 abbrev pub option_count : Option Expr → ℕ
 option_count None = 0
 option_count (Some value) = expr_count value
 
+-- C17 6.7.6.2: how many expressions there are in the sizes of dimensions
 abbrev pub dims_count : List (Option Expr) → ℕ
 dims_count dims = sum (map option_count dims)
 
--- C17 6.7.9: an initialiser and what is in it
+-- C17 6.7.9: the count of an initialiser, whose items are counted
 abbrev pub init_step : Init-F ℕ → ℕ
 init_step (Init-F.One place value) = 1 + expr_count value
 init_step (Init-F.List place items comma) = 1 + sum items
 
+-- C17 6.7.9: how many initialisers and expressions there are in an initialiser, itself among them
 abbrev pub init_count : Init → ℕ
 init_count = fold-Init ℕ init_step
 
+-- C17 6.7.9: how many initialisers and expressions there are in the initialiser of a declarator, 0 where it has none
 abbrev pub initialised_count : Option Init → ℕ
 initialised_count None = 0
 initialised_count (Some init) = init_count init
@@ -67,13 +72,15 @@ initialised_count (Some init) = init_count init
 abbrev pub declarator_count : Declarator → ℕ
 declarator_count d = 1 + dims_count d.dims + initialised_count d.init
 
+-- C17 6.7: how many nodes there are in the declarators of a declaration
 abbrev pub declarators_count : List Declarator → ℕ
 declarators_count list = sum (map declarator_count list)
 
--- C17 6.7.6.3: a parameter with its dimensions; `void` alone is none
+-- C17 6.7.6.3: a parameter with its dimensions
 abbrev pub param_count : Param → ℕ
 param_count p = 1 + dims_count p.dims
 
+-- C17 6.7.6.3: the parameters of a head, where an empty list and `void` alone are none
 abbrev pub params_count : Params → ℕ
 params_count params.Empty = 0
 params_count params.Void = 0
@@ -85,7 +92,7 @@ first_count first.Nothing = 0
 first_count (first.Value value) = expr_count value
 first_count (first.Declare specs list) = declarators_count list
 
--- C17 6.8: a statement and what is in it
+-- C17 6.8: the count of a statement, whose statements are counted
 abbrev pub stmt_step : Stmt-F ℕ → ℕ
 stmt_step (Stmt-F.Expr place value) = 1 + expr_count value
 stmt_step (Stmt-F.Empty place) = 1
@@ -99,6 +106,7 @@ stmt_step (Stmt-F.Continue place) = 1
 stmt_step (Stmt-F.Return place value) = 1 + option_count value
 stmt_step (Stmt-F.Declare place specs list) = 1 + declarators_count list
 
+-- C17 6.8: how many nodes there are in a statement, itself among them
 abbrev pub stmt_count : Stmt → ℕ
 stmt_count = fold-Stmt ℕ stmt_step
 

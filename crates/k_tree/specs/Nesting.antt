@@ -21,11 +21,12 @@ abbrev pub deepest : List ℕ → ℕ
 deepest [] = 0
 deepest (n ∷ ns) = max n (deepest ns)
 
+-- the depth of what may be left out, 0 where it is left out
 abbrev pub depth_of_option : Option ℕ → ℕ
 depth_of_option None = 0
 depth_of_option (Some n) = n
 
--- C17 6.5: one more than the deepest operand
+-- C17 6.5: the depth of an expression, of whose parts the depths are known: one more than the deepest
 abbrev pub expr_depth_step : Expr-F ℕ → ℕ
 expr_depth_step (Expr-F.Name place name) = 1
 expr_depth_step (Expr-F.Number place kind value) = 1
@@ -45,49 +46,58 @@ expr_depth_step (Expr-F.Cond place test chosen other) = 1 + max test (max chosen
 expr_depth_step (Expr-F.Assign place op left right) = 1 + max left right
 expr_depth_step (Expr-F.Comma place left right) = 1 + max left right
 
+-- C17 6.5: the most expressions that lie one in another in an expression, itself among them
 abbrev pub expr_depth : Expr → ℕ
 expr_depth = fold-Expr ℕ expr_depth_step
 
+-- the depth of an expression that may be left out
 abbrev pub option_depth : Option Expr → ℕ
 option_depth None = 0
 option_depth (Some value) = expr_depth value
 
+-- C17 6.7.6.2: the depth of the deepest size among dimensions
 abbrev pub dims_depth : List (Option Expr) → ℕ
 dims_depth dims = deepest (map option_depth dims)
 
--- C17 6.7.9
+-- C17 6.7.9: the depth of an initialiser, of whose items the depths are known: one more than the deepest
 abbrev pub init_depth_step : Init-F ℕ → ℕ
 init_depth_step (Init-F.One place value) = 1 + expr_depth value
 init_depth_step (Init-F.List place items comma) = 1 + deepest items
 
+-- C17 6.7.9: the most initialisers and expressions that lie one in another in an initialiser, itself among them
 abbrev pub init_depth : Init → ℕ
 init_depth = fold-Init ℕ init_depth_step
 
+-- C17 6.7.9: the depth of the initialiser of a declarator, 0 where it has none
 abbrev pub initialised_depth : Option Init → ℕ
 initialised_depth None = 0
 initialised_depth (Some init) = init_depth init
 
--- C17 6.7: declarators, parameters and heads add nothing of their own
+-- C17 6.7.6: the deepest part of a declarator, which adds nothing of its own
 abbrev pub declarator_depth : Declarator → ℕ
 declarator_depth d = max (dims_depth d.dims) (initialised_depth d.init)
 
+-- C17 6.7: the deepest declarator of a declaration
 abbrev pub declarators_depth : List Declarator → ℕ
 declarators_depth list = deepest (map declarator_depth list)
 
+-- C17 6.7.6.3: the deepest size of a parameter, which adds nothing of its own
 abbrev pub param_depth : Param → ℕ
 param_depth p = dims_depth p.dims
 
+-- C17 6.7.6.3: the deepest parameter of a head
 abbrev pub params_depth : Params → ℕ
 params_depth params.Empty = 0
 params_depth params.Void = 0
 params_depth (params.List list) = deepest (map param_depth list)
 
+-- C17 6.8.5.3: the depth of the first part of a `for`, which adds nothing of its own
 abbrev pub first_depth : First → ℕ
 first_depth first.Nothing = 0
 first_depth (first.Value value) = expr_depth value
 first_depth (first.Declare specs list) = declarators_depth list
 
--- C17 6.8
+-- C17 6.8: the depth of a statement, of whose statements the depths are known: one more than the deepest part
 abbrev pub stmt_depth_step : Stmt-F ℕ → ℕ
 stmt_depth_step (Stmt-F.Expr place value) = 1 + expr_depth value
 stmt_depth_step (Stmt-F.Empty place) = 1
@@ -102,6 +112,7 @@ stmt_depth_step (Stmt-F.Continue place) = 1
 stmt_depth_step (Stmt-F.Return place value) = 1 + option_depth value
 stmt_depth_step (Stmt-F.Declare place specs list) = 1 + declarators_depth list
 
+-- C17 6.8: the most statements, initialisers and expressions that lie one in another in a statement, itself among them
 abbrev pub stmt_depth : Stmt → ℕ
 stmt_depth = fold-Stmt ℕ stmt_depth_step
 
@@ -111,5 +122,6 @@ item_depth (item.Function place head body close) = max (params_depth head.params
 item_depth (item.Prototype place head) = params_depth head.params
 item_depth (item.Objects place specs list) = declarators_depth list
 
+-- C17 6.9: the depth of the deepest item of a source
 abbrev pub nesting : source.Unit → ℕ
 nesting unit = deepest (map item_depth unit.items)

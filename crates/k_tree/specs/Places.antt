@@ -30,6 +30,7 @@ pub record Piece : Type 0 where
   pub what : TokenKind
   pub places : List Place
 
+-- the tokens of a spelling in order, with the places at each
 abbrev pub Pieces : Type 0
 Pieces = List Piece
 
@@ -42,27 +43,30 @@ abbrev pub at : Place → Pieces → Pieces
 at place [] = []
 at place (piece ∷ pieces) = record { what = piece.what; places = place ∷ piece.places } ∷ pieces
 
--- pieces one behind another, with commas between them, in parentheses, in braces
+-- pieces one behind another
 abbrev pub lay_row : List Pieces → Pieces
 lay_row [] = []
 lay_row (piece ∷ pieces) = piece ++ lay_row pieces
 
+-- pieces, each behind a comma
 abbrev pub lay_behind_commas : List Pieces → Pieces
 lay_behind_commas [] = []
 lay_behind_commas (piece ∷ pieces) = plain (the_mark mark.Comma) ++ (piece ++ lay_behind_commas pieces)
 
+-- pieces with commas between them
 abbrev pub lay_with_commas : List Pieces → Pieces
 lay_with_commas [] = []
 lay_with_commas (piece ∷ pieces) = piece ++ lay_behind_commas pieces
 
+-- pieces in parentheses
 abbrev pub lay_in_parens : Pieces → Pieces
 lay_in_parens piece = plain (the_mark mark.LeftParen) ++ (piece ++ plain (the_mark mark.RightParen))
 
+-- pieces in braces
 abbrev pub lay_in_braces : Pieces → Pieces
 lay_in_braces piece = plain (the_mark mark.LeftBrace) ++ (piece ++ plain (the_mark mark.RightBrace))
 
--- C17 6.5: an index stands at its bracket, a postfix, binary, conditional, assignment or comma operator at itself,
--- a call at its name, every other expression at its first token
+-- C17 6.5: an index stands at its `[`, a call at its name, an operator behind an operand at itself, all else at its first token
 abbrev pub lay_expr_step : Expr-F Pieces → Pieces
 lay_expr_step (Expr-F.Name place name) = at place (plain (the_name name))
 lay_expr_step (Expr-F.Number place kind value) = at place (plain (token.Number kind value ∷ []))
@@ -85,16 +89,20 @@ lay_expr_step (Expr-F.Cond place test chosen other) =
 lay_expr_step (Expr-F.Assign place op left right) = left ++ (at place (plain (the_mark op)) ++ right)
 lay_expr_step (Expr-F.Comma place left right) = left ++ (at place (plain (the_mark mark.Comma)) ++ right)
 
+-- C17 6.5: the tokens of an expression, with the places of the expressions in it
 abbrev pub lay_expr : Expr → Pieces
 lay_expr = fold-Expr Pieces lay_expr_step
 
+-- the pieces of an expression that may be left out
 abbrev pub lay_option : Option Expr → Pieces
 lay_option None = []
 lay_option (Some value) = lay_expr value
 
+-- C17 6.7.6.2: the pieces of a dimension, with or without its size
 abbrev pub lay_dim : Option Expr → Pieces
 lay_dim size = plain (the_mark mark.LeftBracket) ++ (lay_option size ++ plain (the_mark mark.RightBracket))
 
+-- C17 6.7.6.2: the pieces of dimensions
 abbrev pub lay_dims : List (Option Expr) → Pieces
 lay_dims dims = lay_row (map lay_dim dims)
 
@@ -103,9 +111,11 @@ abbrev pub lay_init_step : Init-F Pieces → Pieces
 lay_init_step (Init-F.One place value) = at place (lay_expr value)
 lay_init_step (Init-F.List place items comma) = at place (lay_in_braces (lay_with_commas items ++ plain (spell_last_comma comma)))
 
+-- C17 6.7.9: the tokens of an initialiser, with the places of the nodes in it
 abbrev pub lay_init : Init → Pieces
 lay_init = fold-Init Pieces lay_init_step
 
+-- C17 6.7: the pieces of the initialiser of a declarator, with the `=` before it, if it has one
 abbrev pub lay_initialised : Option Init → Pieces
 lay_initialised None = []
 lay_initialised (Some init) = plain (the_mark mark.Equal) ++ lay_init init
@@ -114,7 +124,7 @@ lay_initialised (Some init) = plain (the_mark mark.Equal) ++ lay_init init
 abbrev pub lay_declarator : Declarator → Pieces
 lay_declarator d = plain (spell_stars d.stars) ++ (at d.place (plain (the_name d.name)) ++ (lay_dims d.dims ++ lay_initialised d.init))
 
--- C17 6.7
+-- C17 6.7: the pieces of a declaration, whose declarators have their places
 abbrev pub lay_declaration : List Word → List Declarator → Pieces
 lay_declaration specs list =
     plain (spell_specs specs) ++ (lay_with_commas (map lay_declarator list) ++ plain (the_mark mark.Semicolon))
@@ -124,6 +134,7 @@ abbrev pub lay_param : Param → Pieces
 lay_param p =
     at p.place (plain (spell_specs p.specs) ++ (plain (spell_stars p.stars) ++ (plain (spell_optional_name p.name) ++ lay_dims p.dims)))
 
+-- C17 6.7.6.3: the pieces between the parentheses of a head
 abbrev pub lay_params : Params → Pieces
 lay_params params.Empty = []
 lay_params params.Void = plain (the_word word.Void)
@@ -135,16 +146,18 @@ lay_head h =
     plain (spell_specs h.specs)
     ++ (plain (spell_stars h.stars) ++ (at h.name_place (plain (the_name h.name)) ++ lay_in_parens (lay_params h.params)))
 
--- C17 6.8.5.3
+-- C17 6.8.5.3: the pieces of the first part of a `for`, with the semicolon behind it
 abbrev pub lay_first : First → Pieces
 lay_first first.Nothing = plain (the_mark mark.Semicolon)
 lay_first (first.Value value) = lay_expr value ++ plain (the_mark mark.Semicolon)
 lay_first (first.Declare specs list) = lay_declaration specs list
 
+-- C17 6.8.5.3: the pieces of the three parts of a `for`, in parentheses
 abbrev pub lay_for : First → Option Expr → Option Expr → Pieces
 lay_for start test step =
     lay_in_parens (lay_first start ++ (lay_option test ++ (plain (the_mark mark.Semicolon) ++ lay_option step)))
 
+-- C17 6.8.4.1: the pieces of the `else` of an `if`, where there is one
 abbrev pub lay_else : Option Pieces → Pieces
 lay_else None = []
 lay_else (Some other) = plain (the_word word.Else) ++ other
@@ -169,9 +182,11 @@ lay_stmt_step (Stmt-F.Return place value) =
     at place (plain (the_word word.Return)) ++ (lay_option value ++ plain (the_mark mark.Semicolon))
 lay_stmt_step (Stmt-F.Declare place specs list) = at place (lay_declaration specs list)
 
+-- C17 6.8: the tokens of a statement, with the places of the nodes in it
 abbrev pub lay_stmt : Stmt → Pieces
 lay_stmt = fold-Stmt Pieces lay_stmt_step
 
+-- C17 6.8.2: the pieces of the statements and declarations of a block
 abbrev pub lay_stmts : List Stmt → Pieces
 lay_stmts parts = lay_row (map lay_stmt parts)
 
@@ -187,14 +202,14 @@ lay_item (item.Objects place specs list) = at place (lay_declaration specs list)
 abbrev pub lay_unit : source.Unit → Pieces
 lay_unit unit = lay_row (map lay_item unit.items) ++ at unit.end (plain (token.End ∷ []))
 
--- the tokens are the pieces, and each node has the place of the token at which it stands
+-- the tokens are the pieces in order, and every node has the place of the token at which it stands
 abbrev pub Stand : Pieces → List Token → Type 0
 Stand [] [] = Unit {0}
 Stand (piece ∷ pieces) (t ∷ tokens) = (t.what ≡ piece.what) × All (λ place. place ≡ t.place) piece.places × Stand pieces tokens
 Stand [] (t ∷ tokens) = ⊥
 Stand (piece ∷ pieces) [] = ⊥
 
--- each node has the place of its token
+-- C17 6.9: these tokens are the source's, and every node of it has the place of its token
 abbrev pub Placed : source.Unit → List Token → Type 0
 Placed unit tokens = Stand (lay_unit unit) tokens
 

@@ -4,11 +4,12 @@ use Rattle.k_tree.specs.declared.tree.expression.Expr.{Expr, fold-Expr}
 use Rattle.k_tree.specs.declared.tree.expression.Expr.TheOpen.{Expr-F}
 use Rattle.k_tree.specs.Ranked.{binary_rank}
 
--- the rank of an operator; 0 for a mark that is none
+-- the rank of an operator, 0 for a mark that is none
 abbrev pub rank_or_zero : Option ℕ → ℕ
 rank_or_zero None = 0
 rank_or_zero (Some n) = n
 
+-- C17 6.5: the highest rank that the form of an expression gives it
 abbrev pub rank_step : Expr-F ℕ → ℕ
 rank_step (Expr-F.Name place name) = 16
 rank_step (Expr-F.Number place kind value) = 16
@@ -28,5 +29,6 @@ rank_step (Expr-F.Cond place test chosen other) = 2
 rank_step (Expr-F.Assign place op left right) = 1
 rank_step (Expr-F.Comma place left right) = 0
 
+-- C17 6.5: the rank of an expression, from 0, the comma, to 16, what needs no parentheses
 abbrev pub rank_of : Expr → ℕ
 rank_of = fold-Expr ℕ rank_step

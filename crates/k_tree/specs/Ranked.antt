@@ -43,7 +43,7 @@ is_spec _ = false
 abbrev pub Specs : List Word → Type 0
 Specs specs = (specs ≢ []) × All (λ w. IsTrue (is_spec w)) specs
 
--- C17 6.5.2.4, 6.5.3.1
+-- C17 6.5.2.4, 6.5.3.1: `++` and `--`, before an operand or behind one
 abbrev pub is_step : Mark → Bool
 is_step mark.PlusPlus = true
 is_step mark.MinusMinus = true
@@ -81,7 +81,7 @@ binary_rank mark.Slash = Some 12
 binary_rank mark.Percent = Some 12
 binary_rank _ = None
 
--- C17 6.5.16
+-- C17 6.5.16: the operators of assignment
 abbrev pub is_assignment : Mark → Bool
 is_assignment mark.Equal = true
 is_assignment mark.StarEqual = true
@@ -97,7 +97,7 @@ is_assignment mark.BarEqual = true
 is_assignment _ = false
 
 mutual
-  -- an expression of rank k or above
+  -- C17 6.5: an expression that the grammar gives, of rank k or above
   pub data Ranked : ℕ → Expr → Type 0 where
     comma : (k : ℕ) (p : Place) (a b : Expr) → k ≤ 0 → Ranked 0 a → Ranked 1 b → Ranked k (expr.Comma p a b)
     assignment : (k : ℕ) (p : Place) (op : Mark) (a b : Expr) → k ≤ 1 → IsTrue (is_assignment op)
@@ -130,7 +130,7 @@ mutual
     no_args : RankedArgs []
     more_args : (a : Expr) (args : List Expr) → Ranked 1 a → RankedArgs args → RankedArgs (a ∷ args)
 
--- a part that may be left out
+-- a part that may be left out, and is of that kind where it is there
 abbrev pub IfGiven : {A : Type 0} → (A → Type 0) → Option A → Type 0
 IfGiven P None = Unit {0}
 IfGiven P (Some x) = P x
@@ -146,11 +146,12 @@ mutual
     braces : (p : Place) (x : Init) (xs : List Init) (last : Bool)
         → RankedInit x → RankedInits xs → RankedInit (init.List p (x ∷ xs) last)
 
+  -- C17 6.7.9: initialisers, each one that the grammar gives
   pub data RankedInits : List Init → Type 0 where
     no_inits : RankedInits []
     more_inits : (x : Init) (xs : List Init) → RankedInit x → RankedInits xs → RankedInits (x ∷ xs)
 
--- C17 6.7.6
+-- C17 6.7.6: a declarator whose sizes and initialiser are ones that the grammar gives
 abbrev pub RankedDeclarator : Declarator → Type 0
 RankedDeclarator d = RankedDims d.dims × IfGiven RankedInit d.init
 
@@ -158,7 +159,7 @@ RankedDeclarator d = RankedDims d.dims × IfGiven RankedInit d.init
 abbrev pub RankedDeclaration : List Word → List Declarator → Type 0
 RankedDeclaration specs list = Specs specs × (list ≢ []) × All RankedDeclarator list
 
--- C17 6.7.6.3
+-- C17 6.7.6.3: a parameter, with specifiers and with sizes that the grammar gives
 abbrev pub RankedParam : Param → Type 0
 RankedParam p = Specs p.specs × RankedDims p.dims
 
@@ -174,17 +175,17 @@ RankedParams (params.List []) = ⊥
 RankedParams (params.List (p ∷ [])) = RankedParam p × (IsVoidAlone p → ⊥)
 RankedParams (params.List (p ∷ (q ∷ list))) = All RankedParam (p ∷ (q ∷ list))
 
--- C17 6.7.6.3, 6.9.1
+-- C17 6.7.6.3, 6.9.1: the head of a function, with specifiers and parameters that the grammar gives
 abbrev pub RankedHead : Head → Type 0
 RankedHead h = Specs h.specs × RankedParams h.params
 
--- C17 6.8.5.3
+-- C17 6.8.5.3: the first part of a `for`: nothing, an expression or a declaration
 abbrev pub RankedFirst : First → Type 0
 RankedFirst first.Nothing = Unit {0}
 RankedFirst (first.Value value) = Ranked 0 value
 RankedFirst (first.Declare specs list) = RankedDeclaration specs list
 
--- C17 6.8.4.1p3: does a statement end in an `if` that an `else` behind it would belong to?
+-- C17 6.8.4.1p3: does this form end in an `if` that takes an `else` behind it, where it is known of its statements?
 abbrev pub ends_open_step : Stmt-F Bool → Bool
 ends_open_step (Stmt-F.If place test chosen None) = true
 ends_open_step (Stmt-F.If place test chosen (Some other)) = other
@@ -192,11 +193,12 @@ ends_open_step (Stmt-F.While place test body) = body
 ends_open_step (Stmt-F.For place start test step body) = body
 ends_open_step _ = false
 
+-- C17 6.8.4.1p3: does a statement end in an `if` that an `else` behind it would belong to?
 abbrev pub ends_open : Stmt → Bool
 ends_open = fold-Stmt Bool ends_open_step
 
 mutual
-  -- C17 6.8: a statement
+  -- C17 6.8: a statement that the grammar gives
   pub data RankedStmt : Stmt → Type 0 where
     value : (p : Place) (a : Expr) → Ranked 0 a → RankedStmt (stmt.Expr p a)
     empty : (p : Place) → RankedStmt (stmt.Empty p)
@@ -219,7 +221,7 @@ mutual
     declaration : (p : Place) (specs : List Word) (list : List Declarator) (parts : List Stmt)
         → RankedDeclaration specs list → RankedParts parts → RankedParts (stmt.Declare p specs list ∷ parts)
 
--- C17 6.9
+-- C17 6.9: a function, a prototype or a declaration that the grammar gives
 abbrev pub RankedItem : Item → Type 0
 RankedItem (item.Function place head body close) = RankedHead head × RankedParts body
 RankedItem (item.Prototype place head) = RankedHead head

@@ -27,16 +27,19 @@ use Rattle.k_tree.specs.declared.tree.unit.Unit as source
 abbrev pub Spelled : Type 0
 Spelled = List TokenKind
 
--- one token: a mark, a keyword, a name, a string
+-- C17 6.4.6: a mark, as the one token
 abbrev pub the_mark : Mark → Spelled
 the_mark m = token.Mark m ∷ []
 
+-- C17 6.4.1: a keyword, as the one token
 abbrev pub the_word : Word → Spelled
 the_word w = token.Word w ∷ []
 
+-- C17 6.4.2: a name, as the one token
 abbrev pub the_name : List ℕ → Spelled
 the_name name = token.Name name ∷ []
 
+-- C17 6.4.5: a string, as the one token
 abbrev pub the_string : List ℕ → Spelled
 the_string bytes = token.Str bytes ∷ []
 
@@ -68,6 +71,7 @@ abbrev pub spell_star : Bool → Spelled
 spell_star false = the_mark mark.Star
 spell_star true = the_mark mark.Star ++ the_word word.Const
 
+-- C17 6.7.6.1: the stars of a pointer
 abbrev pub spell_stars : List Bool → Spelled
 spell_stars stars = in_row (map spell_star stars)
 
@@ -96,6 +100,7 @@ spell_expr_step (Expr-F.Cond place test chosen other) =
 spell_expr_step (Expr-F.Assign place op left right) = left ++ (the_mark op ++ right)
 spell_expr_step (Expr-F.Comma place left right) = left ++ (the_mark mark.Comma ++ right)
 
+-- C17 6.5: an expression
 abbrev pub spell_expr : Expr → Spelled
 spell_expr = fold-Expr Spelled spell_expr_step
 
@@ -108,10 +113,11 @@ spell_option (Some value) = spell_expr value
 abbrev pub spell_dim : Option Expr → Spelled
 spell_dim size = the_mark mark.LeftBracket ++ (spell_option size ++ the_mark mark.RightBracket)
 
+-- C17 6.7.6.2: dimensions, one behind another
 abbrev pub spell_dims : List (Option Expr) → Spelled
 spell_dims dims = in_row (map spell_dim dims)
 
--- a comma, or nothing
+-- C17 6.7.9: the comma behind the last item of a list, or nothing
 abbrev pub spell_last_comma : Bool → Spelled
 spell_last_comma false = []
 spell_last_comma true = the_mark mark.Comma
@@ -125,6 +131,7 @@ abbrev pub spell_init_step : Init-F Spelled → Spelled
 spell_init_step (Init-F.One place value) = spell_expr value
 spell_init_step (Init-F.List place items comma) = in_braces (with_commas items ++ spell_last_comma comma)
 
+-- C17 6.7.9: an initialiser
 abbrev pub spell_init : Init → Spelled
 spell_init = fold-Init Spelled spell_init_step
 
@@ -198,6 +205,7 @@ spell_stmt_step (Stmt-F.Continue place) = the_word word.Continue ++ the_mark mar
 spell_stmt_step (Stmt-F.Return place value) = the_word word.Return ++ (spell_option value ++ the_mark mark.Semicolon)
 spell_stmt_step (Stmt-F.Declare place specs list) = spell_declaration specs list
 
+-- C17 6.8: a statement
 abbrev pub spell_stmt : Stmt → Spelled
 spell_stmt = fold-Stmt Spelled spell_stmt_step
 
