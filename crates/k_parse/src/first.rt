@@ -1,0 +1,27 @@
+//! The reading of the first programs: `int main(void)` and one block of declarations of `int` variables, assignments,
+//! calls of putchar and returns.
+ghost use Rattle.std.specs.Prelude.{IfOk};
+ghost use Rattle.k_parse.specs.Program.{IsProgramOf, IsOne, IsOnly, SpellsNone, WhereOther};
+
+use k_num::Seq;
+use k_tree::{Token, Unit};
+use std::alloc::Global;
+
+/// Why tokens are not read as a first program.
+#[derive(Clone, Copy, Debug, PartialEq, Eq)]
+pub enum FirstFault {
+    /// They spell no first program within the limits of a source.
+    Other,
+    /// No memory was found.
+    Memory,
+}
+
+/// The tree of the first program that the tokens spell.
+pub fn first_program(alloc: Global, tokens: &Seq<Token>) -> Result<Unit, FirstFault>
+    ensures read { IfOk result (IsProgramOf tokens.now) }
+    ensures one { IfOk result (IsOne tokens.now) }
+    ensures only { IfOk result (IsOnly tokens.now) }
+    ensures none { WhereOther result (SpellsNone tokens.now) }
+{
+    Err(FirstFault::Other)
+}

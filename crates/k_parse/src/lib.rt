@@ -1,0 +1,6 @@
+//! Tokens read as trees of syntax.
+#![tactic(auto)]
+
+mod first;
+
+pub use first::{FirstFault, first_program};
