@@ -3,7 +3,7 @@
 ghost use Rattle.std.specs.Prelude.{IfOk};
 ghost use Rattle.k_parse.specs.Program.{IsProgramOf, IsOne, IsOnly, SpellsNone, WhereOther};
 
-use k_num::Seq;
+use k_num::{NoMemory, Seq};
 use k_tree::{Token, Unit};
 use std::alloc::Global;
 
@@ -14,6 +14,17 @@ pub enum FirstFault {
     Other,
     /// No memory was found.
     Memory,
+}
+
+impl From<NoMemory> for FirstFault {
+    ghost use Rattle.std.specs.Prelude.{◌≡◌};
+    ghost use Rattle.k_parse.specs.declared.first.FirstFault.TheVariants.{Memory};
+
+    ghost from_gives = { λ _ e. e ≡ Memory };
+
+    fn from(_error: NoMemory) -> FirstFault {
+        FirstFault::Memory
+    }
 }
 
 /// The tree of the first program that the tokens spell.

@@ -1,6 +1,8 @@
 //! Tokens read as trees of syntax.
 #![tactic(auto)]
 
+mod expression;
 mod first;
+mod tokens;
 
 pub use first::{FirstFault, first_program};

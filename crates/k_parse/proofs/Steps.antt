@@ -1,0 +1,167 @@
+-- The reader, step by step: what it gives where its next step is known, and that more fuel changes nothing.
+use Rattle.std.proofs.Common.{ℕ, suc, zero, ◌≡◌, ◌+◌, ◌-◌, ◌<◌, ◌≤◌, max, Bool, true, false, cond, leb, List, [], ◌∷◌, ◌++◌, length, Option, Some, None, sym, ap, ◌∙◌, subst, refl, arith, sub-one}
+use Rattle.std.proofs.lemmas.Bool.{le-leb, lt-leb, leb-true, leb-false}
+use Rattle.k_tree.specs.declared.tokens.Token.{Token}
+use Rattle.k_parse.specs.declared.expression.Operand.{Operand}
+use Rattle.k_parse.specs.declared.expression.Operator.{Operator}
+use Rattle.k_parse.specs.Reader.{Read, ◌>>=◌, Reader, operator, operand, joined, joins, climb, expression, many}
+
+-- what goes on alike gives the same
+pub bind_same : {A B : Type 0} (m : Read A) (f g : A → List Token → Read B)
+    → ((a : A) (rest : List Token) → m ≡ Some (a, rest) → f a rest ≡ g a rest) → (m >>= f) ≡ (m >>= g)
+bind_same None f g h = refl
+bind_same (Some r) f g h = h r.0 r.1 refl
+
+if_same : {A : Type 0} (b : Bool) (x y z : A) → (b ≡ false → y ≡ z) → cond b x y ≡ cond b x z
+if_same true x y z h = refl
+if_same false x y z h = h refl
+
+-- the equations of the climb
+climb_zero : (again : Reader) (room k : ℕ) (a : Operand) (ts : List Token)
+    → climb again room zero k a ts ≡ joins again room (λ b rest. None) a ts (operator k ts)
+unfolding climb
+climb_zero again room k a ts = refl
+
+climb_suc : (again : Reader) (room fuel k : ℕ) (a : Operand) (ts : List Token)
+    → climb again room (suc fuel) k a ts ≡ joins again room (climb again room fuel k) a ts (operator k ts)
+unfolding climb
+climb_suc again room fuel k a ts = refl
+
+joins_deep : (again : Reader) (room : ℕ) (on : Operand → List Token → Read Operand) (a : Operand) (ts : List Token) (r : Operator × List Token)
+    → room ≤ a.depth → joins again room on a ts (Some r) ≡ None
+joins_deep again room on a ts r h = ap (λ b. cond b None (again (r.0.rank + 1) r.1 >>= λ b rest. on (joined r.0 a b) rest)) (le-leb room a.depth h)
+
+joins_turn : (again : Reader) (room : ℕ) (on : Operand → List Token → Read Operand) (a : Operand) (ts : List Token) (r : Operator × List Token)
+    → a.depth < room → joins again room on a ts (Some r) ≡ (again (r.0.rank + 1) r.1 >>= λ b rest. on (joined r.0 a b) rest)
+joins_turn again room on a ts r h = ap (λ b. cond b None (again (r.0.rank + 1) r.1 >>= λ b rest. on (joined r.0 a b) rest)) (lt-leb room a.depth h)
+
+joins_same : (again : Reader) (room : ℕ) (on on' : Operand → List Token → Read Operand) (a : Operand) (ts : List Token) (m : Read Operator)
+    → ((o : Operator) (b : Operand) (rest : List Token) → a.depth < room → on (joined o a b) rest ≡ on' (joined o a b) rest)
+    → joins again room on a ts m ≡ joins again room on' a ts m
+joins_same again room on on' a ts None h = refl
+joins_same again room on on' a ts (Some r) h =
+    if_same (leb room a.depth) None (again (r.0.rank + 1) r.1 >>= λ b rest. on (joined r.0 a b) rest) (again (r.0.rank + 1) r.1 >>= λ b rest. on' (joined r.0 a b) rest)
+    (λ e. bind_same (again (r.0.rank + 1) r.1) (λ b rest. on (joined r.0 a b) rest) (λ b rest. on' (joined r.0 a b) rest)
+    (λ b rest q. h r.0 b rest (leb-false room a.depth e)))
+
+-- enough fuel is enough: each operator that is taken makes the operand deeper
+pub enough : (again : Reader) (room f g k : ℕ) (a : Operand) (ts : List Token) → room ≤ f + a.depth → room ≤ g + a.depth
+    → climb again room f k a ts ≡ climb again room g k a ts
+enough again room zero zero k a ts p q = refl
+enough again room zero (suc g) k a ts p q =
+    climb_zero again room k a ts
+    ∙ (joins_same again room (λ b rest. None) (climb again room g k) a ts (operator k ts) (λ o b rest d. absurd (omega arith))
+    ∙ sym (climb_suc again room g k a ts))
+enough again room (suc f) zero k a ts p q =
+    climb_suc again room f k a ts
+    ∙ (joins_same again room (climb again room f k) (λ b rest. None) a ts (operator k ts) (λ o b rest d. absurd (omega arith))
+    ∙ sym (climb_zero again room k a ts))
+enough again room (suc f) (suc g) k a ts p q =
+    climb_suc again room f k a ts
+    ∙ (joins_same again room (climb again room f k) (climb again room g k) a ts (operator k ts)
+    (λ o b rest d. enough again room f g k (joined o a b) rest (omega arith) (omega arith))
+    ∙ sym (climb_suc again room g k a ts))
+
+-- no operator comes
+pub climb_stops : (again : Reader) (room fuel k : ℕ) (a : Operand) (ts : List Token) → operator k ts ≡ None
+    → climb again room fuel k a ts ≡ Some (a, ts)
+climb_stops again room zero k a ts h = climb_zero again room k a ts ∙ ap (joins again room (λ b rest. None) a ts) h
+climb_stops again room (suc fuel) k a ts h = climb_suc again room fuel k a ts ∙ ap (joins again room (climb again room fuel k) a ts) h
+
+-- one comes, and the nesting has no room for it
+pub climb_deep : (again : Reader) (room fuel k : ℕ) (a : Operand) (ts : List Token) (r : Operator × List Token) → operator k ts ≡ Some r
+    → room ≤ a.depth → climb again room fuel k a ts ≡ None
+climb_deep again room zero k a ts r h d =
+    climb_zero again room k a ts
+    ∙ (ap (joins again room (λ b rest. None) a ts) h ∙ joins_deep again room (λ b rest. None) a ts r d)
+climb_deep again room (suc fuel) k a ts r h d =
+    climb_suc again room fuel k a ts
+    ∙ (ap (joins again room (climb again room fuel k) a ts) h ∙ joins_deep again room (climb again room fuel k) a ts r d)
+
+-- one comes, and the reading goes on behind its right operand
+pub climb_turns : (again : Reader) (room k : ℕ) (a : Operand) (ts : List Token) (r : Operator × List Token) → operator k ts ≡ Some r
+    → a.depth < room
+    → climb again room room k a ts ≡ (again (r.0.rank + 1) r.1 >>= λ b rest. climb again room room k (joined r.0 a b) rest)
+climb_turns again zero k a ts r h d = absurd (omega arith)
+climb_turns again (suc f) k a ts r h d =
+    climb_suc again (suc f) f k a ts
+    ∙ (ap (joins again (suc f) (climb again (suc f) f k) a ts) h
+    ∙ (joins_turn again (suc f) (climb again (suc f) f k) a ts r d
+    ∙ bind_same (again (r.0.rank + 1) r.1) (λ b rest. climb again (suc f) f k (joined r.0 a b) rest)
+        (λ b rest. climb again (suc f) (suc f) k (joined r.0 a b) rest)
+        (λ b rest q. enough again (suc f) f (suc f) k (joined r.0 a b) rest (omega arith) (omega arith))))
+
+-- an expression is an operand with the operators behind it
+pub expression_begins : (room k : ℕ) (ts : List Token) → 0 < room
+    → expression room k ts ≡ (operand (expression (room - 1)) ts >>= climb (expression (room - 1)) room room k)
+unfolding expression
+expression_begins zero k ts h = absurd (omega arith)
+expression_begins (suc room) k ts h = rw sub-one refl
+
+pub expression_deep : (k : ℕ) (ts : List Token) → expression 0 k ts ≡ None
+unfolding expression
+expression_deep k ts = refl
+
+-- the equations of a list
+many_zero : {A : Type 0} (item : List Token → Read A) (more : List Token → Bool) (done : List A) (ts : List Token)
+    → many item more zero done ts ≡ cond (more ts) None (Some (done, ts))
+unfolding many
+many_zero item more done ts = refl
+
+many_suc : {A : Type 0} (item : List Token → Read A) (more : List Token → Bool) (fuel : ℕ) (done : List A) (ts : List Token)
+    → many item more (suc fuel) done ts
+    ≡ cond (more ts) (item ts >>= λ a rest. many item more fuel (done ++ a ∷ []) rest) (Some (done, ts))
+unfolding many
+many_suc item more fuel done ts = refl
+
+-- what an item leaves is shorter
+abbrev pub Shortens : {A : Type 0} → (List Token → Read A) → Type 0
+Shortens {A} item = (ts : List Token) (a : A) (rest : List Token) → item ts ≡ Some (a, rest) → length rest < length ts
+
+if_else_same : {A : Type 0} (b : Bool) (x y z : A) → x ≡ y → cond b x z ≡ cond b y z
+if_else_same b x y z h = ap (λ w. cond b w z) h
+
+nothing_binds : {A B : Type 0} (m : Read A) (f : A → List Token → Read B) → ((a : A) (rest : List Token) → m ≡ Some (a, rest) → ⊥) → None ≡ (m >>= f)
+nothing_binds None f h = refl
+nothing_binds (Some r) f h = absurd (h r.0 r.1 refl)
+
+-- enough fuel is enough: each item takes a token
+pub enough_items : {A : Type 0} (item : List Token → Read A) (more : List Token → Bool) → Shortens item → (f g : ℕ) (done : List A) (ts : List Token)
+    → length ts ≤ f → length ts ≤ g → many item more f done ts ≡ many item more g done ts
+enough_items item more s zero zero done ts p q = refl
+enough_items item more s zero (suc g) done ts p q =
+    many_zero item more done ts
+    ∙ (if_else_same (more ts) None (item ts >>= λ a rest. many item more g (done ++ a ∷ []) rest) (Some (done, ts))
+        (nothing_binds (item ts) (λ a rest. many item more g (done ++ a ∷ []) rest) (λ a rest e. omega (arith, s ts a rest e)))
+    ∙ sym (many_suc item more g done ts))
+enough_items item more s (suc f) zero done ts p q =
+    many_suc item more f done ts
+    ∙ (sym (if_else_same (more ts) None (item ts >>= λ a rest. many item more f (done ++ a ∷ []) rest) (Some (done, ts))
+        (nothing_binds (item ts) (λ a rest. many item more f (done ++ a ∷ []) rest) (λ a rest e. omega (arith, s ts a rest e))))
+    ∙ sym (many_zero item more done ts))
+enough_items item more s (suc f) (suc g) done ts p q =
+    many_suc item more f done ts
+    ∙ (if_else_same (more ts) (item ts >>= λ a rest. many item more f (done ++ a ∷ []) rest)
+        (item ts >>= λ a rest. many item more g (done ++ a ∷ []) rest) (Some (done, ts))
+        (bind_same (item ts) (λ a rest. many item more f (done ++ a ∷ []) rest) (λ a rest. many item more g (done ++ a ∷ []) rest)
+        (λ a rest e. enough_items item more s f g (done ++ a ∷ []) rest (omega (arith, s ts a rest e)) (omega (arith, s ts a rest e))))
+    ∙ sym (many_suc item more g done ts))
+
+-- no item comes
+pub many_stops : {A : Type 0} (item : List Token → Read A) (more : List Token → Bool) (fuel : ℕ) (done : List A) (ts : List Token)
+    → more ts ≡ false → many item more fuel done ts ≡ Some (done, ts)
+many_stops item more zero done ts h = many_zero item more done ts ∙ ap (λ b. cond b None (Some (done, ts))) h
+many_stops item more (suc fuel) done ts h =
+    many_suc item more fuel done ts
+    ∙ ap (λ b. cond b (item ts >>= λ a rest. many item more fuel (done ++ a ∷ []) rest) (Some (done, ts))) h
+
+-- an item comes, and the reading goes on behind it
+pub many_turns : {A : Type 0} (item : List Token → Read A) (more : List Token → Bool) → Shortens item → (done : List A) (ts : List Token)
+    → more ts ≡ true
+    → many item more (length ts) done ts ≡ (item ts >>= λ a rest. many item more (length rest) (done ++ a ∷ []) rest)
+many_turns item more s done ts h =
+    enough_items item more s (length ts) (suc (length ts)) done ts (omega arith) (omega arith)
+    ∙ (many_suc item more (length ts) done ts
+    ∙ (ap (λ b. cond b (item ts >>= λ a rest. many item more (length ts) (done ++ a ∷ []) rest) (Some (done, ts))) h
+    ∙ bind_same (item ts) (λ a rest. many item more (length ts) (done ++ a ∷ []) rest) (λ a rest. many item more (length rest) (done ++ a ∷ []) rest)
+        (λ a rest e. enough_items item more s (length ts) (length rest) (done ++ a ∷ []) rest (omega (arith, s ts a rest e)) (omega arith))))

@@ -1,0 +1,141 @@
+-- How tokens are read, as a function of the tokens alone: a recursive descent with a budget of nesting. The code gives what
+-- it gives; that this is the one tree of the grammar is proved of it.
+use Rattle.std.specs.Prelude.{ℕ, suc, zero, ◌+◌, ◌-◌, Bool, true, false, not, nat_eq, nat_le, max, if◌then◌else◌, List, [], ◌∷◌, ◌++◌, length, Option, Some, None, codes}
+use Rattle.std.specs.Cmp.Lexicographic.{pointwise}
+use Rattle.k_num.specs.declared.numbers.Kind.{Kind}
+use Rattle.k_num.specs.declared.numbers.Kind.TheVariants as kind
+use Rattle.k_num.specs.declared.place.Place.{Place}
+use Rattle.k_tree.specs.contracts.tokens.mark.MarkPartialEq.TheImpl as marks
+use Rattle.k_tree.specs.contracts.tokens.word.WordPartialEq.TheImpl as words
+use Rattle.k_tree.specs.declared.tokens.Token.{Token}
+use Rattle.k_tree.specs.declared.tokens.TokenKind.{TokenKind}
+use Rattle.k_tree.specs.declared.tokens.TokenKind.TheVariants as token
+use Rattle.k_tree.specs.declared.tokens.mark.Mark.{Mark}
+use Rattle.k_tree.specs.declared.tokens.mark.Mark.TheVariants as mark
+use Rattle.k_tree.specs.declared.tokens.word.Word.{Word}
+use Rattle.k_tree.specs.declared.tokens.word.Word.TheVariants as word
+use Rattle.k_tree.specs.declared.tree.expression.Expr.{Expr}
+use Rattle.k_tree.specs.declared.tree.expression.Expr.TheVariants as expr
+use Rattle.k_tree.specs.declared.tree.declaration.Init.{Init}
+use Rattle.k_tree.specs.declared.tree.declaration.Init.TheVariants as init
+use Rattle.k_tree.specs.declared.tree.declaration.Declarator.{Declarator}
+use Rattle.k_tree.specs.declared.tree.declaration.Params.TheVariants as params
+use Rattle.k_tree.specs.declared.tree.statement.Stmt.{Stmt}
+use Rattle.k_tree.specs.declared.tree.statement.Stmt.TheVariants as stmt
+use Rattle.k_tree.specs.declared.tree.unit.Item.{Item}
+use Rattle.k_tree.specs.declared.tree.unit.Item.TheVariants as item
+use Rattle.k_tree.specs.declared.tree.unit.Unit as source
+use Rattle.k_parse.specs.declared.expression.Operand.{Operand}
+use Rattle.k_parse.specs.declared.expression.Operator.{Operator}
+
+-- what was read, and the tokens behind it; nothing where the tokens are refused
+abbrev pub Read : Type 0 → Type 0
+Read A = Option (A × List Token)
+
+infixl 10 ◌>>=◌
+abbrev pub ◌>>=◌ : {A B : Type 0} → Read A → (A → List Token → Read B) → Read B
+None >>= f = None
+(Some r) >>= f = f r.0 r.1
+
+-- a mark, a keyword and a name
+abbrev pub is_mark : Mark → TokenKind → Bool
+is_mark wanted (token.Mark m) = marks.ghosts.eq m wanted
+is_mark wanted _ = false
+
+abbrev pub is_word : Word → TokenKind → Bool
+is_word wanted (token.Word w) = words.ghosts.eq w wanted
+is_word wanted _ = false
+
+abbrev pub is_name : List ℕ → TokenKind → Bool
+is_name wanted (token.Name x) = pointwise nat_eq x wanted
+is_name wanted _ = false
+
+-- the end of the source
+abbrev pub is_end : TokenKind → Bool
+is_end token.End = true
+is_end _ = false
+
+-- whether the next token passes a test
+abbrev pub comes : (TokenKind → Bool) → List Token → Bool
+comes test [] = false
+comes test (t ∷ ts) = test t.what
+
+-- the place of the next token, where it passes a test
+abbrev pub taken : (TokenKind → Bool) → List Token → Read Place
+taken test [] = None
+taken test (t ∷ ts) = if test t.what then Some (t.place, ts) else None
+
+-- the place of the next token, which stays
+abbrev pub place_next : List Token → Option Place
+place_next [] = None
+place_next (t ∷ ts) = Some t.place
+
+-- the rank of an operator of the first programs (C17 6.5.5, 6.5.6)
+abbrev pub operator_rank : Mark → Option ℕ
+operator_rank mark.Plus = Some 11
+operator_rank mark.Minus = Some 11
+operator_rank mark.Star = Some 12
+operator_rank _ = None
+
+-- the next token as an operator of a rank or a higher one
+abbrev pub operator_from : ℕ → Mark → Place → List Token → Option ℕ → Read Operator
+operator_from k m p ts None = None
+operator_from k m p ts (Some n) = if nat_le k n then Some (record { mark = m; rank = n; place = p }, ts) else None
+
+abbrev pub operator_at : ℕ → TokenKind → Place → List Token → Read Operator
+operator_at k (token.Mark m) p ts = operator_from k m p ts (operator_rank m)
+operator_at k _ p ts = None
+
+abbrev pub operator : ℕ → List Token → Read Operator
+operator k [] = None
+operator k (t ∷ ts) = operator_at k t.what t.place ts
+
+-- a reader of expressions of a rank or a higher one
+abbrev pub Reader : Type 0
+Reader = ℕ → List Token → Read Operand
+
+-- an operator with both operands
+abbrev pub joined : Operator → Operand → Operand → Operand
+joined o a b = record { expr = expr.Binary o.place o.mark a.expr b.expr; depth = 1 + max a.depth b.depth }
+
+-- an operator is taken, where the nesting has room for it, with its right operand, and the reading goes on
+abbrev pub joins : Reader → ℕ → (Operand → List Token → Read Operand) → Operand → List Token → Read Operator → Read Operand
+joins again room on a ts None = Some (a, ts)
+joins again room on a ts (Some r) =
+    if nat_le room a.depth then None else again (r.0.rank + 1) r.1 >>= λ b rest. on (joined r.0 a b) rest
+
+-- operators of a rank or a higher one behind an operand, from the left
+unfoldable pub climb : Reader → ℕ → ℕ → ℕ → Operand → List Token → Read Operand
+climb again room zero k a ts = joins again room (λ b rest. None) a ts (operator k ts)
+climb again room (suc fuel) k a ts = joins again room (λ b rest. climb again room fuel k b rest) a ts (operator k ts)
+
+-- an operand without operands of its own
+abbrev pub leaf : Expr → List Token → Read Operand
+leaf e ts = Some (record { expr = e; depth = 1 }, ts)
+
+-- an operand by its first token
+abbrev pub operand_at : Reader → TokenKind → Place → List Token → Read Operand
+operand_at again (token.Name x) p ts = leaf (expr.Name p x) ts
+operand_at again (token.Number kind.I32 n) p ts = leaf (expr.Number p kind.I32 n) ts
+operand_at again (token.Number _ n) p ts = None
+operand_at again (token.Char z) p ts = leaf (expr.Char p z) ts
+operand_at again (token.Mark mark.LeftParen) p ts =
+    again 0 ts >>= λ a rest. taken (is_mark mark.RightParen) rest >>= λ close behind.
+    Some (record { expr = expr.Paren p a.expr; depth = 1 + a.depth }, behind)
+operand_at again _ p ts = None
+
+abbrev pub operand : Reader → List Token → Read Operand
+operand again [] = None
+operand again (t ∷ ts) = operand_at again t.what t.place ts
+
+-- an expression of a rank or a higher one, which nests no deeper than there is room
+unfoldable pub expression : ℕ → ℕ → List Token → Read Operand
+expression zero k ts = None
+expression (suc room) k ts =
+    operand (λ j us. expression room j us) ts >>= climb (λ j us. expression room j us) (suc room) (suc room) k
+
+-- items, as long as one more comes
+unfoldable pub many : {A : Type 0} → (List Token → Read A) → (List Token → Bool) → ℕ → List A → List Token → Read (List A)
+many item more zero done ts = if more ts then None else Some (done, ts)
+many item more (suc fuel) done ts =
+    if more ts then (item ts >>= λ a rest. many item more fuel (done ++ a ∷ []) rest) else Some (done, ts)
