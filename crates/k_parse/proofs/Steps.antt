@@ -1,7 +1,12 @@
 -- The reader, step by step: what it gives where its next step is known, and that more fuel changes nothing.
-use Rattle.std.proofs.Common.{ℕ, suc, zero, ◌≡◌, ◌+◌, ◌-◌, ◌<◌, ◌≤◌, max, Bool, true, false, cond, leb, List, [], ◌∷◌, ◌++◌, length, Option, Some, None, sym, ap, ◌∙◌, subst, refl, arith, sub-one}
+use Rattle.std.proofs.Common.{ℕ, suc, zero, ◌≡◌, ◌+◌, ◌-◌, ◌<◌, ◌≤◌, max, Bool, true, false, cond, leb, List, [], ◌∷◌, ◌++◌, length, Option, Some, None, Result, Ok, Err, sym, ap, ◌∙◌, subst, refl, arith, sub-one}
+use Rattle.std.specs.Result.{IsErr, IsErrAnd}
+use Rattle.std.specs.Borrow.{Bor}
 use Rattle.std.proofs.lemmas.Bool.{le-leb, lt-leb, leb-true, leb-false}
 use Rattle.k_tree.specs.declared.tokens.Token.{Token}
+use Rattle.k_parse.specs.declared.first.FirstFault.{FirstFault}
+use Rattle.k_parse.specs.declared.first.FirstFault.TheVariants as fault
+use Rattle.k_parse.specs.Outcome.{Gives}
 use Rattle.k_parse.specs.declared.expression.Operand.{Operand}
 use Rattle.k_parse.specs.declared.expression.Operator.{Operator}
 use Rattle.k_parse.specs.Reader.{Read, ◌>>=◌, Reader, operator, operand, joined, joins, climb, expression, many}
@@ -165,3 +170,24 @@ many_turns item more s done ts h =
     ∙ (ap (λ b. cond b (item ts >>= λ a rest. many item more (length ts) (done ++ a ∷ []) rest) (Some (done, ts))) h
     ∙ bind_same (item ts) (λ a rest. many item more (length ts) (done ++ a ∷ []) rest) (λ a rest. many item more (length rest) (done ++ a ∷ []) rest)
         (λ a rest e. enough_items item more s (length ts) (length rest) (done ++ a ∷ []) rest (omega (arith, s ts a rest e)) (omega arith))))
+
+-- the same two, as the code meets them
+pub climb_turned : (again : Reader) (room k : ℕ) (a b joint : Operand) (o : Operator) (ts behind rest : List Token)
+    → operator k ts ≡ Some (o, behind) → a.depth < room → again (o.rank + 1) behind ≡ Some (b, rest) → joint ≡ joined o a b
+    → climb again room room k joint rest ≡ climb again room room k a ts
+climb_turned again room k a b joint o ts behind rest h d q e =
+    ap (λ x. climb again room room k x rest) e
+    ∙ sym (climb_turns again room k a ts (o, behind) h d ∙ ap (λ m. m >>= λ x us. climb again room room k (joined o a x) us) q)
+
+pub climb_refused : (again : Reader) (room k : ℕ) (a : Operand) (o : Operator) (ts behind : List Token)
+    → operator k ts ≡ Some (o, behind) → a.depth < room → again (o.rank + 1) behind ≡ None
+    → climb again room room k a ts ≡ None
+climb_refused again room k a o ts behind h d q =
+    climb_turns again room k a ts (o, behind) h d ∙ ap (λ m. m >>= λ x us. climb again room room k (joined o a x) us) q
+
+-- where a part is refused, so is the whole
+pub refused_alike : {A B : Type 0} (e : FirstFault) (result : Result (B × Bor (List Token)) FirstFault) (m : Read A) (n : Read B)
+    → result ≡ Err e → Gives {A = A} (Err e) m → (m ≡ None → n ≡ None) → Gives result n
+refused_alike {A} {B} e result m n q g h = subst (λ r. Gives r n) (sym q) (elim e as (λ v. Gives {A = A} (Err v) m → Gives {A = B} (Err v) n) [ fault.Other ↦ h | fault.Memory ↦ λ u. tt ] g)
+
+pub ruleset climbing = (climb_stops, climb_deep, climb_refused, climb_turns, expression_begins, expression_deep)

@@ -109,6 +109,7 @@ fn parenthesised(alloc: Global, place: Place, inner: Operand) -> Result<Operand,
 
 /// An expression of this rank or a higher one, which nests no deeper than `room`.
 #[cycle(expressions)]
+#[tactic(auto, using(crate::proofs::Steps::climbing))]
 pub fn expression<'a>(
     alloc: Global,
     room: usize,
@@ -173,6 +174,7 @@ fn first_operand<'a>(
 
 /// The operators of this rank or a higher one behind an operand, from the left.
 #[cycle(expressions)]
+#[tactic(auto, using(crate::proofs::Steps::climbing))]
 fn climb<'a>(
     alloc: Global,
     room: usize,
