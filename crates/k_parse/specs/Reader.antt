@@ -139,3 +139,129 @@ unfoldable pub many : {A : Type 0} → (List Token → Read A) → (List Token �
 many item more zero done ts = if more ts then None else Some (done, ts)
 many item more (suc fuel) done ts =
     if more ts then (item ts >>= λ a rest. many item more fuel (done ++ a ∷ []) rest) else Some (done, ts)
+
+-- an expression, without how deep it nests
+abbrev pub value : ℕ → ℕ → List Token → Read Expr
+value room k ts = expression room k ts >>= λ a rest. Some (a.expr, rest)
+
+-- an initialiser, which stands at its first token; the statement has so much room
+abbrev pub initialiser_at : ℕ → Option Place → List Token → Read (Option Init)
+initialiser_at room None ts = None
+initialiser_at room (Some p) ts = value (room - 2) 1 ts >>= λ e rest. Some (Some (init.One p e), rest)
+
+-- `=` and an initialiser, or nothing
+abbrev pub initialised : ℕ → List Token → Read (Option Init)
+initialised room ts =
+    if comes (is_mark mark.Equal) ts
+    then (taken (is_mark mark.Equal) ts >>= λ p rest. initialiser_at room (place_next rest) rest)
+    else Some (None, ts)
+
+-- a declarator
+abbrev pub declarator_at : ℕ → TokenKind → Place → List Token → Read Declarator
+declarator_at room (token.Name x) p ts =
+    initialised room ts >>= λ i rest. Some (record { place = p; stars = []; name = x; dims = []; init = i }, rest)
+declarator_at room _ p ts = None
+
+abbrev pub declarator : ℕ → List Token → Read Declarator
+declarator room [] = None
+declarator room (t ∷ ts) = declarator_at room t.what t.place ts
+
+-- a declarator behind a comma
+unfoldable pub declarator_behind : ℕ → List Token → Read Declarator
+declarator_behind room ts = taken (is_mark mark.Comma) ts >>= λ p rest. declarator room rest
+
+-- declarators with commas between them
+unfoldable pub declarators : ℕ → List Token → Read (List Declarator)
+declarators room ts =
+    declarator room ts >>= λ d rest. many (declarator_behind room) (comes (is_mark mark.Comma)) (length rest) (d ∷ []) rest
+
+-- a statement, of which all but the semicolon was read
+abbrev pub ended : Stmt → List Token → Read Stmt
+ended s ts = taken (is_mark mark.Semicolon) ts >>= λ p rest. Some (s, rest)
+
+-- what stands behind `int`
+abbrev pub declaration : ℕ → Place → List Token → Read Stmt
+declaration room p ts = declarators room ts >>= λ list rest. ended (stmt.Declare p (word.Int ∷ []) list) rest
+
+-- what stands behind `return`
+abbrev pub returned : ℕ → Place → List Token → Read Stmt
+returned room p ts = value (room - 1) 0 ts >>= λ e rest. ended (stmt.Return p (Some e)) rest
+
+-- what stands behind a name and `=`
+abbrev pub assigned : ℕ → List ℕ → Place → Place → List Token → Read Stmt
+assigned room x p q ts = value (room - 2) 1 ts >>= λ e rest. ended (stmt.Expr p (expr.Assign q mark.Equal (expr.Name p x) e)) rest
+
+-- what stands behind a name and `(`
+abbrev pub called : ℕ → List ℕ → Place → List Token → Read Stmt
+called room x p ts =
+    if pointwise nat_eq x (codes "putchar")
+    then (value (room - 2) 1 ts >>= λ e rest. taken (is_mark mark.RightParen) rest >>= λ close behind. ended (stmt.Expr p (expr.Call p x (e ∷ []))) behind)
+    else None
+
+-- what stands behind a name
+abbrev pub action_at : ℕ → List ℕ → Place → TokenKind → Place → List Token → Read Stmt
+action_at room x p (token.Mark mark.Equal) q ts = assigned room x p q ts
+action_at room x p (token.Mark mark.LeftParen) q ts = called room x p ts
+action_at room x p _ q ts = None
+
+abbrev pub action : ℕ → List ℕ → Place → List Token → Read Stmt
+action room x p [] = None
+action room x p (t ∷ ts) = action_at room x p t.what t.place ts
+
+-- a statement or a declaration, by its first token
+abbrev pub statement_at : ℕ → TokenKind → Place → List Token → Read Stmt
+statement_at room (token.Word word.Int) p ts = declaration room p ts
+statement_at room (token.Word word.Return) p ts = returned room p ts
+statement_at room (token.Name x) p ts = action room x p ts
+statement_at room _ p ts = None
+
+unfoldable pub statement : ℕ → List Token → Read Stmt
+statement room [] = None
+statement room (t ∷ ts) = statement_at room t.what t.place ts
+
+-- whether no closing brace comes
+abbrev pub block_goes_on : List Token → Bool
+block_goes_on ts = not (comes (is_mark mark.RightBrace) ts)
+
+-- the parts of a block, up to its closing brace
+unfoldable pub parts : ℕ → List Token → Read (List Stmt)
+parts room ts = many (statement room) block_goes_on (length ts) [] ts
+
+-- `int main(void) {`, with the places of `int` and of the name
+unfoldable pub opening : List Token → Read (Place × Place)
+opening ts =
+    taken (is_word word.Int) ts >>= λ p behind_int. taken (is_name (codes "main")) behind_int >>= λ q behind_main.
+    taken (is_mark mark.LeftParen) behind_main >>= λ a behind_open. taken (is_word word.Void) behind_open >>= λ b behind_void.
+    taken (is_mark mark.RightParen) behind_void >>= λ c behind_close. taken (is_mark mark.LeftBrace) behind_close >>= λ d rest.
+    Some ((p, q), rest)
+
+-- the source of one main
+abbrev pub source_of : Place × Place → List Stmt → Place → Place → source.Unit
+source_of places body close last = record {
+  items = item.Function places.0
+      (record { specs = word.Int ∷ []; stars = []; name = codes "main"; name_place = places.1; params = params.Void })
+      body close ∷ [];
+  end = last;
+}
+
+-- nothing is left
+abbrev pub finished : {A : Type 0} → A → List Token → Option A
+finished x [] = Some x
+finished x (t ∷ ts) = None
+
+-- what ends a source behind the parts of its block: `}` and the end
+unfoldable pub closing : List Token → Read (Place × Place)
+closing ts = taken (is_mark mark.RightBrace) ts >>= λ close behind. taken is_end behind >>= λ last rest. Some ((close, last), rest)
+
+-- a first program, whose statements have so much room
+abbrev pub program_read : ℕ → List Token → Read source.Unit
+program_read room ts =
+    opening ts >>= λ places rest. parts room rest >>= λ body behind. closing behind >>= λ ends left.
+    Some (source_of places body ends.0 ends.1, left)
+
+abbrev pub alone : Read source.Unit → Option source.Unit
+alone None = None
+alone (Some r) = finished r.0 r.1
+
+unfoldable pub program : ℕ → List Token → Option source.Unit
+program room ts = alone (program_read room ts)

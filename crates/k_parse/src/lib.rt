@@ -3,6 +3,7 @@
 
 mod expression;
 mod first;
+mod statement;
 mod tokens;
 
 pub use first::{FirstFault, first_program};
