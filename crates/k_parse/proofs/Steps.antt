@@ -22,12 +22,12 @@ if_same true x y z h = refl
 if_same false x y z h = h refl
 
 -- the equations of the climb
-climb_zero : (again : Reader) (room k : ℕ) (a : Operand) (ts : List Token)
+pub climb_zero : (again : Reader) (room k : ℕ) (a : Operand) (ts : List Token)
     → climb again room zero k a ts ≡ joins again room (λ b rest. None) a ts (operator k ts)
 unfolding climb
 climb_zero again room k a ts = refl
 
-climb_suc : (again : Reader) (room fuel k : ℕ) (a : Operand) (ts : List Token)
+pub climb_suc : (again : Reader) (room fuel k : ℕ) (a : Operand) (ts : List Token)
     → climb again room (suc fuel) k a ts ≡ joins again room (climb again room fuel k) a ts (operator k ts)
 unfolding climb
 climb_suc again room fuel k a ts = refl
@@ -103,17 +103,22 @@ unfolding expression
 expression_begins zero k ts h = absurd (omega arith)
 expression_begins (suc room) k ts h = rw sub-one refl
 
+pub expression_suc : (room k : ℕ) (ts : List Token)
+    → expression (suc room) k ts ≡ (operand (expression room) ts >>= climb (expression room) (suc room) (suc room) k)
+unfolding expression
+expression_suc room k ts = refl
+
 pub expression_deep : (k : ℕ) (ts : List Token) → expression 0 k ts ≡ None
 unfolding expression
 expression_deep k ts = refl
 
 -- the equations of a list
-many_zero : {A : Type 0} (item : List Token → Read A) (more : List Token → Bool) (done : List A) (ts : List Token)
+pub many_zero : {A : Type 0} (item : List Token → Read A) (more : List Token → Bool) (done : List A) (ts : List Token)
     → many item more zero done ts ≡ cond (more ts) None (Some (done, ts))
 unfolding many
 many_zero item more done ts = refl
 
-many_suc : {A : Type 0} (item : List Token → Read A) (more : List Token → Bool) (fuel : ℕ) (done : List A) (ts : List Token)
+pub many_suc : {A : Type 0} (item : List Token → Read A) (more : List Token → Bool) (fuel : ℕ) (done : List A) (ts : List Token)
     → many item more (suc fuel) done ts
     ≡ cond (more ts) (item ts >>= λ a rest. many item more fuel (done ++ a ∷ []) rest) (Some (done, ts))
 unfolding many
