@@ -20,6 +20,7 @@ use Rattle.k_tree.specs.declared.tree.declaration.Declarator.{Declarator}
 use Rattle.k_tree.specs.declared.tree.statement.Stmt.{Stmt, out-Stmt}
 use Rattle.k_tree.specs.declared.tree.statement.Stmt.TheVariants as stmt
 use Rattle.k_tree.specs.Folds.{expr_folds, expr_Name, expr_Number, expr_Char, expr_Paren, expr_Binary}
+use Rattle.k_tree.specs.Nesting.{expr_depth, expr_depth_step}
 use Rattle.k_tree.specs.Ranked as r
 use Rattle.k_tree.specs.Ranked.{Ranked, RankedArgs, IfGiven, RankedInit, RankedDeclarator, RankedDeclaration, RankedStmt, RankedParts, Specs, is_spec, binary_rank}
 use Rattle.k_tree.specs.declared.tree.declaration.Params.TheVariants as params
@@ -303,3 +304,11 @@ unit_ranked _ (main places body close last h) =
 
 pub unit_first : (u : source.Unit) → FormUnit u → IsFirst u
 unit_first _ (main places body close last h) = ((refl, refl, refl, refl), All-map FormStmt IsFirstStmt stmt_first body h)
+
+-- an expression nests at least itself
+pub form_deep : (k : ℕ) (e : Expr) → Form k e → 1 ≤ expr_depth e
+form_deep _ _ (name k p x h) = subst (λ n. 1 ≤ n) (sym (expr_Name ℕ expr_depth_step p x)) (omega arith)
+form_deep _ _ (number k p n h) = subst (λ n. 1 ≤ n) (sym (expr_Number ℕ expr_depth_step p kind.I32 n)) (omega arith)
+form_deep _ _ (character k p z h) = subst (λ n. 1 ≤ n) (sym (expr_Char ℕ expr_depth_step p z)) (omega arith)
+form_deep _ _ (paren k p a h x) = subst (λ n. 1 ≤ n) (sym (expr_Paren ℕ expr_depth_step p a)) (omega arith)
+form_deep _ _ (binary k p op n a b h q x y) = subst (λ n. 1 ≤ n) (sym (expr_Binary ℕ expr_depth_step p op a b)) (omega arith)
