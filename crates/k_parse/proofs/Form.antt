@@ -279,7 +279,7 @@ stmt_first _ (returns p e f) = subst FirstStmt (sym (stmt.outs-Return p (Some e)
 pub data FormUnit : source.Unit → Type 0 where
   main : (places : Place × Place) (body : List Stmt) (close last : Place) → All FormStmt body → FormUnit (source_of places body close last)
 
-abbrev main_head : Place → Head
+abbrev pub main_head : Place → Head
 main_head q = record { specs = word.Int ∷ []; stars = []; name = codes "main"; name_place = q; params = params.Void }
 
 head_formed : (h : Head) → IsFirstHead h → h ≡ main_head h.name_place

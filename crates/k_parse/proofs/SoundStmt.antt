@@ -25,7 +25,7 @@ use Rattle.k_parse.specs.Reader.{Read, ◌>>=◌, is_mark, comes, taken, place_n
 use Rattle.k_parse.proofs.Form.{Form, form_deep, FormDeclarator, unset, set, FormStmt, declares, assigns, calls, returns}
 use Rattle.k_parse.proofs.Marks.{mark_only}
 use Rattle.k_parse.proofs.SoundExpr.{expression_sound}
-use Rattle.k_parse.proofs.Steps.{many_zero, many_suc}
+use Rattle.k_parse.proofs.Steps.{many_zero, many_suc, Shortens}
 use Rattle.k_parse.proofs.Taken.{Taken, taken_none, taken_append, pair_same, bind_ends, cond_ends, if_ends, IsNext, taken_ends, next_shorter, next_plain, taken_first, one_at, one_plain}
 
 -- a part of the tree was read
@@ -365,3 +365,10 @@ pub statement_sound : (room : ℕ) (ts : List Token) (s : Stmt) (rest : List Tok
 unfolding statement
 statement_sound room [] s rest r0 h = absurd cc
 statement_sound room (t ∷ us) s rest r0 h = statement_at_sound room t.what t.place us s rest r0 h
+
+-- so each takes a token
+pub behind_shortens : (room : ℕ) → Shortens (declarator_behind room)
+behind_shortens room ts d rest h = (behind_sound room ts d rest h).shorter
+
+pub statement_shortens : (room : ℕ) → 0 < room → Shortens (statement room)
+statement_shortens room r0 ts s rest h = (statement_sound room ts s rest r0 h).shorter

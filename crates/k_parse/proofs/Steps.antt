@@ -9,7 +9,9 @@ use Rattle.k_parse.specs.declared.first.FirstFault.TheVariants as fault
 use Rattle.k_parse.specs.Outcome.{Gives}
 use Rattle.k_parse.specs.declared.expression.Operand.{Operand}
 use Rattle.k_parse.specs.declared.expression.Operator.{Operator}
-use Rattle.k_parse.specs.Reader.{Read, ◌>>=◌, Reader, operator, operand, joined, joins, climb, expression, many}
+use Rattle.k_parse.specs.Reader.{Read, ◌>>=◌, Reader, operator, operand, joined, joins, climb, expression, many, declarator, declarator_behind, declarators, comes, is_mark, statement, block_goes_on, parts}
+use Rattle.k_tree.specs.declared.tokens.mark.Mark.TheVariants as mark
+use Rattle.k_tree.specs.declared.tree.declaration.Declarator.{Declarator}
 
 -- what goes on alike gives the same
 pub bind_same : {A B : Type 0} (m : Read A) (f g : A → List Token → Read B)
@@ -189,6 +191,31 @@ pub climb_refused : (again : Reader) (room k : ℕ) (a : Operand) (o : Operator)
     → climb again room room k a ts ≡ None
 climb_refused again room k a o ts behind h d q =
     climb_turns again room k a ts (o, behind) h d ∙ ap (λ m. m >>= λ x us. climb again room room k (joined o a x) us) q
+
+-- the same for lists, as the code meets them
+pub many_turned : {A : Type 0} (item : List Token → Read A) (more : List Token → Bool) → Shortens item → (done : List A) (ts : List Token) (a : A) (rest : List Token)
+    → more ts ≡ true → item ts ≡ Some (a, rest) → many item more (length rest) (done ++ a ∷ []) rest ≡ many item more (length ts) done ts
+many_turned item more s done ts a rest h e =
+    sym (many_turns item more s done ts h ∙ ap (λ m. m >>= λ x us. many item more (length us) (done ++ x ∷ []) us) e)
+
+pub many_refused : {A : Type 0} (item : List Token → Read A) (more : List Token → Bool) → Shortens item → (done : List A) (ts : List Token)
+    → more ts ≡ true → item ts ≡ None → many item more (length ts) done ts ≡ None
+many_refused item more s done ts h e =
+    many_turns item more s done ts h ∙ ap (λ m. m >>= λ x us. many item more (length us) (done ++ x ∷ []) us) e
+
+pub declarators_begin : (room : ℕ) (ts : List Token) (d : Declarator) (rest : List Token) → declarator room ts ≡ Some (d, rest)
+    → many (declarator_behind room) (comes (is_mark mark.Comma)) (length rest) (d ∷ []) rest ≡ declarators room ts
+unfolding declarators
+declarators_begin room ts d rest h =
+    sym (ap (λ m. m >>= λ x us. many (declarator_behind room) (comes (is_mark mark.Comma)) (length us) (x ∷ []) us) h)
+
+pub declarators_refused : (room : ℕ) (ts : List Token) → declarator room ts ≡ None → declarators room ts ≡ None
+unfolding declarators
+declarators_refused room ts h = ap (λ m. m >>= λ x us. many (declarator_behind room) (comes (is_mark mark.Comma)) (length us) (x ∷ []) us) h
+
+pub parts_begin : (room : ℕ) (ts : List Token) → many (statement room) block_goes_on (length ts) [] ts ≡ parts room ts
+unfolding parts
+parts_begin room ts = refl
 
 -- where a part is refused, so is the whole
 pub refused_alike : {A B : Type 0} (e : FirstFault) (result : Result (B × Bor (List Token)) FirstFault) (m : Read A) (n : Read B)

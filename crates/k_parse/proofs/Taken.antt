@@ -30,7 +30,7 @@ taken_append xs ys ts mid rest a b = record {
   stands = stand-append xs ys a.front b.front a.stands b.stands;
 }
 
-some_same : {A : Type 0} (x y : A) → Some x ≡ Some y → x ≡ y
+pub some_same : {A : Type 0} (x y : A) → Some x ≡ Some y → x ≡ y
 some_same x y h = cc
 
 pub pair_same : {A : Type 0} (r q : A × List Token) → Some r ≡ Some q → r ≡ q

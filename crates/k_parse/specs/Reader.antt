@@ -227,13 +227,24 @@ block_goes_on ts = not (comes (is_mark mark.RightBrace) ts)
 unfoldable pub parts : ℕ → List Token → Read (List Stmt)
 parts room ts = many (statement room) block_goes_on (length ts) [] ts
 
--- `int main(void) {`, with the places of `int` and of the name
+-- `int main(void) {`, token by token from its end, with the places of `int` and of the name
+abbrev pub brace_next : Place × Place → List Token → Read (Place × Place)
+brace_next places ts = taken (is_mark mark.LeftBrace) ts >>= λ p rest. Some (places, rest)
+
+abbrev pub close_next : Place × Place → List Token → Read (Place × Place)
+close_next places ts = taken (is_mark mark.RightParen) ts >>= λ p rest. brace_next places rest
+
+abbrev pub void_next : Place × Place → List Token → Read (Place × Place)
+void_next places ts = taken (is_word word.Void) ts >>= λ p rest. close_next places rest
+
+abbrev pub open_next : Place × Place → List Token → Read (Place × Place)
+open_next places ts = taken (is_mark mark.LeftParen) ts >>= λ p rest. void_next places rest
+
+abbrev pub name_next : Place → List Token → Read (Place × Place)
+name_next p ts = taken (is_name (codes "main")) ts >>= λ q rest. open_next (p, q) rest
+
 unfoldable pub opening : List Token → Read (Place × Place)
-opening ts =
-    taken (is_word word.Int) ts >>= λ p behind_int. taken (is_name (codes "main")) behind_int >>= λ q behind_main.
-    taken (is_mark mark.LeftParen) behind_main >>= λ a behind_open. taken (is_word word.Void) behind_open >>= λ b behind_void.
-    taken (is_mark mark.RightParen) behind_void >>= λ c behind_close. taken (is_mark mark.LeftBrace) behind_close >>= λ d rest.
-    Some ((p, q), rest)
+opening ts = taken (is_word word.Int) ts >>= λ p rest. name_next p rest
 
 -- the source of one main
 abbrev pub source_of : Place × Place → List Stmt → Place → Place → source.Unit

@@ -77,14 +77,14 @@ fn declarator<'a>(
 }
 
 /// A comma and a declarator.
+#[tactic(auto, unfolding(crate::specs::Reader::declarator_behind))]
 fn declarator_behind<'a>(
     alloc: Global,
     room: usize,
     tokens: &'a [Token],
 ) -> Result<(Declarator, &'a [Token]), FirstFault>
     requires { room < 2 ^ 60 }
-    ensures read { Gives result (reader.declarator_behind room tokens.now) }
-    ensures shorter { IfOk result (λ r. length r.1.now < length tokens.now) }
+    ensures { Gives result (reader.declarator_behind room tokens.now) }
 {
     let (_, rest) = mark(Mark::Comma, tokens)?;
     declarator(alloc, room, rest)
@@ -249,14 +249,14 @@ fn action<'a>(
 }
 
 /// A statement or a declaration, which nests no deeper than `room`.
+#[tactic(auto, unfolding(crate::specs::Reader::statement))]
 fn statement<'a>(
     alloc: Global,
     room: usize,
     tokens: &'a [Token],
 ) -> Result<(Stmt, &'a [Token]), FirstFault>
     requires { room < 2 ^ 60 }
-    ensures read { Gives result (reader.statement room tokens.now) }
-    ensures shorter { IfOk result (λ r. length r.1.now < length tokens.now) }
+    ensures { Gives result (reader.statement room tokens.now) }
 {
     let Some((first, rest)) = tokens.split_first() else {
         return Err(FirstFault::Other);
@@ -278,7 +278,8 @@ pub fn parts<'a>(
     room: usize,
     tokens: &'a [Token],
 ) -> Result<(Seq<Stmt>, &'a [Token]), FirstFault>
-    requires { room < 2 ^ 60 }
+    requires positive { 0 < room }
+    requires room { room < 2 ^ 60 }
     ensures { Gives result (reader.parts room tokens.now) }
 {
     let mut list = Seq::new(alloc);
