@@ -30,7 +30,7 @@ use Rattle.k_tree.specs.declared.tree.unit.Item.TheVariants as item
 use Rattle.k_tree.specs.declared.tree.unit.Unit as source
 use Rattle.k_tree.specs.Ranked.{RankedItem, RankedUnit}
 use Rattle.k_parse.specs.First.{IsFirstHead, FirstItems, IsFirst}
-use Rattle.k_parse.specs.Reader.{source_of}
+use Rattle.k_parse.specs.Reader.{main_head, source_of}
 use Rattle.k_parse.specs.First.{is_first_operator, is_int, first_expr_step, IsFirstExpr, FirstInit, IsFirstInit, IsFirstDeclarator, FirstVariable, FirstAssignment, FirstArgument, FirstAction, FirstStmt, IsFirstStmt}
 use Rattle.k_parse.specs.Reader.{operator_rank}
 
@@ -278,9 +278,6 @@ stmt_first _ (returns p e f) = subst FirstStmt (sym (stmt.outs-Return p (Some e)
 -- a source
 pub data FormUnit : source.Unit → Type 0 where
   main : (places : Place × Place) (body : List Stmt) (close last : Place) → All FormStmt body → FormUnit (source_of places body close last)
-
-abbrev pub main_head : Place → Head
-main_head q = record { specs = word.Int ∷ []; stars = []; name = codes "main"; name_place = q; params = params.Void }
 
 head_formed : (h : Head) → IsFirstHead h → h ≡ main_head h.name_place
 head_formed h f = λ i. record { specs = f.0 i; stars = f.1 i; name = f.2 i; name_place = h.name_place; params = f.3 i }

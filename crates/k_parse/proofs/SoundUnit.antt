@@ -13,8 +13,8 @@ use Rattle.k_tree.specs.declared.tree.statement.Stmt.{Stmt}
 use Rattle.k_tree.specs.declared.tree.unit.Unit as source
 use Rattle.k_tree.specs.Nesting.{nesting, deepest, stmt_depth}
 use Rattle.k_tree.specs.Places.{Pieces, plain, at, lay_head, lay_stmt, lay_stmts, lay_item, lay_unit, lay_row, Stand, Placed}
-use Rattle.k_parse.specs.Reader.{Read, ◌>>=◌, is_mark, is_word, is_name, is_end, taken, place_next, many, statement, block_goes_on, parts, brace_next, close_next, void_next, open_next, name_next, opening, source_of, closing, finished, program_read, alone, program}
-use Rattle.k_parse.proofs.Form.{FormStmt, FormUnit, main, main_head}
+use Rattle.k_parse.specs.Reader.{Read, ◌>>=◌, is_mark, is_word, is_name, is_end, taken, place_next, many, statement, block_goes_on, parts, brace_next, close_next, void_next, open_next, name_next, opening, main_head, source_of, closing, finished, program_read, alone, program}
+use Rattle.k_parse.proofs.Form.{FormStmt, FormUnit, main}
 use Rattle.k_parse.proofs.Marks.{mark_only, word_only, name_only, end_only}
 use Rattle.k_parse.proofs.SoundStmt.{IsPart, IsRow, many_sound, statement_sound}
 use Rattle.k_parse.proofs.Taken.{some_same, Taken, taken_none, taken_append, pair_same, bind_ends, IsNext, taken_ends, next_shorter, next_plain, next_at, taken_first}

@@ -17,3 +17,9 @@ abbrev pub Makes : {A : Type 0} → Result A FirstFault → A → Type 0
 Makes (Ok x) want = x ≡ want
 Makes (Err fault.Other) want = ⊥
 Makes (Err fault.Memory) want = Unit {0}
+
+-- the call found what is wanted, refused where nothing is, or found no memory
+abbrev pub Finds : {A : Type 0} → Result A FirstFault → Option A → Type 0
+Finds (Ok x) want = want ≡ Some x
+Finds (Err fault.Other) want = want ≡ None
+Finds (Err fault.Memory) want = Unit {0}

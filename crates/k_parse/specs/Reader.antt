@@ -22,7 +22,7 @@ use Rattle.k_tree.specs.declared.tree.declaration.Declarator.{Declarator}
 use Rattle.k_tree.specs.declared.tree.declaration.Params.TheVariants as params
 use Rattle.k_tree.specs.declared.tree.statement.Stmt.{Stmt}
 use Rattle.k_tree.specs.declared.tree.statement.Stmt.TheVariants as stmt
-use Rattle.k_tree.specs.declared.tree.unit.Item.{Item}
+use Rattle.k_tree.specs.declared.tree.unit.Head.{Head}
 use Rattle.k_tree.specs.declared.tree.unit.Item.TheVariants as item
 use Rattle.k_tree.specs.declared.tree.unit.Unit as source
 use Rattle.k_parse.specs.declared.expression.Operand.{Operand}
@@ -246,12 +246,14 @@ name_next p ts = taken (is_name (codes "main")) ts >>= λ q rest. open_next (p, 
 unfoldable pub opening : List Token → Read (Place × Place)
 opening ts = taken (is_word word.Int) ts >>= λ p rest. name_next p rest
 
+-- the head of main
+abbrev pub main_head : Place → Head
+main_head q = record { specs = word.Int ∷ []; stars = []; name = codes "main"; name_place = q; params = params.Void }
+
 -- the source of one main
 abbrev pub source_of : Place × Place → List Stmt → Place → Place → source.Unit
 source_of places body close last = record {
-  items = item.Function places.0
-      (record { specs = word.Int ∷ []; stars = []; name = codes "main"; name_place = places.1; params = params.Void })
-      body close ∷ [];
+  items = item.Function places.0 (main_head places.1) body close ∷ [];
   end = last;
 }
 

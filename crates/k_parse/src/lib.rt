@@ -3,6 +3,7 @@
 
 mod expression;
 mod first;
+mod source;
 mod statement;
 mod tokens;
 

@@ -120,7 +120,7 @@ fn ended<'a>(statement: Stmt, tokens: &'a [Token]) -> Result<(Stmt, &'a [Token])
 }
 
 /// `int`
-fn int_alone(alloc: Global) -> Result<Seq<Word>, NoMemory>
+pub fn int_alone(alloc: Global) -> Result<Seq<Word>, NoMemory>
     ensures { IfOk result (λ specs. specs ≡ Word.Int ∷ []) }
 {
     let mut specs = Seq::new(alloc);

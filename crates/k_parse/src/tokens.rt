@@ -94,3 +94,16 @@ pub fn name<'a>(wanted: &str, tokens: &'a [Token]) -> Result<(Place, &'a [Token]
         None => Err(FirstFault::Other),
     }
 }
+
+/// The place of the end, which is the next token.
+pub fn end<'a>(tokens: &'a [Token]) -> Result<(Place, &'a [Token]), FirstFault>
+    ensures { Gives result (reader.taken reader.is_end tokens.now) }
+{
+    match tokens.split_first() {
+        Some((first, rest)) => match &first.what {
+            TokenKind::End => Ok((first.place, rest)),
+            _ => Err(FirstFault::Other),
+        },
+        None => Err(FirstFault::Other),
+    }
+}
