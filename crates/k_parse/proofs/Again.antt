@@ -96,4 +96,4 @@ stand_at_first p (x ∷ xs) t ts h =
 -- pieces are as many as the tokens that they spell
 pub as_long : (xs : Pieces) (x : Spelled) (ts : List Token) → kinds_of xs ≡ x → kinds ts ≡ x → length xs ≡ length ts
 as_long xs x ts h g =
-    sym (length-map (λ (p : Piece). p.what) xs) ∙ (ap length (h ∙ sym g) ∙ length-map (λ (t : Token). t.what) ts)
+    sym (length-map xs (λ (p : Piece). p.what)) ∙ (ap length (h ∙ sym g) ∙ length-map ts (λ (t : Token). t.what))

@@ -17,8 +17,9 @@ use Rattle.k_tree.specs.Places.{Pieces, plain, at, lay_expr, lay_expr_step, Stan
 use Rattle.k_tree.specs.Spelling.{Spelled, spell_expr, spell_expr_step}
 use Rattle.k_tree.proofs.Laid.{expr_spelled}
 use Rattle.k_parse.specs.declared.expression.Operand.{Operand}
+use Rattle.k_parse.specs.declared.expression.Operator.{Operator}
 use Rattle.k_parse.specs.Program.{kinds}
-use Rattle.k_parse.specs.Reader.{Read, ◌>>=◌, Reader, is_mark, taken, operator, operator_rank, joined, climb, leaf, operand_at, expression}
+use Rattle.k_parse.specs.Reader.{Read, ◌>>=◌, Reader, is_mark, taken, operator, operator_at, operator_rank, joined, climb, leaf, operand_at, expression}
 use Rattle.k_parse.proofs.Again.{halves, one, begun, takes, no_operator, operator_higher, stand_halves, stand_at_first, as_long}
 use Rattle.k_parse.proofs.Form.{Form, name, number, character, paren, binary, form_ranked, form_deep}
 use Rattle.k_parse.proofs.Steps.{climb_stops, climb_turns, expression_suc}
@@ -109,10 +110,10 @@ binary_reads room k m p op a b t ts us rest e q le form h d ra rb stops = record
   };
   read =
       let again = expression (suc room) in
-      let left = record { expr = ra.tree; depth = expr_depth a } in
-      let o = record { mark = op; rank = m; place = t.place } in
+      let left : Operand = record { expr = ra.tree; depth = expr_depth a } in
+      let o : Operator = record { mark = op; rank = m; place = t.place } in
       let here : operator k (t ∷ (us ++ rest)) ≡ Some (o, us ++ rest) =
-          ap (λ v. Rattle.k_parse.specs.Reader.operator_at k v t.place (us ++ rest)) e ∙ operator_here k m op t.place (us ++ rest) q le in
+          ap (λ v. operator_at k v t.place (us ++ rest)) e ∙ operator_here k m op t.place (us ++ rest) q le in
       let low : expr_depth a < suc (suc room) = omega arith in
       ap (λ vs. expression (suc (suc room)) k vs) (append_assoc ts (t ∷ us) rest)
       ∙ (ra.read
@@ -158,7 +159,7 @@ complete _ _ (binary n p op m a b h q x y) (suc room) k ts rest le g d s =
     let all : ts ≡ c.left ++ (t.it ∷ t.more) = c.split ∙ ap (λ v. c.left ++ v) t.split in
     let stops : operator (m + 1) rest ≡ None = operator_higher (n + 1) (m + 1) rest s (omega arith) in
     let above : operator (m + 1) (t.it ∷ (t.more ++ rest)) ≡ None =
-        ap (λ v. Rattle.k_parse.specs.Reader.operator_at (m + 1) v t.it.place (t.more ++ rest)) t.what
+        ap (λ v. operator_at (m + 1) v t.it.place (t.more ++ rest)) t.what
         ∙ operator_above (m + 1) m op t.it.place (t.more ++ rest) q (omega arith) in
     subst (λ v. Reads (suc room) k v rest (expr.Binary p op a b)) (sym all)
     (binary_reads room k m p op a b t.it c.left t.more rest t.what q (omega arith) x c.first (omega arith)
