@@ -56,7 +56,7 @@ value_again (suc room) k e ts rest f h d s =
       same = r.twin.same;
     }
 
-expr_long : (k : ℕ) (e : Expr) (ts : List Token) → Form k e → kinds ts ≡ spell_expr e → length (lay_expr e) ≡ length ts
+pub expr_long : (k : ℕ) (e : Expr) (ts : List Token) → Form k e → kinds ts ≡ spell_expr e → length (lay_expr e) ≡ length ts
 expr_long k e ts f h = as_long (lay_expr e) (spell_expr e) ts (expr_spelled k e (form_ranked k e f)) h
 
 -- what stands behind a declarator goes on with no initialiser and no operator
@@ -64,7 +64,7 @@ pub record Behind (rest : List Token) : Type 0 where
   pub no_sign : comes (is_mark mark.Equal) rest ≡ false
   pub no_more : operator 1 rest ≡ None
 
-then : {A B : Type 0} (m : Read A) (f : A → List Token → Read B) (q : A × List Token) (r : Read B) → m ≡ Some q → f q.0 q.1 ≡ r → (m >>= f) ≡ r
+pub then : {A B : Type 0} (m : Read A) (f : A → List Token → Read B) (q : A × List Token) (r : Read B) → m ≡ Some q → f q.0 q.1 ≡ r → (m >>= f) ≡ r
 then m f q r e g = ap (λ n. n >>= f) e ∙ g
 
 abbrev some_declarator : Declarator → List Token → Read Declarator

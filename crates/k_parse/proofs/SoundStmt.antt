@@ -115,7 +115,7 @@ declarator_sound room (t ∷ us) d rest h = by_what t.what t.place us d rest h
     by_what _ p us d rest h = absurd cc
 
 -- a comma and a declarator
-abbrev lay_behind : Declarator → Pieces
+abbrev pub lay_behind : Declarator → Pieces
 lay_behind d = plain (token.Mark mark.Comma ∷ []) ++ lay_declarator d
 
 abbrev pub IsBehind : ℕ → List Token → Declarator → List Token → Type 0
@@ -180,7 +180,7 @@ many_sound {A} F lay depth room item more (suc fuel) done ts out rest s h =
     by_more false e go = no_row F lay depth room ts done out rest e
 
 -- declarators with commas between them
-behind_commas_row : (list : List Declarator) → lay_behind_commas (map lay_declarator list) ≡ lay_row (map lay_behind list)
+pub behind_commas_row : (list : List Declarator) → lay_behind_commas (map lay_declarator list) ≡ lay_row (map lay_behind list)
 behind_commas_row [] = refl
 behind_commas_row (d ∷ list) = ap (λ z. plain (token.Mark mark.Comma ∷ []) ++ (lay_declarator d ++ z)) (behind_commas_row list)
 
