@@ -244,7 +244,7 @@ parts_formed _ (r.declaration p specs list parts x y) f =
     let g : (specs ≡ word.Int ∷ []) × All IsFirstDeclarator list = subst FirstStmt (stmt.outs-Declare p specs list) (All-head IsFirstStmt s parts f) in
     All-cons FormStmt s parts (declare_formed p specs list x g.0 g.1) (parts_formed parts y (All-tail IsFirstStmt s parts f))
 
-part_ranked : (s : Stmt) (parts : List Stmt) → FormStmt s → RankedParts parts → RankedParts (s ∷ parts)
+pub part_ranked : (s : Stmt) (parts : List Stmt) → FormStmt s → RankedParts parts → RankedParts (s ∷ parts)
 part_ranked _ parts (declares p d list x y) h =
     r.declaration p (word.Int ∷ []) (d ∷ list) parts
     (((λ e. cc), All-cons (λ w. IsTrue (is_spec w)) word.Int [] refl (All-nil (λ w. IsTrue (is_spec w)))), (λ e. cc),
@@ -258,7 +258,7 @@ part_ranked _ parts (calls p q x e m f) h =
     (r.value p (expr.Call q x (e ∷ [])) (r.call 0 q x (e ∷ []) (omega arith) (r.more_args e [] (form_ranked 1 e f) r.no_args))) h
 part_ranked _ parts (returns p e f) h = r.statement (stmt.Return p (Some e)) parts (r.return_value p (Some e) (form_ranked 0 e f)) h
 
-parts_ranked : (parts : List Stmt) → All FormStmt parts → RankedParts parts
+pub parts_ranked : (parts : List Stmt) → All FormStmt parts → RankedParts parts
 parts_ranked [] h = r.no_parts
 parts_ranked (s ∷ parts) h = part_ranked s parts (All-head FormStmt s parts h) (parts_ranked parts (All-tail FormStmt s parts h))
 

@@ -1,6 +1,6 @@
 use Rattle.k_parse.proofs.Form.{formed}
 use Rattle.k_parse.proofs.SoundUnit.{program_sound}
-use Rattle.k_parse.proofs.CompleteParts.{statement_again}
+use Rattle.k_parse.proofs.CompleteUnit.{program_complete}
 use Rattle.k_parse.proofs.first.first_program.Goals as goal
 
 pub returns-clause-none : goal.returns-clause-none
