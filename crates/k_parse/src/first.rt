@@ -3,8 +3,9 @@
 ghost use Rattle.std.specs.Prelude.{IfOk};
 ghost use Rattle.k_parse.specs.Program.{IsProgramOf, IsOne, IsOnly, SpellsNone, WhereOther};
 
+use crate::source::program;
 use k_num::{NoMemory, Seq};
-use k_tree::{Token, Unit};
+use k_tree::{Token, Unit, nodes};
 use std::alloc::Global;
 
 /// Why tokens are not read as a first program.
@@ -27,6 +28,12 @@ impl From<NoMemory> for FirstFault {
     }
 }
 
+/// How deep statements, initialisers and expressions may nest.
+const NESTING: usize = 200;
+
+/// How many nodes a source may have.
+const NODES: u64 = 262_144;
+
 /// The tree of the first program that the tokens spell.
 pub fn first_program(alloc: Global, tokens: &Seq<Token>) -> Result<Unit, FirstFault>
     ensures read { IfOk result (IsProgramOf tokens.now) }
@@ -34,5 +41,10 @@ pub fn first_program(alloc: Global, tokens: &Seq<Token>) -> Result<Unit, FirstFa
     ensures only { IfOk result (IsOnly tokens.now) }
     ensures none { WhereOther result (SpellsNone tokens.now) }
 {
-    Err(FirstFault::Other)
+    let unit = program(alloc, NESTING, tokens.as_slice())?;
+    if nodes(&unit) <= NODES {
+        Ok(unit)
+    } else {
+        Err(FirstFault::Other)
+    }
 }
