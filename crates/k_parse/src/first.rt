@@ -1,6 +1,8 @@
 //! The reading of the first programs: `int main(void)` and one block of declarations of `int` variables, assignments,
 //! calls of putchar and returns.
-ghost use Rattle.std.specs.Prelude.{IfOk};
+ghost use Rattle.std.specs.Prelude.{◌<◌, ◌≤◌, length, IfOk};
+ghost use Rattle.std.specs.Bool.{OnTrue, OnFalse};
+ghost use Rattle.k_tree.specs.Count.{unit_count};
 ghost use Rattle.k_parse.specs.Program.{IsProgramOf, IsOne, IsOnly, SpellsNone, WhereOther};
 
 use crate::source::program;
@@ -34,6 +36,16 @@ const NESTING: usize = 200;
 /// How many nodes a source may have.
 const NODES: u64 = 262_144;
 
+/// Whether a tree of these tokens has no more nodes than a source may have. Each node has a token of its own, so few
+/// tokens need no count.
+fn is_small(tokens: &[Token], unit: &Unit) -> bool
+    requires { unit_count unit.now ≤ length tokens.now }
+    ensures within { OnTrue result (unit_count unit.now ≤ 262144) }
+    ensures over { OnFalse result (262144 < unit_count unit.now) }
+{
+    tokens.len() as u64 <= NODES || nodes(unit) <= NODES
+}
+
 /// The tree of the first program that the tokens spell.
 pub fn first_program(alloc: Global, tokens: &Seq<Token>) -> Result<Unit, FirstFault>
     ensures read { IfOk result (IsProgramOf tokens.now) }
@@ -41,8 +53,9 @@ pub fn first_program(alloc: Global, tokens: &Seq<Token>) -> Result<Unit, FirstFa
     ensures only { IfOk result (IsOnly tokens.now) }
     ensures none { WhereOther result (SpellsNone tokens.now) }
 {
-    let unit = program(alloc, NESTING, tokens.as_slice())?;
-    if nodes(&unit) <= NODES {
+    let tokens = tokens.as_slice();
+    let unit = program(alloc, NESTING, tokens)?;
+    if is_small(tokens, &unit) {
         Ok(unit)
     } else {
         Err(FirstFault::Other)
