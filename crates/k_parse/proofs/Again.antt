@@ -1,13 +1,11 @@
 -- Tokens whose kinds are known: how they fall into parts, what is taken of them, and what stands over the parts.
-use Rattle.std.proofs.Common.{ℕ, suc, zero, ◌≡◌, ◌+◌, ◌<◌, ◌≤◌, Bool, true, false, cond, List, [], ◌∷◌, ◌++◌, length, map, Option, Some, None, sym, ap, ◌∙◌, subst, refl, arith}
-use Rattle.std.specs.Prelude.{All}
+use Rattle.std.proofs.Common.{ℕ, ◌≡◌, ◌≤◌, Bool, true, cond, List, [], ◌∷◌, ◌++◌, length, Some, None, sym, ap, ◌∙◌, refl, arith}
 use Rattle.std.proofs.lemmas.List.{length-map}
 use Rattle.std.proofs.lemmas.List.Elements.{All-head, All-tail}
 use Rattle.k_num.specs.declared.place.Place.{Place}
 use Rattle.k_tree.specs.declared.tokens.Token.{Token}
 use Rattle.k_tree.specs.declared.tokens.TokenKind.{TokenKind}
-use Rattle.k_tree.specs.declared.tokens.TokenKind.TheVariants as token
-use Rattle.k_tree.specs.Places.{Piece, Pieces, plain, at, kinds_of, Stand}
+use Rattle.k_tree.specs.Places.{Piece, Pieces, at, kinds_of, Stand}
 use Rattle.k_tree.specs.Spelling.{Spelled}
 use Rattle.k_parse.specs.declared.expression.Operator.{Operator}
 use Rattle.k_parse.specs.Program.{kinds}
@@ -73,7 +71,7 @@ none_above j i ts None e h le = refl
 none_above j i ts (Some r) e h le =
     let o = operator_ends i ts r e in
     let s : operator j ts ≡ Some (record { mark = r.0.mark; rank = r.0.rank; place = r.0.place }, r.1) =
-        ap (operator j) o.split ∙ operator_here j r.0.rank r.0.mark r.0.place r.1 o.rank (let l = o.least in omega arith) in
+    ap (operator j) o.split ∙ operator_here j r.0.rank r.0.mark r.0.place r.1 o.rank (let l = o.least in omega arith) in
     absurd cc
 
 pub operator_higher : (j i : ℕ) (ts : List Token) → operator j ts ≡ None → j ≤ i → operator i ts ≡ None

@@ -1,6 +1,6 @@
 -- An expression of the form, within the room, whose tokens come next, is read as itself, up to places; and where it stands over
 -- the tokens, as itself.
-use Rattle.std.proofs.Common.{ℕ, suc, zero, ◌≡◌, ◌+◌, ◌<◌, ◌≤◌, max, Bool, true, false, List, [], ◌∷◌, ◌++◌, append_assoc, length, Option, Some, None, sym, ap, ◌∙◌, subst, refl, arith}
+use Rattle.std.proofs.Common.{ℕ, suc, zero, ◌≡◌, ◌+◌, ◌<◌, ◌≤◌, max, List, [], ◌∷◌, ◌++◌, append_assoc, Some, None, sym, ap, ◌∙◌, subst, refl, arith}
 use Rattle.k_num.specs.declared.place.Place.{Place}
 use Rattle.k_num.specs.declared.numbers.Kind.TheVariants as kind
 use Rattle.k_tree.specs.declared.tokens.Token.{Token}
@@ -19,7 +19,7 @@ use Rattle.k_tree.proofs.Laid.{expr_spelled}
 use Rattle.k_parse.specs.declared.expression.Operand.{Operand}
 use Rattle.k_parse.specs.declared.expression.Operator.{Operator}
 use Rattle.k_parse.specs.Program.{kinds}
-use Rattle.k_parse.specs.Reader.{Read, ◌>>=◌, Reader, is_mark, taken, operator, operator_at, operator_rank, joined, climb, leaf, operand_at, expression}
+use Rattle.k_parse.specs.Reader.{◌>>=◌, is_mark, taken, operator, operator_at, operator_rank, joined, climb, leaf, operand_at, expression}
 use Rattle.k_parse.proofs.Again.{halves, one, begun, takes, no_operator, operator_higher, stand_halves, stand_at_first, as_long}
 use Rattle.k_parse.proofs.Form.{Form, name, number, character, paren, binary, form_ranked, form_deep}
 use Rattle.k_parse.proofs.Steps.{climb_stops, climb_turns, expression_suc}
@@ -70,9 +70,9 @@ paren_reads room k p a t u ts rest e f form h r = record {
     bare = expr_Paren Expr bare_expr_step t.place r.tree ∙ (ap (expr.Paren nowhere) r.twin.bare ∙ sym (expr_Paren Expr bare_expr_step p a));
     same = λ s.
         let s1 = stand_at_first p (plain (token.Mark mark.LeftParen ∷ []) ++ (lay_expr a ++ plain (token.Mark mark.RightParen ∷ []))) t (ts ++ (u ∷ []))
-            (subst (λ z. Stand z (t ∷ (ts ++ (u ∷ [])))) (expr_Paren Pieces lay_expr_step p a) s) in
+        (subst (λ z. Stand z (t ∷ (ts ++ (u ∷ [])))) (expr_Paren Pieces lay_expr_step p a) s) in
         let s2 = stand_halves (lay_expr a) (plain (token.Mark mark.RightParen ∷ [])) ts (u ∷ [])
-            (as_long (lay_expr a) (spell_expr a) ts (expr_spelled 0 a (form_ranked 0 a form)) h) s1.1.2 in
+        (as_long (lay_expr a) (spell_expr a) ts (expr_spelled 0 a (form_ranked 0 a form)) h) s1.1.2 in
         ap (λ q. expr.Paren q r.tree) (sym s1.0) ∙ ap (expr.Paren p) (r.twin.same s2.0);
   };
   read =
@@ -85,7 +85,7 @@ paren_reads room k p a t u ts rest e f form h r = record {
       ∙ (ap (λ us. (expression (suc room) 0 us >>= close) >>= on) (append_assoc ts (u ∷ []) rest)
       ∙ (ap (λ m. (m >>= close) >>= on) inner
       ∙ (ap (λ m. (m >>= λ c behind. Some (record { expr = expr.Paren t.place r.tree; depth = 1 + expr_depth a }, behind)) >>= on)
-          (takes (is_mark mark.RightParen) u rest (token.Mark mark.RightParen) f refl)
+      (takes (is_mark mark.RightParen) u rest (token.Mark mark.RightParen) f refl)
       ∙ ap (λ n. on (record { expr = expr.Paren t.place r.tree; depth = n }) rest) (sym (expr_Paren ℕ expr_depth_step p a))))));
 }
 
@@ -102,8 +102,8 @@ binary_reads room k m p op a b t ts us rest e q le form h d ra rb stops = record
         ∙ (ap (λ x. expr.Binary nowhere op (bare_expr a) x) rb.twin.bare ∙ sym (expr_Binary Expr bare_expr_step p op a b)));
     same = λ s.
         let s1 = stand_halves (lay_expr a) (at p (plain (token.Mark op ∷ [])) ++ lay_expr b) ts (t ∷ us)
-            (as_long (lay_expr a) (spell_expr a) ts (expr_spelled m a (form_ranked m a form)) h)
-            (subst (λ z. Stand z (ts ++ (t ∷ us))) (expr_Binary Pieces lay_expr_step p op a b) s) in
+        (as_long (lay_expr a) (spell_expr a) ts (expr_spelled m a (form_ranked m a form)) h)
+        (subst (λ z. Stand z (ts ++ (t ∷ us))) (expr_Binary Pieces lay_expr_step p op a b) s) in
         let s2 = stand_at_first p (plain (token.Mark op ∷ []) ++ lay_expr b) t us s1.1 in
         ap (λ x. expr.Binary x op ra.tree rb.tree) (sym s2.0)
         ∙ (ap (λ x. expr.Binary p op x rb.tree) (ra.twin.same s1.0) ∙ ap (λ x. expr.Binary p op a x) (rb.twin.same s2.1.2));
@@ -113,30 +113,30 @@ binary_reads room k m p op a b t ts us rest e q le form h d ra rb stops = record
       let left : Operand = record { expr = ra.tree; depth = expr_depth a } in
       let o : Operator = record { mark = op; rank = m; place = t.place } in
       let here : operator k (t ∷ (us ++ rest)) ≡ Some (o, us ++ rest) =
-          ap (λ v. operator_at k v t.place (us ++ rest)) e ∙ operator_here k m op t.place (us ++ rest) q le in
+      ap (λ v. operator_at k v t.place (us ++ rest)) e ∙ operator_here k m op t.place (us ++ rest) q le in
       let low : expr_depth a < suc (suc room) = omega arith in
       ap (λ vs. expression (suc (suc room)) k vs) (append_assoc ts (t ∷ us) rest)
       ∙ (ra.read
       ∙ (climb_turns again (suc (suc room)) k left (t ∷ (us ++ rest)) (o, us ++ rest) here low
       ∙ (ap (λ v. v >>= λ x vs. climb again (suc (suc room)) (suc (suc room)) k (joined o left x) vs) (read_whole room (m + 1) us rest b rb stops)
       ∙ ap (λ n. climb again (suc (suc room)) (suc (suc room)) k (record { expr = expr.Binary t.place op ra.tree rb.tree; depth = n }) rest)
-          (sym (expr_Binary ℕ expr_depth_step p op a b)))));
+      (sym (expr_Binary ℕ expr_depth_step p op a b)))));
 }
 
 pub complete : (n : ℕ) (e : Expr) → Form n e → (room k : ℕ) (ts rest : List Token) → k ≤ n → kinds ts ≡ spell_expr e → expr_depth e ≤ suc room
     → operator (n + 1) rest ≡ None → Reads room k ts rest e
 complete _ _ (name n p x h) room k ts rest le g d s =
     leaf_reads (λ q. expr.Name q x) (token.Name x) room k p ts rest
-        (λ q. expr_Name Expr bare_expr_step q x ∙ sym (expr_Name Expr bare_expr_step p x)) (λ q. expr_Name Pieces lay_expr_step q x) (expr_Name ℕ expr_depth_step p x)
-        (λ q us. refl) (g ∙ expr_Name Spelled spell_expr_step p x)
+    (λ q. expr_Name Expr bare_expr_step q x ∙ sym (expr_Name Expr bare_expr_step p x)) (λ q. expr_Name Pieces lay_expr_step q x) (expr_Name ℕ expr_depth_step p x)
+    (λ q us. refl) (g ∙ expr_Name Spelled spell_expr_step p x)
 complete _ _ (number n p v h) room k ts rest le g d s =
     leaf_reads (λ q. expr.Number q kind.I32 v) (token.Number kind.I32 v) room k p ts rest
-        (λ q. expr_Number Expr bare_expr_step q kind.I32 v ∙ sym (expr_Number Expr bare_expr_step p kind.I32 v)) (λ q. expr_Number Pieces lay_expr_step q kind.I32 v)
-        (expr_Number ℕ expr_depth_step p kind.I32 v) (λ q us. refl) (g ∙ expr_Number Spelled spell_expr_step p kind.I32 v)
+    (λ q. expr_Number Expr bare_expr_step q kind.I32 v ∙ sym (expr_Number Expr bare_expr_step p kind.I32 v)) (λ q. expr_Number Pieces lay_expr_step q kind.I32 v)
+    (expr_Number ℕ expr_depth_step p kind.I32 v) (λ q us. refl) (g ∙ expr_Number Spelled spell_expr_step p kind.I32 v)
 complete _ _ (character n p z h) room k ts rest le g d s =
     leaf_reads (λ q. expr.Char q z) (token.Char z) room k p ts rest
-        (λ q. expr_Char Expr bare_expr_step q z ∙ sym (expr_Char Expr bare_expr_step p z)) (λ q. expr_Char Pieces lay_expr_step q z) (expr_Char ℕ expr_depth_step p z)
-        (λ q us. refl) (g ∙ expr_Char Spelled spell_expr_step p z)
+    (λ q. expr_Char Expr bare_expr_step q z ∙ sym (expr_Char Expr bare_expr_step p z)) (λ q. expr_Char Pieces lay_expr_step q z) (expr_Char ℕ expr_depth_step p z)
+    (λ q us. refl) (g ∙ expr_Char Spelled spell_expr_step p z)
 complete _ _ (paren n p a h x) zero k ts rest le g d s =
     let deep = form_deep 0 a x in
     let e : expr_depth (expr.Paren p a) ≡ 1 + expr_depth a = expr_Paren ℕ expr_depth_step p a in absurd (omega arith)
@@ -148,7 +148,7 @@ complete _ _ (paren n p a h x) (suc room) k ts rest le g d s =
     let all : ts ≡ b.it ∷ (c.left ++ (u.it ∷ [])) = b.split ∙ ap (λ v. b.it ∷ v) (c.split ∙ ap (λ v. c.left ++ v) u.split) in
     subst (λ v. Reads (suc room) k v rest (expr.Paren p a)) (sym all)
     (paren_reads room k p a b.it u.it c.left rest b.what u.what x c.first
-        (complete 0 a x room 0 c.left (u.it ∷ rest) (omega arith) c.first (omega arith) (no_operator 1 u.it rest (token.Mark mark.RightParen) u.what refl)))
+    (complete 0 a x room 0 c.left (u.it ∷ rest) (omega arith) c.first (omega arith) (no_operator 1 u.it rest (token.Mark mark.RightParen) u.what refl)))
 complete _ _ (binary n p op m a b h q x y) zero k ts rest le g d s =
     let deep = form_deep (m + 1) b y in
     let e : expr_depth (expr.Binary p op a b) ≡ 1 + max (expr_depth a) (expr_depth b) = expr_Binary ℕ expr_depth_step p op a b in absurd (omega arith)
@@ -159,10 +159,10 @@ complete _ _ (binary n p op m a b h q x y) (suc room) k ts rest le g d s =
     let all : ts ≡ c.left ++ (t.it ∷ t.more) = c.split ∙ ap (λ v. c.left ++ v) t.split in
     let stops : operator (m + 1) rest ≡ None = operator_higher (n + 1) (m + 1) rest s (omega arith) in
     let above : operator (m + 1) (t.it ∷ (t.more ++ rest)) ≡ None =
-        ap (λ v. operator_at (m + 1) v t.it.place (t.more ++ rest)) t.what
-        ∙ operator_above (m + 1) m op t.it.place (t.more ++ rest) q (omega arith) in
+    ap (λ v. operator_at (m + 1) v t.it.place (t.more ++ rest)) t.what
+    ∙ operator_above (m + 1) m op t.it.place (t.more ++ rest) q (omega arith) in
     subst (λ v. Reads (suc room) k v rest (expr.Binary p op a b)) (sym all)
     (binary_reads room k m p op a b t.it c.left t.more rest t.what q (omega arith) x c.first (omega arith)
-        (complete m a x (suc room) k c.left (t.it ∷ (t.more ++ rest)) (omega arith) c.first (omega arith) above)
-        (complete (m + 1) b y room (m + 1) t.more rest (omega arith) t.rest (omega arith) (operator_higher (m + 1) (m + 1 + 1) rest stops (omega arith)))
-        stops)
+    (complete m a x (suc room) k c.left (t.it ∷ (t.more ++ rest)) (omega arith) c.first (omega arith) above)
+    (complete (m + 1) b y room (m + 1) t.more rest (omega arith) t.rest (omega arith) (operator_higher (m + 1) (m + 1 + 1) rest stops (omega arith)))
+    stops)

@@ -1,41 +1,33 @@
 -- Statements of the form are read again, up to places; and where they stand over the tokens, as themselves.
 -- (see CompleteStmt for expressions and declarators)
-use Rattle.std.proofs.Common.{ℕ, suc, zero, ◌≡◌, ◌+◌, ◌-◌, ◌<◌, ◌≤◌, max, Bool, true, false, not, cond, List, [], ◌∷◌, ◌++◌, append_assoc, length, map, Option, Some, None, sym, ap, ◌∙◌, subst, refl, arith, codes, nat_eq}
+use Rattle.std.proofs.Common.{ℕ, ◌≡◌, ◌+◌, ◌-◌, ◌≤◌, max, true, false, cond, List, [], ◌∷◌, ◌++◌, append_assoc, length, map, Some, None, sym, ap, ◌∙◌, subst, refl, arith, codes, nat_eq}
 use Rattle.std.specs.Prelude.{All}
 use Rattle.std.specs.Cmp.Lexicographic.{pointwise}
 use Rattle.std.proofs.lemmas.List.{append-nil}
 use Rattle.std.proofs.lemmas.List.Elements.{All-head, All-tail, All-nil, All-cons}
 use Rattle.k_num.specs.declared.place.Place.{Place}
 use Rattle.k_tree.specs.declared.tokens.Token.{Token}
-use Rattle.k_tree.specs.declared.tokens.TokenKind.{TokenKind}
 use Rattle.k_tree.specs.declared.tokens.TokenKind.TheVariants as token
-use Rattle.k_tree.specs.declared.tokens.mark.Mark.{Mark}
 use Rattle.k_tree.specs.declared.tokens.mark.Mark.TheVariants as mark
 use Rattle.k_tree.specs.declared.tokens.word.Word.TheVariants as word
 use Rattle.k_tree.specs.declared.tree.expression.Expr.{Expr}
 use Rattle.k_tree.specs.declared.tree.expression.Expr.TheVariants as expr
-use Rattle.k_tree.specs.declared.tree.declaration.Init.{Init}
-use Rattle.k_tree.specs.declared.tree.declaration.Init.TheVariants as init
 use Rattle.k_tree.specs.declared.tree.declaration.Declarator.{Declarator}
 use Rattle.k_tree.specs.declared.tree.statement.Stmt.{Stmt}
 use Rattle.k_tree.specs.declared.tree.statement.Stmt.TheVariants as stmt
-use Rattle.k_tree.specs.Bare.{bare_expr, bare_expr_step, bare_init, bare_init_step, bare_declarator, bare_stmt, bare_stmt_step, where_given, nowhere}
-use Rattle.k_tree.specs.Folds.{expr_Name, expr_Assign, expr_Call, init_One, stmt_Expr, stmt_Return, stmt_Declare}
-use Rattle.k_tree.specs.Nesting.{deepest, expr_depth, expr_depth_step, init_depth_step, declarator_depth, stmt_depth, stmt_depth_step}
-use Rattle.k_tree.specs.Places.{Pieces, plain, at, lay_expr, lay_expr_step, lay_init, lay_init_step, lay_declarator, lay_declaration, lay_stmt, lay_stmt_step, lay_row, lay_behind_commas, lay_with_commas, Stand, kinds_of}
-use Rattle.k_tree.specs.Spelling.{Spelled, spell_expr, spell_expr_step, spell_init, spell_init_step, spell_declarator, spell_stmt, spell_stmt_step, in_row, behind_commas, with_commas}
+use Rattle.k_tree.specs.Bare.{bare_expr, bare_expr_step, bare_declarator, bare_stmt, bare_stmt_step, nowhere}
+use Rattle.k_tree.specs.Folds.{expr_Name, expr_Assign, expr_Call, stmt_Expr, stmt_Return, stmt_Declare}
+use Rattle.k_tree.specs.Nesting.{deepest, expr_depth, expr_depth_step, declarator_depth, stmt_depth, stmt_depth_step}
+use Rattle.k_tree.specs.Places.{Pieces, plain, at, lay_expr, lay_expr_step, lay_declarator, lay_declaration, lay_stmt, lay_stmt_step, lay_behind_commas, lay_with_commas, Stand}
+use Rattle.k_tree.specs.Spelling.{Spelled, spell_expr, spell_expr_step, spell_declarator, spell_stmt, spell_stmt_step, in_row, behind_commas, with_commas}
 use Rattle.k_tree.specs.Ranked.{RankedDeclarator}
-use Rattle.k_tree.proofs.Laid.{expr_spelled, declarator_spelled, declarators_spelled}
-use Rattle.k_parse.specs.declared.expression.Operand.{Operand}
+use Rattle.k_tree.proofs.Laid.{declarator_spelled, declarators_spelled}
 use Rattle.k_parse.specs.Program.{kinds}
-use Rattle.k_parse.specs.Reader.{Read, ◌>>=◌, is_mark, comes, taken, place_next, operator, expression, many, value, initialiser_at, initialised, declarator_at, declarator, declarator_behind, declarators, ended, declaration, returned, assigned, called, action_at, action, statement_at, statement}
-use Rattle.k_parse.proofs.Again.{halves, one, begun, nothing, takes, no_operator, operator_higher, stand_halves, stand_at_first, as_long}
-use Rattle.k_parse.proofs.CompleteExpr.{complete, read_whole}
-use Rattle.k_parse.proofs.Form.{Form, form_ranked, form_deep, FormDeclarator, unset, set, declarator_ranked, FormStmt, declares, assigns, calls, returns, All-map}
-use Rattle.k_parse.proofs.Steps.{Shortens, many_turns, many_stops}
+use Rattle.k_parse.specs.Reader.{Read, ◌>>=◌, is_mark, comes, taken, many, value, declarator, declarator_behind, declarators, ended, declaration, returned, assigned, action_at, statement_at, statement}
+use Rattle.k_parse.proofs.Again.{halves, one, begun, nothing, takes, no_operator, stand_halves, stand_at_first, as_long}
+use Rattle.k_parse.proofs.Form.{Form, FormDeclarator, declarator_ranked, FormStmt, declares, assigns, calls, returns, All-map}
 use Rattle.k_parse.proofs.SoundStmt.{behind_shortens, lay_behind, behind_commas_row}
-use Rattle.k_parse.proofs.CompleteStmt.{Again, value_again, expr_long, Behind, then, declarator_again, rows}
-
+use Rattle.k_parse.proofs.CompleteStmt.{Again, value_again, expr_long, Behind, declarator_again, rows}
 
 -- a comma and a declarator
 abbrev spell_behind : Declarator → Spelled
@@ -106,7 +98,7 @@ declarators_again room d list ts rest f fs h deep m b =
     let g : kinds c.right ≡ in_row (map spell_behind list) = c.second ∙ behind_row list in
     let first = declarator_again room d c.left (c.right ++ rest) f c.first (omega arith) (list_follows room list c.right rest all g b) in
     let r = rows (declarator_behind room) (comes (is_mark mark.Comma)) (behind_shortens room) (Fits room) Behind bare_declarator lay_behind spell_behind
-        (behind_long room) (behind_again room) (comma_goes_on room) list c.right rest (first.it ∷ []) all g m b in
+    (behind_long room) (behind_again room) (comma_goes_on room) list c.right rest (first.it ∷ []) all g m b in
     subst (λ us. Again (declarators room) (map bare_declarator) lay_list us rest (d ∷ list)) (sym c.split) (record {
       it = first.it ∷ r.new;
       read_so =
@@ -115,7 +107,7 @@ declarators_again room d list ts rest f fs h deep m b =
       alike = ap (λ y. y ∷ map bare_declarator r.new) first.alike ∙ ap (λ ys. bare_declarator d ∷ ys) r.alike;
       same = λ s.
           let w = stand_halves (lay_declarator d) (lay_behind_commas (map lay_declarator list)) c.left c.right
-              (as_long (lay_declarator d) (spell_declarator d) c.left (declarator_spelled d (declarator_ranked d f)) c.first) s in
+          (as_long (lay_declarator d) (spell_declarator d) c.left (declarator_spelled d (declarator_ranked d f)) c.first) s in
           ap (λ y. y ∷ r.new) (first.same w.0) ∙ ap (λ ys. d ∷ ys) (r.same (subst (λ z. Stand z c.right) (behind_commas_row list) w.1));
     })
 
@@ -158,10 +150,10 @@ declares_again room p d list ts rest f fs h deep =
           ∙ (ap (stmt.Declare nowhere (word.Int ∷ [])) r.alike ∙ sym (stmt_Declare Stmt bare_stmt_step p (word.Int ∷ []) (d ∷ list)));
       same = λ s.
           let s1 = stand_at_first p (lay_declaration (word.Int ∷ []) (d ∷ list)) t.it (c.left ++ (u.it ∷ []))
-              (subst (λ z. Stand z (t.it ∷ (c.left ++ (u.it ∷ [])))) (stmt_Declare Pieces lay_stmt_step p (word.Int ∷ []) (d ∷ list)) s) in
+          (subst (λ z. Stand z (t.it ∷ (c.left ++ (u.it ∷ [])))) (stmt_Declare Pieces lay_stmt_step p (word.Int ∷ []) (d ∷ list)) s) in
           let s2 = stand_halves (lay_list (d ∷ list)) semicolon c.left (u.it ∷ [])
-              (as_long (lay_list (d ∷ list)) names c.left
-                  (declarators_spelled (d ∷ list) (All-map FormDeclarator RankedDeclarator declarator_ranked (d ∷ list) (All-cons FormDeclarator d list f fs))) c.first) s1.1.2 in
+          (as_long (lay_list (d ∷ list)) names c.left
+          (declarators_spelled (d ∷ list) (All-map FormDeclarator RankedDeclarator declarator_ranked (d ∷ list) (All-cons FormDeclarator d list f fs))) c.first) s1.1.2 in
           ap (λ q. stmt.Declare q (word.Int ∷ []) r.it) (sym s1.0) ∙ ap (stmt.Declare p (word.Int ∷ [])) (r.same s2.0);
     })
 
@@ -186,7 +178,7 @@ returns_again room p e ts rest f h deep =
           ∙ (ap (λ x. stmt.Return nowhere (Some x)) r.alike ∙ sym (stmt_Return Stmt bare_stmt_step p (Some e)));
       same = λ s.
           let s1 = stand_at_first p (plain (token.Word word.Return ∷ []) ++ (lay_expr e ++ semicolon)) t.it (c.left ++ (u.it ∷ []))
-              (subst (λ z. Stand z (t.it ∷ (c.left ++ (u.it ∷ [])))) (stmt_Return Pieces lay_stmt_step p (Some e)) s) in
+          (subst (λ z. Stand z (t.it ∷ (c.left ++ (u.it ∷ [])))) (stmt_Return Pieces lay_stmt_step p (Some e)) s) in
           let s2 = stand_halves (lay_expr e) semicolon c.left (u.it ∷ []) (expr_long 0 e c.left f c.first) s1.1.2 in
           ap (λ q. stmt.Return q (Some r.it)) (sym s1.0) ∙ ap (λ x. stmt.Return p (Some x)) (r.same s2.0);
     })
@@ -201,20 +193,20 @@ assigns_again room p q s x e ts rest f h deep =
     let dep : stmt_depth (stmt.Expr p a) ≡ 1 + expr_depth a = stmt_Expr ℕ stmt_depth_step p a in
     let dea : expr_depth a ≡ 1 + max (expr_depth (expr.Name s x)) (expr_depth e) = expr_Assign ℕ expr_depth_step q mark.Equal (expr.Name s x) e in
     let spelled : spell_expr a ≡ token.Name x ∷ (token.Mark mark.Equal ∷ spell_expr e) =
-        expr_Assign Spelled spell_expr_step q mark.Equal (expr.Name s x) e
-        ∙ ap (λ z. z ++ (token.Mark mark.Equal ∷ spell_expr e)) (expr_Name Spelled spell_expr_step s x) in
+    expr_Assign Spelled spell_expr_step q mark.Equal (expr.Name s x) e
+    ∙ ap (λ z. z ++ (token.Mark mark.Equal ∷ spell_expr e)) (expr_Name Spelled spell_expr_step s x) in
     let laid : lay_expr a ≡ at s (plain (token.Name x ∷ [])) ++ (at q (plain (token.Mark mark.Equal ∷ [])) ++ lay_expr e) =
-        expr_Assign Pieces lay_expr_step q mark.Equal (expr.Name s x) e
-        ∙ ap (λ z. z ++ (at q (plain (token.Mark mark.Equal ∷ [])) ++ lay_expr e)) (expr_Name Pieces lay_expr_step s x) in
+    expr_Assign Pieces lay_expr_step q mark.Equal (expr.Name s x) e
+    ∙ ap (λ z. z ++ (at q (plain (token.Mark mark.Equal ∷ [])) ++ lay_expr e)) (expr_Name Pieces lay_expr_step s x) in
     let t = begun (token.Name x) (token.Mark mark.Equal ∷ (spell_expr e ++ (token.Mark mark.Semicolon ∷ []))) ts
-        (h ∙ (stmt_Expr Spelled spell_stmt_step p a ∙ ap (λ z. z ++ (token.Mark mark.Semicolon ∷ [])) spelled)) in
+    (h ∙ (stmt_Expr Spelled spell_stmt_step p a ∙ ap (λ z. z ++ (token.Mark mark.Semicolon ∷ [])) spelled)) in
     let v = begun (token.Mark mark.Equal) (spell_expr e ++ (token.Mark mark.Semicolon ∷ [])) t.more t.rest in
     let c = halves (spell_expr e) (token.Mark mark.Semicolon ∷ []) v.more v.rest in
     let u = one (token.Mark mark.Semicolon) c.right c.second in
     let r = value_again (room - 2) 1 e c.left (u.it ∷ rest) f c.first (omega arith) (no_operator 1 u.it rest (token.Mark mark.Semicolon) u.what refl) in
     let tail = c.left ++ (u.it ∷ []) in
     let all : ts ≡ t.it ∷ (v.it ∷ (c.left ++ (u.it ∷ []))) =
-        t.split ∙ ap (λ k. t.it ∷ k) (v.split ∙ ap (λ k. v.it ∷ k) (c.split ∙ ap (λ k. c.left ++ k) u.split)) in
+    t.split ∙ ap (λ k. t.it ∷ k) (v.split ∙ ap (λ k. v.it ∷ k) (c.split ∙ ap (λ k. c.left ++ k) u.split)) in
     subst (λ us. Again (statement room) bare_stmt lay_stmt us rest (stmt.Expr p a)) (sym all) (record {
       it = stmt.Expr t.it.place (expr.Assign v.it.place mark.Equal (expr.Name t.it.place x) r.it);
       read_so =
@@ -227,14 +219,14 @@ assigns_again room p q s x e ts rest f h deep =
           let name = expr_Name Expr bare_expr_step t.it.place x ∙ sym (expr_Name Expr bare_expr_step s x) in
           stmt_Expr Stmt bare_stmt_step t.it.place (expr.Assign v.it.place mark.Equal (expr.Name t.it.place x) r.it)
           ∙ (ap (stmt.Expr nowhere) (expr_Assign Expr bare_expr_step v.it.place mark.Equal (expr.Name t.it.place x) r.it
-              ∙ (ap (λ z. expr.Assign nowhere mark.Equal z (bare_expr r.it)) name
-              ∙ (ap (λ z. expr.Assign nowhere mark.Equal (bare_expr (expr.Name s x)) z) r.alike
-              ∙ sym (expr_Assign Expr bare_expr_step q mark.Equal (expr.Name s x) e))))
+          ∙ (ap (λ z. expr.Assign nowhere mark.Equal z (bare_expr r.it)) name
+          ∙ (ap (λ z. expr.Assign nowhere mark.Equal (bare_expr (expr.Name s x)) z) r.alike
+          ∙ sym (expr_Assign Expr bare_expr_step q mark.Equal (expr.Name s x) e))))
           ∙ sym (stmt_Expr Stmt bare_stmt_step p a));
       same = λ k.
           let k1 : Stand (at p ((at s (plain (token.Name x ∷ [])) ++ (at q (plain (token.Mark mark.Equal ∷ [])) ++ lay_expr e)) ++ semicolon)) (t.it ∷ (v.it ∷ tail)) =
-              subst (λ z. Stand (at p (z ++ semicolon)) (t.it ∷ (v.it ∷ tail))) laid
-              (subst (λ z. Stand z (t.it ∷ (v.it ∷ tail))) (stmt_Expr Pieces lay_stmt_step p a) k) in
+          subst (λ z. Stand (at p (z ++ semicolon)) (t.it ∷ (v.it ∷ tail))) laid
+          (subst (λ z. Stand z (t.it ∷ (v.it ∷ tail))) (stmt_Expr Pieces lay_stmt_step p a) k) in
           let k2 = stand_at_first p ((at s (plain (token.Name x ∷ [])) ++ (at q (plain (token.Mark mark.Equal ∷ [])) ++ lay_expr e)) ++ semicolon) t.it (v.it ∷ tail) k1 in
           let ps : s ≡ t.it.place = All-head (λ z. z ≡ t.it.place) s [] k2.1.1 in
           let pq : q ≡ v.it.place = All-head (λ z. z ≡ v.it.place) q [] k2.1.2.1 in
@@ -258,9 +250,9 @@ calls_again room p q x e ts rest isput f h deep =
     let dea : expr_depth a ≡ 1 + max (expr_depth e) 0 = expr_Call ℕ expr_depth_step q x (e ∷ []) in
     let arg = spell_expr e ++ [] in
     let spelled : spell_expr a ≡ token.Name x ∷ (token.Mark mark.LeftParen ∷ (arg ++ (token.Mark mark.RightParen ∷ []))) =
-        expr_Call Spelled spell_expr_step q x (e ∷ []) in
+    expr_Call Spelled spell_expr_step q x (e ∷ []) in
     let t = begun (token.Name x) (token.Mark mark.LeftParen ∷ ((arg ++ (token.Mark mark.RightParen ∷ [])) ++ (token.Mark mark.Semicolon ∷ []))) ts
-        (h ∙ (stmt_Expr Spelled spell_stmt_step p a ∙ ap (λ z. z ++ (token.Mark mark.Semicolon ∷ [])) spelled)) in
+    (h ∙ (stmt_Expr Spelled spell_stmt_step p a ∙ ap (λ z. z ++ (token.Mark mark.Semicolon ∷ [])) spelled)) in
     let o = begun (token.Mark mark.LeftParen) ((arg ++ (token.Mark mark.RightParen ∷ [])) ++ (token.Mark mark.Semicolon ∷ [])) t.more t.rest in
     let c = halves (arg ++ (token.Mark mark.RightParen ∷ [])) (token.Mark mark.Semicolon ∷ []) o.more o.rest in
     let u = one (token.Mark mark.Semicolon) c.right c.second in
@@ -270,8 +262,8 @@ calls_again room p q x e ts rest isput f h deep =
     let r = value_again (room - 2) 1 e d.left (v.it ∷ (u.it ∷ rest)) f g (omega arith) (no_operator 1 v.it (u.it ∷ rest) (token.Mark mark.RightParen) v.what refl) in
     let tail = (d.left ++ (v.it ∷ [])) ++ (u.it ∷ []) in
     let all : ts ≡ t.it ∷ (o.it ∷ ((d.left ++ (v.it ∷ [])) ++ (u.it ∷ []))) =
-        t.split ∙ ap (λ k. t.it ∷ k) (o.split ∙ ap (λ k. o.it ∷ k) (c.split ∙ (ap (λ k. k ++ c.right) (d.split ∙ ap (λ k. d.left ++ k) v.split)
-        ∙ ap (λ k. (d.left ++ (v.it ∷ [])) ++ k) u.split))) in
+    t.split ∙ ap (λ k. t.it ∷ k) (o.split ∙ ap (λ k. o.it ∷ k) (c.split ∙ (ap (λ k. k ++ c.right) (d.split ∙ ap (λ k. d.left ++ k) v.split)
+    ∙ ap (λ k. (d.left ++ (v.it ∷ [])) ++ k) u.split))) in
     let put : pointwise nat_eq x (codes "putchar") ≡ true = ap (λ z. pointwise nat_eq z (codes "putchar")) isput in
     subst (λ us. Again (statement room) bare_stmt lay_stmt us rest (stmt.Expr p a)) (sym all) (record {
       it = stmt.Expr t.it.place (expr.Call t.it.place x (r.it ∷ []));
@@ -283,24 +275,24 @@ calls_again room p q x e ts rest isput f h deep =
           ∙ (ap (λ us. value (room - 2) 1 us >>= close) (two_behind d.left v.it u.it rest)
           ∙ (ap (λ m. m >>= close) r.read_so
           ∙ (ap (λ m. m >>= λ z k. ended (stmt.Expr t.it.place (expr.Call t.it.place x (r.it ∷ []))) k)
-              (takes (is_mark mark.RightParen) v.it (u.it ∷ rest) (token.Mark mark.RightParen) v.what refl)
+          (takes (is_mark mark.RightParen) v.it (u.it ∷ rest) (token.Mark mark.RightParen) v.what refl)
           ∙ ended_again (stmt.Expr t.it.place (expr.Call t.it.place x (r.it ∷ []))) u.it rest u.what)))));
       alike =
           stmt_Expr Stmt bare_stmt_step t.it.place (expr.Call t.it.place x (r.it ∷ []))
           ∙ (ap (stmt.Expr nowhere) (expr_Call Expr bare_expr_step t.it.place x (r.it ∷ [])
-              ∙ (ap (λ z. expr.Call nowhere x (z ∷ [])) r.alike ∙ sym (expr_Call Expr bare_expr_step q x (e ∷ []))))
+          ∙ (ap (λ z. expr.Call nowhere x (z ∷ [])) r.alike ∙ sym (expr_Call Expr bare_expr_step q x (e ∷ []))))
           ∙ sym (stmt_Expr Stmt bare_stmt_step p a));
       same = λ k.
           let args = lay_expr e ++ [] in
           let whole = at q (plain (token.Name x ∷ [])) ++ (plain (token.Mark mark.LeftParen ∷ []) ++ (args ++ plain (token.Mark mark.RightParen ∷ []))) in
           let k1 : Stand (at p (whole ++ semicolon)) (t.it ∷ (o.it ∷ tail)) =
-              subst (λ z. Stand (at p (z ++ semicolon)) (t.it ∷ (o.it ∷ tail))) (expr_Call Pieces lay_expr_step q x (e ∷ []))
-              (subst (λ z. Stand z (t.it ∷ (o.it ∷ tail))) (stmt_Expr Pieces lay_stmt_step p a) k) in
+          subst (λ z. Stand (at p (z ++ semicolon)) (t.it ∷ (o.it ∷ tail))) (expr_Call Pieces lay_expr_step q x (e ∷ []))
+          (subst (λ z. Stand z (t.it ∷ (o.it ∷ tail))) (stmt_Expr Pieces lay_stmt_step p a) k) in
           let k2 = stand_at_first p (whole ++ semicolon) t.it (o.it ∷ tail) k1 in
           let pq : q ≡ t.it.place = All-head (λ z. z ≡ t.it.place) q [] k2.1.1 in
           let k3 : Stand (lay_expr e ++ (plain (token.Mark mark.RightParen ∷ []) ++ semicolon)) (d.left ++ (v.it ∷ (u.it ∷ []))) =
-              subst (λ z. Stand z (d.left ++ (v.it ∷ (u.it ∷ [])))) (pieces_behind (lay_expr e) (plain (token.Mark mark.RightParen ∷ [])) semicolon)
-              (subst (λ us. Stand ((args ++ plain (token.Mark mark.RightParen ∷ [])) ++ semicolon) us) (append_assoc d.left (v.it ∷ []) (u.it ∷ [])) k2.1.2.2) in
+          subst (λ z. Stand z (d.left ++ (v.it ∷ (u.it ∷ [])))) (pieces_behind (lay_expr e) (plain (token.Mark mark.RightParen ∷ [])) semicolon)
+          (subst (λ us. Stand ((args ++ plain (token.Mark mark.RightParen ∷ [])) ++ semicolon) us) (append_assoc d.left (v.it ∷ []) (u.it ∷ [])) k2.1.2.2) in
           let k4 = stand_halves (lay_expr e) (plain (token.Mark mark.RightParen ∷ []) ++ semicolon) d.left (v.it ∷ (u.it ∷ [])) (expr_long 1 e d.left f g) k3 in
           ap (λ z. stmt.Expr z (expr.Call t.it.place x (r.it ∷ []))) (sym k2.0)
           ∙ (ap (λ z. stmt.Expr p (expr.Call z x (r.it ∷ []))) (sym pq)

@@ -1,40 +1,31 @@
 -- A statement of the form, within the room, whose tokens come next, is read as itself, up to places; and where it stands over
 -- the tokens, as itself.
-use Rattle.std.proofs.Common.{ℕ, suc, zero, ◌≡◌, ◌+◌, ◌-◌, ◌<◌, ◌≤◌, max, Bool, true, false, not, cond, List, [], ◌∷◌, ◌++◌, append_assoc, length, map, Option, Some, None, sym, ap, ◌∙◌, subst, refl, arith, codes, nat_eq}
+use Rattle.std.proofs.Common.{ℕ, suc, zero, ◌≡◌, ◌+◌, ◌-◌, ◌≤◌, max, Bool, true, false, cond, List, [], ◌∷◌, ◌++◌, append_assoc, length, map, Option, Some, None, sym, ap, ◌∙◌, subst, refl, arith}
 use Rattle.std.specs.Prelude.{All}
-use Rattle.std.specs.Cmp.Lexicographic.{pointwise}
 use Rattle.std.proofs.lemmas.List.{append-nil}
 use Rattle.std.proofs.lemmas.List.Elements.{All-head, All-tail}
-use Rattle.k_num.specs.declared.place.Place.{Place}
 use Rattle.k_tree.specs.declared.tokens.Token.{Token}
 use Rattle.k_tree.specs.declared.tokens.TokenKind.{TokenKind}
 use Rattle.k_tree.specs.declared.tokens.TokenKind.TheVariants as token
-use Rattle.k_tree.specs.declared.tokens.mark.Mark.{Mark}
 use Rattle.k_tree.specs.declared.tokens.mark.Mark.TheVariants as mark
-use Rattle.k_tree.specs.declared.tokens.word.Word.TheVariants as word
 use Rattle.k_tree.specs.declared.tree.expression.Expr.{Expr}
-use Rattle.k_tree.specs.declared.tree.expression.Expr.TheVariants as expr
 use Rattle.k_tree.specs.declared.tree.declaration.Init.{Init}
 use Rattle.k_tree.specs.declared.tree.declaration.Init.TheVariants as init
 use Rattle.k_tree.specs.declared.tree.declaration.Declarator.{Declarator}
-use Rattle.k_tree.specs.declared.tree.statement.Stmt.{Stmt}
-use Rattle.k_tree.specs.declared.tree.statement.Stmt.TheVariants as stmt
-use Rattle.k_tree.specs.Bare.{bare_expr, bare_expr_step, bare_init, bare_init_step, bare_declarator, bare_stmt, bare_stmt_step, where_given, nowhere}
-use Rattle.k_tree.specs.Folds.{expr_Name, expr_Assign, expr_Call, init_One, stmt_Expr, stmt_Return, stmt_Declare}
-use Rattle.k_tree.specs.Nesting.{deepest, expr_depth, expr_depth_step, init_depth_step, declarator_depth, stmt_depth, stmt_depth_step}
-use Rattle.k_tree.specs.Places.{Pieces, plain, at, lay_expr, lay_expr_step, lay_init, lay_init_step, lay_declarator, lay_declaration, lay_stmt, lay_stmt_step, lay_row, lay_behind_commas, lay_with_commas, Stand, kinds_of}
-use Rattle.k_tree.specs.Spelling.{Spelled, spell_expr, spell_expr_step, spell_init, spell_init_step, spell_declarator, spell_stmt, spell_stmt_step, in_row, behind_commas, with_commas}
+use Rattle.k_tree.specs.Bare.{bare_expr, bare_init_step, bare_declarator, nowhere}
+use Rattle.k_tree.specs.Folds.{init_One}
+use Rattle.k_tree.specs.Nesting.{expr_depth, init_depth_step, declarator_depth}
+use Rattle.k_tree.specs.Places.{Pieces, plain, at, lay_expr, lay_init, lay_init_step, lay_declarator, lay_row, Stand}
+use Rattle.k_tree.specs.Spelling.{Spelled, spell_expr, spell_init, spell_init_step, spell_declarator, in_row}
 use Rattle.k_tree.specs.Begins.{Begins, begins_expr}
 use Rattle.k_tree.proofs.Begin.{expr_begins}
 use Rattle.k_tree.proofs.Laid.{expr_spelled, declarator_spelled}
-use Rattle.k_parse.specs.declared.expression.Operand.{Operand}
 use Rattle.k_parse.specs.Program.{kinds}
-use Rattle.k_parse.specs.Reader.{Read, ◌>>=◌, is_mark, comes, taken, place_next, operator, expression, many, value, initialiser_at, initialised, declarator_at, declarator, declarator_behind, declarators, ended, declaration, returned, assigned, called, action_at, action, statement_at, statement}
-use Rattle.k_parse.proofs.Again.{halves, one, begun, nothing, takes, no_operator, operator_higher, stand_halves, stand_at_first, as_long}
+use Rattle.k_parse.specs.Reader.{Read, ◌>>=◌, is_mark, comes, taken, place_next, operator, many, value, initialiser_at, initialised, declarator_at, declarator}
+use Rattle.k_parse.proofs.Again.{halves, one, begun, nothing, operator_higher, stand_halves, stand_at_first, as_long}
 use Rattle.k_parse.proofs.CompleteExpr.{complete, read_whole}
-use Rattle.k_parse.proofs.Form.{Form, form_ranked, form_deep, FormDeclarator, unset, set, declarator_ranked, FormStmt, declares, assigns, calls, returns}
+use Rattle.k_parse.proofs.Form.{Form, form_ranked, form_deep, FormDeclarator, unset, set, declarator_ranked}
 use Rattle.k_parse.proofs.Steps.{Shortens, many_turns, many_stops}
-use Rattle.k_parse.proofs.SoundStmt.{behind_shortens}
 
 -- a part whose tokens come next is read: the same up to places, and the same where it stands over them
 pub record Again {A : Type 0} (read : List Token → Read A) (bared : A → A) (lay : A → Pieces) (ts rest : List Token) (a : A) : Type 0 where
@@ -98,14 +89,14 @@ declarator_again room _ ts rest (unset p x) h d b =
       it = record { place = t.it.place; stars = []; name = x; dims = []; init = None };
       read_so = ap (λ w. declarator_at room w t.it.place rest) t.what
           ∙ then (initialised room rest) made (None, rest) (made None rest)
-              (ap (λ v. cond v (taken (is_mark mark.Equal) rest >>= λ q r. initialiser_at room (place_next r) r) (Some (None, rest))) b.no_sign) refl;
+          (ap (λ v. cond v (taken (is_mark mark.Equal) rest >>= λ q r. initialiser_at room (place_next r) r) (Some (None, rest))) b.no_sign) refl;
       alike = refl;
       same = λ s. ap (λ q. record { place = q; stars = []; name = x; dims = []; init = None }) (sym (stand_at_first p (plain (token.Name x ∷ [])) t.it [] s).0);
     })
 declarator_again room _ ts rest (set p x q e f) h d b =
     let deep = form_deep 1 e f in
     let dep : declarator_depth (record { place = p; stars = []; name = x; dims = []; init = Some (init.One q e) }) ≡ max 0 (1 + expr_depth e) =
-        ap (λ n. max 0 n) (init_One ℕ init_depth_step q e) in
+    ap (λ n. max 0 n) (init_One ℕ init_depth_step q e) in
     let t = begun (token.Name x) (token.Mark mark.Equal ∷ spell_init (init.One q e)) ts h in
     let u = begun (token.Mark mark.Equal) (spell_init (init.One q e)) t.more t.rest in
     let g : kinds u.more ≡ spell_expr e = u.rest ∙ init_One Spelled spell_init_step q e in
@@ -120,12 +111,12 @@ declarator_again room _ ts rest (set p x q e f) h d b =
       read_so =
           let us = u.more ++ rest in
           let sign = λ (w : TokenKind). cond (is_mark mark.Equal w)
-              (cond (is_mark mark.Equal w) (Some (u.it.place, us)) None >>= λ z k. initialiser_at room (place_next k) k) (Some (None, u.it ∷ us)) in
+          (cond (is_mark mark.Equal w) (Some (u.it.place, us)) None >>= λ z k. initialiser_at room (place_next k) k) (Some (None, u.it ∷ us)) in
           ap (λ w. declarator_at room w t.it.place (u.it ∷ us)) t.what
           ∙ (ap (λ w. sign w >>= made) u.what
           ∙ (ap (λ z. initialiser_at room z us >>= made) (ap place_next (ap (λ k. k ++ rest) v.split))
           ∙ then (value (room - 2) 1 us >>= inits) made (Some (init.One v.it.place r.it), rest) (made (Some (init.One v.it.place r.it)) rest)
-              (then (value (room - 2) 1 us) inits (r.it, rest) (inits r.it rest) r.read_so refl) refl));
+          (then (value (room - 2) 1 us) inits (r.it, rest) (inits r.it rest) r.read_so refl) refl));
       alike = ap (λ y. record { place = nowhere; stars = []; name = x; dims = []; init = Some y })
           (init_One Init bare_init_step v.it.place r.it ∙ (ap (init.One nowhere) r.alike ∙ sym (init_One Init bare_init_step q e)));
       same = λ s.
@@ -135,7 +126,7 @@ declarator_again room _ ts rest (set p x q e f) h d b =
           ap (λ z. record { place = z; stars = []; name = x; dims = []; init = Some (init.One v.it.place r.it) }) (sym s1.0)
           ∙ (ap (λ z. record { place = p; stars = []; name = x; dims = []; init = Some (init.One z r.it) }) (sym s3.0)
           ∙ ap (λ z. record { place = p; stars = []; name = x; dims = []; init = Some (init.One q z) })
-              (r.same (subst (λ us. Stand (lay_expr e) us) (sym v.split) s3.1)));
+          (r.same (subst (λ us. Stand (lay_expr e) us) (sym v.split) s3.1)));
     })
 
 declarator_long : (d : Declarator) (ts : List Token) → FormDeclarator d → kinds ts ≡ spell_declarator d → length (lay_declarator d) ≡ length ts
@@ -153,7 +144,6 @@ module _ {A : Type 0} (item : List Token → Read A) (more : List Token → Bool
     (long : (x : A) (ts : List Token) → F x → kinds ts ≡ spell x → length (lay x) ≡ length ts)
     (each : (x : A) (ts rest : List Token) → F x → kinds ts ≡ spell x → G rest → Again item bared lay ts rest x)
     (goes_on : (x : A) (ts rest : List Token) → F x → kinds ts ≡ spell x → (more (ts ++ rest) ≡ true) × G (ts ++ rest)) where
-
   follows : (xs : List A) (ts rest : List Token) → All F xs → kinds ts ≡ in_row (map spell xs) → G rest → G (ts ++ rest)
   follows [] ts rest f h g = subst (λ us. G (us ++ rest)) (sym (nothing ts h)) g
   follows (x ∷ xs) ts rest f h g =

@@ -1,6 +1,6 @@
 -- A source of the form, within the room, that tokens spell is read of them as itself, up to places; and where it stands over them,
 -- as itself.
-use Rattle.std.proofs.Common.{ℕ, suc, zero, ◌≡◌, ◌+◌, ◌<◌, ◌≤◌, max, Bool, true, false, not, List, [], ◌∷◌, ◌++◌, append_assoc, length, map, Option, Some, None, sym, ap, ◌∙◌, subst, refl, arith, codes}
+use Rattle.std.proofs.Common.{ℕ, ◌≡◌, ◌<◌, ◌≤◌, true, false, not, List, [], ◌∷◌, ◌++◌, append_assoc, length, map, Some, sym, ap, ◌∙◌, subst, refl, arith, codes}
 use Rattle.std.specs.Prelude.{All}
 use Rattle.std.proofs.lemmas.List.{append-nil}
 use Rattle.std.proofs.lemmas.List.Elements.{All-head, All-tail, All-nil, All-cons}
@@ -12,21 +12,20 @@ use Rattle.k_tree.specs.declared.tokens.mark.Mark.TheVariants as mark
 use Rattle.k_tree.specs.declared.tokens.word.Word.TheVariants as word
 use Rattle.k_tree.specs.declared.tree.expression.Expr.TheVariants as expr
 use Rattle.k_tree.specs.declared.tree.statement.Stmt.{Stmt}
-use Rattle.k_tree.specs.declared.tree.statement.Stmt.TheVariants as stmt
 use Rattle.k_tree.specs.declared.tree.unit.Item.TheVariants as item
 use Rattle.k_tree.specs.declared.tree.unit.Unit as source
 use Rattle.k_tree.specs.Bare.{bare, bare_stmt, nowhere}
 use Rattle.k_tree.specs.Folds.{expr_Name, expr_Assign, expr_Call, stmt_Expr, stmt_Return, stmt_Declare}
 use Rattle.k_tree.specs.Nesting.{deepest, nesting, stmt_depth}
-use Rattle.k_tree.specs.Places.{Pieces, plain, at, kinds_of, lay_stmt, lay_stmts, lay_unit, lay_row, Stand, Placed}
+use Rattle.k_tree.specs.Places.{Pieces, plain, at, kinds_of, lay_stmt, lay_stmts, Stand, Placed}
 use Rattle.k_tree.specs.Ranked as r
-use Rattle.k_tree.specs.Spelling.{Spelled, spell_expr, spell_expr_step, spell_stmt, spell_stmt_step, spell_stmts, in_row, spelling}
+use Rattle.k_tree.specs.Spelling.{Spelled, spell_expr, spell_expr_step, spell_stmt, spell_stmt_step, spell_stmts, spelling}
 use Rattle.k_tree.proofs.Laid.{parts_spelled}
 use Rattle.k_parse.specs.Program.{kinds}
-use Rattle.k_parse.specs.Reader.{Read, ◌>>=◌, is_mark, is_word, is_name, is_end, comes, taken, many, statement, block_goes_on, parts, brace_next, close_next, void_next, open_next, name_next, opening, main_head, source_of, closing, program_read, alone, program}
-use Rattle.k_parse.proofs.Again.{halves, one, begun, takes, stand_halves, stand_at_first, as_long}
+use Rattle.k_parse.specs.Reader.{Read, ◌>>=◌, is_mark, is_word, is_name, is_end, taken, statement, block_goes_on, parts, brace_next, close_next, void_next, open_next, name_next, opening, main_head, source_of, closing, alone, program}
+use Rattle.k_parse.proofs.Again.{halves, one, begun, takes, stand_halves, as_long}
 use Rattle.k_parse.proofs.CompleteParts.{statement_again}
-use Rattle.k_parse.proofs.CompleteStmt.{Again, rows}
+use Rattle.k_parse.proofs.CompleteStmt.{rows}
 use Rattle.k_parse.proofs.Form.{FormStmt, declares, assigns, calls, returns, FormUnit, main, part_ranked, parts_ranked}
 use Rattle.k_parse.proofs.SoundStmt.{statement_shortens}
 use Rattle.k_parse.proofs.Steps.{parts_begin}
@@ -135,28 +134,28 @@ main_again : (room : ℕ) (places : Place × Place) (body : List Stmt) (close la
     → a.what ≡ token.Word word.Int → b.what ≡ token.Name (codes "main") → c.what ≡ token.Mark mark.LeftParen
     → d.what ≡ token.Word word.Void → e.what ≡ token.Mark mark.RightParen → f.what ≡ token.Mark mark.LeftBrace
     → v.what ≡ token.Mark mark.RightBrace → w.what ≡ token.End
-    → Whole room (a ∷ (b ∷ (c ∷ (d ∷ (e ∷ (f ∷ (us ++ (v ∷ (w ∷ [])))))))))  (source_of places body close last)
+    → Whole room (a ∷ (b ∷ (c ∷ (d ∷ (e ∷ (f ∷ (us ++ (v ∷ (w ∷ []))))))))) (source_of places body close last)
 unfolding program
 main_again room places body close last a b c d e f v w us r0 form deep h ha hb hc hd he hf hv hw =
     let tail = us ++ (v ∷ (w ∷ [])) in
     let fits = fits_all room body form deep in
     let r = rows (statement room) block_goes_on (statement_shortens room r0) (Fits room) Anything bare_stmt lay_stmt spell_stmt
-        (stmt_long room) (λ s ts rest k g any. statement_again room s ts rest k.0 g k.1) (goes_on room) body us (v ∷ (w ∷ [])) [] fits h
-        (ap (λ z. not (is_mark mark.RightBrace z)) hv) tt in
+    (stmt_long room) (λ s ts rest k g any. statement_again room s ts rest k.0 g k.1) (goes_on room) body us (v ∷ (w ∷ [])) [] fits h
+    (ap (λ z. not (is_mark mark.RightBrace z)) hv) tt in
     let p : parts room tail ≡ Some (r.new, v ∷ (w ∷ [])) = sym (parts_begin room tail) ∙ r.read_so in
     record {
       it = source_of (a.place, b.place) r.new v.place w.place;
       read_so = ap alone
           (ap (λ m. m >>= λ places rest. parts room rest >>= λ body behind. closing behind >>= λ ends left. whole places body ends left)
-              (opening_again a b c d e f tail ha hb hc hd he hf)
+          (opening_again a b c d e f tail ha hb hc hd he hf)
           ∙ (ap (λ m. m >>= λ body behind. closing behind >>= λ ends left. whole (a.place, b.place) body ends left) p
           ∙ ap (λ m. m >>= λ ends left. whole (a.place, b.place) r.new ends left) (closing_again v w [] hv hw)));
       alike = ap bare_of r.alike;
       same = λ s.
           let s7 : Stand (lay_stmts body ++ (at close (plain (token.Mark mark.RightBrace ∷ [])) ++ at last (plain (token.End ∷ [])))) tail =
-              subst (λ z. Stand z tail) (laid (lay_stmts body) (at close (plain (token.Mark mark.RightBrace ∷ []))) (at last (plain (token.End ∷ [])))) s.2.2.2.2.2.2 in
+          subst (λ z. Stand z tail) (laid (lay_stmts body) (at close (plain (token.Mark mark.RightBrace ∷ []))) (at last (plain (token.End ∷ [])))) s.2.2.2.2.2.2 in
           let k = stand_halves (lay_stmts body) (at close (plain (token.Mark mark.RightBrace ∷ [])) ++ at last (plain (token.End ∷ []))) us (v ∷ (w ∷ []))
-              (body_long body us form h) s7 in
+          (body_long body us form h) s7 in
           let pa : places.0 ≡ a.place = All-head (λ z. z ≡ a.place) places.0 [] s.1 in
           let pb : places.1 ≡ b.place = All-head (λ z. z ≡ b.place) places.1 [] s.2.1 in
           let pv : close ≡ v.place = All-head (λ z. z ≡ v.place) close [] k.1.1 in
@@ -183,12 +182,12 @@ program_complete room _ ts r0 (main places body close last form) h deep =
     let e = begun (token.Mark mark.RightParen) s6 d.more d.rest in
     let f = begun (token.Mark mark.LeftBrace) block e.more e.rest in
     let x = halves (spell_stmts body) (token.Mark mark.RightBrace ∷ (token.End ∷ [])) f.more
-        (f.rest ∙ spelled_block (spell_stmts body)) in
+    (f.rest ∙ spelled_block (spell_stmts body)) in
     let v = begun (token.Mark mark.RightBrace) (token.End ∷ []) x.right x.second in
     let w = one token.End v.more v.rest in
     let all : ts ≡ a.it ∷ (b.it ∷ (c.it ∷ (d.it ∷ (e.it ∷ (f.it ∷ (x.left ++ (v.it ∷ (w.it ∷ [])))))))) =
-        a.split ∙ ap (λ k. a.it ∷ k) (b.split ∙ ap (λ k. b.it ∷ k) (c.split ∙ ap (λ k. c.it ∷ k) (d.split ∙ ap (λ k. d.it ∷ k)
-        (e.split ∙ ap (λ k. e.it ∷ k) (f.split ∙ ap (λ k. f.it ∷ k) (x.split ∙ ap (λ k. x.left ++ k) (v.split ∙ ap (λ k. v.it ∷ k) w.split))))))) in
+    a.split ∙ ap (λ k. a.it ∷ k) (b.split ∙ ap (λ k. b.it ∷ k) (c.split ∙ ap (λ k. c.it ∷ k) (d.split ∙ ap (λ k. d.it ∷ k)
+    (e.split ∙ ap (λ k. e.it ∷ k) (f.split ∙ ap (λ k. f.it ∷ k) (x.split ∙ ap (λ k. x.left ++ k) (v.split ∙ ap (λ k. v.it ∷ k) w.split))))))) in
     subst (λ k. Whole room k (source_of places body close last)) (sym all)
     (main_again room places body close last a.it b.it c.it d.it e.it f.it v.it w.it x.left r0 form (omega arith) x.first
-        a.what b.what c.what d.what e.what f.what v.what w.what)
+    a.what b.what c.what d.what e.what f.what v.what w.what)

@@ -1,10 +1,9 @@
 -- The nodes of a first program: as many without places as with them, and no more than its tokens.
-use Rattle.std.proofs.Common.{ℕ, suc, zero, ◌≡◌, ◌+◌, ◌<◌, ◌≤◌, List, [], ◌∷◌, ◌++◌, length, length-append, map, Option, Some, None, sym, ap, ◌∙◌, subst, refl, arith}
+use Rattle.std.proofs.Common.{ℕ, ◌≡◌, ◌+◌, ◌≤◌, List, [], ◌∷◌, ◌++◌, length, length-append, map, sym, ap, ◌∙◌, refl, arith}
 use Rattle.std.specs.Prelude.{All, sum}
 use Rattle.std.proofs.lemmas.List.Sums.{sum_by-cons}
 use Rattle.std.proofs.lemmas.List.Elements.{All-head, All-tail, All-cons}
 use Rattle.k_num.specs.declared.place.Place.{Place}
-use Rattle.k_num.specs.declared.numbers.Kind.TheVariants as kind
 use Rattle.k_tree.specs.declared.tokens.TokenKind.TheVariants as token
 use Rattle.k_tree.specs.declared.tokens.mark.Mark.TheVariants as mark
 use Rattle.k_tree.specs.declared.tokens.word.Word.TheVariants as word
@@ -52,7 +51,7 @@ assign_same q s x e f =
 stmt_same : (s : Stmt) → FormStmt s → stmt_count (bare_stmt s) ≡ stmt_count s
 stmt_same _ (declares p d list f fs) =
     let e : map declarator_count (map bare_declarator (d ∷ list)) ≡ map declarator_count (d ∷ list) =
-        all_same FormDeclarator declarator_count bare_declarator declarator_same (d ∷ list) (All-cons FormDeclarator d list f fs) in
+    all_same FormDeclarator declarator_count bare_declarator declarator_same (d ∷ list) (All-cons FormDeclarator d list f fs) in
     simp stmt_Declare (ap (λ ns. 1 + sum ns) e)
 stmt_same _ (assigns p q s x e f) =
     let a = expr.Assign q mark.Equal (expr.Name s x) e in
@@ -98,9 +97,9 @@ value_few p a h = simp (stmt_Expr, length-append) (omega (arith, expr_bound 0 a 
 stmt_few : (s : Stmt) → FormStmt s → stmt_count s ≤ length (spell_stmt s)
 stmt_few _ (declares p d list f fs) =
     declaration_few (stmt_count (stmt.Declare p (word.Int ∷ []) (d ∷ list))) (sum (map declarator_count (d ∷ list)))
-        (spell_stmt (stmt.Declare p (word.Int ∷ []) (d ∷ list))) (with_commas (map spell_declarator (d ∷ list)))
-        (stmt_Declare ℕ stmt_step p (word.Int ∷ []) (d ∷ list)) (stmt_Declare Spelled spell_stmt_step p (word.Int ∷ []) (d ∷ list))
-        (commas_few FormDeclarator declarator_count spell_declarator declarator_few d list f fs)
+    (spell_stmt (stmt.Declare p (word.Int ∷ []) (d ∷ list))) (with_commas (map spell_declarator (d ∷ list)))
+    (stmt_Declare ℕ stmt_step p (word.Int ∷ []) (d ∷ list)) (stmt_Declare Spelled spell_stmt_step p (word.Int ∷ []) (d ∷ list))
+    (commas_few FormDeclarator declarator_count spell_declarator declarator_few d list f fs)
 stmt_few _ (assigns p q s x e f) =
     value_few p (expr.Assign q mark.Equal (expr.Name s x) e)
     (r.assignment 0 q mark.Equal (expr.Name s x) e (omega arith) refl (r.name 14 s x (omega arith)) (form_ranked 1 e f))

@@ -13,17 +13,16 @@ use Rattle.k_tree.specs.declared.tokens.word.Word.TheVariants as word
 use Rattle.k_tree.specs.declared.tree.expression.Expr.{Expr, out-Expr, roll-Expr, roll-out-Expr, fold-Expr}
 use Rattle.k_tree.specs.declared.tree.expression.Expr.TheOpen.{Expr-F}
 use Rattle.k_tree.specs.declared.tree.expression.Expr.TheVariants as expr
-use Rattle.k_tree.specs.declared.tree.declaration.Init.{Init, out-Init}
+use Rattle.k_tree.specs.declared.tree.declaration.Init.{Init}
 use Rattle.k_tree.specs.declared.tree.declaration.Init.TheOpen.{Init-F}
 use Rattle.k_tree.specs.declared.tree.declaration.Init.TheVariants as init
 use Rattle.k_tree.specs.declared.tree.declaration.Declarator.{Declarator}
-use Rattle.k_tree.specs.declared.tree.statement.Stmt.{Stmt, out-Stmt}
+use Rattle.k_tree.specs.declared.tree.statement.Stmt.{Stmt}
 use Rattle.k_tree.specs.declared.tree.statement.Stmt.TheVariants as stmt
 use Rattle.k_tree.specs.Folds.{expr_folds, expr_Name, expr_Number, expr_Char, expr_Paren, expr_Binary}
 use Rattle.k_tree.specs.Nesting.{expr_depth, expr_depth_step}
 use Rattle.k_tree.specs.Ranked as r
 use Rattle.k_tree.specs.Ranked.{Ranked, RankedArgs, IfGiven, RankedInit, RankedDeclarator, RankedDeclaration, RankedStmt, RankedParts, Specs, is_spec, binary_rank}
-use Rattle.k_tree.specs.declared.tree.declaration.Params.TheVariants as params
 use Rattle.k_tree.specs.declared.tree.unit.Head.{Head}
 use Rattle.k_tree.specs.declared.tree.unit.Item.{Item}
 use Rattle.k_tree.specs.declared.tree.unit.Item.TheVariants as item
@@ -105,7 +104,7 @@ form_first _ _ (paren k p a h x) = expr_Paren Bool first_expr_step p a ∙ form_
 form_first _ _ (binary k p op n a b h q x y) =
     expr_Binary Bool first_expr_step p op a b
     ∙ and_both (is_first_operator op) (first a && first b) (rank_first op n q).0
-        (and_both (first a) (first b) (form_first n a x) (form_first (n + 1) b y))
+    (and_both (first a) (first b) (form_first n a x) (form_first (n + 1) b y))
 
 pub form_lower : (j k : ℕ) (e : Expr) → j ≤ k → Form k e → Form j e
 form_lower j _ _ le (name k p x h) = name j p x (omega arith)
@@ -127,7 +126,7 @@ formed _ _ (r.binary k p op n a b h q x y) f =
     let g : IsTrue (is_first_operator op && (first a && first b)) = sym (expr_Binary Bool first_expr_step p op a b) ∙ f in
     let i : IsTrue (first a && first b) = and_right (is_first_operator op) (first a && first b) g in
     binary k p op n a b h (first_rank op n (and_left (is_first_operator op) (first a && first b) g) q)
-        (formed n a x (and_left (first a) (first b) i)) (formed (n + 1) b y (and_right (first a) (first b) i))
+    (formed n a x (and_left (first a) (first b) i)) (formed (n + 1) b y (and_right (first a) (first b) i))
 formed _ _ _ f = absurd (false≢true (simp expr_folds at f))
 
 -- initialisers and declarators
@@ -198,9 +197,23 @@ call_formed p q x (a ∷ []) e (r.more_args _ _ h hs) f = calls p q x a e (forme
 call_formed p q x (a ∷ (b ∷ args)) e h f = absurd f
 
 pub ruleset expr_layers = (
-  expr.outs-Name, expr.outs-Number, expr.outs-Char, expr.outs-Str, expr.outs-Paren, expr.outs-Index, expr.outs-Call, expr.outs-Post,
-  expr.outs-Pre, expr.outs-Unary, expr.outs-SizeofExpr, expr.outs-SizeofType, expr.outs-Cast, expr.outs-Binary, expr.outs-Cond,
-  expr.outs-Assign, expr.outs-Comma,
+  expr.outs-Name,
+  expr.outs-Number,
+  expr.outs-Char,
+  expr.outs-Str,
+  expr.outs-Paren,
+  expr.outs-Index,
+  expr.outs-Call,
+  expr.outs-Post,
+  expr.outs-Pre,
+  expr.outs-Unary,
+  expr.outs-SizeofExpr,
+  expr.outs-SizeofType,
+  expr.outs-Cast,
+  expr.outs-Binary,
+  expr.outs-Cond,
+  expr.outs-Assign,
+  expr.outs-Comma,
 )
 
 action_formed : (p : Place) (k : ℕ) (a : Expr) → Ranked k a → FirstAction (out-Expr a) → FormStmt (stmt.Expr p a)
@@ -246,9 +259,11 @@ parts_formed _ (r.declaration p specs list parts x y) f =
 
 pub part_ranked : (s : Stmt) (parts : List Stmt) → FormStmt s → RankedParts parts → RankedParts (s ∷ parts)
 part_ranked _ parts (declares p d list x y) h =
-    r.declaration p (word.Int ∷ []) (d ∷ list) parts
-    (((λ e. cc), All-cons (λ w. IsTrue (is_spec w)) word.Int [] refl (All-nil (λ w. IsTrue (is_spec w)))), (λ e. cc),
-        All-map FormDeclarator RankedDeclarator declarator_ranked (d ∷ list) (All-cons FormDeclarator d list x y)) h
+    r.declaration p (word.Int ∷ []) (d ∷ list) parts (
+      ((λ e. cc), All-cons (λ w. IsTrue (is_spec w)) word.Int [] refl (All-nil (λ w. IsTrue (is_spec w)))),
+      (λ e. cc),
+      All-map FormDeclarator RankedDeclarator declarator_ranked (d ∷ list) (All-cons FormDeclarator d list x y),
+    ) h
 part_ranked _ parts (assigns p q s x e f) h =
     r.statement (stmt.Expr p (expr.Assign q mark.Equal (expr.Name s x) e)) parts
     (r.value p (expr.Assign q mark.Equal (expr.Name s x) e)

@@ -1,5 +1,5 @@
 -- Marks and keywords are told apart by their tests.
-use Rattle.std.proofs.Common.{ℕ, ◌≡◌, List, Bool, true, false, rules, sym, ap, ◌∙◌, refl}
+use Rattle.std.proofs.Common.{ℕ, ◌≡◌, List, true, rules, sym, ap, refl}
 use denote.Enum.Bare.{same_true}
 use Rattle.k_tree.specs.declared.tokens.TokenKind.{TokenKind}
 use Rattle.k_tree.specs.declared.tokens.TokenKind.TheVariants as token

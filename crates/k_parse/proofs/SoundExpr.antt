@@ -1,13 +1,12 @@
 -- What is read as an expression has the form and the rank, stands over what was taken, nests no deeper than there is room, and
 -- no operator that could go on comes next.
-use Rattle.std.proofs.Common.{ℕ, suc, zero, ◌≡◌, ◌+◌, ◌<◌, ◌≤◌, max, Bool, true, false, cond, leb, List, [], ◌∷◌, ◌++◌, length, Option, Some, None, sym, ap, ◌∙◌, subst, refl, arith}
+use Rattle.std.proofs.Common.{ℕ, suc, zero, ◌≡◌, ◌+◌, ◌<◌, ◌≤◌, max, leb, List, [], ◌∷◌, ◌++◌, length, Some, None, sym, ap, ◌∙◌, subst, refl, arith}
 use Rattle.std.proofs.lemmas.Bool.{leb-false}
 use Rattle.k_num.specs.declared.place.Place.{Place}
 use Rattle.k_num.specs.declared.numbers.Kind.TheVariants as kind
 use Rattle.k_tree.specs.declared.tokens.Token.{Token}
 use Rattle.k_tree.specs.declared.tokens.TokenKind.{TokenKind}
 use Rattle.k_tree.specs.declared.tokens.TokenKind.TheVariants as token
-use Rattle.k_tree.specs.declared.tokens.mark.Mark.{Mark}
 use Rattle.k_tree.specs.declared.tokens.mark.Mark.TheVariants as mark
 use Rattle.k_tree.specs.declared.tree.expression.Expr.{Expr}
 use Rattle.k_tree.specs.declared.tree.expression.Expr.TheVariants as expr
@@ -20,7 +19,7 @@ use Rattle.k_parse.specs.Reader.{Read, ◌>>=◌, Reader, is_mark, taken, operat
 use Rattle.k_parse.proofs.Form.{Form, name, number, character, paren, binary, form_lower}
 use Rattle.k_parse.proofs.Marks.{right_paren_only}
 use Rattle.k_parse.proofs.Steps.{climb_zero, climb_suc, expression_suc, expression_deep}
-use Rattle.k_parse.proofs.Taken.{Taken, taken_append, pair_same, bind_ends, cond_ends, taken_ends, next_shorter, next_plain, one_at, one_plain, IsOperator, operator_ends, operator_below, operator_small}
+use Rattle.k_parse.proofs.Taken.{Taken, taken_append, pair_same, bind_ends, cond_ends, taken_ends, next_shorter, next_plain, one_at, IsOperator, operator_ends, operator_below, operator_small}
 
 -- an operand was read
 pub record IsOperand (room : ℕ) (ts : List Token) (a : Operand) (rest : List Token) : Type 0 where
@@ -70,9 +69,9 @@ joins_sound again room k start on a ts (Some r) out rest s e ha fa oa go h =
     let o = operator_ends k ts r e in
     let hb = s (r.0.rank + 1) r.1 b.0.0 b.0.1 (omega (arith, operator_small k ts r.0 r.1 o)) b.1 in
     let f : (j : ℕ) → j ≤ r.0.rank → Form j (joined r.0 a b.0.0).expr = λ j le.
-        binary j r.0.place r.0.mark r.0.rank a.expr b.0.0.expr le o.rank (oa r e) hb.form in
+    binary j r.0.place r.0.mark r.0.rank a.expr b.0.0.expr le o.rank (oa r e) hb.form in
     go (joined r.0 a b.0.0) b.0.1 (joined_operand room k start ts r.1 b.0.1 a b.0.0 r.0 ha o hb.base l) (f k o.least)
-        (λ q g. f q.0.rank (omega (arith, operator_below (r.0.rank + 1) k b.0.1 q hb.stops g))) b.2
+    (λ q g. f q.0.rank (omega (arith, operator_below (r.0.rank + 1) k b.0.1 q hb.stops g))) b.2
 
 climb_sound : (again : Reader) (room fuel k : ℕ) (start : List Token) (a : Operand) (ts : List Token) (out : Operand) (rest : List Token) → Sound again room
     → IsOperand (suc room) start a ts → Form k a.expr → Opens k a ts
@@ -112,7 +111,7 @@ paren_operand : (room : ℕ) (p : Place) (us mid rest : List Token) (a : Operand
 paren_operand room p us mid rest a ha hc l = record {
   taken = subst (λ z. Taken z (record { what = token.Mark mark.LeftParen; place = p } ∷ us) rest) (sym (expr_Paren Pieces lay_expr_step p a.expr))
       (taken_append (at p (plain (token.Mark mark.LeftParen ∷ []))) (lay_expr a.expr ++ plain (token.Mark mark.RightParen ∷ []))
-          (record { what = token.Mark mark.LeftParen; place = p } ∷ us) us rest (one_at (token.Mark mark.LeftParen) p us)
+      (record { what = token.Mark mark.LeftParen; place = p } ∷ us) us rest (one_at (token.Mark mark.LeftParen) p us)
       (taken_append (lay_expr a.expr) (plain (token.Mark mark.RightParen ∷ [])) us mid rest ha.taken hc));
   shorter = omega (arith, ha.shorter);
   depth = ap (λ n. 1 + n) ha.depth ∙ sym (expr_Paren ℕ expr_depth_step p a.expr);
@@ -125,7 +124,7 @@ at_sound again room (token.Name x) p us a rest s h =
     leaf_sound room (expr.Name p x) (token.Name x) p us a rest (expr_Name Pieces lay_expr_step p x) (expr_Name ℕ expr_depth_step p x) (name 16 p x (omega arith)) h
 at_sound again room (token.Number kind.I32 n) p us a rest s h =
     leaf_sound room (expr.Number p kind.I32 n) (token.Number kind.I32 n) p us a rest (expr_Number Pieces lay_expr_step p kind.I32 n)
-        (expr_Number ℕ expr_depth_step p kind.I32 n) (number 16 p n (omega arith)) h
+    (expr_Number ℕ expr_depth_step p kind.I32 n) (number 16 p n (omega arith)) h
 at_sound again room (token.Number _ n) p us a rest s h = absurd cc
 at_sound again room (token.Char z) p us a rest s h =
     leaf_sound room (expr.Char p z) (token.Char z) p us a rest (expr_Char Pieces lay_expr_step p z) (expr_Char ℕ expr_depth_step p z) (character 16 p z (omega arith)) h
@@ -136,7 +135,7 @@ at_sound again room (token.Mark mark.LeftParen) p us a rest s h =
     let n = taken_ends (is_mark mark.RightParen) i.0.1 c.0.0 c.0.1 c.1 in
     let r = s 0 us i.0.0 i.0.1 (omega arith) i.1 in
     let q : ◌≡◌ {A = Operand × List Token} (record { expr = expr.Paren p i.0.0.expr; depth = 1 + i.0.0.depth }, c.0.1) (a, rest) =
-        pair_same (record { expr = expr.Paren p i.0.0.expr; depth = 1 + i.0.0.depth }, c.0.1) (a, rest) c.2 in
+    pair_same (record { expr = expr.Paren p i.0.0.expr; depth = 1 + i.0.0.depth }, c.0.1) (a, rest) c.2 in
     subst (λ r. IsFirstOperand (suc room) (record { what = token.Mark mark.LeftParen; place = p } ∷ us) r.0 r.1) q
     (record {
       base = paren_operand room p us i.0.1 c.0.1 i.0.0 r.base
@@ -157,6 +156,6 @@ expression_sound (suc room) k ts a rest le h =
     let b = bind_ends (operand (expression room) ts) (climb (expression room) (suc room) (suc room) k) (a, rest) (sym (expression_suc room k ts) ∙ h) in
     let o = operand_sound (expression room) room ts b.0.0 b.0.1 (expression_sound room) b.1 in
     climb_sound (expression room) room (suc room) k ts b.0.0 b.0.1 a rest (expression_sound room) o.base
-        (form_lower k 16 b.0.0.expr le o.form)
-        (λ q g. form_lower q.0.rank 16 b.0.0.expr
-            (omega (arith, operator_small k b.0.1 q.0 q.1 (operator_ends k b.0.1 q g))) o.form) b.2
+    (form_lower k 16 b.0.0.expr le o.form)
+    (λ q g. form_lower q.0.rank 16 b.0.0.expr
+    (omega (arith, operator_small k b.0.1 q.0 q.1 (operator_ends k b.0.1 q g))) o.form) b.2

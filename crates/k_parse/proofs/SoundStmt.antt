@@ -20,8 +20,7 @@ use Rattle.k_tree.specs.declared.tree.statement.Stmt.TheVariants as stmt
 use Rattle.k_tree.specs.Folds.{expr_Name, expr_Assign, expr_Call, init_One, stmt_Expr, stmt_Return, stmt_Declare}
 use Rattle.k_tree.specs.Nesting.{deepest, expr_depth, expr_depth_step, init_depth_step, initialised_depth, declarator_depth, declarators_depth, stmt_depth, stmt_depth_step}
 use Rattle.k_tree.specs.Places.{Pieces, plain, at, lay_expr, lay_expr_step, lay_init, lay_init_step, lay_initialised, lay_declarator, lay_declaration, lay_stmt, lay_stmt_step, lay_row, lay_behind_commas, lay_with_commas}
-use Rattle.k_parse.specs.declared.expression.Operand.{Operand}
-use Rattle.k_parse.specs.Reader.{Read, ◌>>=◌, is_mark, comes, taken, place_next, expression, many, value, initialiser_at, initialised, declarator_at, declarator, declarator_behind, declarators, ended, declaration, returned, assigned, called, action_at, action, statement_at, statement}
+use Rattle.k_parse.specs.Reader.{Read, ◌>>=◌, is_mark, comes, taken, place_next, expression, many, value, initialiser_at, initialised, declarator_at, declarator, declarator_behind, declarators, ended, declaration, returned, assigned, action_at, action, statement_at, statement}
 use Rattle.k_parse.proofs.Form.{Form, form_deep, FormDeclarator, unset, set, FormStmt, declares, assigns, calls, returns}
 use Rattle.k_parse.proofs.Marks.{mark_only}
 use Rattle.k_parse.proofs.SoundExpr.{expression_sound}
@@ -109,7 +108,7 @@ declarator_sound room (t ∷ us) d rest h = by_what t.what t.place us d rest h
     by_what (token.Name x) p us d rest h =
         let b = bind_ends (initialised room us) (λ i r. Some (record { place = p; stars = []; name = x; dims = []; init = i }, r)) (d, rest) h in
         let q : ◌≡◌ {A = Declarator × List Token} (record { place = p; stars = []; name = x; dims = []; init = b.0.0 }, b.0.1) (d, rest) =
-            pair_same (record { place = p; stars = []; name = x; dims = []; init = b.0.0 }, b.0.1) (d, rest) b.2 in
+        pair_same (record { place = p; stars = []; name = x; dims = []; init = b.0.0 }, b.0.1) (d, rest) b.2 in
         subst (λ r. IsDeclarator room (record { what = token.Name x; place = p } ∷ us) r.0 r.1) q
         (one_declarator room p x us b.0.0 b.0.1 (some_init room p x us (comes (is_mark mark.Equal) us) b.0.0 b.0.1 b.1))
     by_what _ p us d rest h = absurd cc
@@ -172,7 +171,7 @@ many_sound {A} F lay depth room item more (suc fuel) done ts out rest s h =
   where
     by_more : (b : Bool) → cond {A = Option (List A × List Token)} b (item ts >>= λ a us. many item more fuel (done ++ a ∷ []) us) (Some (done, ts)) ≡ Some (out, rest)
         → ((mid : List Token) (a : A) → item ts ≡ Some (a, mid) → many item more fuel (done ++ a ∷ []) mid ≡ Some (out, rest)
-            → IsRow F lay depth room mid (done ++ a ∷ []) out rest)
+        → IsRow F lay depth room mid (done ++ a ∷ []) out rest)
         → IsRow F lay depth room ts done out rest
     by_more true e go =
         let b = bind_ends (item ts) (λ a us. many item more fuel (done ++ a ∷ []) us) (out, rest) e in
@@ -203,7 +202,7 @@ declarators_sound room ts list rest h =
     let b = bind_ends (declarator room ts) (λ d r. many (declarator_behind room) (comes (is_mark mark.Comma)) (length r) (d ∷ []) r) (list, rest) h in
     let d = declarator_sound room ts b.0.0 b.0.1 b.1 in
     let r = many_sound FormDeclarator lay_behind declarator_depth (room - 1) (declarator_behind room) (comes (is_mark mark.Comma)) (length b.0.1) (b.0.0 ∷ []) b.0.1 list rest
-        (behind_sound room) b.2 in
+    (behind_sound room) b.2 in
     record {
       head = b.0.0;
       tail = r.new;
@@ -250,8 +249,8 @@ declaration_sound room p us s rest r0 h =
     let q : stmt.Declare p (word.Int ∷ []) (l.head ∷ l.tail) ≡ s = ap (stmt.Declare p (word.Int ∷ [])) (sym l.all) ∙ e.same in
     let all = lay_with_commas (map lay_declarator (l.head ∷ l.tail)) in
     let w : Taken (lay_declaration (word.Int ∷ []) (l.head ∷ l.tail)) ts rest =
-        taken_append (plain (token.Word word.Int ∷ [])) (all ++ semicolon) ts us rest (one_plain (token.Word word.Int) p us)
-        (taken_append all semicolon us b.0.1 rest l.taken e.taken) in
+    taken_append (plain (token.Word word.Int ∷ [])) (all ++ semicolon) ts us rest (one_plain (token.Word word.Int) p us)
+    (taken_append all semicolon us b.0.1 rest l.taken e.taken) in
     let short : length rest < length ts = omega (arith, l.shorter, e.shorter) in
     subst (λ s. IsStatement room ts s rest) q (record {
       taken = subst (λ z. Taken z ts rest) (sym (stmt_Declare Pieces lay_stmt_step p (word.Int ∷ []) (l.head ∷ l.tail)))
@@ -290,10 +289,10 @@ assigned_sound room x p q us s rest h =
     let d = form_deep 1 b.0.0 v.form in
     let sign = at q (plain (token.Mark mark.Equal ∷ [])) in
     let w : Taken (lay_expr a) ts b.0.1 =
-        subst (λ z. Taken z ts b.0.1) (sym (expr_Assign Pieces lay_expr_step q mark.Equal (expr.Name p x) b.0.0))
-        (taken_append (lay_expr (expr.Name p x)) (sign ++ lay_expr b.0.0) ts vs b.0.1
-            (subst (λ z. Taken z ts vs) (sym (expr_Name Pieces lay_expr_step p x)) (one_at (token.Name x) p vs))
-            (taken_append sign (lay_expr b.0.0) vs us b.0.1 (one_at (token.Mark mark.Equal) q us) v.taken)) in
+    subst (λ z. Taken z ts b.0.1) (sym (expr_Assign Pieces lay_expr_step q mark.Equal (expr.Name p x) b.0.0))
+    (taken_append (lay_expr (expr.Name p x)) (sign ++ lay_expr b.0.0) ts vs b.0.1
+    (subst (λ z. Taken z ts vs) (sym (expr_Name Pieces lay_expr_step p x)) (one_at (token.Name x) p vs))
+    (taken_append sign (lay_expr b.0.0) vs us b.0.1 (one_at (token.Mark mark.Equal) q us) v.taken)) in
     let short : length rest < length ts = omega (arith, v.shorter, e.shorter) in
     let f = v.fits in
     let dn : expr_depth (expr.Name p x) ≡ 1 = expr_Name ℕ expr_depth_step p x in
@@ -323,12 +322,12 @@ put_sound room x p q us s rest isput h =
     let closes = plain (token.Mark mark.RightParen ∷ []) in
     let args = lay_expr b.0.0 ++ [] in
     let w : Taken (lay_expr a) ts c.0.1 =
-        subst (λ z. Taken z ts c.0.1) (sym (expr_Call Pieces lay_expr_step p x (b.0.0 ∷ [])))
-        (taken_append (at p (plain (token.Name x ∷ []))) (opens ++ (args ++ closes)) ts vs c.0.1 (one_at (token.Name x) p vs)
-        (taken_append opens (args ++ closes) vs us c.0.1 (one_plain (token.Mark mark.LeftParen) q us)
-        (taken_append args closes us b.0.1 c.0.1
-            (taken_append (lay_expr b.0.0) [] us b.0.1 b.0.1 v.taken (taken_none b.0.1))
-            (next_plain (is_mark mark.RightParen) (token.Mark mark.RightParen) b.0.1 c.0.0 c.0.1 (mark_only mark.RightParen) n)))) in
+    subst (λ z. Taken z ts c.0.1) (sym (expr_Call Pieces lay_expr_step p x (b.0.0 ∷ [])))
+    (taken_append (at p (plain (token.Name x ∷ []))) (opens ++ (args ++ closes)) ts vs c.0.1 (one_at (token.Name x) p vs)
+    (taken_append opens (args ++ closes) vs us c.0.1 (one_plain (token.Mark mark.LeftParen) q us)
+    (taken_append args closes us b.0.1 c.0.1
+    (taken_append (lay_expr b.0.0) [] us b.0.1 b.0.1 v.taken (taken_none b.0.1))
+    (next_plain (is_mark mark.RightParen) (token.Mark mark.RightParen) b.0.1 c.0.0 c.0.1 (mark_only mark.RightParen) n)))) in
     let short : length rest < length ts = omega (arith, v.shorter, e.shorter, next_shorter (is_mark mark.RightParen) b.0.1 c.0.0 c.0.1 n) in
     let f = v.fits in
     let da : expr_depth a ≡ 1 + max (expr_depth b.0.0) 0 = expr_Call ℕ expr_depth_step p x (b.0.0 ∷ []) in
@@ -345,7 +344,7 @@ action_at_sound : (room : ℕ) (x : List ℕ) (p : Place) (w : TokenKind) (q : P
 action_at_sound room x p (token.Mark mark.Equal) q us s rest h = assigned_sound room x p q us s rest h
 action_at_sound room x p (token.Mark mark.LeftParen) q us s rest h =
     let c = if_ends (pointwise nat_eq x (codes "putchar"))
-        (value (room - 2) 1 us >>= λ e r. taken (is_mark mark.RightParen) r >>= λ c behind. ended (stmt.Expr p (expr.Call p x (e ∷ []))) behind) (s, rest) h in
+    (value (room - 2) 1 us >>= λ e r. taken (is_mark mark.RightParen) r >>= λ c behind. ended (stmt.Expr p (expr.Call p x (e ∷ []))) behind) (s, rest) h in
     put_sound room x p q us s rest (same_text x (codes "putchar") (sym c.0)) c.1
 action_at_sound room x p _ q us s rest h = absurd cc
 

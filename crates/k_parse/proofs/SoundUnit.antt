@@ -1,6 +1,5 @@
 -- What is read as a source is a ranked tree of the form, stands over all its tokens, and nests no deeper than there is room.
-use Rattle.std.proofs.Common.{ℕ, suc, zero, ◌≡◌, ◌+◌, ◌-◌, ◌<◌, ◌≤◌, max, Bool, true, false, List, [], ◌∷◌, ◌++◌, append_assoc, length, length-append, map, Option, Some, None, sym, ap, ◌∙◌, subst, refl, arith, codes}
-use Rattle.std.specs.Prelude.{All}
+use Rattle.std.proofs.Common.{ℕ, ◌≡◌, ◌<◌, ◌≤◌, Bool, List, [], ◌∷◌, ◌++◌, append_assoc, length, length-append, map, Some, None, sym, ap, ◌∙◌, subst, arith, codes}
 use Rattle.std.proofs.lemmas.List.{append-nil}
 use Rattle.k_num.specs.declared.place.Place.{Place}
 use Rattle.k_tree.specs.declared.tokens.Token.{Token}
@@ -11,13 +10,13 @@ use Rattle.k_tree.specs.declared.tokens.mark.Mark.TheVariants as mark
 use Rattle.k_tree.specs.declared.tokens.word.Word.TheVariants as word
 use Rattle.k_tree.specs.declared.tree.statement.Stmt.{Stmt}
 use Rattle.k_tree.specs.declared.tree.unit.Unit as source
-use Rattle.k_tree.specs.Nesting.{nesting, deepest, stmt_depth}
-use Rattle.k_tree.specs.Places.{Pieces, plain, at, lay_head, lay_stmt, lay_stmts, lay_item, lay_unit, lay_row, Stand, Placed}
-use Rattle.k_parse.specs.Reader.{Read, ◌>>=◌, is_mark, is_word, is_name, is_end, taken, place_next, many, statement, block_goes_on, parts, brace_next, close_next, void_next, open_next, name_next, opening, main_head, source_of, closing, finished, program_read, alone, program}
+use Rattle.k_tree.specs.Nesting.{nesting, stmt_depth}
+use Rattle.k_tree.specs.Places.{Pieces, plain, at, lay_head, lay_stmt, lay_unit, lay_row, Stand, Placed}
+use Rattle.k_parse.specs.Reader.{Read, ◌>>=◌, is_mark, is_word, is_name, is_end, taken, place_next, statement, block_goes_on, parts, brace_next, close_next, void_next, open_next, name_next, opening, main_head, source_of, closing, program_read, alone, program}
 use Rattle.k_parse.proofs.Form.{FormStmt, FormUnit, main}
 use Rattle.k_parse.proofs.Marks.{mark_only, word_only, name_only, end_only}
-use Rattle.k_parse.proofs.SoundStmt.{IsPart, IsRow, many_sound, statement_sound}
-use Rattle.k_parse.proofs.Taken.{some_same, Taken, taken_none, taken_append, pair_same, bind_ends, IsNext, taken_ends, next_shorter, next_plain, next_at, taken_first}
+use Rattle.k_parse.proofs.SoundStmt.{IsRow, many_sound, statement_sound}
+use Rattle.k_parse.proofs.Taken.{some_same, Taken, taken_append, pair_same, bind_ends, IsNext, taken_ends, next_shorter, next_plain, next_at, taken_first}
 
 -- a token that is known by its test
 next : (test : TokenKind → Bool) (ts : List Token) (r : Place × List Token) → taken test ts ≡ Some r → IsNext test ts r.0 r.1
@@ -50,12 +49,13 @@ open_sound places ts r h =
     let d = brace_sound places c.0.1 r c.2 in
     let brace = plain (token.Mark mark.LeftBrace ∷ []) in
     let close = plain (token.Mark mark.RightParen ∷ []) in
-    let void = plain (token.Word word.Void ∷ []) in
-    (d.0,
-        taken_append (plain (token.Mark mark.LeftParen ∷ [])) (void ++ (close ++ brace)) ts a.0.1 r.1 (a_mark mark.LeftParen ts a.0 a.1)
-        (taken_append void (close ++ brace) a.0.1 b.0.1 r.1
-            (next_plain (is_word word.Void) (token.Word word.Void) a.0.1 b.0.0 b.0.1 (word_only word.Void) (next (is_word word.Void) a.0.1 b.0 b.1))
-        (taken_append close brace b.0.1 c.0.1 r.1 (a_mark mark.RightParen b.0.1 c.0 c.1) d.1)))
+    let void = plain (token.Word word.Void ∷ []) in (
+      d.0,
+      taken_append (plain (token.Mark mark.LeftParen ∷ [])) (void ++ (close ++ brace)) ts a.0.1 r.1 (a_mark mark.LeftParen ts a.0 a.1)
+          (taken_append void (close ++ brace) a.0.1 b.0.1 r.1
+          (next_plain (is_word word.Void) (token.Word word.Void) a.0.1 b.0.0 b.0.1 (word_only word.Void) (next (is_word word.Void) a.0.1 b.0 b.1))
+          (taken_append close brace b.0.1 c.0.1 r.1 (a_mark mark.RightParen b.0.1 c.0 c.1) d.1)),
+    )
 
 -- the head, and the brace behind it
 abbrev opened : Place × Place → Pieces
@@ -75,12 +75,16 @@ opening_sound ts r h =
     let int = plain (token.Word word.Int ∷ []) in
     let name = at b.0.0 (plain (token.Name (codes "main") ∷ [])) in
     let w : Taken (int ++ (name ++ behind_name)) ts r.1 =
-        taken_append int (name ++ behind_name) ts a.0.1 r.1
-            (next_plain (is_word word.Int) (token.Word word.Int) ts a.0.0 a.0.1 (word_only word.Int) n)
-        (taken_append name behind_name a.0.1 b.0.1 r.1
-            (next_at (is_name (codes "main")) (token.Name (codes "main")) a.0.1 b.0.0 b.0.1 (name_only (codes "main")) m) c.1) in
-    let l : length r.1 < length ts = omega (arith, next_shorter (is_word word.Int) ts a.0.0 a.0.1 n,
-        next_shorter (is_name (codes "main")) a.0.1 b.0.0 b.0.1 m, taken_shorter behind_name b.0.1 r.1 c.1) in
+    taken_append int (name ++ behind_name) ts a.0.1 r.1
+    (next_plain (is_word word.Int) (token.Word word.Int) ts a.0.0 a.0.1 (word_only word.Int) n)
+    (taken_append name behind_name a.0.1 b.0.1 r.1
+    (next_at (is_name (codes "main")) (token.Name (codes "main")) a.0.1 b.0.0 b.0.1 (name_only (codes "main")) m) c.1) in
+    let l : length r.1 < length ts = omega (
+      arith,
+      next_shorter (is_word word.Int) ts a.0.0 a.0.1 n,
+      next_shorter (is_name (codes "main")) a.0.1 b.0.0 b.0.1 m,
+      taken_shorter behind_name b.0.1 r.1 c.1,
+    ) in
     subst (λ v. Taken (opened v) ts r.1) c.0
     (taken_first a.0.0 (int ++ (name ++ behind_name)) ts r.1 (place_of_next (is_word word.Int) ts a.0.0 a.0.1 n) l w)
 
@@ -96,8 +100,8 @@ closing_sound ts r h =
     let q : ◌≡◌ {A = (Place × Place) × List Token} ((a.0.0, b.0.0), b.0.1) r = pair_same ((a.0.0, b.0.0), b.0.1) r b.2 in
     subst (λ v. Taken (closed v.0) ts v.1) q
     (taken_append (at a.0.0 (plain (token.Mark mark.RightBrace ∷ []))) (at b.0.0 (plain (token.End ∷ []))) ts a.0.1 b.0.1
-        (next_at (is_mark mark.RightBrace) (token.Mark mark.RightBrace) ts a.0.0 a.0.1 (mark_only mark.RightBrace) (next (is_mark mark.RightBrace) ts a.0 a.1))
-        (next_at is_end token.End a.0.1 b.0.0 b.0.1 end_only (next is_end a.0.1 b.0 b.1)))
+    (next_at (is_mark mark.RightBrace) (token.Mark mark.RightBrace) ts a.0.0 a.0.1 (mark_only mark.RightBrace) (next (is_mark mark.RightBrace) ts a.0 a.1))
+    (next_at is_end token.End a.0.1 b.0.0 b.0.1 end_only (next is_end a.0.1 b.0 b.1)))
 
 -- the parts of the block
 parts_sound : (room : ℕ) (ts : List Token) (body : List Stmt) (rest : List Token) → 0 < room → parts room ts ≡ Some (body, rest)
@@ -120,8 +124,8 @@ source_read room ts behind mid rest places ends body o b c =
     let head = at places.0 (lay_head (main_head places.1)) in
     let brace = plain (token.Mark mark.LeftBrace ∷ []) in
     let w : Taken ((head ++ brace) ++ (lay_row (map lay_stmt b.new) ++ closed ends)) ts rest =
-        taken_append (head ++ brace) (lay_row (map lay_stmt b.new) ++ closed ends) ts behind rest o
-        (taken_append (lay_row (map lay_stmt b.new)) (closed ends) behind mid rest b.taken c) in
+    taken_append (head ++ brace) (lay_row (map lay_stmt b.new) ++ closed ends) ts behind rest o
+    (taken_append (lay_row (map lay_stmt b.new)) (closed ends) behind mid rest b.taken c) in
     subst (λ v. IsSource room ts (source_of places v ends.0 ends.1) rest) q
     (record {
       taken = subst (λ z. Taken z ts rest)
@@ -145,7 +149,7 @@ program_read_sound room ts u rest r0 h =
     let b = bind_ends (parts room a.0.1) (λ body behind. closing behind >>= λ ends left. Some (source_of a.0.0 body ends.0 ends.1, left)) (u, rest) a.2 in
     let c = bind_ends (closing b.0.1) (λ ends left. Some (source_of a.0.0 b.0.0 ends.0 ends.1, left)) (u, rest) b.2 in
     let q : ◌≡◌ {A = source.Unit × List Token} (source_of a.0.0 b.0.0 c.0.0.0 c.0.0.1, c.0.1) (u, rest) =
-        pair_same (source_of a.0.0 b.0.0 c.0.0.0 c.0.0.1, c.0.1) (u, rest) c.2 in
+    pair_same (source_of a.0.0 b.0.0 c.0.0.0 c.0.0.1, c.0.1) (u, rest) c.2 in
     subst (λ r. IsSource room ts r.0 r.1) q
     (source_read room ts a.0.1 b.0.1 c.0.1 a.0.0 c.0.0 b.0.0 (opening_sound ts a.0 a.1) (parts_sound room a.0.1 b.0.0 b.0.1 r0 b.1) (closing_sound b.0.1 c.0 c.1))
 

@@ -1,8 +1,7 @@
 -- The reader, step by step: what it gives where its next step is known, and that more fuel changes nothing.
-use Rattle.std.proofs.Common.{ℕ, suc, zero, ◌≡◌, ◌+◌, ◌-◌, ◌<◌, ◌≤◌, max, Bool, true, false, cond, leb, List, [], ◌∷◌, ◌++◌, length, Option, Some, None, Result, Ok, Err, sym, ap, ◌∙◌, subst, refl, arith, sub-one}
-use Rattle.std.specs.Result.{IsErr, IsErrAnd}
+use Rattle.std.proofs.Common.{ℕ, suc, zero, ◌≡◌, ◌+◌, ◌-◌, ◌<◌, ◌≤◌, Bool, true, false, cond, leb, List, [], ◌∷◌, ◌++◌, length, Some, None, Result, Err, sym, ap, ◌∙◌, subst, refl, arith, sub-one}
 use Rattle.std.specs.Borrow.{Bor}
-use Rattle.std.proofs.lemmas.Bool.{le-leb, lt-leb, leb-true, leb-false}
+use Rattle.std.proofs.lemmas.Bool.{le-leb, lt-leb, leb-false}
 use Rattle.k_tree.specs.declared.tokens.Token.{Token}
 use Rattle.k_parse.specs.declared.first.FirstFault.{FirstFault}
 use Rattle.k_parse.specs.declared.first.FirstFault.TheVariants as fault
@@ -95,8 +94,8 @@ climb_turns again (suc f) k a ts r h d =
     ∙ (ap (joins again (suc f) (climb again (suc f) f k) a ts) h
     ∙ (joins_turn again (suc f) (climb again (suc f) f k) a ts r d
     ∙ bind_same (again (r.0.rank + 1) r.1) (λ b rest. climb again (suc f) f k (joined r.0 a b) rest)
-        (λ b rest. climb again (suc f) (suc f) k (joined r.0 a b) rest)
-        (λ b rest q. enough again (suc f) f (suc f) k (joined r.0 a b) rest (omega arith) (omega arith))))
+    (λ b rest. climb again (suc f) (suc f) k (joined r.0 a b) rest)
+    (λ b rest q. enough again (suc f) f (suc f) k (joined r.0 a b) rest (omega arith) (omega arith))))
 
 -- an expression is an operand with the operators behind it
 pub expression_begins : (room k : ℕ) (ts : List Token) → 0 < room
@@ -144,19 +143,19 @@ enough_items item more s zero zero done ts p q = refl
 enough_items item more s zero (suc g) done ts p q =
     many_zero item more done ts
     ∙ (if_else_same (more ts) None (item ts >>= λ a rest. many item more g (done ++ a ∷ []) rest) (Some (done, ts))
-        (nothing_binds (item ts) (λ a rest. many item more g (done ++ a ∷ []) rest) (λ a rest e. omega (arith, s ts a rest e)))
+    (nothing_binds (item ts) (λ a rest. many item more g (done ++ a ∷ []) rest) (λ a rest e. omega (arith, s ts a rest e)))
     ∙ sym (many_suc item more g done ts))
 enough_items item more s (suc f) zero done ts p q =
     many_suc item more f done ts
     ∙ (sym (if_else_same (more ts) None (item ts >>= λ a rest. many item more f (done ++ a ∷ []) rest) (Some (done, ts))
-        (nothing_binds (item ts) (λ a rest. many item more f (done ++ a ∷ []) rest) (λ a rest e. omega (arith, s ts a rest e))))
+    (nothing_binds (item ts) (λ a rest. many item more f (done ++ a ∷ []) rest) (λ a rest e. omega (arith, s ts a rest e))))
     ∙ sym (many_zero item more done ts))
 enough_items item more s (suc f) (suc g) done ts p q =
     many_suc item more f done ts
     ∙ (if_else_same (more ts) (item ts >>= λ a rest. many item more f (done ++ a ∷ []) rest)
-        (item ts >>= λ a rest. many item more g (done ++ a ∷ []) rest) (Some (done, ts))
-        (bind_same (item ts) (λ a rest. many item more f (done ++ a ∷ []) rest) (λ a rest. many item more g (done ++ a ∷ []) rest)
-        (λ a rest e. enough_items item more s f g (done ++ a ∷ []) rest (omega (arith, s ts a rest e)) (omega (arith, s ts a rest e))))
+    (item ts >>= λ a rest. many item more g (done ++ a ∷ []) rest) (Some (done, ts))
+    (bind_same (item ts) (λ a rest. many item more f (done ++ a ∷ []) rest) (λ a rest. many item more g (done ++ a ∷ []) rest)
+    (λ a rest e. enough_items item more s f g (done ++ a ∷ []) rest (omega (arith, s ts a rest e)) (omega (arith, s ts a rest e))))
     ∙ sym (many_suc item more g done ts))
 
 -- no item comes
@@ -176,7 +175,7 @@ many_turns item more s done ts h =
     ∙ (many_suc item more (length ts) done ts
     ∙ (ap (λ b. cond b (item ts >>= λ a rest. many item more (length ts) (done ++ a ∷ []) rest) (Some (done, ts))) h
     ∙ bind_same (item ts) (λ a rest. many item more (length ts) (done ++ a ∷ []) rest) (λ a rest. many item more (length rest) (done ++ a ∷ []) rest)
-        (λ a rest e. enough_items item more s (length ts) (length rest) (done ++ a ∷ []) rest (omega (arith, s ts a rest e)) (omega arith))))
+    (λ a rest e. enough_items item more s (length ts) (length rest) (done ++ a ∷ []) rest (omega (arith, s ts a rest e)) (omega arith))))
 
 -- the same two, as the code meets them
 pub climb_turned : (again : Reader) (room k : ℕ) (a b joint : Operand) (o : Operator) (ts behind rest : List Token)

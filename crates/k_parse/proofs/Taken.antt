@@ -1,6 +1,5 @@
 -- Tokens that were taken, and what lies at them; and the parts of a reading that came to its end.
-use Rattle.std.proofs.Common.{ℕ, suc, zero, ◌≡◌, ◌+◌, ◌<◌, ◌≤◌, Bool, true, false, cond, leb, IsTrue, List, [], ◌∷◌, ◌++◌, length, length-append, append_assoc, Option, Some, None, sym, ap, ◌∙◌, subst, refl, arith}
-use Rattle.std.specs.Prelude.{All}
+use Rattle.std.proofs.Common.{ℕ, ◌≡◌, ◌<◌, ◌≤◌, Bool, true, false, cond, leb, List, [], ◌∷◌, ◌++◌, length, length-append, append_assoc, Option, Some, None, sym, ap, ◌∙◌, subst, refl, arith}
 use Rattle.std.proofs.lemmas.Bool.{le-leb, lt-leb, leb-true, leb-false}
 use Rattle.std.proofs.lemmas.List.Elements.{All-nil, All-cons}
 use Rattle.k_num.specs.declared.place.Place.{Place}
@@ -9,7 +8,7 @@ use Rattle.k_tree.specs.declared.tokens.TokenKind.{TokenKind}
 use Rattle.k_tree.specs.declared.tokens.TokenKind.TheVariants as token
 use Rattle.k_tree.specs.declared.tokens.mark.Mark.{Mark}
 use Rattle.k_tree.specs.declared.tokens.mark.Mark.TheVariants as mark
-use Rattle.k_tree.specs.Places.{Piece, Pieces, plain, at, Stand}
+use Rattle.k_tree.specs.Places.{Pieces, plain, at, Stand}
 use Rattle.k_tree.proofs.Standing.{stand-append, stand-at}
 use Rattle.k_parse.specs.declared.expression.Operator.{Operator}
 use Rattle.k_parse.specs.Reader.{Read, ◌>>=◌, taken, place_next, operator, operator_at, operator_from, operator_rank}

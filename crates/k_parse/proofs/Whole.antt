@@ -1,5 +1,5 @@
 -- What is read of tokens is their one program; and where nothing is read, or too much, they spell none within the limits.
-use Rattle.std.proofs.Common.{ℕ, ◌≡◌, ◌+◌, ◌<◌, ◌≤◌, ◌^◌, max, List, length, map, Option, Some, None, Result, Ok, Err, sym, ap, ◌∙◌, subst, refl, arith}
+use Rattle.std.proofs.Common.{◌≡◌, ◌+◌, ◌<◌, ◌≤◌, max, List, length, Some, None, Result, Err, sym, ap, ◌∙◌, subst, arith}
 use Rattle.std.proofs.lemmas.List.{length-map}
 use Rattle.k_tree.specs.declared.tokens.Token.{Token}
 use Rattle.k_tree.specs.declared.tree.unit.Unit as source
@@ -11,13 +11,12 @@ use Rattle.k_tree.specs.Ranked.{RankedUnit}
 use Rattle.k_tree.specs.Spelling.{spelling}
 use Rattle.k_tree.proofs.Laid.{unit_spelled}
 use Rattle.k_tree.proofs.Standing.{stand-kinds}
-use Rattle.k_parse.specs.First.{IsFirst}
 use Rattle.k_parse.specs.declared.first.FirstFault.{FirstFault}
 use Rattle.k_parse.specs.declared.first.FirstFault.TheVariants as fault
 use Rattle.k_parse.specs.Outcome.{Finds}
-use Rattle.k_parse.specs.Program.{WhereOther, WithinLimits, kinds, IsProgramOf, IsOne, IsOnly, SpellsNone}
+use Rattle.k_parse.specs.Program.{WhereOther, kinds, IsProgramOf, IsOne, IsOnly, SpellsNone}
 use Rattle.k_parse.specs.Reader.{program}
-use Rattle.k_parse.proofs.CompleteUnit.{Whole, program_complete}
+use Rattle.k_parse.proofs.CompleteUnit.{program_complete}
 use Rattle.k_parse.proofs.Counts.{unit_same, unit_few}
 use Rattle.k_parse.proofs.Form.{FormUnit, unit_formed, unit_ranked, unit_first}
 use Rattle.k_parse.proofs.SoundUnit.{program_sound}

@@ -1,6 +1,6 @@
 -- The first programs, as trees: `int main(void)` and one block of declarations of `int` variables, assignments to names,
 -- calls of putchar and returns, over int values with `+ - *`. Whether names are declared is no matter of the form.
-use Rattle.std.specs.Prelude.{◌≡◌, ◌&&◌, ◌||◌, Bool, true, false, IsTrue, List, [], ◌∷◌, Option, Some, None, All, codes}
+use Rattle.std.specs.Prelude.{◌≡◌, ◌&&◌, Bool, true, false, IsTrue, List, [], ◌∷◌, Some, All, codes}
 use Rattle.k_num.specs.declared.numbers.Kind.{Kind}
 use Rattle.k_num.specs.declared.numbers.Kind.TheVariants as kind
 use Rattle.k_tree.specs.declared.tokens.mark.Mark.{Mark}

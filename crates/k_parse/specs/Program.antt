@@ -1,5 +1,5 @@
 -- The tree of a first program that tokens spell, and what its reading promises.
-use Rattle.std.specs.Prelude.{◌≡◌, ◌≤◌, List, map, Result, Ok, Err}
+use Rattle.std.specs.Prelude.{◌≡◌, ◌≤◌, List, map, Result, Err}
 use Rattle.k_tree.specs.declared.tokens.Token.{Token}
 use Rattle.k_tree.specs.declared.tree.unit.Unit as source
 use Rattle.k_tree.specs.Bare.{bare}

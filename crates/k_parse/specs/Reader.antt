@@ -2,7 +2,6 @@
 -- it gives; that this is the one tree of the grammar is proved of it.
 use Rattle.std.specs.Prelude.{ℕ, suc, zero, ◌+◌, ◌-◌, Bool, true, false, not, nat_eq, nat_le, max, if◌then◌else◌, List, [], ◌∷◌, ◌++◌, length, Option, Some, None, codes}
 use Rattle.std.specs.Cmp.Lexicographic.{pointwise}
-use Rattle.k_num.specs.declared.numbers.Kind.{Kind}
 use Rattle.k_num.specs.declared.numbers.Kind.TheVariants as kind
 use Rattle.k_num.specs.declared.place.Place.{Place}
 use Rattle.k_tree.specs.contracts.tokens.mark.MarkPartialEq.TheImpl as marks

@@ -8,3 +8,6 @@ mod statement;
 mod tokens;
 
 pub use first::{FirstFault, first_program};
+
+#[cfg(test)]
+mod tests;

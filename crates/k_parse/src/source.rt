@@ -74,10 +74,7 @@ fn source_of(
     };
     let mut items = Seq::new(alloc);
     items.push(main)?;
-    Ok(Unit {
-        items,
-        end: ends.1,
-    })
+    Ok(Unit { items, end: ends.1 })
 }
 
 /// The source that all the tokens are, whose statements nest no deeper than `room`.

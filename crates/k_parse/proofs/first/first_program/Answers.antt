@@ -1,6 +1,5 @@
-use Rattle.std.proofs.Common.{rules, ◌≡◌, ◌<◌, ◌≤◌, length, Some, Err, sym, ap, ◌∙◌, arith, subst}
+use Rattle.std.proofs.Common.{rules, ◌≡◌, ◌<◌, ◌≤◌, Some, Err, sym, ap, ◌∙◌, subst}
 use Rattle.k_tree.specs.Count.{unit_count}
-use Rattle.k_parse.specs.Outcome.{Finds}
 use Rattle.k_parse.specs.Program.{SpellsNone, WhereOther}
 use Rattle.k_parse.specs.Reader as reader
 use Rattle.k_parse.proofs.Whole.{read_all, read_one, read_only, read_many, read_few, err_none}

@@ -1,6 +1,5 @@
-use Rattle.std.proofs.Common.{rules, ◌≡◌, [], ◌∷◌, ◌++◌, length, List, true, false, sym, ap, ◌∙◌, Err}
+use Rattle.std.proofs.Common.{rules, ◌≡◌, length, true, false, sym, ap, ◌∙◌, Err}
 use Rattle.k_parse.specs.Reader as reader
-use Rattle.k_parse.specs.Outcome.{Gives}
 use Rattle.k_parse.proofs.SoundStmt.{statement_shortens}
 use Rattle.k_parse.proofs.Steps.{refused_alike, parts_begin, many_turned, many_refused, many_stops}
 use Rattle.k_parse.proofs.statement.parts.Goals as goal
@@ -17,9 +16,9 @@ returns-in_err-next c =
     let q : c.from_residual.result ≡ Err c.in_err-next.field-0.0 = search rules in
     let t : reader.block_goes_on rest ≡ true = search rules in
     refused_alike c.in_err-next.field-0.0 c.from_residual.result (reader.statement c.args.room rest)
-        (reader.parts c.args.room c.args.tokens.now) q c.in_err-next.ensures
-        (λ h. sym c.loop-alloc.invariant
-            ∙ many_refused (reader.statement c.args.room) reader.block_goes_on (statement_shortens c.args.room c.requires.positive) c.loop-alloc.list rest t h)
+    (reader.parts c.args.room c.args.tokens.now) q c.in_err-next.ensures
+    (λ h. sym c.loop-alloc.invariant
+    ∙ many_refused (reader.statement c.args.room) reader.block_goes_on (statement_shortens c.args.room c.requires.positive) c.loop-alloc.list rest t h)
 
 pub loop-alloc-smaller : goal.loop-alloc-smaller
 loop-alloc-smaller c =
@@ -32,7 +31,7 @@ loop-alloc-preserved c =
     let t : reader.block_goes_on rest ≡ true = search rules in
     ap (λ l. reader.many (reader.statement c.args.room) reader.block_goes_on (length behind) l behind) c.in_ok-push.ensures.ok
     ∙ (many_turned (reader.statement c.args.room) reader.block_goes_on (statement_shortens c.args.room c.requires.positive) c.loop-alloc.list rest
-        c.in_ok-next.next behind t c.in_ok-next.ensures
+    c.in_ok-next.next behind t c.in_ok-next.ensures
     ∙ c.loop-alloc.invariant)
 
 pub returns : goal.returns
