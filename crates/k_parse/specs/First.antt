@@ -50,6 +50,7 @@ abbrev pub FirstInit : Init-F Init → Type 0
 FirstInit (Init-F.One place value) = IsFirstExpr value
 FirstInit (Init-F.List place items comma) = ⊥
 
+-- an initialiser of a first program (C17 6.7.9)
 abbrev pub IsFirstInit : Init → Type 0
 IsFirstInit i = FirstInit (out-Init i)
 

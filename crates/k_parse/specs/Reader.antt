@@ -32,19 +32,22 @@ abbrev pub Read : Type 0 → Type 0
 Read A = Option (A × List Token)
 
 infixl 10 ◌>>=◌
+-- one reading behind another
 abbrev pub ◌>>=◌ : {A B : Type 0} → Read A → (A → List Token → Read B) → Read B
 None >>= f = None
 (Some r) >>= f = f r.0 r.1
 
--- a mark, a keyword and a name
+-- whether a token is this mark
 abbrev pub is_mark : Mark → TokenKind → Bool
 is_mark wanted (token.Mark m) = marks.ghosts.eq m wanted
 is_mark wanted _ = false
 
+-- whether a token is this keyword
 abbrev pub is_word : Word → TokenKind → Bool
 is_word wanted (token.Word w) = words.ghosts.eq w wanted
 is_word wanted _ = false
 
+-- whether a token is this name
 abbrev pub is_name : List ℕ → TokenKind → Bool
 is_name wanted (token.Name x) = pointwise nat_eq x wanted
 is_name wanted _ = false
@@ -76,15 +79,17 @@ operator_rank mark.Minus = Some 11
 operator_rank mark.Star = Some 12
 operator_rank _ = None
 
--- the next token as an operator of a rank or a higher one
+-- a mark, as an operator of a rank or a higher one
 abbrev pub operator_from : ℕ → Mark → Place → List Token → Option ℕ → Read Operator
 operator_from k m p ts None = None
 operator_from k m p ts (Some n) = if nat_le k n then Some (record { mark = m; rank = n; place = p }, ts) else None
 
+-- a token, as an operator of a rank or a higher one
 abbrev pub operator_at : ℕ → TokenKind → Place → List Token → Read Operator
 operator_at k (token.Mark m) p ts = operator_from k m p ts (operator_rank m)
 operator_at k _ p ts = None
 
+-- the next token, as an operator of a rank or a higher one
 abbrev pub operator : ℕ → List Token → Read Operator
 operator k [] = None
 operator k (t ∷ ts) = operator_at k t.what t.place ts
@@ -123,6 +128,7 @@ operand_at again (token.Mark mark.LeftParen) p ts =
     Some (record { expr = expr.Paren p a.expr; depth = 1 + a.depth }, behind)
 operand_at again _ p ts = None
 
+-- the operand that an expression begins with
 abbrev pub operand : Reader → List Token → Read Operand
 operand again [] = None
 operand again (t ∷ ts) = operand_at again t.what t.place ts
@@ -155,12 +161,13 @@ initialised room ts =
     then (taken (is_mark mark.Equal) ts >>= λ p rest. initialiser_at room (place_next rest) rest)
     else Some (None, ts)
 
--- a declarator
+-- a declarator by its first token, which is its name
 abbrev pub declarator_at : ℕ → TokenKind → Place → List Token → Read Declarator
 declarator_at room (token.Name x) p ts =
     initialised room ts >>= λ i rest. Some (record { place = p; stars = []; name = x; dims = []; init = i }, rest)
 declarator_at room _ p ts = None
 
+-- a declarator (C17 6.7.6)
 abbrev pub declarator : ℕ → List Token → Read Declarator
 declarator room [] = None
 declarator room (t ∷ ts) = declarator_at room t.what t.place ts
@@ -197,12 +204,13 @@ called room x p ts =
     then (value (room - 2) 1 ts >>= λ e rest. taken (is_mark mark.RightParen) rest >>= λ close behind. ended (stmt.Expr p (expr.Call p x (e ∷ []))) behind)
     else None
 
--- what stands behind a name
+-- what stands behind a name, by its first token
 abbrev pub action_at : ℕ → List ℕ → Place → TokenKind → Place → List Token → Read Stmt
 action_at room x p (token.Mark mark.Equal) q ts = assigned room x p q ts
 action_at room x p (token.Mark mark.LeftParen) q ts = called room x p ts
 action_at room x p _ q ts = None
 
+-- what stands behind the name that a statement begins with
 abbrev pub action : ℕ → List ℕ → Place → List Token → Read Stmt
 action room x p [] = None
 action room x p (t ∷ ts) = action_at room x p t.what t.place ts
@@ -214,6 +222,7 @@ statement_at room (token.Word word.Return) p ts = returned room p ts
 statement_at room (token.Name x) p ts = action room x p ts
 statement_at room _ p ts = None
 
+-- the next statement or declaration (C17 6.8.2)
 unfoldable pub statement : ℕ → List Token → Read Stmt
 statement room [] = None
 statement room (t ∷ ts) = statement_at room t.what t.place ts
@@ -226,22 +235,27 @@ block_goes_on ts = not (comes (is_mark mark.RightBrace) ts)
 unfoldable pub parts : ℕ → List Token → Read (List Stmt)
 parts room ts = many (statement room) block_goes_on (length ts) [] ts
 
--- `int main(void) {`, token by token from its end, with the places of `int` and of the name
+-- `{`, behind what was read of the head; the places of `int` and of the name are kept
 abbrev pub brace_next : Place × Place → List Token → Read (Place × Place)
 brace_next places ts = taken (is_mark mark.LeftBrace) ts >>= λ p rest. Some (places, rest)
 
+-- `) {`
 abbrev pub close_next : Place × Place → List Token → Read (Place × Place)
 close_next places ts = taken (is_mark mark.RightParen) ts >>= λ p rest. brace_next places rest
 
+-- `void) {`
 abbrev pub void_next : Place × Place → List Token → Read (Place × Place)
 void_next places ts = taken (is_word word.Void) ts >>= λ p rest. close_next places rest
 
+-- `(void) {`
 abbrev pub open_next : Place × Place → List Token → Read (Place × Place)
 open_next places ts = taken (is_mark mark.LeftParen) ts >>= λ p rest. void_next places rest
 
+-- `main(void) {`
 abbrev pub name_next : Place → List Token → Read (Place × Place)
 name_next p ts = taken (is_name (codes "main")) ts >>= λ q rest. open_next (p, q) rest
 
+-- `int main(void) {` (C17 5.1.2.2.1)
 unfoldable pub opening : List Token → Read (Place × Place)
 opening ts = taken (is_word word.Int) ts >>= λ p rest. name_next p rest
 
@@ -271,9 +285,11 @@ program_read room ts =
     opening ts >>= λ places rest. parts room rest >>= λ body behind. closing behind >>= λ ends left.
     Some (source_of places body ends.0 ends.1, left)
 
+-- a source behind which nothing is left
 abbrev pub alone : Read source.Unit → Option source.Unit
 alone None = None
 alone (Some r) = finished r.0 r.1
 
+-- the first program that all the tokens are
 unfoldable pub program : ℕ → List Token → Option source.Unit
 program room ts = alone (program_read room ts)
