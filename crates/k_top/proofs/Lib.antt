@@ -1,9 +1,9 @@
 mod Growing
 mod FormLemmas
 mod ReportLemmas
-mod RunLemmas
 mod EndingLemmas
 mod OneRow
+mod Alone
 mod Unique
 mod TopLemmas
 mod ClauseLemmas
