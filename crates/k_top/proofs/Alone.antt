@@ -1,5 +1,5 @@
 -- The run of a first program from which main returned: main's one instance, its bounds and its row.
-use Rattle.std.proofs.Common.{ℕ, ℤ, ◌≡◌, ◌<◌, ◌≤◌, ◌^◌, ◌∙◌, ap, arith, refl, subst, sym, List, [], ◌∷◌, length, map, slice_index_or}
+use Rattle.std.proofs.Common.{ℤ, ◌≡◌, ◌<◌, ◌≤◌, ◌^◌, ◌∙◌, ap, arith, refl, subst, sym, List, [], ◌∷◌, length, map, None, slice_index_or}
 use Rattle.k_optab.specs.declared.event.Event.{Event}
 use Rattle.k_optab.specs.declared.event.Event.TheVariants.{Op, Enter, Exit}
 use Rattle.k_optab.specs.Events.{SourcesAreEarlier, operations, total_latency}
@@ -15,6 +15,7 @@ use Rattle.k_code.specs.declared.ending.End.TheVariants.{Returned}
 use Rattle.k_graph.specs.Listings.{node_of}
 use Rattle.k_graph.specs.declared.tree.Instance.{Instance}
 use Rattle.k_parse.specs.First.{FirstItems, IsFirst}
+use Rattle.k_plain.specs.declared.listing.Listing.{Listing}
 use Rattle.k_plain.specs.Laws as laws
 use Rattle.k_plain.specs.Laws.{HasShape}
 use Rattle.k_plain.proofs.Runs.{earlier_sources, shape, standard_short}
@@ -56,15 +57,15 @@ as_operations (Exit ∷ events) are = absurd are
 abbrev pub IsMainAlone : tree.Unit → Type 0
 IsMainAlone unit = (made : List Event) × AreOperations made × ((listing_of unit).events ≡ one_instance 0 made)
 
+shaped : (unit : tree.Unit) → HasShape (listing_of unit).end (listing_of unit).events
+unfolding listing_of
+shaped unit = shape standard_latencies step_budget unit
+
 pub main_alone : (unit : tree.Unit) (value : ℤ) → (listing_of unit).end ≡ Returned value → IsMainAlone unit
 main_alone unit value returned =
     let closed : laws.IsClosed (listing_of unit).events =
     subst (λ (end : End). HasShape end (listing_of unit).events) returned (shaped unit) in
     (closed.made, as_operations closed.made closed.operations, closed.is)
-  where
-    shaped : (u : tree.Unit) → HasShape (listing_of u).end (listing_of u).events
-    unfolding listing_of
-    shaped u = shape standard_latencies step_budget u
 
 -- main's instance: region 0, and bounded work and path
 abbrev pub IsMain : Node → Type 0
@@ -82,6 +83,17 @@ main_instance unit value nodes returned is =
     let work : single.0.work ≡ total_latency (operations alone.0) = single.2.work in
     let path : single.0.path ≤ single.0.work = single_bounded 0 alone.0 single.0 earlier single.2 in
     (single.0, single.1, (single.2.region, omega (arith, work, short), omega (arith, work, short, path)))
+
+-- the tree of a run's instances, as they are listed
+pub listed_tree : (unit : tree.Unit) (listing : Listing) (list seen : List Instance) → listing ≡ listing_of unit → seen ≡ list
+    → IsTree tracked_depth listing.events (map node_of list) → IsTree tracked_depth (listing_of unit).events (map node_of seen)
+listed_tree unit listing list seen run same is =
+    subst (λ l. IsTree tracked_depth (listing_of unit).events (map node_of l)) (sym same)
+    (subst (λ (l : Listing). IsTree tracked_depth l.events (map node_of list)) run is)
+
+-- what stands for an instance behind the end of a list
+abbrev pub no_instance : Instance
+no_instance = record { region = 0; depth = 0; start = 0; end = 0; work = 0; path = 0; parent = None }
 
 -- the list has an instance, and its numbers are bounded
 pub instance_bounds : (unit : tree.Unit) (value : ℤ) (list : List Instance) (d : Instance) → (listing_of unit).end ≡ Returned value

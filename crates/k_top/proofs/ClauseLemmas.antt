@@ -11,7 +11,7 @@ use Rattle.k_top.specs.Command.{command_of}
 use Rattle.k_top.specs.Answer.{end_status}
 use Rattle.k_top.specs.Clauses.{Answered, HasRun, IsRefusal, NoFault, SameFaults, Told, ToldFault}
 use Rattle.k_top.specs.Endings.{EndsWords, Tells, status_of, line_of}
-use Rattle.k_top.proofs.TopLemmas.{FilesAfter, OutAfter, files_after, out_after, command_after, answered}
+use Rattle.k_top.proofs.TopLemmas.{FilesAfter, OutAfter, files_after, out_after, command_after, answered, ran_small}
 
 not_refusal : (status : ℕ) → (status ≤ 2) ⊎ (status ≡ 7) ⊎ (status ≡ 8) → IsRefusal status → ⊥
 not_refusal status other refusal = grind (arith, other, refusal)

@@ -4,6 +4,7 @@ mod ReportLemmas
 mod EndingLemmas
 mod OneRow
 mod Alone
+mod RunLemmas
 mod Unique
 mod TopLemmas
 mod ClauseLemmas

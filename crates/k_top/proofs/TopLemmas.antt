@@ -18,7 +18,6 @@ use Rattle.k_top.specs.declared.ending.Ending.TheVariants.{Ran, Refused, Usage, 
 use Rattle.k_top.specs.declared.refusal.SourceFault.TheVariants.{Lex, NotBuilt}
 use Rattle.k_top.specs.Command.{command_of}
 use Rattle.k_top.specs.Form.{IsProgram}
-use Rattle.k_top.specs.Run.{listing_of}
 use Rattle.k_top.specs.Answer
 use Rattle.k_top.specs.Answer.{IsAnswer, AnswersCommand, AnswersContent, AnswersSource, AnswersTokens, IsOutput, end_line, end_status, ran, source_limit, refusal, usage_line, absent_line, long_line, refused_line}
 use Rattle.k_top.specs.Clauses.{MayHold, PartOfAnswer}

@@ -1,5 +1,5 @@
 -- *Whole answer*: what `kremlin` answers to the words of its command line, where files hold what they hold.
-use Rattle.std.specs.Prelude.{ℕ, ℤ, ◌≡◌, ◌≤◌, ◌<◌, ◌⊎◌, List, [], ◌++◌, length, Option, Some, None, Result, Ok, Err, codes}
+use Rattle.std.specs.Prelude.{ℕ, ◌≡◌, ◌≤◌, ◌<◌, ◌⊎◌, List, [], ◌++◌, length, Option, Some, None, Result, Ok, Err, codes}
 use Rattle.std.specs.Fmt.{decimal}
 use Rattle.k_num.specs.declared.place.Place.{Place}
 use Rattle.k_optab.specs.Events.{operations}

@@ -23,14 +23,14 @@ pub struct Row {
 
 /// The row of a region with one instance, which has no children. Its self-parallelism is its work to its critical path, and
 /// 1/1 where the path takes no time.
-pub fn row_of(instance: &Instance) -> Row
-    requires work { instance.now.work < 2 ^ 62 }
-    requires path { instance.now.path < 2 ^ 62 }
-    ensures region { result.region ≡ instance.now.region }
+pub fn row_of(instance: Instance) -> Row
+    requires work { instance.work < 2 ^ 62 }
+    requires path { instance.path < 2 ^ 62 }
+    ensures region { result.region ≡ instance.region }
     ensures instances { result.instances ≡ 1 }
-    ensures work { result.work ≡ instance.now.work }
-    ensures path { result.path ≡ instance.now.path }
-    ensures ratio { IsRatio instance.now.work instance.now.path result.parallel result.of }
+    ensures work { result.work ≡ instance.work }
+    ensures path { result.path ≡ instance.path }
+    ensures ratio { IsRatio instance.work instance.path result.parallel result.of }
 {
     let (parallel, of) = ratio(instance.work, instance.path);
     Row {

@@ -97,7 +97,8 @@ fn profile(alloc: Global, unit: &Unit, listing: &Listing, exit: i32) -> Result<V
     ensures { IfOk result (λ rows. IsProfile unit.now rows.items) }
 {
     let tree = instances(alloc, &listing.events, TRACKED_DEPTH)?;
+    let main = tree.as_slice()[0];
     let mut rows = Vec::new(alloc);
-    rows.push(row_of(&tree.as_slice()[0]))?;
+    rows.push(row_of(main))?;
     Ok(rows)
 }
