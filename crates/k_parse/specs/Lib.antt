@@ -1,0 +1,4 @@
+pub mod First
+pub mod Outcome
+pub mod Program
+pub mod Reader
