@@ -1,24 +1,28 @@
 -- The clauses of the theorem on `kremlin`, from what each ending leaves, and from what was told on err.
-use Rattle.std.proofs.Common.{ℕ, ◌≡◌, ◌<◌, ◌⊎◌, refl, ap, arith, subst, sym, ◌∙◌, List, Result, Ok, Err, inl, inr}
+use Rattle.std.proofs.Common.{ℕ, ◌≡◌, ◌<◌, ◌≤◌, ◌⊎◌, refl, ap, arith, subst, sym, ◌∙◌, List, Result, Ok, Err, inl, inr}
 use Rattle.k_edge.specs.Fault.{Rose}
 use Rattle.k_edge.specs.SourceWords.{SourceState}
 use Rattle.k_edge.specs.SinkWords.{SinkState}
 use Rattle.k_edge.specs.FilesWords.{FilesState}
 use Rattle.k_top.specs.declared.command.Usage as usages
 use Rattle.k_top.specs.declared.ending.Ending.{Ending}
-use Rattle.k_top.specs.declared.ending.Ending.TheVariants.{Done, Refused, Usage, Absent, ReadFault, WriteFault, NoMemory, TooLong}
+use Rattle.k_top.specs.declared.ending.Ending.TheVariants.{Ran, Refused, Usage, Absent, ReadFault, WriteFault, NoMemory, TooLong}
 use Rattle.k_top.specs.Command.{command_of}
-use Rattle.k_top.specs.Clauses.{Answered, IsRefusal, NoFault, SameFaults, Told, ToldFault}
+use Rattle.k_top.specs.Answer.{end_status}
+use Rattle.k_top.specs.Clauses.{Answered, HasRun, IsRefusal, NoFault, SameFaults, Told, ToldFault}
 use Rattle.k_top.specs.Endings.{EndsWords, Tells, status_of, line_of}
-use Rattle.k_top.proofs.TopLemmas.{FilesAfter, OutAfter, files_after, out_after, command_after, answered}
+use Rattle.k_top.proofs.TopLemmas.{FilesAfter, OutAfter, files_after, out_after, command_after, answered, ran_small}
 
-not_refusal : (status : ℕ) → (status ≡ 0) ⊎ (status ≡ 7) ⊎ (status ≡ 8) → IsRefusal status → ⊥
+not_refusal : (status : ℕ) → (status ≤ 2) ⊎ (status ≡ 7) ⊎ (status ≡ 8) → IsRefusal status → ⊥
 not_refusal status other refusal = grind (arith, other, refusal)
+
+run_small : (status : ℕ) → HasRun status → status ≤ 2
+run_small status has = grind (arith, has)
 
 module _ (words : List (List ℕ)) (files files' : FilesState) (out out' : SinkState) where
   absent_cause : (e : Ending) → FilesAfter words files files' out out' e → status_of e ≡ 5 → Rose files.counts.misses files'.counts.misses
   absent_cause (Absent name) after five = after.0
-  absent_cause Done after five = absurd (omega (arith, five))
+  absent_cause (Ran end) after five = absurd (omega (arith, ran_small end, five))
   absent_cause (Refused fault) after five = absurd (omega (arith, five))
   absent_cause (Usage usage) after five = absurd (omega (arith, five))
   absent_cause ReadFault after five = absurd (omega (arith, five))
@@ -29,7 +33,7 @@ module _ (words : List (List ℕ)) (files files' : FilesState) (out out' : SinkS
   long_cause : (e : Ending) → FilesAfter words files files' out out' e → status_of e ≡ 12 → Rose files.counts.longs files'.counts.longs
   long_cause (TooLong name) after twelve = after.0
   long_cause (Absent name) after twelve = absurd (omega (arith, twelve))
-  long_cause Done after twelve = absurd (omega (arith, twelve))
+  long_cause (Ran end) after twelve = absurd (omega (arith, ran_small end, twelve))
   long_cause (Refused fault) after twelve = absurd (omega (arith, twelve))
   long_cause (Usage usage) after twelve = absurd (omega (arith, twelve))
   long_cause ReadFault after twelve = absurd (omega (arith, twelve))
@@ -49,7 +53,7 @@ module _ (words : List (List ℕ)) (files files' : FilesState) (out out' : SinkS
       (λ e. absurd (other e), inr (ap (λ (f : FilesState). f.counts.load_faults) same), ap (λ (f : FilesState). f.counts.save_faults) same, ap (λ (f : FilesState). f.held) same)
 
   pub file_facts : (e : Ending) → FilesAfter words files files' out out' e → FileFacts (status_of e)
-  file_facts Done after = kept_files 0 (λ e. omega (arith, e)) after
+  file_facts (Ran end) after = kept_files (end_status end) (λ e. omega (arith, ran_small end, e)) after
   file_facts (Refused fault) after = kept_files 3 (λ e. omega (arith, e)) after
   file_facts (Usage usage) after = kept_files 4 (λ e. omega (arith, e)) after
   file_facts (Absent name) after =
@@ -73,7 +77,8 @@ module _ (words : List (List ℕ)) (files files' : FilesState) (out out' : SinkS
   faultless_out status other run same = (λ e. absurd (other e), inr same, λ r. absurd (run r))
 
   pub out_facts : (e : Ending) → OutAfter words files files' out out' e → OutFacts (status_of e)
-  out_facts Done after = faultless_out 0 (λ e. omega (arith, e)) (not_refusal 0 (inl refl)) after
+  out_facts (Ran end) after =
+      faultless_out (end_status end) (λ e. omega (arith, ran_small end, e)) (not_refusal (end_status end) (inl (ran_small end))) after
   out_facts WriteFault after = (λ e. after, inl refl, λ r. absurd (not_refusal 7 (inr (inl refl)) r))
   out_facts NoMemory after = faultless_out 8 (λ e. omega (arith, e)) (not_refusal 8 (inr (inr refl))) after
   out_facts (Refused fault) after = kept_out 3 (λ e. omega (arith, e)) after
@@ -158,15 +163,15 @@ module _ (words : List (List ℕ)) (files files' : FilesState) (out out' : SinkS
       | inr eight ↦ inr eight
     ]
 
-    pub clean_clause : (input input' : SourceState) → input' ≡ input → status ≡ 0 → SameFaults files files' input input' out out'
-    clean_clause input input' untouched zero = elim is [
+    pub clean_clause : (input input' : SourceState) → input' ≡ input → HasRun status → SameFaults files files' input input' out out'
+    clean_clause input input' untouched has = let small = run_small status has in elim is [
       | inl same ↦ record {
-        loads = elim facts_of_files.1 [ inl six ↦ absurd (omega (arith, same, six, zero)) | inr kept ↦ kept ];
+        loads = elim facts_of_files.1 [ inl six ↦ absurd (omega (arith, same, six, small)) | inr kept ↦ kept ];
         saves = saves_clause;
         reads = ap (λ (s : SourceState). s.faults) untouched;
-        puts = elim facts_of_out.1 [ inl seven ↦ absurd (omega (arith, same, seven, zero)) | inr kept ↦ kept ];
+        puts = elim facts_of_out.1 [ inl seven ↦ absurd (omega (arith, same, seven, small)) | inr kept ↦ kept ];
       }
-      | inr eight ↦ absurd (omega (arith, zero, eight))
+      | inr eight ↦ absurd (omega (arith, small, eight))
     ]
 
     pub exact_clause : (input input' : SourceState) (err err' : SinkState) → Tells e status err err'
@@ -218,7 +223,9 @@ told_as NoMemory status err err' same told = record {
   write_fault = λ seven. absurd (omega (arith, same, seven));
   no_memory = λ eight. told.part;
 }
-told_as Done status err err' same told = no_fault_told status err err' (λ e. omega (arith, same, e)) (λ e. omega (arith, same, e)) (λ e. omega (arith, same, e))
+told_as (Ran end) status err err' same told =
+    let small : status ≤ 2 = omega (arith, ran_small end, same) in
+    no_fault_told status err err' (λ e. omega (arith, small, e)) (λ e. omega (arith, small, e)) (λ e. omega (arith, small, e))
 told_as (Refused fault) status err err' same told = no_fault_told status err err' (λ e. omega (arith, same, e)) (λ e. omega (arith, same, e)) (λ e. omega (arith, same, e))
 told_as (Usage usage) status err err' same told = no_fault_told status err err' (λ e. omega (arith, same, e)) (λ e. omega (arith, same, e)) (λ e. omega (arith, same, e))
 told_as (Absent name) status err err' same told = no_fault_told status err err' (λ e. omega (arith, same, e)) (λ e. omega (arith, same, e)) (λ e. omega (arith, same, e))

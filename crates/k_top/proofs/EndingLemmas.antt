@@ -4,42 +4,57 @@ use Rattle.std.specs.declared.alloc.Global.{Global}
 use Rattle.k_edge.specs.SinkWords.{SinkState}
 use Rattle.k_edge.specs.FilesWords.{FilesState, Loads}
 use Rattle.k_tree.specs.declared.tokens.Token.{Token}
+use Rattle.k_tree.specs.declared.tree.unit.Unit as tree
 use Rattle.k_lex.specs.Tokens.{tokens}
 use Rattle.k_top.specs.declared.ending.Ending.{Ending}
-use Rattle.k_top.specs.declared.ending.Ending.TheVariants.{Done, Refused, Usage, Absent, ReadFault, WriteFault, NoMemory, TooLong}
+use Rattle.k_top.specs.declared.ending.Ending.TheVariants.{Ran, Refused, Usage, Absent, ReadFault, WriteFault, NoMemory, TooLong}
 use Rattle.k_top.specs.declared.refusal.SourceFault.TheVariants.{Lex, NotBuilt}
 use Rattle.k_top.specs.Command.{command_of}
+use Rattle.k_top.specs.Form.{IsProgram}
 use Rattle.k_top.specs.Answer.{file_limit}
-use Rattle.k_top.specs.Endings.{EndsTokens, EndsSource, EndsFile, EndsWords}
+use Rattle.k_top.specs.Endings.{EndsProgram, EndsTokens, IsAlone, EndsSource, EndsFile, EndsWords}
+
+-- what a program's run ended with, its token list ended with
+pub tokens_ended : (list : List Token) (unit : tree.Unit) (ending : Ending) (out out' : SinkState)
+    → IsProgram list unit → IsAlone list unit → EndsProgram unit ending out out' → EndsTokens list ending out out'
+tokens_ended list unit (Ran end) out out' is alone ends = (unit, is, alone, ends)
+tokens_ended list unit (Refused (Lex fault)) out out' is alone ends = absurd ends
+tokens_ended list unit (Refused NotBuilt) out out' is alone ends = absurd ends
+tokens_ended list unit (Usage usage) out out' is alone ends = absurd ends
+tokens_ended list unit (Absent name) out out' is alone ends = absurd ends
+tokens_ended list unit ReadFault out out' is alone ends = absurd ends
+tokens_ended list unit WriteFault out out' is alone ends = (unit, is, alone, ends)
+tokens_ended list unit NoMemory out out' is alone ends = inr (unit, is, alone, ends)
+tokens_ended list unit (TooLong name) out out' is alone ends = absurd ends
 
 pub source_ended : (source : List ℕ) (list : List Token) (ending : Ending) (out out' : SinkState)
     → tokens source ≡ Ok list → EndsTokens list ending out out' → EndsSource source ending out out'
-source_ended source list Done out out' lexed ends = (list, lexed, ends)
-source_ended source list (Refused (Lex fault)) out out' lexed ends = absurd ends.2
+source_ended source list (Ran end) out out' lexed ends = (list, lexed, ends)
+source_ended source list (Refused (Lex fault)) out out' lexed ends = absurd ends.3
 source_ended source list (Refused NotBuilt) out out' lexed ends = (list, lexed, ends)
-source_ended source list (Usage usage) out out' lexed ends = absurd ends.2
-source_ended source list (Absent name) out out' lexed ends = absurd ends.2
-source_ended source list ReadFault out out' lexed ends = absurd ends.2
+source_ended source list (Usage usage) out out' lexed ends = absurd ends.3
+source_ended source list (Absent name) out out' lexed ends = absurd ends.3
+source_ended source list ReadFault out out' lexed ends = absurd ends.3
 source_ended source list WriteFault out out' lexed ends = (list, lexed, ends)
 source_ended source list NoMemory out out' lexed ends = inr (list, lexed, ends)
-source_ended source list (TooLong name) out out' lexed ends = absurd ends.2
+source_ended source list (TooLong name) out out' lexed ends = absurd ends.3
 
 pub file_ended : (file : List ℕ) (source : Vec ℕ Global) (ending : Ending) (files files' : FilesState) (out out' : SinkState)
     → Loads (Ok source) file file_limit files files' → EndsSource source.items ending out out' → EndsFile file ending files files' out out'
-file_ended file source Done files files' out out' loads ends = (source, loads, ends)
+file_ended file source (Ran end) files files' out out' loads ends = (source, loads, ends)
 file_ended file source (Refused fault) files files' out out' loads ends = (source, loads, ends)
-file_ended file source (Usage usage) files files' out out' loads ends = absurd ends.2.2
-file_ended file source (Absent name) files files' out out' loads ends = absurd ends.2.2
-file_ended file source ReadFault files files' out out' loads ends = absurd ends.2.2
+file_ended file source (Usage usage) files files' out out' loads ends = absurd ends.2.3
+file_ended file source (Absent name) files files' out out' loads ends = absurd ends.2.3
+file_ended file source ReadFault files files' out out' loads ends = absurd ends.2.3
 file_ended file source WriteFault files files' out out' loads ends = (source, loads, ends)
 file_ended file source NoMemory files files' out out' loads ends = inr (source, loads, ends)
-file_ended file source (TooLong name) files files' out out' loads ends = absurd ends.2.2
+file_ended file source (TooLong name) files files' out out' loads ends = absurd ends.2.3
 
 pub words_ended : (words : List (List ℕ)) (file : List ℕ) (ending : Ending) (files files' : FilesState) (out out' : SinkState)
     → command_of words ≡ Ok file → EndsFile file ending files files' out out' → EndsWords words ending files files' out out'
-words_ended words file Done files files' out out' command ends = (file, command, ends)
+words_ended words file (Ran end) files files' out out' command ends = (file, command, ends)
 words_ended words file (Refused fault) files files' out out' command ends = (file, command, ends)
-words_ended words file (Usage usage) files files' out out' command ends = absurd ends.2.2.2
+words_ended words file (Usage usage) files files' out out' command ends = absurd ends.2.2.3
 words_ended words file (Absent name) files files' out out' command ends = (file, command, ends)
 words_ended words file ReadFault files files' out out' command ends = (file, command, ends)
 words_ended words file WriteFault files files' out out' command ends = (file, command, ends)

@@ -1,30 +1,25 @@
--- Tokens of a program, seen one by one.
-use Rattle.std.proofs.Common.{ℕ, ◌≡◌, ◌<◌, ap, sym, ◌∙◌, List, length, map, Some, slice_index_or}
-use Rattle.std.specs.Prelude.{slice_get}
-use Rattle.std.specs.Option.{option_map}
-use Rattle.std.proofs.lemmas.Option.{slice_get-map, slice_get-get_or}
+-- A tree that stands over tokens spells them.
+use Rattle.std.proofs.Common.{◌≡◌, sym, ◌∙◌, List}
 use Rattle.k_tree.specs.declared.tokens.Token.{Token}
-use Rattle.k_tree.specs.declared.tokens.TokenKind.{TokenKind}
-use Rattle.k_top.specs.declared.form.Program.{Program}
-use Rattle.k_top.specs.Form.{Spells}
+use Rattle.k_tree.specs.declared.tree.unit.Unit as tree
+use Rattle.k_tree.specs.Places.{Placed, lay_unit}
+use Rattle.k_tree.specs.Ranked.{RankedUnit}
+use Rattle.k_tree.specs.Spelling.{spelling}
+use Rattle.k_tree.proofs.Laid.{unit_spelled}
+use Rattle.k_tree.proofs.Standing.{stand-kinds}
+use Rattle.k_parse.specs.Program.{IsOne, SpellsNone, kinds}
+use Rattle.k_top.specs.Form.{IsProgram}
+use Rattle.k_top.specs.Endings.{IsAlone}
 
-pub place_seen : (tokens : List Token) (k : ℕ) (d : Token) → k < length tokens
-    → slice_get (map (λ token. token.place) tokens) k ≡ Some (slice_index_or tokens k d).place
-place_seen tokens k d within =
-    slice_get-map (λ (token : Token). token.place) tokens k
-    ∙ ap (option_map (λ (token : Token). token.place)) (slice_get-get_or tokens k d within)
+pub placed_spells : (unit : tree.Unit) (tokens : List Token) → RankedUnit unit → Placed unit tokens → spelling unit ≡ kinds tokens
+placed_spells unit tokens ranked placed = sym (stand-kinds (lay_unit unit) tokens placed ∙ unit_spelled unit ranked)
 
-kind_seen : (tokens : List Token) (k : ℕ) (d : Token) → k < length tokens
-    → slice_get (map (λ token. token.what) tokens) k ≡ Some (slice_index_or tokens k d).what
-kind_seen tokens k d within =
-    slice_get-map (λ (token : Token). token.what) tokens k
-    ∙ ap (option_map (λ (token : Token). token.what)) (slice_get-get_or tokens k d within)
+-- tokens that spell no tree spell no program
+pub no_program : (tokens : List Token) → SpellsNone tokens → (unit : tree.Unit) → IsProgram tokens unit → ⊥
+no_program tokens none unit is =
+    let reads = is.spelled in
+    none unit reads.form reads.ranked reads.within (placed_spells unit tokens reads.ranked reads.placed)
 
-same_kind : (a b : TokenKind) → Some a ≡ Some b → a ≡ b
-same_kind a b e = cc
-
--- the constant stands at its place
-pub constant_seen : (program : Program) (tokens : List Token) (d : Token) → 7 < length tokens → (spells : Spells tokens program)
-    → (slice_index_or tokens 7 d).what ≡ spells.constant
-constant_seen program tokens d within spells =
-    same_kind _ _ (sym (kind_seen tokens 7 d within) ∙ ap (λ kinds. slice_get kinds 7) spells.kinds)
+-- the one tree that tokens spell is their one program
+pub alone : (tokens : List Token) (unit : tree.Unit) → IsOne tokens unit → IsAlone tokens unit
+alone tokens unit one other is = let reads = is.spelled in one other reads.form reads.ranked reads.placed

@@ -1,9 +1,10 @@
 mod Growing
 mod FormLemmas
 mod ReportLemmas
-mod RunLemmas
 mod EndingLemmas
 mod OneRow
+mod Alone
+mod RunLemmas
 mod Unique
 mod TopLemmas
 mod ClauseLemmas

@@ -5,12 +5,9 @@ use Rattle.k_optab.specs.Meaning.{paths, serial_of, works}
 use Rattle.k_optab.specs.Single.{AreOperations, IsSingle, one_instance}
 use Rattle.k_optab.specs.Tree.{Node, IsTree}
 use Rattle.k_optab.proofs.Single.{single_unique, tree_of_one}
+use Rattle.k_selfpar.specs.Ratio.{IsRatio, OneRatio}
 use Rattle.k_top.specs.declared.rows.Row.{Row}
-use Rattle.k_top.specs.Rows.{AreRows, IsRatio, IsRow}
-
--- two numbers have one ratio
-abbrev pub OneRatio : Type 0
-OneRatio = (a b num den num' den' : ℕ) → IsRatio a b num den → IsRatio a b num' den' → (num ≡ num') × (den ≡ den')
+use Rattle.k_top.specs.Rows.{AreRows, IsRow}
 
 -- the row of a node that is alone: its work, its path, and its self-parallelism as a ratio
 abbrev pub row_of : Node → ℕ → ℕ → Row

@@ -1,21 +1,26 @@
 -- *Whole answer*: what `kremlin` answers to the words of its command line, where files hold what they hold.
 use Rattle.std.specs.Prelude.{ℕ, ◌≡◌, ◌≤◌, ◌<◌, ◌⊎◌, List, [], ◌++◌, length, Option, Some, None, Result, Ok, Err, codes}
 use Rattle.std.specs.Fmt.{decimal}
+use Rattle.k_num.specs.declared.place.Place.{Place}
 use Rattle.k_optab.specs.Events.{operations}
 use Rattle.k_optab.specs.Tree.{Node, IsTree}
 use Rattle.k_tree.specs.declared.tokens.Token.{Token}
+use Rattle.k_tree.specs.declared.tree.unit.Unit as tree
 use Rattle.k_lex.specs.declared.fault.LexFault.{LexFault}
 use Rattle.k_lex.specs.Tokens.{tokens}
+use Rattle.k_code.specs.declared.ending.End.{End}
+use Rattle.k_code.specs.declared.ending.End.TheVariants.{Returned, Trapped, OutOfSteps}
+use Rattle.k_code.specs.declared.ending.Trap.{Trap}
+use Rattle.k_code.specs.Traps.{trap_name}
 use Rattle.k_top.specs.declared.command.Usage.{Usage}
 use Rattle.k_top.specs.declared.command.Usage.TheVariants.{NoCommand, UnknownWord, NoFile}
-use Rattle.k_top.specs.declared.form.Program.{Program}
 use Rattle.k_top.specs.declared.refusal.SourceFault.{SourceFault}
 use Rattle.k_top.specs.declared.refusal.SourceFault.TheVariants.{Lex, NotBuilt}
 use Rattle.k_top.specs.declared.rows.Row.{Row}
 use Rattle.k_top.specs.Command.{command_of}
-use Rattle.k_top.specs.Refusal.{fault_text}
-use Rattle.k_top.specs.Form.{Spells}
-use Rattle.k_top.specs.Run.{run_of, regions_of}
+use Rattle.k_top.specs.Refusal.{fault_text, named_at}
+use Rattle.k_top.specs.Form.{IsProgram}
+use Rattle.k_top.specs.Run.{listing_of, regions_of, step_budget}
 use Rattle.k_top.specs.Rows.{AreRows}
 use Rattle.k_top.specs.Report.{report_text, with_report}
 
@@ -59,29 +64,57 @@ refused_line fault = codes "kremlin: source refused: " ++ fault_text fault ++ co
 abbrev pub refusal : ℕ → List ℕ → Answer
 refusal status line = record { out = []; err = line; status = status }
 
+-- the line of a run that traps
+abbrev pub trap_line : Trap → Place → List ℕ
+trap_line trap place = codes "kremlin: trap " ++ named_at (trap_name trap) place ++ codes "\n"
+
+-- the line of a run that would take more steps than it may
+abbrev pub steps_line : List ℕ
+steps_line = codes "kremlin: out of steps after " ++ decimal step_budget ++ codes "\n"
+
+-- the status of a run that ended so
+abbrev pub end_status : End → ℕ
+end_status (Returned value) = 0
+end_status (Trapped trap place) = 1
+end_status OutOfSteps = 2
+
+-- its line on err
+abbrev pub end_line : End → List ℕ
+end_line (Returned value) = []
+end_line (Trapped trap place) = trap_line trap place
+end_line OutOfSteps = steps_line
+
 -- the rows of the tree of a program's run
-abbrev pub IsProfile : Program → List Row → Type 0
-IsProfile program rows =
-    (nodes : List Node) × IsTree tracked_depth (run_of program).events nodes × AreRows (length (regions_of program)) nodes rows
+abbrev pub IsProfile : tree.Unit → List Row → Type 0
+IsProfile unit rows =
+    (nodes : List Node) × IsTree tracked_depth (listing_of unit).events nodes × AreRows (length (regions_of unit)) nodes rows
 
--- the output of a program's run, and the report of its rows
-abbrev pub IsOutput : Program → List ℕ → Type 0
-IsOutput program out =
-    (rows : List Row) × IsProfile program rows
-    × (out ≡ with_report (run_of program).output
-    (report_text (regions_of program) (run_of program).exit (length (operations (run_of program).events)) rows))
+-- where main returns, its output and then the report of its rows; else the output so far, and nothing more
+abbrev pub IsOutputAt : tree.Unit → End → List ℕ → Type 0
+IsOutputAt unit (Returned value) out =
+    (rows : List Row) × IsProfile unit rows
+    × (out ≡ with_report (listing_of unit).output
+    (report_text (regions_of unit) value (length (operations (listing_of unit).events)) rows))
+IsOutputAt unit end out = out ≡ (listing_of unit).output
 
--- the run decides: its output and its report
-abbrev pub AnswersRun : Program → Answer → Type 0
-AnswersRun program answer =
-    (out : List ℕ) × IsOutput program out × (answer ≡ record { out = out; err = []; status = 0 })
+-- what a program's run puts on out
+abbrev pub IsOutput : tree.Unit → List ℕ → Type 0
+IsOutput unit out = IsOutputAt unit (listing_of unit).end out
+
+-- the answer of a run that ended so and put that on out
+abbrev pub ran : End → List ℕ → Answer
+ran end out = record { out = out; err = end_line end; status = end_status end }
+
+-- the run decides
+abbrev pub AnswersRun : tree.Unit → Answer → Type 0
+AnswersRun unit answer = (out : List ℕ) × IsOutput unit out × (answer ≡ ran (listing_of unit).end out)
 
 -- the tokens decide: a source without tokens is refused, and so is one whose tokens spell no program
 abbrev pub AnswersTokens : Result (List Token) LexFault → Answer → Type 0
 AnswersTokens (Err fault) answer = answer ≡ refusal 3 (refused_line (Lex fault))
 AnswersTokens (Ok list) answer =
-    (((program : Program) → Spells list program → ⊥) × (answer ≡ refusal 3 (refused_line NotBuilt)))
-    ⊎ ((program : Program) × Spells list program × AnswersRun program answer)
+    (((unit : tree.Unit) → IsProgram list unit → ⊥) × (answer ≡ refusal 3 (refused_line NotBuilt)))
+    ⊎ ((unit : tree.Unit) × IsProgram list unit × AnswersRun unit answer)
 
 -- the source decides
 abbrev pub AnswersSource : List ℕ → Answer → Type 0

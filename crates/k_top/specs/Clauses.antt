@@ -45,6 +45,10 @@ pub record PartOfAnswer (words : List (List ℕ)) (files : FilesState) (out out'
   pub may_hold : MayHold files.held held
   pub part : (answer : Answer) → IsAnswer words held answer → GrowsInPart out.written answer.out out'.written
 
+-- the status of a run that came to its end: main returned, it trapped, or it would take more steps than it may
+abbrev pub HasRun : ℕ → Type 0
+HasRun status = (status ≡ 0) ⊎ (status ≡ 1) ⊎ (status ≡ 2)
+
 -- the status of a refusal before the run
 abbrev pub IsRefusal : ℕ → Type 0
 IsRefusal status = (status ≡ 3) ⊎ (status ≡ 4) ⊎ (status ≡ 5) ⊎ (status ≡ 6) ⊎ (status ≡ 12)

@@ -1,26 +1,27 @@
 -- How the top call ends, and what each of its parts leaves. The theorem on `kremlin` speaks of none of this.
-use Rattle.std.specs.Prelude.{ℕ, ◌≡◌, ◌⊎◌, List, [], Ok, Err, Vec}
+use Rattle.std.specs.Prelude.{ℕ, ◌≡◌, ◌⊎◌, List, Ok, Err, Vec}
 use Rattle.std.specs.declared.alloc.Global.{Global}
 use Rattle.k_edge.specs.Fault.{Rose}
 use Rattle.k_edge.specs.SinkWords.{SinkState, Grows, GrowsInPart}
 use Rattle.k_edge.specs.FilesWords.{FilesState, Loads}
 use Rattle.k_edge.specs.declared.files.LoadFault.TheVariants as load
 use Rattle.k_tree.specs.declared.tokens.Token.{Token}
+use Rattle.k_tree.specs.declared.tree.unit.Unit as tree
 use Rattle.k_lex.specs.declared.fault.LexFault.{LexFault}
 use Rattle.k_lex.specs.declared.fault.LexFault.TheVariants as l
 use Rattle.k_lex.specs.Tokens.{tokens}
 use Rattle.k_top.specs.declared.ending.Ending.{Ending}
-use Rattle.k_top.specs.declared.ending.Ending.TheVariants.{Done, Refused, Usage, Absent, ReadFault, WriteFault, NoMemory, TooLong}
-use Rattle.k_top.specs.declared.form.Program.{Program}
+use Rattle.k_top.specs.declared.ending.Ending.TheVariants.{Ran, Refused, Usage, Absent, ReadFault, WriteFault, NoMemory, TooLong}
 use Rattle.k_top.specs.declared.refusal.SourceFault.TheVariants.{Lex, NotBuilt}
 use Rattle.k_top.specs.Command.{command_of}
-use Rattle.k_top.specs.Form.{Spells}
-use Rattle.k_top.specs.Answer.{IsOutput, file_limit, usage_line, absent_line, long_line, refused_line}
+use Rattle.k_top.specs.Form.{IsProgram}
+use Rattle.k_top.specs.Run.{listing_of}
+use Rattle.k_top.specs.Answer.{IsOutput, end_line, end_status, file_limit, usage_line, absent_line, long_line, refused_line}
 use Rattle.k_top.specs.Clauses.{read_fault_line, write_fault_line, memory_line}
 
 -- the exit status of an ending
 abbrev pub status_of : Ending → ℕ
-status_of Done = 0
+status_of (Ran end) = end_status end
 status_of (Refused fault) = 3
 status_of (Usage usage) = 4
 status_of (Absent file) = 5
@@ -31,7 +32,7 @@ status_of (TooLong file) = 12
 
 -- the line of an ending on standard error
 abbrev pub line_of : Ending → List ℕ
-line_of Done = []
+line_of (Ran end) = end_line end
 line_of (Refused fault) = refused_line fault
 line_of (Usage usage) = usage_line usage
 line_of (Absent file) = absent_line file.now
@@ -41,21 +42,30 @@ line_of NoMemory = memory_line
 line_of (TooLong file) = long_line file.now
 
 -- out has grown by a prefix of a program's output
-abbrev pub PutsPart : Program → SinkState → SinkState → Type 0
-PutsPart program out out' = (text : List ℕ) × IsOutput program text × GrowsInPart out.written text out'.written
+abbrev pub PutsPart : tree.Unit → SinkState → SinkState → Type 0
+PutsPart unit out out' = (text : List ℕ) × IsOutput unit text × GrowsInPart out.written text out'.written
 
 -- how a program's run ended
-abbrev pub EndsProgram : Program → Ending → SinkState → SinkState → Type 0
-EndsProgram program Done out out' =
-    (text : List ℕ) × IsOutput program text × Grows out.written text out'.written × (out'.faults ≡ out.faults)
-EndsProgram program WriteFault out out' = PutsPart program out out' × Rose out.faults out'.faults
-EndsProgram program NoMemory out out' = ((out' ≡ out) ⊎ PutsPart program out out') × (out'.faults ≡ out.faults)
-EndsProgram program _ out out' = ⊥
+abbrev pub EndsProgram : tree.Unit → Ending → SinkState → SinkState → Type 0
+EndsProgram unit (Ran end) out out' =
+    (text : List ℕ) × IsOutput unit text × (end ≡ (listing_of unit).end) × Grows out.written text out'.written × (out'.faults ≡ out.faults)
+EndsProgram unit WriteFault out out' = PutsPart unit out out' × Rose out.faults out'.faults
+EndsProgram unit NoMemory out out' = ((out' ≡ out) ⊎ PutsPart unit out out') × (out'.faults ≡ out.faults)
+EndsProgram unit _ out out' = ⊥
+
+-- no other program is spelled by these tokens
+abbrev pub IsAlone : List Token → tree.Unit → Type 0
+IsAlone list unit = (other : tree.Unit) → IsProgram list other → other ≡ unit
+
+-- the tokens spell one program, and its run ended so
+abbrev pub EndsOne : List Token → Ending → SinkState → SinkState → Type 0
+EndsOne list ending out out' = (unit : tree.Unit) × IsProgram list unit × IsAlone list unit × EndsProgram unit ending out out'
 
 -- how a token list ended
 abbrev pub EndsTokens : List Token → Ending → SinkState → SinkState → Type 0
-EndsTokens list (Refused NotBuilt) out out' = ((program : Program) → Spells list program → ⊥) × (out' ≡ out)
-EndsTokens list ending out out' = (program : Program) × Spells list program × EndsProgram program ending out out'
+EndsTokens list (Refused NotBuilt) out out' = ((unit : tree.Unit) → IsProgram list unit → ⊥) × (out' ≡ out)
+EndsTokens list NoMemory out out' = (out' ≡ out) ⊎ EndsOne list NoMemory out out'
+EndsTokens list ending out out' = EndsOne list ending out out'
 
 -- how a source without tokens ends
 abbrev pub ending_without_tokens : LexFault → Ending

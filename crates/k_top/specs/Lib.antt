@@ -1,6 +1,5 @@
 pub mod Command
 pub mod Form
-pub mod Wanted
 pub mod Refusal
 pub mod Output
 pub mod Run
@@ -9,6 +8,5 @@ pub mod Report
 pub mod Answer
 pub mod Clauses
 pub mod Endings
-pub mod Only
 pub mod Names
 pub mod KnownNames

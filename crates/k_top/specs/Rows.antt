@@ -1,18 +1,9 @@
 -- *Rows*: what the profile says of each region, by the tree of its instances.
-use Rattle.std.specs.Prelude.{ℕ, zero, suc, ◌≡◌, ◌*◌, ◌<◌, ◌⊎◌, ◌==◌, nat_lt, List, [], ◌∷◌, ◌++◌, filter, length}
+use Rattle.std.specs.Prelude.{ℕ, zero, suc, ◌≡◌, ◌==◌, nat_lt, List, [], ◌∷◌, ◌++◌, filter, length}
 use Rattle.k_optab.specs.Meaning.{paths, serial_of, works}
 use Rattle.k_optab.specs.Tree.{Node, EachWith}
+use Rattle.k_selfpar.specs.Ratio.{IsRatio}
 use Rattle.k_top.specs.declared.rows.Row.{Row}
-
--- a number divides another
-abbrev pub Divides : ℕ → ℕ → Type 0
-Divides d n = (k : ℕ) × (n ≡ k * d)
-
--- num/den is a/b in lowest terms, and 1/1 where b is 0
-abbrev pub IsRatio : ℕ → ℕ → ℕ → ℕ → Type 0
-IsRatio a b num den =
-    ((b ≡ 0) × (num ≡ 1) × (den ≡ 1))
-    ⊎ ((0 < b) × (0 < den) × (num * b ≡ a * den) × ((d : ℕ) → Divides d num → Divides d den → d ≡ 1))
 
 -- the instances of a region
 abbrev pub instances_of : ℕ → List Node → List Node

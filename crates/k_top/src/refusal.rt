@@ -21,7 +21,7 @@ pub fn push_fault(line: &mut Vec<u8>, fault: SourceFault) -> Result<(), NoMemory
 {
     match fault {
         SourceFault::Lex(fault) => push_lex_fault(line, fault),
-        SourceFault::NotBuilt => push_named(line, "NotBuilt", Place { line: 1, column: 1 }),
+        SourceFault::NotBuilt => push_named_at(line, "NotBuilt", Place { line: 1, column: 1 }),
     }
 }
 
@@ -30,22 +30,23 @@ fn push_lex_fault(line: &mut Vec<u8>, fault: LexFault) -> Result<(), NoMemory>
     ensures { OnOk result (line.new.items ≡ line.old.items ++ lex_fault_text fault) }
 {
     match fault {
-        LexFault::BadByte(place) => push_named(line, "BadByte", place),
-        LexFault::OpenComment(place) => push_named(line, "OpenComment", place),
-        LexFault::OpenLiteral(place) => push_named(line, "OpenLiteral", place),
-        LexFault::BadEscape(place) => push_named(line, "BadEscape", place),
-        LexFault::BadNumber(place) => push_named(line, "BadNumber", place),
-        LexFault::BadDirective(place) => push_named(line, "BadDirective", place),
-        LexFault::UnknownHeader(place) => push_named(line, "UnknownHeader", place),
-        LexFault::MacroOrder(place) => push_named(line, "MacroOrder", place),
-        LexFault::MacroAgain(place) => push_named(line, "MacroAgain", place),
-        LexFault::SourceLong(place) => push_named(line, "SourceLong", place),
-        LexFault::TokensMany(place) => push_named(line, "TokensMany", place),
+        LexFault::BadByte(place) => push_named_at(line, "BadByte", place),
+        LexFault::OpenComment(place) => push_named_at(line, "OpenComment", place),
+        LexFault::OpenLiteral(place) => push_named_at(line, "OpenLiteral", place),
+        LexFault::BadEscape(place) => push_named_at(line, "BadEscape", place),
+        LexFault::BadNumber(place) => push_named_at(line, "BadNumber", place),
+        LexFault::BadDirective(place) => push_named_at(line, "BadDirective", place),
+        LexFault::UnknownHeader(place) => push_named_at(line, "UnknownHeader", place),
+        LexFault::MacroOrder(place) => push_named_at(line, "MacroOrder", place),
+        LexFault::MacroAgain(place) => push_named_at(line, "MacroAgain", place),
+        LexFault::SourceLong(place) => push_named_at(line, "SourceLong", place),
+        LexFault::TokensMany(place) => push_named_at(line, "TokensMany", place),
         LexFault::Memory => Ok(()),
     }
 }
 
-fn push_named(line: &mut Vec<u8>, name: &str, place: Place) -> Result<(), NoMemory>
+/// A name and a place.
+pub fn push_named_at(line: &mut Vec<u8>, name: &str, place: Place) -> Result<(), NoMemory>
     ensures { OnOk result (line.new.items ≡ line.old.items ++ named_at name.now place) }
 {
     push(line, name)?;

@@ -1,7 +1,7 @@
 //! The text of the report.
 ghost use Rattle.std.specs.Prelude.{◌≡◌, ◌++◌, ◌<◌, length, All, IfOk, OnOk, codes};
 ghost use Rattle.std.specs.Fmt.{decimal, signed_decimal};
-ghost use Rattle.k_top.specs.Report.{place_text, kind_text, region_text, numbers_text, row_line, report_text};
+ghost use Rattle.k_top.specs.Report.{place_text, kind_text, region_text, numbers_text, row_line, report_text, ends_line, with_report};
 
 use crate::rows::Row;
 use itoa::{Buffer, Integer};
@@ -25,6 +25,28 @@ pub fn report(
         push_row(&mut text, regions.as_slice(), row)?;
     }
     Ok(text)
+}
+
+/// The report on a line of its own behind a program's output.
+pub fn with_report(alloc: Global, output: &[u8], report: &[u8]) -> Result<Vec<u8>, NoMemory>
+    ensures { IfOk result (λ text. text.items ≡ with_report output.now report.now) }
+{
+    let mut text = Vec::from_slice(alloc, output)?;
+    if !ends_line(output) {
+        text.push(b'\n')?;
+    }
+    text.extend_from_slice(report)?;
+    Ok(text)
+}
+
+/// Whether a text is empty or ends in a newline.
+fn ends_line(text: &[u8]) -> bool
+    ensures { result ≡ ends_line text.now }
+{
+    match text.split_last() {
+        Some((byte, _)) => *byte == b'\n',
+        None => true,
+    }
 }
 
 /// The lines before the rows.

@@ -1,61 +1,78 @@
-//! A program's run as a list of events, and its profile.
-ghost use Rattle.std.specs.Prelude.{◌≡◌, [], ◌∷◌, length, map, IfOk};
-ghost use Rattle.k_optab.specs.Events.{operations};
-ghost use Rattle.k_top.specs.Run.{run_of, regions_of};
+//! A program's run, and its profile.
+ghost use Rattle.std.specs.Prelude.{◌≡◌, ◌<◌, ◌≤◌, ◌^◌, [], ◌∷◌, length, map, IfOk};
+ghost use Rattle.k_optab.specs.Events.{SourcesAreEarlier, operations, total_latency};
 ghost use Rattle.k_optab.specs.Tree.{IsTree};
+ghost use Rattle.k_code.specs.declared.ending.End.TheVariants.{Returned};
 ghost use Rattle.k_graph.specs.Listings.{node_of};
-ghost use Rattle.k_top.specs.Answer.{IsProfile, IsOutput, tracked_depth};
-ghost use Rattle.k_top.specs.Only.{only_row};
+ghost use Rattle.k_parse.specs.First.{IsFirst};
+ghost use Rattle.k_top.specs.Run.{listing_of, regions_of};
+ghost use Rattle.k_top.specs.Answer.{IsProfile, IsOutput, IsOutputAt, tracked_depth};
 
-use crate::form::Program;
-use crate::report::report;
-use crate::rows::Row;
+use crate::report::{report, with_report};
+use crate::rows::{Row, row_of};
+use k_code::End;
 use k_graph::{Instance, instances};
 use k_num::{NoMemory, Seq, Text};
-use k_optab::{Class, Event, Region, RegionKind, of, standard};
+use k_optab::{Event, Region, RegionKind, standard};
+use k_plain::{Listing, plain};
+use k_tree::{Item, Unit};
 use std::alloc::Global;
 
 /// Instances below this depth are in the profile.
 const TRACKED_DEPTH: u32 = 24;
 
-/// The output of a program's run, and the report behind it.
-pub fn output(alloc: Global, program: &Program) -> Result<Vec<u8>, NoMemory>
-    ensures { IfOk result (λ out. IsOutput program.now out.items) }
+/// How many operations a run may make.
+pub const STEP_BUDGET: u64 = 100_000_000;
+
+/// Runs a program: what it puts on out, with the report behind it where main returned; and how it ended.
+pub fn run(alloc: Global, unit: &Unit) -> Result<(Vec<u8>, End), NoMemory>
+    requires { IsFirst unit.now }
+    ensures output { IfOk result (λ ran. IsOutput unit.now ran.0.items) }
+    ensures end { IfOk result (λ ran. ran.1 ≡ (listing_of unit.now).end) }
 {
-    let events = events(alloc, program)?;
-    let regions = regions(alloc, program)?;
-    let ops = operation_count(events.as_slice());
-    let tree = instances(alloc, &events, TRACKED_DEPTH)?;
-    let rows = profile(alloc, program, tree.as_slice())?;
-    report(alloc, &regions, program.value, ops, rows.as_slice())
+    let listing = listing(alloc, unit)?;
+    let out = match listing.end {
+        End::Returned(exit) => reported(alloc, unit, &listing, exit)?,
+        _ => Vec::from_slice(alloc, listing.output.as_slice())?,
+    };
+    Ok((out, listing.end))
 }
 
-/// The events of a program's run.
-fn events(alloc: Global, program: &Program) -> Result<Seq<Event>, NoMemory>
-    ensures { IfOk result (λ events. events ≡ (run_of program.now).events) }
+/// The run of a program, with the standard latencies.
+fn listing(alloc: Global, unit: &Unit) -> Result<Listing, NoMemory>
+    ensures { IfOk result (λ listing. listing ≡ listing_of unit.now) }
 {
-    let mut events = Seq::new(alloc);
-    events.push(Event::Enter(0))?;
-    events.push(Event::Op {
-        class: Class::Move,
-        latency: of(&standard(), Class::Move),
-        sources: Seq::new(alloc),
-        place: program.return_place,
-    })?;
-    events.push(Event::Exit)?;
-    Ok(events)
+    plain(alloc, unit, &standard(), STEP_BUDGET)
+}
+
+/// The output of a run from which main returned, and the report behind it.
+fn reported(alloc: Global, unit: &Unit, listing: &Listing, exit: i32) -> Result<Vec<u8>, NoMemory>
+    requires first { IsFirst unit.now }
+    requires listing { listing.now ≡ listing_of unit.now }
+    requires returned { (listing_of unit.now).end ≡ Returned exit }
+    ensures { IfOk result (λ out. IsOutputAt unit.now (Returned exit) out.items) }
+{
+    let regions = regions(alloc, unit)?;
+    let ops = operation_count(listing.events.as_slice());
+    let rows = profile(alloc, unit, listing, exit)?;
+    let report = report(alloc, &regions, exit, ops, rows.as_slice())?;
+    with_report(alloc, listing.output.as_slice(), report.as_slice())
 }
 
 /// The regions of a program, in the order of their numbers.
-fn regions(alloc: Global, program: &Program) -> Result<Seq<Region>, NoMemory>
-    ensures { IfOk result (λ regions. regions ≡ regions_of program.now) }
+fn regions(alloc: Global, unit: &Unit) -> Result<Seq<Region>, NoMemory>
+    ensures { IfOk result (λ regions. regions ≡ regions_of unit.now) }
 {
     let mut regions = Seq::new(alloc);
-    regions.push(Region {
-        kind: RegionKind::Func,
-        func: Text::copy_of(alloc, "main")?,
-        place: program.name,
-    })?;
+    for item in unit.items.as_slice() {
+        if let Item::Function { head, .. } = item {
+            regions.push(Region {
+                kind: RegionKind::Func,
+                func: Text::copy_of(alloc, head.name.as_str())?,
+                place: head.name_place,
+            })?;
+        }
+    }
     Ok(regions)
 }
 
@@ -72,30 +89,16 @@ fn operation_count(events: &[Event]) -> u64
     count
 }
 
-/// The rows of a program's tree. Its only instance has no children and the critical path 0, so the
-/// self-parallelism is 1/1.
-fn profile(alloc: Global, program: &Program, tree: &[Instance]) -> Result<Vec<Row>, NoMemory>
-    requires { IsTree tracked_depth (run_of program.now).events (map node_of tree.now) }
-    ensures { IfOk result (λ rows. IsProfile program.now rows.items) }
+/// The rows of the tree of a run from which main returned: main's one instance.
+fn profile(alloc: Global, unit: &Unit, listing: &Listing, exit: i32) -> Result<Vec<Row>, NoMemory>
+    requires first { IsFirst unit.now }
+    requires listing { listing.now ≡ listing_of unit.now }
+    requires returned { (listing_of unit.now).end ≡ Returned exit }
+    ensures { IfOk result (λ rows. IsProfile unit.now rows.items) }
 {
-    let rows = rows(alloc, tree)?;
-    Ok(rows)
-}
-
-/// A row for each instance.
-fn rows(alloc: Global, tree: &[Instance]) -> Result<Vec<Row>, NoMemory>
-    ensures { IfOk result (λ rows. rows.items ≡ map only_row tree.now) }
-{
+    let tree = instances(alloc, &listing.events, TRACKED_DEPTH)?;
+    let main = tree.as_slice()[0];
     let mut rows = Vec::new(alloc);
-    for instance in tree {
-        rows.push(Row {
-            region: instance.region,
-            instances: 1,
-            work: instance.work,
-            path: instance.path,
-            parallel: 1,
-            of: 1,
-        })?;
-    }
+    rows.push(row_of(main))?;
     Ok(rows)
 }

@@ -1,27 +1,29 @@
 //! The top call.
 ghost use Rattle.std.specs.Prelude.{◌≡◌, ◌<◌, ◌⊎◌, map, string_bytes};
 ghost use Rattle.k_edge.specs.Fault.{Rose};
-ghost use Rattle.k_top.specs.Clauses.{Answered, IsRefusal, IsUsage, NoFault, PartOfAnswer, SameFaults, ToldFault};
+ghost use Rattle.k_parse.specs.First.{IsFirst};
+ghost use Rattle.k_top.specs.Clauses.{Answered, HasRun, IsRefusal, IsUsage, NoFault, PartOfAnswer, SameFaults, ToldFault};
 ghost use Rattle.k_top.specs.Endings.{EndsProgram, EndsTokens, EndsSource, EndsFile, EndsWords, ending_without_tokens, PutsLine, Tells};
 
 use crate::command::file_to_run;
 use crate::ending::Ending;
-use crate::form::{Program, program_of};
+use crate::form::program_of;
 use crate::output::put_all;
 use crate::refusal::SourceFault;
-use crate::run::output;
+use crate::run::run;
 use k_edge::{Files, LoadFault, PutFault, Sink, Source};
 use k_lex::{LexFault, lex};
-use k_tree::Token;
+use k_num::Seq;
+use k_tree::{Token, Unit};
 use std::alloc::Global;
 
 /// How many bytes a file may have.
 const FILE_LIMIT: u64 = 16_777_216;
 
-/// Runs the command that the words say, and answers the exit status: 0 where it is done, 3 where the source is
-/// refused, 4 where the words are no command, 5 where there is no such file, 6 where a read failed, 7 where a write
-/// failed, 8 where no memory was found, 12 where the file is too long. The program's output and the report go to
-/// `out`, a line that says why on every other status to `err`.
+/// Runs the command that the words say, and answers the exit status: 0 where the program's main returned, 1 where its run
+/// trapped, 2 where it would take more steps than a run may, 3 where the source is refused, 4 where the words are no command, 5 where there is no such file, 6 where a read failed, 7 where a write
+/// failed, also where the run would end in a trap, 8 where no memory was found, 12 where the file is too long. The program's
+/// output goes to `out`, with the report behind it on status 0; a line that says why on every other status goes to `err`.
 pub fn kremlin<F: Files, S: Source, K: Sink, E: Sink>(
     alloc: Global,
     words: &[String],
@@ -41,8 +43,8 @@ pub fn kremlin<F: Files, S: Source, K: Sink, E: Sink>(
     ensures part { PartOfAnswer (map string_bytes words.now) (F.seen files.old) (K.seen out.old) (K.seen out.new) }
     ensures nothing { IsRefusal result → K.seen out.new ≡ K.seen out.old }
 
-    // Status 0 means that no fault came; a fault means its own status, or want of memory.
-    ensures clean { result ≡ 0 → SameFaults (F.seen files.old) (F.seen files.new) (S.seen input.old) (S.seen input.new) (K.seen out.old) (K.seen out.new) }
+    // Status 0, 1 or 2 means that no fault came; a fault means its own status, or want of memory.
+    ensures clean { HasRun result → SameFaults (F.seen files.old) (F.seen files.new) (S.seen input.old) (S.seen input.new) (K.seen out.old) (K.seen out.new) }
     ensures load_fault { (F.seen files.old).counts.load_faults < (F.seen files.new).counts.load_faults → (result ≡ 6) ⊎ (result ≡ 8) }
     ensures put_fault { (K.seen out.old).faults < (K.seen out.new).faults → (result ≡ 7) ⊎ (result ≡ 8) }
     ensures no_save { (F.seen files.new).counts.save_faults ≡ (F.seen files.old).counts.save_faults }
@@ -104,7 +106,7 @@ fn run_source<K: Sink>(alloc: Global, source: &[u8], out: &mut K) -> Ending<'sta
     ensures { EndsSource source.now result (K.seen out.old) (K.seen out.new) }
 {
     match lex(alloc, source) {
-        Ok(tokens) => run_tokens(alloc, tokens.as_slice(), out),
+        Ok(tokens) => run_tokens(alloc, &tokens, out),
         Err(fault) => without_tokens(fault),
     }
 }
@@ -120,22 +122,24 @@ fn without_tokens(fault: LexFault) -> Ending<'static>
 }
 
 /// Runs a token list.
-fn run_tokens<K: Sink>(alloc: Global, tokens: &[Token], out: &mut K) -> Ending<'static>
+fn run_tokens<K: Sink>(alloc: Global, tokens: &Seq<Token>, out: &mut K) -> Ending<'static>
     ensures { EndsTokens tokens.now result (K.seen out.old) (K.seen out.new) }
 {
-    match program_of(tokens) {
-        Some(program) => run_program(alloc, &program, out),
-        None => Ending::Refused(SourceFault::NotBuilt),
+    match program_of(alloc, tokens) {
+        Ok(Some(unit)) => run_program(alloc, &unit, out),
+        Ok(None) => Ending::Refused(SourceFault::NotBuilt),
+        Err(_) => Ending::NoMemory,
     }
 }
 
-/// Runs a program, and puts its output and its report on out.
-fn run_program<K: Sink>(alloc: Global, program: &Program, out: &mut K) -> Ending<'static>
-    ensures { EndsProgram program.now result (K.seen out.old) (K.seen out.new) }
+/// Runs a program, and puts what it writes on out, with the report behind it where main returned.
+fn run_program<K: Sink>(alloc: Global, unit: &Unit, out: &mut K) -> Ending<'static>
+    requires { IsFirst unit.now }
+    ensures { EndsProgram unit.now result (K.seen out.old) (K.seen out.new) }
 {
-    match output(alloc, program) {
-        Ok(text) => match put_all(out, text.as_slice()) {
-            Ok(()) => Ending::Done,
+    match run(alloc, unit) {
+        Ok((text, end)) => match put_all(out, text.as_slice()) {
+            Ok(()) => Ending::Ran(end),
             Err(PutFault::Failed) => Ending::WriteFault,
             Err(PutFault::Memory) => Ending::NoMemory,
         },
