@@ -1,4 +1,5 @@
 //! The top call over files, sources and sinks in memory.
+mod ends;
 mod faults;
 mod programs;
 mod puts;
@@ -35,7 +36,7 @@ const NOTHING_FAILS: Failing<'static> = Failing {
 #[derive(Clone, Copy)]
 struct Wanted<'a> {
     status: u8,
-    out: &'a str,
+    out: &'a [u8],
     err: &'a str,
 }
 
@@ -104,7 +105,7 @@ fn sure_answers(
 }
 
 fn is_wanted(status: u8, out: &[u8], err: &[u8], wanted: Wanted<'_>) -> bool {
-    status == wanted.status && out == wanted.out.as_bytes() && err == wanted.err.as_bytes()
+    status == wanted.status && out == wanted.out && err == wanted.err.as_bytes()
 }
 
 /// Whether the answer is what is wanted, with files of both kinds.
@@ -124,7 +125,7 @@ fn answers(
 fn runs(alloc: Global, source: &[u8], out: &str) -> Result<bool, NoMemory> {
     let wanted = Wanted {
         status: 0,
-        out,
+        out: out.as_bytes(),
         err: "",
     };
     answers(alloc, RUN, Some(source), wanted)
@@ -134,7 +135,7 @@ fn runs(alloc: Global, source: &[u8], out: &str) -> Result<bool, NoMemory> {
 fn is_refused(alloc: Global, source: &[u8], err: &str) -> Result<bool, NoMemory> {
     let wanted = Wanted {
         status: 3,
-        out: "",
+        out: b"",
         err,
     };
     answers(alloc, RUN, Some(source), wanted)

@@ -40,7 +40,7 @@ fn faults(rt: HostRuntime) -> Result<(), Fail> {
         };
         let wanted = Wanted {
             status: *status,
-            out,
+            out: out.as_bytes(),
             err,
         };
         assert!(rt; mem_answers(rt.alloc(), words, Some(RETURN_ZERO), failing, wanted)?);

@@ -87,14 +87,14 @@ fn faulty_words_and_an_absent_file(rt: HostRuntime) -> Result<(), Fail> {
     for (words, err) in &USAGES {
         let wanted = Wanted {
             status: 4,
-            out: "",
+            out: b"",
             err,
         };
         assert!(rt; answers(rt.alloc(), words, Some(RETURN_ZERO), wanted)?);
     }
     let absent = Wanted {
         status: 5,
-        out: "",
+        out: b"",
         err: "kremlin: no such file: none.c\n",
     };
     assert!(rt; answers(rt.alloc(), &["run", "none.c"], None, absent)?);

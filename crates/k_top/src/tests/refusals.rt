@@ -58,7 +58,7 @@ static LEX_FAULTS: [(&[u8], &str); 12] = [
 ];
 
 /// Sources whose tokens are not of the form.
-static OTHER_FORMS: [&[u8]; 24] = [
+static OTHER_FORMS: [&[u8]; 34] = [
     b"int main(void){return 2147483648;}",
     b"int main(void){return 4294967296;}",
     b"int main(void){return 0xffffffff;}",
@@ -66,7 +66,7 @@ static OTHER_FORMS: [&[u8]; 24] = [
     b"int main(void){return 7L;}",
     b"int main(void){return -1;}",
     b"int main(void){return +1;}",
-    b"int main(void){return (1);}",
+    b"int main(void){return (1;}",
     b"int main(void){return 1 1;}",
     b"int main(void){return \"a\";}",
     b"int main(void){return n;}",
@@ -82,6 +82,18 @@ static OTHER_FORMS: [&[u8]; 24] = [
     b"int main(void){return 7;}}",
     b"int main(void){return 7;} ;",
     b"#define A 1 1\nint main(void){return A;}",
+    // A name is declared once, before its uses, and is none of the library's.
+    b"int main(void){int x; int x; return 0;}",
+    b"int main(void){int x, x; return 0;}",
+    b"int main(void){x=1; int x; return 0;}",
+    b"int main(void){int x=y, y=1; return 0;}",
+    b"int main(void){putchar(y);}",
+    b"int main(void){int putchar; return 0;}",
+    b"int main(void){int puts=1; return puts;}",
+    // An expression alone is no statement that is run so far, and no other operator is.
+    b"int main(void){1+2;}",
+    b"int main(void){return 4/2;}",
+    b"int main(void){int x; return x=1;}",
     b"",
 ];
 
@@ -146,7 +158,7 @@ fn longest_file(rt: HostRuntime) -> Result<(), Fail> {
     source.push(b' ')?;
     let refused = Wanted {
         status: 12,
-        out: "",
+        out: b"",
         err: "kremlin: file too long: a.c\n",
     };
     assert!(rt; answers(rt.alloc(), RUN, Some(source.as_slice()), refused)?);
