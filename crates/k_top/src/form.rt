@@ -1,6 +1,5 @@
 //! How a token list is read as a program.
 ghost use Rattle.std.specs.Prelude.{IfOk, MatchOption};
-ghost use Rattle.k_parse.specs.First.{IsFirst};
 ghost use Rattle.k_top.specs.Form.{IsProgram};
 ghost use Rattle.k_top.specs.Endings.{IsAlone};
 

@@ -1,17 +1,15 @@
 //! A program's run, and its profile.
-ghost use Rattle.std.specs.Prelude.{◌≡◌, ◌<◌, ◌≤◌, ◌^◌, [], ◌∷◌, length, map, IfOk};
-ghost use Rattle.k_optab.specs.Events.{SourcesAreEarlier, operations, total_latency};
-ghost use Rattle.k_optab.specs.Tree.{IsTree};
+ghost use Rattle.std.specs.Prelude.{◌≡◌, length, IfOk};
+ghost use Rattle.k_optab.specs.Events.{operations};
 ghost use Rattle.k_code.specs.declared.ending.End.TheVariants.{Returned};
-ghost use Rattle.k_graph.specs.Listings.{node_of};
 ghost use Rattle.k_parse.specs.First.{IsFirst};
 ghost use Rattle.k_top.specs.Run.{listing_of, regions_of};
-ghost use Rattle.k_top.specs.Answer.{IsProfile, IsOutput, IsOutputAt, tracked_depth};
+ghost use Rattle.k_top.specs.Answer.{IsProfile, IsOutput, IsOutputAt};
 
 use crate::report::{report, with_report};
 use crate::rows::{Row, row_of};
 use k_code::End;
-use k_graph::{Instance, instances};
+use k_graph::instances;
 use k_num::{NoMemory, Seq, Text};
 use k_optab::{Event, Region, RegionKind, standard};
 use k_plain::{Listing, plain};

@@ -205,9 +205,10 @@ fn long_output(rt: HostRuntime) -> Result<(), Fail> {
         out: &[1],
         ..NOTHING_FAILS
     };
+    let first_piece = repeated(alloc, "", "x", 65_536, "")?;
     let part = Wanted {
         status: 7,
-        out: out.as_slice().split_at(65_536).0,
+        out: first_piece.as_slice(),
         err: "kremlin: write fault\n",
     };
     assert!(rt; mem_answers(alloc, RUN, Some(source.as_slice()), failing, part)?);
