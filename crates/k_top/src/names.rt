@@ -280,6 +280,3 @@ fn note_args<'a>(args: &'a Seq<Expr>, namings: &mut Vec<Naming<'a>>) -> Result<(
     }
     Ok(())
 }
-
-#[cfg(test)]
-mod tests;

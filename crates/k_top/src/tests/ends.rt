@@ -11,7 +11,7 @@ use std::test::Fail;
 /// A source; and the status, what stands on out, and what stands on err.
 type Row = (&'static [u8], u8, &'static [u8], &'static str);
 
-static ROWS: [Row; 17] = [
+static ROWS: [Row; 18] = [
     (
         b"int main(void){int x=3; int y; y=2*x; x=x*x; putchar(x+y+50); return x-y;}",
         0,
@@ -29,6 +29,13 @@ static ROWS: [Row; 17] = [
         b"int main(void){int x=1; x=x+1; int main=(x)*x; return main;}",
         0,
         b"== kremlin ==\nexit 4\nops 6\nfunc main 1:5 n=1 work=4 path=4 sp=1/1\n",
+        "",
+    ),
+    // Names that begin as those of the library do.
+    (
+        b"int main(void){int put=1, putss=2; return put;}",
+        0,
+        b"== kremlin ==\nexit 1\nops 3\nfunc main 1:5 n=1 work=0 path=0 sp=1/1\n",
         "",
     ),
     // Two chains side by side.

@@ -58,7 +58,7 @@ static LEX_FAULTS: [(&[u8], &str); 12] = [
 ];
 
 /// Sources whose tokens are not of the form.
-static OTHER_FORMS: [&[u8]; 34] = [
+static OTHER_FORMS: [&[u8]; 37] = [
     b"int main(void){return 2147483648;}",
     b"int main(void){return 4294967296;}",
     b"int main(void){return 0xffffffff;}",
@@ -90,6 +90,9 @@ static OTHER_FORMS: [&[u8]; 34] = [
     b"int main(void){putchar(y);}",
     b"int main(void){int putchar; return 0;}",
     b"int main(void){int puts=1; return puts;}",
+    b"int main(void){int getchar; return 0;}",
+    b"int main(void){int x, printf; return x;}",
+    b"int main(void){int x;; return 0;}",
     // An expression alone is no statement that is run so far, and no other operator is.
     b"int main(void){1+2;}",
     b"int main(void){return 4/2;}",
