@@ -1,0 +1,104 @@
+-- The levels that the tokens of an expression make sure, from its first token on.
+use Rattle.std.proofs.Common.{ℕ, suc, ◌≡◌, ◌≤◌, ◌+◌, Bool, true, false, ◌&&◌, cond, nat_eq, eqb-true, [], ◌∷◌, length, sym, subst, refl, arith}
+use Rattle.std.proofs.lemmas.Bool.{cond_both, and_parts, false≢true}
+use Rattle.std.proofs.Common.{◌⊎◌, inl, inr}
+use Rattle.k_num.specs.declared.place.Place.{Place}
+use Rattle.k_tree.specs.declared.tokens.Token.{Token}
+use Rattle.k_tree.specs.declared.tokens.TokenKind.{TokenKind}
+use Rattle.k_tree.specs.declared.tokens.TokenKind.TheVariants as token
+use Rattle.k_tree.specs.declared.tokens.mark.Mark.{Mark}
+use Rattle.k_tree.specs.declared.tokens.word.Word.{Word}
+use Rattle.k_reader.specs.Level.{plus}
+use Rattle.k_reader.specs.Operators.{is_prefix_mark, is_spec_word, is_open, is_close}
+use Rattle.k_reader.specs.Expressions.{Opens, goes, level, is_sizeof, opened, no_arguments, prefix_operator, mark_operand, is_before_type, type_begun, word_operand, operand_at, operand, feed_at, feed}
+use Rattle.k_reader.specs.Readings.{is_operand, is_fresh}
+use Rattle.k_reader.specs.declared.expression.Open.TheVariants as open_
+use Rattle.k_reader.specs.declared.expression.Now.{Now}
+use Rattle.k_reader.specs.declared.expression.Now.TheVariants as now
+use Rattle.k_reader.specs.declared.expression.Site.{Site}
+use Rattle.k_reader.specs.declared.expression.Reading.{Reading}
+use Rattle.k_reader.specs.declared.expression.Fed.TheVariants as fed
+use Rattle.k_reader.proofs.ExpressionState.{IsLimit}
+use Rattle.k_reader.proofs.ExpressionReach.{Reached, Stays, feed_stays}
+
+module _ (lim : ℕ) (is_limit : IsLimit lim) (g : Site) where
+  at_level : level g [] ≤ lim → g.level ≤ lim
+  at_level le = same g.level lim is_limit le
+    where
+      same : (n lim : ℕ) → IsLimit lim → plus n 0 ≤ lim → n ≤ lim
+      same n lim h le = omega (arith, h, le)
+
+  one_down : plus (level g []) 1 ≤ lim → g.level + 0 + 1 ≤ lim
+  one_down le = more g.level lim is_limit le
+    where
+      more : (n lim : ℕ) → IsLimit lim → plus (plus n 0) 1 ≤ lim → n + 0 + 1 ≤ lim
+      more n lim h le = omega (arith, h, le)
+
+  up : g.level + 0 + 1 ≤ lim → g.level ≤ lim
+  up le = omega arith
+
+  word_begins : (w : Word) (p : Place) → Stays lim g (word_operand g [] w p)
+  unfolding word_operand is_before_type
+  word_begins w p =
+      cond_both (is_sizeof w) (goes g (open_.Sizeof p ∷ []) now.Operand (level g []))
+      (cond (is_spec_word w && false) (type_begun g [] w) fed.Refused) (Stays lim g) (λ e reach. (refl, (tt, at_level reach)))
+      (λ e. cond_both (is_spec_word w && false) (type_begun g [] w) fed.Refused (Stays lim g)
+      (λ q. absurd (false≢true (and_parts (is_spec_word w) false q).1)) (λ q. tt))
+
+  mark_begins : (m : Mark) (p : Place) → Stays lim g (mark_operand g [] m p)
+  unfolding mark_operand opened no_arguments prefix_operator
+  mark_begins m p =
+      cond_both (is_open m) (opened g [] p) (cond (is_close m) (no_arguments g []) (cond (is_prefix_mark m) (prefix_operator g [] m p) fed.Refused))
+      (Stays lim g) (λ e reach. (refl, (one_down reach, up (one_down reach))))
+      (λ e. cond_both (is_close m) (no_arguments g []) (cond (is_prefix_mark m) (prefix_operator g [] m p) fed.Refused) (Stays lim g) (λ q. tt)
+      (λ q. cond_both (is_prefix_mark m) (prefix_operator g [] m p) fed.Refused (Stays lim g)
+      (λ k reach. (refl, (one_down reach, up (one_down reach)))) (λ k. tt)))
+
+  kind_begins : (p : Place) (k : TokenKind) → Stays lim g (operand_at g [] p k)
+  kind_begins p (token.Name x) = λ reach. (refl, at_level reach)
+  kind_begins p (token.Number kind n) = λ reach. (refl, at_level reach)
+  kind_begins p (token.Char z) = λ reach. (refl, at_level reach)
+  kind_begins p (token.Str bytes) = λ reach. (refl, at_level reach)
+  kind_begins p (token.Mark m) = mark_begins m p
+  kind_begins p (token.Word w) = word_begins w p
+  kind_begins p token.End = tt
+
+  -- the first token of an expression makes its level sure
+  first_stays : (t : Token) → Stays lim g (operand g [] t)
+  unfolding operand
+  first_stays t = kind_begins t.place t.what
+
+-- the level of an expression of which something was read
+abbrev pub Begun : ℕ → Reading → Type 0
+Begun lim r = is_fresh r ≡ false → Reached lim r.site r.opens
+
+pub fresh_is : (s : Opens) (n : Now) → (is_operand n && nat_eq (length s) 0) ≡ true → (n ≡ now.Operand) × (s ≡ [])
+fresh_is [] now.Operand e = (refl, refl)
+fresh_is (o ∷ s) now.Operand e =
+    absurd (let q : suc (length s) ≡ 0 = eqb-true (suc (length s)) 0 e in let f : ⊥ = omega arith in f)
+fresh_is s (now.Named p x) e = absurd (false≢true e)
+fresh_is s (now.Type specs stars) e = absurd (false≢true e)
+fresh_is s (now.Value a) e = absurd (false≢true e)
+
+begun_by : (lim : ℕ) → IsLimit lim → (g : Site) (s : Opens) (n : Now) (t : Token)
+    → ((is_operand n && nat_eq (length s) 0) ≡ true) ⊎ Reached lim g s → Stays lim g (feed_at g s n t)
+unfolding feed
+begun_by lim is_limit g s n t (inl e) =
+    let q : (n ≡ now.Operand) × (s ≡ []) = fresh_is s n e in
+    subst (λ z. Stays lim g (feed_at g s z t)) (sym q.0) (subst (λ z. Stays lim g (feed_at g z now.Operand t)) (sym q.1) (first_stays lim is_limit g t))
+begun_by lim is_limit g s n t (inr h) = feed_stays lim is_limit (record { site = g; opens = s; state = n }) t h
+
+fresh_or : (b : Bool) (P : Type 0) → (b ≡ false → P) → (b ≡ true) ⊎ P
+fresh_or true P h = inl refl
+fresh_or false P h = inr (h refl)
+
+-- a token within the limit makes it sure
+pub feed_begun : (lim : ℕ) → IsLimit lim → (r : Reading) (t : Token) (next : Reading) (reach : ℕ) → Begun lim r
+    → feed r t ≡ fed.Goes next reach → reach ≤ lim → (next.site ≡ r.site) × Reached lim next.site next.opens
+unfolding feed is_fresh
+feed_begun lim is_limit r t next reach b e le =
+    let st : Stays lim r.site (feed r t) =
+    begun_by lim is_limit r.site r.opens r.state t
+    (fresh_or (is_operand r.state && nat_eq (length r.opens) 0) (Reached lim r.site r.opens) b) in
+    let k : (next.site ≡ r.site) × Reached lim r.site next.opens = (subst (λ z. Stays lim r.site z) e st) le in
+    (k.0, subst (λ g. Reached lim g next.opens) (sym k.0) k.1)

@@ -1,0 +1,26 @@
+-- What is true of the reading of whole token lists.
+use Rattle.std.specs.Prelude.{ℕ, ◌≡◌, ◌≤◌, List, map, Some, Ok}
+use Rattle.k_tree.specs.declared.tokens.Token.{Token}
+use Rattle.k_tree.specs.declared.tree.unit.Unit as source
+use Rattle.k_tree.specs.Bare.{bare, bare_item}
+use Rattle.k_tree.specs.Nesting.{nesting}
+use Rattle.k_tree.specs.Places.{Placed}
+use Rattle.k_tree.specs.Ranked.{RankedUnit}
+use Rattle.k_tree.specs.Spelling.{spelling}
+use Rattle.k_reader.specs.Closed.{EndsOnce}
+use Rattle.k_reader.specs.Runs.{runs}
+use Rattle.k_reader.specs.Sources.{begin_source}
+
+-- a tree that a list is read to is one that the grammar gives, stands over the list, and is within the limit of nesting (C17 6.5 to 6.9)
+abbrev pub TreesReadAreRanked : Type 0
+TreesReadAreRanked = (tokens : List Token) (u : source.Unit) → EndsOnce tokens → runs 200 begin_source tokens ≡ Some (Ok u)
+    → RankedUnit u × Placed u tokens × (nesting u ≤ 200)
+
+-- tokens that spell a tree that the grammar gives, within the limit of nesting, are read to that tree up to places
+abbrev pub RankedTreesAreRead : Type 0
+RankedTreesAreRead = (limit : ℕ) (u : source.Unit) (tokens : List Token) → RankedUnit u → nesting u ≤ limit → map (λ t. t.what) tokens ≡ spelling u
+    → (v : source.Unit) × (runs limit begin_source tokens ≡ Some (Ok v)) × (map bare_item v.items ≡ map bare_item u.items)
+
+-- two trees of sources that the grammar gives and that have one spelling are equal up to places
+abbrev pub OneTreePerSpelling : Type 0
+OneTreePerSpelling = (u v : source.Unit) → RankedUnit u → RankedUnit v → spelling u ≡ spelling v → bare u ≡ bare v

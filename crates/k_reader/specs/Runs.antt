@@ -1,0 +1,27 @@
+-- How a whole token list is read: to the tree at its end, or to the first token that can't stand.
+use Rattle.std.specs.Prelude.{ℕ, cond, nat_le, List, [], ◌∷◌, Option, Some, None, Ok, Err}
+use Rattle.std.specs.declared.result.Result.{Result}
+use Rattle.k_num.specs.declared.place.Place.{Place}
+use Rattle.k_tree.specs.declared.tokens.Token.{Token}
+use Rattle.k_tree.specs.declared.tree.unit.Unit as source
+use Rattle.k_reader.specs.declared.source.Source.{Source}
+use Rattle.k_reader.specs.declared.source.Sourced.{Sourced}
+use Rattle.k_reader.specs.declared.source.Sourced.TheVariants as sourced
+use Rattle.k_reader.specs.declared.whole.ParseFault.{ParseFault}
+use Rattle.k_reader.specs.declared.whole.ParseFault.TheVariants as fault
+use Rattle.k_reader.specs.Sources.{feed_source}
+
+-- what comes of a list, where it has an end
+abbrev pub Outcome : Type 0
+Outcome = Option (Result source.Unit ParseFault)
+
+-- what comes of a token: the source goes on, or nests too deep for the limit, or is done, or the token can't stand there
+abbrev pub next : ℕ → Sourced → Place → (Source → Outcome) → Outcome
+next limit (sourced.Goes s reach) p go = cond (nat_le reach limit) (go s) (Some (Err (fault.TooDeep p)))
+next limit (sourced.Done u) p go = Some (Ok u)
+next limit sourced.Refused p go = Some (Err (fault.Syntax p))
+
+-- the outcome of reading the rest of a list with this limit of levels, from what was read so far
+unfoldable pub runs : ℕ → Source → List Token → Outcome
+runs limit s [] = None
+runs limit s (t ∷ ts) = next limit (feed_source s t) t.place (λ x. runs limit x ts)

@@ -1,0 +1,77 @@
+//! Declarations (C17 6.7), token by token, from behind their first specifier.
+pub mod initialiser;
+
+use crate::declaration::initialiser::{After, Brace};
+use crate::expression::Reading;
+use crate::stack::Stack;
+use crate::stars::Stars;
+use k_num::{Place, Seq};
+use k_tree::{Declarator, Word};
+
+/// What stands before the declarator that is read: the specifiers, and the declarators so far. `level` is that of a node
+/// in a declarator.
+#[derive(Drop)]
+pub struct Front {
+    pub specs: Seq<Word>,
+    pub list: Seq<Declarator>,
+    pub level: usize,
+}
+
+/// Where the reading of a declaration stands.
+#[derive(Drop)]
+pub enum Stage {
+    /// Before the name of a declarator.
+    Before {
+        stars: Stars,
+    },
+    /// Behind the name of a declarator, or behind a dimension.
+    Named {
+        declarator: Declarator,
+    },
+    /// In a dimension.
+    Size {
+        declarator: Declarator,
+        reading: Reading,
+    },
+    /// Before an initialiser.
+    Starts {
+        declarator: Declarator,
+        braces: Stack<Brace>,
+    },
+    /// In an expression that is an initialiser, of which the first token stands at `place`.
+    Value {
+        declarator: Declarator,
+        braces: Stack<Brace>,
+        place: Place,
+        reading: Reading,
+    },
+    /// Behind an initialiser.
+    After {
+        declarator: Declarator,
+        braces: Stack<Brace>,
+    },
+}
+
+/// What has been read of a declaration.
+#[derive(Drop)]
+pub struct Declaration {
+    pub front: Front,
+    pub stage: Stage,
+}
+
+/// What a token does in a declaration.
+#[derive(Drop)]
+pub enum Declared {
+    /// The declaration goes on; `reach` is the deepest level that the token makes sure.
+    Goes {
+        declaration: Declaration,
+        reach: usize,
+    },
+    /// The token is the semicolon.
+    Done {
+        specs: Seq<Word>,
+        list: Seq<Declarator>,
+    },
+    /// The token can't stand here.
+    Refused,
+}

@@ -1,0 +1,18 @@
+//! Laws of the reading. Each is the contract of a function that does nothing.
+ghost use Rattle.k_reader.specs.Laws.{TreesReadAreRanked, RankedTreesAreRead, OneTreePerSpelling};
+
+/// A tree that a token list is read to within the limit of nesting is one that the grammar gives, each of its nodes stands at
+/// its token, so that it spells the list, and it is within the limit.
+pub fn trees_read_are_ranked()
+    ensures { TreesReadAreRanked }
+{}
+
+/// Tokens that spell a tree that the grammar gives, within the limit of nesting, are read to that tree, up to places.
+pub fn ranked_trees_are_read()
+    ensures { RankedTreesAreRead }
+{}
+
+/// Two trees of sources that the grammar gives and that have one spelling are equal up to places.
+pub fn one_tree_per_spelling()
+    ensures { OneTreePerSpelling }
+{}

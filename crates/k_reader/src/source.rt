@@ -1,0 +1,63 @@
+//! A source (C17 6.9), token by token.
+
+use crate::declaration::Declaration;
+use crate::parameter::Parameters;
+use crate::statement::Body;
+use k_num::{Place, Seq, Text};
+use k_tree::{Head, Item, Unit, Word};
+
+/// The head of a function without its parameters.
+#[derive(Drop)]
+pub struct Title {
+    pub specs: Seq<Word>,
+    pub stars: Seq<bool>,
+    pub name: Text,
+    pub name_place: Place,
+}
+
+/// Where the reading of a source stands.
+#[derive(Drop)]
+pub enum Phase {
+    /// An item begins, or the end is there.
+    Starts,
+    /// In an item that may be a declaration or a function.
+    Declares {
+        place: Place,
+        declaration: Declaration,
+    },
+    /// In the parameters of a function.
+    Parameters {
+        place: Place,
+        title: Title,
+        parameters: Parameters,
+    },
+    /// Behind the head of a function.
+    Headed {
+        place: Place,
+        head: Head,
+    },
+    /// In the block of a function.
+    Body {
+        place: Place,
+        head: Head,
+        body: Body,
+    },
+}
+
+/// What has been read of a source.
+#[derive(Drop)]
+pub struct Source {
+    pub items: Seq<Item>,
+    pub phase: Phase,
+}
+
+/// What a token does in a source.
+#[derive(Drop)]
+pub enum Sourced {
+    /// The source goes on; `reach` is the deepest level that the token makes sure.
+    Goes { source: Source, reach: usize },
+    /// The token is the end.
+    Done { unit: Unit },
+    /// The token can't stand here.
+    Refused,
+}

@@ -1,0 +1,141 @@
+//! The block of a function (C17 6.8), token by token, from behind its opening brace.
+pub mod begin;
+pub mod clause;
+pub mod loops;
+
+use crate::declaration::Declaration;
+use crate::expression::Reading;
+use crate::stack::Stack;
+use k_num::{Box, Place, Seq};
+use k_tree::{Expr, First, Stmt};
+
+/// A statement of which a part is awaited.
+#[derive(Drop)]
+pub enum Frame {
+    /// `if ( test )`
+    Then {
+        place: Place,
+        test: Box<Expr>,
+    },
+    /// `if ( test ) then else`
+    Else {
+        place: Place,
+        test: Box<Expr>,
+        then: Box<Stmt>,
+    },
+    /// `while ( test )`
+    While {
+        place: Place,
+        test: Box<Expr>,
+    },
+    /// `do`
+    Do {
+        place: Place,
+    },
+    /// `for ( start test ; step )`
+    For {
+        place: Place,
+        start: First,
+        test: Option<Box<Expr>>,
+        step: Option<Box<Expr>>,
+    },
+    /// `{` and some statements and declarations.
+    Block {
+        place: Place,
+        parts: Seq<Stmt>,
+    },
+}
+
+/// What has a test in parentheses.
+#[derive(Drop)]
+pub enum Tested {
+    If { place: Place },
+    While { place: Place },
+    /// `do body while`
+    Do { place: Place, body: Stmt },
+}
+
+/// Where the reading of a block stands.
+#[derive(Drop)]
+pub enum Step {
+    /// A statement begins, or in a block a declaration or its end.
+    Begins,
+    /// Behind a statement.
+    Whole {
+        stmt: Stmt,
+    },
+    /// In a statement that is an expression.
+    Value {
+        place: Place,
+        reading: Reading,
+    },
+    /// Before the parenthesis of a test.
+    Keyword {
+        tested: Tested,
+    },
+    /// In a test.
+    Test {
+        tested: Tested,
+        reading: Reading,
+    },
+    /// Before the semicolon of a statement.
+    Semicolon {
+        stmt: Stmt,
+    },
+    /// Before the parenthesis of a `for`.
+    For {
+        place: Place,
+    },
+    /// In the first part of a `for`.
+    Start {
+        place: Place,
+        reading: Reading,
+    },
+    /// In the declaration of a `for`.
+    Declares {
+        place: Place,
+        declaration: Declaration,
+    },
+    /// In the second part of a `for`.
+    Second {
+        place: Place,
+        start: First,
+        reading: Reading,
+    },
+    /// In the third part of a `for`.
+    Third {
+        place: Place,
+        start: First,
+        test: Option<Expr>,
+        reading: Reading,
+    },
+    /// In the value of a `return`.
+    Return {
+        place: Place,
+        reading: Reading,
+    },
+    /// In a declaration of a block.
+    Local {
+        place: Place,
+        declaration: Declaration,
+    },
+}
+
+/// What has been read of a function's block: its statements and declarations so far, and the statements that are open.
+#[derive(Drop)]
+pub struct Body {
+    pub parts: Seq<Stmt>,
+    pub frames: Stack<Frame>,
+    pub step: Step,
+}
+
+/// What a token does in the block of a function.
+#[derive(Drop)]
+pub enum Stepped {
+    /// The block goes on; `reach` is the deepest level that the token makes sure.
+    Goes { body: Body, reach: usize },
+    /// The token is the closing brace of the block.
+    Done { parts: Seq<Stmt> },
+    /// The token can't stand here.
+    Refused,
+}

@@ -1,0 +1,1 @@
+//! The first token of a statement.

@@ -1,0 +1,13 @@
+//! Tests in parentheses, and the token behind a statement.
+
+use crate::statement::Frame;
+use k_tree::Stmt;
+
+/// What comes of a statement that ends, and of the statement around it.
+#[derive(Drop)]
+pub enum Closed {
+    /// The statement around ends too.
+    Whole { stmt: Stmt },
+    /// The statement around has a part of its own to come.
+    Part { frame: Frame, stmt: Stmt },
+}
