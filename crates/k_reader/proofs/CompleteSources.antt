@@ -67,7 +67,7 @@ source_reached u h ts spelled = reached Sources (1 + nesting u) (in_row (map spe
 one_source : (a b : Source) (m n : ℕ) → ◌≡◌ {A = Sourced} (sourced.Goes a m) (sourced.Goes b n) → a ≡ b
 one_source a b m n e = cc
 
-goes_once : (s : Source) (t : Token) (a b : Source) (m n : ℕ) → Sources s t a m → Sources s t b n → a ≡ b
+pub goes_once : (s : Source) (t : Token) (a b : Source) (m n : ℕ) → Sources s t a m → Sources s t b n → a ≡ b
 goes_once s t a b m n x y = one_source a b m n (sym x ∙ y)
 
 done_once : (a b : source.Unit) → ◌≡◌ {A = Sourced} (sourced.Done a) (sourced.Done b) → a ≡ b

@@ -31,6 +31,7 @@ pub mod ExpressionSound
 pub mod ExpressionState
 pub mod ExpressionTerms
 pub mod ExpressionViable
+pub mod FirstWrong
 pub mod InitialiserSound
 pub mod Marks
 pub mod OperandSound

@@ -1,5 +1,5 @@
 -- What is true of the reading of whole token lists.
-use Rattle.std.specs.Prelude.{ℕ, ◌≡◌, ◌≤◌, List, map, Some, Ok}
+use Rattle.std.specs.Prelude.{ℕ, ◌≡◌, ◌≤◌, List, map, Some, Ok, Err}
 use Rattle.k_tree.specs.declared.tokens.Token.{Token}
 use Rattle.k_tree.specs.declared.tree.unit.Unit as source
 use Rattle.k_tree.specs.Bare.{bare, bare_item}
@@ -7,6 +7,8 @@ use Rattle.k_tree.specs.Nesting.{nesting}
 use Rattle.k_tree.specs.Places.{Placed}
 use Rattle.k_tree.specs.Ranked.{RankedUnit}
 use Rattle.k_tree.specs.Spelling.{spelling}
+use Rattle.k_reader.specs.declared.whole.ParseFault.{ParseFault}
+use Rattle.k_reader.specs.Beginnings.{IsFirstWrong}
 use Rattle.k_reader.specs.Closed.{EndsOnce}
 use Rattle.k_reader.specs.Runs.{runs}
 use Rattle.k_reader.specs.Sources.{begin_source}
@@ -24,3 +26,7 @@ RankedTreesAreRead = (limit : ℕ) (u : source.Unit) (tokens : List Token) → R
 -- two trees of sources that the grammar gives and that have one spelling are equal up to places
 abbrev pub OneTreePerSpelling : Type 0
 OneTreePerSpelling = (u v : source.Unit) → RankedUnit u → RankedUnit v → spelling u ≡ spelling v → bare u ≡ bare v
+
+-- a list that is refused is refused at its first wrong token: the first with which the tokens so far begin no source within the limit of nesting
+abbrev pub RefusalsAreFirstWrong : Type 0
+RefusalsAreFirstWrong = (tokens : List Token) (f : ParseFault) → runs 200 begin_source tokens ≡ Some (Err f) → IsFirstWrong 200 tokens f

@@ -12,3 +12,4 @@ pub mod Stars
 pub mod Statements
 pub mod Top
 pub mod Laws
+pub mod Beginnings

@@ -1,5 +1,5 @@
 //! Laws of the reading. Each is the contract of a function that does nothing.
-ghost use Rattle.k_reader.specs.Laws.{TreesReadAreRanked, RankedTreesAreRead, OneTreePerSpelling};
+ghost use Rattle.k_reader.specs.Laws.{TreesReadAreRanked, RankedTreesAreRead, OneTreePerSpelling, RefusalsAreFirstWrong};
 
 /// A tree that a token list is read to within the limit of nesting is one that the grammar gives, each of its nodes stands at
 /// its token, so that it spells the list, and it is within the limit.
@@ -15,4 +15,10 @@ pub fn ranked_trees_are_read()
 /// Two trees of sources that the grammar gives and that have one spelling are equal up to places.
 pub fn one_tree_per_spelling()
     ensures { OneTreePerSpelling }
+{}
+
+/// A list that is refused is refused at its first wrong token: those before it begin a source within the limit of nesting, with
+/// it they begin none, and where it is refused as Syntax they begin none of any nesting.
+pub fn refusals_are_first_wrong()
+    ensures { RefusalsAreFirstWrong }
 {}
