@@ -1,0 +1,381 @@
+//! Declarations (C17 6.7), token by token, from behind their first specifier.
+pub mod initialiser;
+
+ghost use Rattle.std.specs.Prelude.{◌≡◌, IfOk};
+ghost use Rattle.k_reader.specs.Declarations as spec;
+
+use k_expression::expression::{begin, feed};
+use k_expression::reading::read_maybe;
+use k_num::{NoMemory, Place, Seq, Text};
+use k_reader::declaration::initialiser::{After, Brace, Opened};
+use k_reader::declaration::{Declaration, Declared, Front, Stage};
+use k_reader::expression::{Fed, Reading};
+use k_reader::level::plus;
+use k_reader::operators::{is_bracket, is_equal, is_left_brace, is_right_brace, is_spec};
+use k_reader::reading::{Closer, Maybe};
+use k_reader::stack::Stack;
+use k_reader::stars::{Stars, all_stars, constant, no_stars, star};
+use k_tree::{Declarator, Init, Mark, Token, TokenKind, Word};
+use std::alloc::Global;
+
+/// The declaration goes on.
+pub fn declares(front: Front, stage: Stage, reach: usize) -> Declared
+    ensures { result ≡ spec.declares front stage reach }
+{
+    let declaration = Declaration { front, stage };
+    Declared::Goes { declaration, reach }
+}
+
+/// A declaration whose first specifier was read.
+pub fn begin_declaration(alloc: Global, word: Word, level: usize) -> Result<Declaration, NoMemory>
+    ensures { IfOk result (λ declaration. declaration ≡ spec.begin_declaration word level) }
+{
+    let mut specs = Seq::new(alloc);
+    specs.push(word)?;
+    let front = Front {
+        specs,
+        list: Seq::new(alloc),
+        level,
+    };
+    let stars = no_stars(alloc);
+    Ok(Declaration {
+        front,
+        stage: Stage::Before { stars },
+    })
+}
+
+/// A keyword before a name: `const` behind a star, or one more specifier.
+#[tactic(auto, unfolding(k_reader::specs::Declarations::word))]
+fn word(mut front: Front, stars: Stars, word: Word) -> Result<Declared, NoMemory>
+    ensures { IfOk result (λ fed. fed ≡ spec.word front stars word) }
+{
+    if stars.pending {
+        if !matches!(word, Word::Const) {
+            return Ok(Declared::Refused);
+        }
+        let stars = constant(stars)?;
+        return Ok(declares(front, Stage::Before { stars }, 0));
+    }
+    if stars.done.len() > 0 || front.list.len() > 0 || !is_spec(word) {
+        return Ok(Declared::Refused);
+    }
+    front.specs.push(word)?;
+    Ok(declares(front, Stage::Before { stars }, 0))
+}
+
+/// The name of a declarator.
+#[tactic(auto, unfolding(k_reader::specs::Declarations::name))]
+fn name(
+    alloc: Global,
+    front: Front,
+    stars: Stars,
+    name: &Text,
+    place: Place,
+) -> Result<Declared, NoMemory>
+    ensures { IfOk result (λ fed. fed ≡ spec.name front stars name.now place) }
+{
+    let stars = all_stars(stars)?;
+    let name = Text::copy_of(alloc, name.as_str())?;
+    let declarator = Declarator {
+        place,
+        stars,
+        name,
+        dims: Seq::new(alloc),
+        init: None,
+    };
+    Ok(declares(front, Stage::Named { declarator }, 0))
+}
+
+/// A token before the name of a declarator.
+#[tactic(auto, unfolding(k_reader::specs::Declarations::before))]
+fn before(alloc: Global, front: Front, stars: Stars, token: &Token) -> Result<Declared, NoMemory>
+    ensures { IfOk result (λ fed. fed ≡ spec.before front stars token.now) }
+{
+    match &token.what {
+        TokenKind::Word(word_read) => word(front, stars, *word_read),
+        TokenKind::Name(name_read) => name(alloc, front, stars, name_read, token.place),
+        TokenKind::Mark(mark) => mark_before(front, stars, *mark),
+        _ => Ok(Declared::Refused),
+    }
+}
+
+/// A mark before the name of a declarator.
+#[tactic(auto, unfolding(k_reader::specs::Declarations::mark_before))]
+fn mark_before(front: Front, stars: Stars, mark: Mark) -> Result<Declared, NoMemory>
+    ensures { IfOk result (λ fed. fed ≡ spec.mark_before front stars mark) }
+{
+    match mark {
+        Mark::Star => {
+            let stars = star(stars)?;
+            Ok(declares(front, Stage::Before { stars }, 0))
+        }
+        _ => Ok(Declared::Refused),
+    }
+}
+
+/// The mark behind a declarator.
+#[tactic(auto, unfolding(k_reader::specs::Declarations::end))]
+fn end(
+    alloc: Global,
+    mut front: Front,
+    declarator: Declarator,
+    mark: Mark,
+) -> Result<Declared, NoMemory>
+    ensures { IfOk result (λ fed. fed ≡ spec.end front declarator mark) }
+{
+    match mark {
+        Mark::Comma => {
+            front.list.push(declarator)?;
+            let stars = no_stars(alloc);
+            Ok(declares(front, Stage::Before { stars }, 0))
+        }
+        Mark::Semicolon => {
+            front.list.push(declarator)?;
+            let Front { specs, list, .. } = front;
+            Ok(Declared::Done { specs, list })
+        }
+        _ => Ok(Declared::Refused),
+    }
+}
+
+/// A mark behind the name of a declarator, or behind a dimension.
+#[tactic(auto, unfolding(k_reader::specs::Declarations::named))]
+fn named(
+    alloc: Global,
+    front: Front,
+    declarator: Declarator,
+    mark: Mark,
+) -> Result<Declared, NoMemory>
+    ensures { IfOk result (λ fed. fed ≡ spec.named front declarator mark) }
+{
+    if is_bracket(mark) {
+        let reading = begin(alloc, 2, front.level);
+        Ok(declares(
+            front,
+            Stage::Size {
+                declarator,
+                reading,
+            },
+            0,
+        ))
+    } else if is_equal(mark) {
+        let reach = plus(front.level, 1);
+        let braces = Stack::new(alloc);
+        Ok(declares(front, Stage::Starts { declarator, braces }, reach))
+    } else {
+        end(alloc, front, declarator, mark)
+    }
+}
+
+/// A token in a dimension.
+#[tactic(auto, unfolding(k_reader::specs::Declarations::size))]
+fn size(
+    alloc: Global,
+    front: Front,
+    mut declarator: Declarator,
+    reading: Reading,
+    token: &Token,
+) -> Result<Declared, NoMemory>
+    ensures { IfOk result (λ fed. fed ≡ spec.size front declarator reading token.now) }
+{
+    match read_maybe(alloc, reading, token, Closer::Bracket)? {
+        Maybe::Goes { reading, reach } => {
+            Ok(declares(
+                front,
+                Stage::Size {
+                    declarator,
+                    reading,
+                },
+                reach,
+            ))
+        }
+        Maybe::Closed { value } => {
+            declarator.dims.push(value)?;
+            Ok(declares(front, Stage::Named { declarator }, 0))
+        }
+        Maybe::Refused => Ok(Declared::Refused),
+    }
+}
+
+/// The token behind an initialiser.
+#[tactic(auto, unfolding(k_reader::specs::Declarations::after))]
+fn behind(alloc: Global, front: Front, opened: Opened, token: &Token) -> Result<Declared, NoMemory>
+    ensures { IfOk result (λ fed. fed ≡ spec.after front opened token.now) }
+{
+    let TokenKind::Mark(mark) = &token.what else {
+        return Ok(Declared::Refused);
+    };
+    match initialiser::behind(opened, *mark)? {
+        After::Starts { opened } => {
+            let Opened { declarator, braces } = opened;
+            Ok(declares(front, Stage::Starts { declarator, braces }, 0))
+        }
+        After::Closed { opened } => {
+            let Opened { declarator, braces } = opened;
+            Ok(declares(front, Stage::After { declarator, braces }, 0))
+        }
+        After::Done { declarator } => end(alloc, front, declarator, *mark),
+        After::Refused => Ok(Declared::Refused),
+    }
+}
+
+/// A token where an initialiser begins.
+#[tactic(auto, unfolding(k_reader::specs::Declarations::starts))]
+fn starts(alloc: Global, front: Front, opened: Opened, token: &Token) -> Result<Declared, NoMemory>
+    ensures { IfOk result (λ fed. fed ≡ spec.starts front opened token.now) }
+{
+    match &token.what {
+        TokenKind::Mark(mark) => mark_starts(alloc, front, opened, token, *mark),
+        _ => first(alloc, front, opened, token),
+    }
+}
+
+/// A mark where an initialiser begins.
+#[tactic(auto, unfolding(k_reader::specs::Declarations::mark_starts))]
+fn mark_starts(
+    alloc: Global,
+    front: Front,
+    opened: Opened,
+    token: &Token,
+    mark: Mark,
+) -> Result<Declared, NoMemory>
+    ensures { IfOk result (λ fed. fed ≡ spec.mark_starts front opened token.now mark) }
+{
+    if is_left_brace(mark) {
+        open_brace(alloc, front, opened, token.place)
+    } else if is_right_brace(mark) {
+        last_comma(front, opened)
+    } else {
+        first(alloc, front, opened, token)
+    }
+}
+
+/// A brace opens.
+#[tactic(auto, unfolding(k_reader::specs::Declarations::brace))]
+fn open_brace(
+    alloc: Global,
+    front: Front,
+    opened: Opened,
+    place: Place,
+) -> Result<Declared, NoMemory>
+    ensures { IfOk result (λ fed. fed ≡ spec.brace front opened place) }
+{
+    let Opened {
+        declarator,
+        mut braces,
+    } = opened;
+    let reach = plus(plus(front.level, braces.len()), 2);
+    let items = Seq::new(alloc);
+    braces.push(Brace { place, items })?;
+    Ok(declares(front, Stage::Starts { declarator, braces }, reach))
+}
+
+/// A brace closes behind a comma.
+#[tactic(auto, unfolding(k_reader::specs::Declarations::last_comma))]
+fn last_comma(front: Front, opened: Opened) -> Result<Declared, NoMemory>
+    ensures { IfOk result (λ fed. fed ≡ spec.last_comma front opened) }
+{
+    match initialiser::last_comma(opened)? {
+        None => Ok(Declared::Refused),
+        Some(opened) => {
+            let Opened { declarator, braces } = opened;
+            Ok(declares(front, Stage::After { declarator, braces }, 0))
+        }
+    }
+}
+
+/// The first token of an expression that is an initialiser.
+#[tactic(auto, unfolding(k_reader::specs::Declarations::first_token))]
+fn first(alloc: Global, front: Front, opened: Opened, token: &Token) -> Result<Declared, NoMemory>
+    ensures { IfOk result (λ fed. fed ≡ spec.first_token front opened token.now) }
+{
+    let Opened { declarator, braces } = opened;
+    let level = plus(plus(front.level, braces.len()), 1);
+    match feed(alloc, begin(alloc, 1, level), token)? {
+        Fed::Goes { reading, reach } => {
+            let place = token.place;
+            let stage = Stage::Value {
+                declarator,
+                braces,
+                place,
+                reading,
+            };
+            Ok(declares(front, stage, reach))
+        }
+        Fed::Ends { value: _value } => Ok(Declared::Refused),
+        Fed::Refused => Ok(Declared::Refused),
+    }
+}
+
+/// A token in an expression that is an initialiser.
+#[tactic(auto, unfolding(k_reader::specs::Declarations::value))]
+fn value(
+    alloc: Global,
+    front: Front,
+    opened: Opened,
+    place: Place,
+    reading: Reading,
+    token: &Token,
+) -> Result<Declared, NoMemory>
+    ensures { IfOk result (λ fed. fed ≡ spec.value front opened place reading token.now) }
+{
+    match feed(alloc, reading, token)? {
+        Fed::Goes { reading, reach } => {
+            let Opened { declarator, braces } = opened;
+            let stage = Stage::Value {
+                declarator,
+                braces,
+                place,
+                reading,
+            };
+            Ok(declares(front, stage, reach))
+        }
+        Fed::Ends { value } => {
+            let opened = initialiser::plug(opened, Init::One { place, value })?;
+            behind(alloc, front, opened, token)
+        }
+        Fed::Refused => Ok(Declared::Refused),
+    }
+}
+
+/// The next token of a declaration.
+#[tactic(auto, unfolding(k_reader::specs::Declarations::feed_declaration))]
+pub fn feed_declaration(
+    alloc: Global,
+    declaration: Declaration,
+    token: &Token,
+) -> Result<Declared, NoMemory>
+    ensures { IfOk result (λ fed. fed ≡ spec.feed_declaration declaration token.now) }
+{
+    let Declaration { front, stage } = declaration;
+    match stage {
+        Stage::Before { stars } => before(alloc, front, stars, token),
+        Stage::Named { declarator } => match &token.what {
+            TokenKind::Mark(mark) => named(alloc, front, declarator, *mark),
+            _ => Ok(Declared::Refused),
+        },
+        Stage::Size {
+            declarator,
+            reading,
+        } => size(alloc, front, declarator, reading, token),
+        Stage::Starts { declarator, braces } => {
+            starts(alloc, front, Opened { declarator, braces }, token)
+        }
+        Stage::Value {
+            declarator,
+            braces,
+            place,
+            reading,
+        } => value(
+            alloc,
+            front,
+            Opened { declarator, braces },
+            place,
+            reading,
+            token,
+        ),
+        Stage::After { declarator, braces } => {
+            behind(alloc, front, Opened { declarator, braces }, token)
+        }
+    }
+}

@@ -1,0 +1,266 @@
+//! Parameters of a function (C17 6.7.6.3), token by token, from behind the opening parenthesis.
+ghost use Rattle.std.specs.Prelude.{◌≡◌, IfOk};
+ghost use Rattle.k_reader.specs.Parameters as spec;
+
+use k_expression::expression::begin;
+use k_expression::reading::read_maybe;
+use k_num::{NoMemory, Place, Seq, Text};
+use k_reader::expression::Reading;
+use k_reader::operators::{is_bracket, is_spec, is_star};
+use k_reader::parameter::{Parameters, Parametric, Part};
+use k_reader::reading::{Closer, Maybe};
+use k_reader::stars::{Stars, all_stars, constant, no_stars, star};
+use k_tree::{Mark, Param, Params, Token, TokenKind, Word};
+use std::alloc::Global;
+
+fn follows(list: Seq<Param>, part: Part, reach: usize) -> Parametric
+    ensures { result ≡ spec.follows list part reach }
+{
+    let parameters = Parameters { list, part };
+    Parametric::Goes { parameters, reach }
+}
+
+/// No parameter was read.
+pub fn begin_parameters(alloc: Global) -> Parameters
+    ensures { result ≡ spec.begin_parameters }
+{
+    Parameters {
+        list: Seq::new(alloc),
+        part: Part::Starts,
+    }
+}
+
+/// A keyword where a parameter begins.
+#[tactic(auto, unfolding(k_reader::specs::Parameters::starts))]
+fn starts(alloc: Global, list: Seq<Param>, word: Word, place: Place) -> Result<Parametric, NoMemory>
+    ensures { IfOk result (λ fed. fed ≡ spec.starts list word place) }
+{
+    if !is_spec(word) {
+        return Ok(Parametric::Refused);
+    }
+    let mut specs = Seq::new(alloc);
+    specs.push(word)?;
+    let param = Param {
+        place,
+        specs,
+        stars: Seq::new(alloc),
+        name: None,
+        dims: Seq::new(alloc),
+    };
+    let stars = no_stars(alloc);
+    Ok(follows(list, Part::Typed { param, stars }, 0))
+}
+
+/// A closing parenthesis where a parameter could begin.
+#[tactic(auto, unfolding(k_reader::specs::Parameters::none))]
+fn none(list: Seq<Param>) -> Parametric
+    ensures { result ≡ spec.none list }
+{
+    if list.len() > 0 {
+        return Parametric::Refused;
+    }
+    Parametric::Done {
+        params: Params::Empty,
+    }
+}
+
+/// A token where a parameter begins.
+#[tactic(auto, unfolding(k_reader::specs::Parameters::first_token))]
+fn first(alloc: Global, list: Seq<Param>, token: &Token) -> Result<Parametric, NoMemory>
+    ensures { IfOk result (λ fed. fed ≡ spec.first_token list token.now) }
+{
+    match &token.what {
+        TokenKind::Word(word) => starts(alloc, list, *word, token.place),
+        TokenKind::Mark(mark) => Ok(mark_first(list, *mark)),
+        _ => Ok(Parametric::Refused),
+    }
+}
+
+/// A mark where a parameter begins.
+#[tactic(auto, unfolding(k_reader::specs::Parameters::mark_first))]
+fn mark_first(list: Seq<Param>, mark: Mark) -> Parametric
+    ensures { result ≡ spec.mark_first list mark }
+{
+    match mark {
+        Mark::RightParen => none(list),
+        _ => Parametric::Refused,
+    }
+}
+
+/// Is it `void` alone?
+#[tactic(auto, unfolding(k_reader::specs::Parameters::is_void_alone))]
+fn is_void_alone(param: &Param) -> bool
+    ensures { result ≡ spec.is_void_alone param.now }
+{
+    matches!(param.specs.as_slice(), [Word::Void])
+        && param.stars.len() == 0
+        && param.name.is_none()
+        && param.dims.len() == 0
+}
+
+/// The mark behind a parameter.
+#[tactic(auto, unfolding(k_reader::specs::Parameters::end))]
+fn end(mut list: Seq<Param>, param: Param, mark: Mark) -> Result<Parametric, NoMemory>
+    ensures { IfOk result (λ fed. fed ≡ spec.end list param mark) }
+{
+    match mark {
+        Mark::Comma => {
+            list.push(param)?;
+            Ok(follows(list, Part::Starts, 0))
+        }
+        Mark::RightParen => {
+            if list.len() == 0 && is_void_alone(&param) {
+                return Ok(Parametric::Done {
+                    params: Params::Void,
+                });
+            }
+            list.push(param)?;
+            Ok(Parametric::Done {
+                params: Params::List(list),
+            })
+        }
+        _ => Ok(Parametric::Refused),
+    }
+}
+
+/// A mark behind the type or the name of a parameter.
+#[tactic(auto, unfolding(k_reader::specs::Parameters::named))]
+fn named(alloc: Global, list: Seq<Param>, param: Param, mark: Mark) -> Result<Parametric, NoMemory>
+    ensures { IfOk result (λ fed. fed ≡ spec.named list param mark) }
+{
+    if is_bracket(mark) {
+        let reading = begin(alloc, 2, 1);
+        Ok(follows(list, Part::Size { param, reading }, 0))
+    } else {
+        end(list, param, mark)
+    }
+}
+
+/// A keyword in the type of a parameter.
+#[tactic(auto, unfolding(k_reader::specs::Parameters::word))]
+fn word(
+    list: Seq<Param>,
+    mut param: Param,
+    stars: Stars,
+    word: Word,
+) -> Result<Parametric, NoMemory>
+    ensures { IfOk result (λ fed. fed ≡ spec.word list param stars word) }
+{
+    if stars.pending {
+        if !matches!(word, Word::Const) {
+            return Ok(Parametric::Refused);
+        }
+        let stars = constant(stars)?;
+        return Ok(follows(list, Part::Typed { param, stars }, 0));
+    }
+    if stars.done.len() > 0 || !is_spec(word) {
+        return Ok(Parametric::Refused);
+    }
+    param.specs.push(word)?;
+    Ok(follows(list, Part::Typed { param, stars }, 0))
+}
+
+/// The stars of a parameter are done.
+fn starred(mut param: Param, stars: Stars) -> Result<Param, NoMemory>
+    ensures { IfOk result (λ made. made ≡ spec.starred param stars) }
+{
+    param.stars = all_stars(stars)?;
+    Ok(param)
+}
+
+/// The name of a parameter.
+#[tactic(auto, unfolding(k_reader::specs::Parameters::name))]
+fn name(
+    alloc: Global,
+    list: Seq<Param>,
+    param: Param,
+    stars: Stars,
+    name: &Text,
+) -> Result<Parametric, NoMemory>
+    ensures { IfOk result (λ fed. fed ≡ spec.name list param stars name.now) }
+{
+    let mut param = starred(param, stars)?;
+    param.name = Some(Text::copy_of(alloc, name.as_str())?);
+    Ok(follows(list, Part::Named { param }, 0))
+}
+
+/// A token in the type of a parameter, or behind it.
+#[tactic(auto, unfolding(k_reader::specs::Parameters::typed))]
+fn typed(
+    alloc: Global,
+    list: Seq<Param>,
+    param: Param,
+    stars: Stars,
+    token: &Token,
+) -> Result<Parametric, NoMemory>
+    ensures { IfOk result (λ fed. fed ≡ spec.typed list param stars token.now) }
+{
+    match &token.what {
+        TokenKind::Word(word_read) => word(list, param, stars, *word_read),
+        TokenKind::Name(name_read) => name(alloc, list, param, stars, name_read),
+        TokenKind::Mark(mark) => mark_typed(alloc, list, param, stars, *mark),
+        _ => Ok(Parametric::Refused),
+    }
+}
+
+/// A mark in the type of a parameter, or behind it.
+#[tactic(auto, unfolding(k_reader::specs::Parameters::mark_typed))]
+fn mark_typed(
+    alloc: Global,
+    list: Seq<Param>,
+    param: Param,
+    stars: Stars,
+    mark: Mark,
+) -> Result<Parametric, NoMemory>
+    ensures { IfOk result (λ fed. fed ≡ spec.mark_typed list param stars mark) }
+{
+    if is_star(mark) {
+        let stars = star(stars)?;
+        Ok(follows(list, Part::Typed { param, stars }, 0))
+    } else {
+        let param = starred(param, stars)?;
+        named(alloc, list, param, mark)
+    }
+}
+
+/// A token in a dimension.
+#[tactic(auto, unfolding(k_reader::specs::Parameters::size))]
+fn size(
+    alloc: Global,
+    list: Seq<Param>,
+    mut param: Param,
+    reading: Reading,
+    token: &Token,
+) -> Result<Parametric, NoMemory>
+    ensures { IfOk result (λ fed. fed ≡ spec.size list param reading token.now) }
+{
+    match read_maybe(alloc, reading, token, Closer::Bracket)? {
+        Maybe::Goes { reading, reach } => Ok(follows(list, Part::Size { param, reading }, reach)),
+        Maybe::Closed { value } => {
+            param.dims.push(value)?;
+            Ok(follows(list, Part::Named { param }, 0))
+        }
+        Maybe::Refused => Ok(Parametric::Refused),
+    }
+}
+
+/// The next token of parameters.
+#[tactic(auto, unfolding(k_reader::specs::Parameters::feed_parameters))]
+pub fn feed_parameters(
+    alloc: Global,
+    parameters: Parameters,
+    token: &Token,
+) -> Result<Parametric, NoMemory>
+    ensures { IfOk result (λ fed. fed ≡ spec.feed_parameters parameters token.now) }
+{
+    let Parameters { list, part } = parameters;
+    match part {
+        Part::Starts => first(alloc, list, token),
+        Part::Typed { param, stars } => typed(alloc, list, param, stars, token),
+        Part::Named { param } => match &token.what {
+            TokenKind::Mark(mark) => named(alloc, list, param, *mark),
+            _ => Ok(Parametric::Refused),
+        },
+        Part::Size { param, reading } => size(alloc, list, param, reading, token),
+    }
+}

@@ -1,0 +1,116 @@
+//! Expressions (C17 6.5), token by token.
+pub mod call;
+pub mod close;
+pub mod operand;
+pub mod plug;
+pub mod types;
+
+ghost use Rattle.std.specs.Prelude.{◌≡◌, IfOk};
+ghost use Rattle.k_reader.specs.Expressions as spec;
+
+use crate::reading::is_left_paren;
+use k_num::{NoMemory, Place, Seq, Text};
+use k_reader::expression::{Fed, Now, Open, Reading, Site, Term};
+use k_reader::level::plus;
+use k_reader::operators::right_rank;
+use k_reader::stack::Stack;
+use k_tree::{Expr, Mark, Token, Word};
+use std::alloc::Global;
+
+/// The expression goes on.
+pub fn goes(site: Site, opens: Stack<Open>, state: Now, reach: usize) -> Fed
+    ensures { result ≡ spec.goes site opens state reach }
+{
+    let reading = Reading { site, opens, state };
+    Fed::Goes { reading, reach }
+}
+
+/// The level of a node that stands in the innermost open construct.
+pub fn level(site: Site, opens: &Stack<Open>) -> usize
+    ensures { result ≡ spec.level site opens.now }
+{
+    plus(site.level, opens.len())
+}
+
+/// The least rank of an operand in the innermost open construct.
+#[tactic(auto, unfolding(k_reader::specs::Expressions::hole))]
+pub fn hole(site: Site, opens: &Stack<Open>) -> u8
+    ensures { result ≡ spec.hole site opens.now }
+{
+    match opens.top() {
+        None => site.rank,
+        Some(Open::Infix { op, .. }) => right_rank(*op),
+        Some(Open::Other { .. }) => 2,
+        Some(Open::Cast { .. }) => 13,
+        Some(Open::Prefix { op, .. }) => prefix_rank(*op),
+        Some(Open::Sizeof { .. }) => 14,
+        Some(Open::Call { .. }) => 1,
+        Some(Open::Then { .. } | Open::Paren { .. } | Open::Index { .. }) => 0,
+    }
+}
+
+/// The least rank of an operand behind an operator before it.
+#[tactic(auto, unfolding(k_reader::specs::Expressions::prefix_rank))]
+fn prefix_rank(op: Mark) -> u8
+    ensures { result ≡ spec.prefix_rank op }
+{
+    if k_reader::operators::is_step(op) {
+        14
+    } else {
+        13
+    }
+}
+
+/// The next token of an expression.
+#[tactic(auto, unfolding(k_reader::specs::Expressions::feed))]
+pub fn feed(alloc: Global, reading: Reading, token: &Token) -> Result<Fed, NoMemory>
+    ensures { IfOk result (λ fed. fed ≡ spec.feed reading token.now) }
+{
+    let Reading { site, opens, state } = reading;
+    match state {
+        Now::Operand => operand::operand(alloc, site, opens, token),
+        Now::Named { place, name } => named(alloc, site, opens, place, name, token),
+        Now::Type { specs, stars } => types::in_type(site, opens, specs, stars, token),
+        Now::Value { term } => close::value(alloc, site, opens, term, token),
+    }
+}
+
+/// Behind a name: a call begins, or the name stands for itself.
+#[tactic(auto, unfolding(k_reader::specs::Expressions::named))]
+fn named(
+    alloc: Global,
+    site: Site,
+    mut opens: Stack<Open>,
+    place: Place,
+    name: Text,
+    token: &Token,
+) -> Result<Fed, NoMemory>
+    ensures { IfOk result (λ fed. fed ≡ spec.named site opens place name token.now) }
+{
+    if is_left_paren(token) {
+        opens.push(Open::Call {
+            place,
+            name,
+            args: Seq::new(alloc),
+            height: 0,
+        })?;
+        return Ok(goes(site, opens, Now::Operand, 0));
+    }
+    let term = Term {
+        tree: Expr::Name { place, name },
+        rank: 16,
+        height: 1,
+    };
+    close::value(alloc, site, opens, term, token)
+}
+
+/// An expression begins.
+pub fn begin(alloc: Global, rank: u8, level: usize) -> Reading
+    ensures { result ≡ spec.begin rank level }
+{
+    Reading {
+        site: Site { rank, level },
+        opens: Stack::new(alloc),
+        state: Now::Operand,
+    }
+}

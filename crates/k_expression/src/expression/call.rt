@@ -1,0 +1,49 @@
+//! The arguments of a call (C17 6.5.2.2).
+ghost use Rattle.std.specs.Prelude.{◌≡◌, IfOk};
+ghost use Rattle.k_reader.specs.Expressions as spec;
+
+use crate::expression::goes;
+use k_num::{NoMemory, Place, Seq, Text};
+use k_reader::expression::call::Called;
+use k_reader::expression::{Fed, Now, Open, Site, Term};
+use k_reader::level::plus;
+use k_reader::stack::Stack;
+use k_tree::{Expr, Mark};
+
+/// The mark behind an argument.
+#[tactic(auto, unfolding(k_reader::specs::Expressions::argued))]
+pub fn argued(
+    site: Site,
+    mut opens: Stack<Open>,
+    called: Called,
+    mark: Mark,
+) -> Result<Fed, NoMemory>
+    ensures { IfOk result (λ fed. fed ≡ spec.argued site opens called mark) }
+{
+    let Called {
+        place,
+        name,
+        args,
+        height,
+    } = called;
+    match mark {
+        Mark::Comma => {
+            opens.push(Open::Call {
+                place,
+                name,
+                args,
+                height,
+            })?;
+            Ok(goes(site, opens, Now::Operand, 0))
+        }
+        Mark::RightParen => {
+            let term = Term {
+                tree: Expr::Call { place, name, args },
+                rank: 15,
+                height: plus(height, 1),
+            };
+            Ok(goes(site, opens, Now::Value { term }, 0))
+        }
+        _ => Ok(Fed::Refused),
+    }
+}

@@ -1,0 +1,217 @@
+//! The first token of an operand.
+ghost use Rattle.std.specs.Prelude.{◌≡◌, IfOk};
+ghost use Rattle.k_reader.specs.Expressions as spec;
+ghost use Rattle.k_reader.specs.Operators.{is_prefix_mark};
+ghost use Rattle.k_tree.specs.Ranked as ranked;
+
+use crate::expression::{goes, hole, level};
+use k_num::{NoMemory, Place, Seq, Text};
+use k_reader::expression::{Fed, Now, Open, Site, Term};
+use k_reader::level::plus;
+use k_reader::operators::{is_close, is_open, is_spec, is_step};
+use k_reader::stack::Stack;
+use k_reader::stars::no_stars;
+use k_tree::{Expr, Mark, Token, TokenKind, Word};
+use std::alloc::Global;
+
+/// An operand of one token.
+fn leaf(site: Site, opens: Stack<Open>, tree: Expr) -> Fed
+    ensures { result ≡ spec.leaf site opens tree }
+{
+    let reach = level(site, &opens);
+    let term = Term {
+        tree,
+        rank: 16,
+        height: 1,
+    };
+    goes(site, opens, Now::Value { term }, reach)
+}
+
+/// `(` before an operand. Behind `sizeof` it may belong to a type, which adds no level.
+#[tactic(auto, unfolding(k_reader::specs::Expressions::opened))]
+fn opened(site: Site, mut opens: Stack<Open>, place: Place) -> Result<Fed, NoMemory>
+    ensures { IfOk result (λ fed. fed ≡ spec.opened site opens place) }
+{
+    let reach = match opens.top() {
+        Some(Open::Sizeof { .. }) => 0,
+        _ => plus(level(site, &opens), 1),
+    };
+    opens.push(Open::Paren { place })?;
+    Ok(goes(site, opens, Now::Operand, reach))
+}
+
+/// `)` where an operand could begin: the end of a call without arguments.
+#[tactic(auto, unfolding(k_reader::specs::Expressions::no_arguments))]
+fn no_arguments(site: Site, mut opens: Stack<Open>) -> Fed
+    ensures { result ≡ spec.no_arguments site opens }
+{
+    match opens.pop() {
+        Some(
+            Open::Call {
+                place,
+                name,
+                args,
+                height: _height,
+            },
+        ) => {
+            if args.len() > 0 {
+                return Fed::Refused;
+            }
+            let tree = Expr::Call { place, name, args };
+            let term = Term {
+                tree,
+                rank: 15,
+                height: 1,
+            };
+            goes(site, opens, Now::Value { term }, 0)
+        }
+        Some(_open) => Fed::Refused,
+        None => Fed::Refused,
+    }
+}
+
+/// An operator before an operand.
+#[tactic(auto, unfolding(k_reader::specs::Expressions::prefix_operator))]
+fn prefix(site: Site, mut opens: Stack<Open>, op: Mark, place: Place) -> Result<Fed, NoMemory>
+    ensures { IfOk result (λ fed. fed ≡ spec.prefix_operator site opens op place) }
+{
+    let reach = plus(level(site, &opens), 1);
+    opens.push(Open::Prefix { place, op })?;
+    Ok(goes(site, opens, Now::Operand, reach))
+}
+
+/// Is it a unary operator other than `++` and `--`?
+fn is_unary(mark: Mark) -> bool
+    ensures { result ≡ ranked.is_unary mark }
+{
+    matches!(
+        mark,
+        Mark::Ampersand | Mark::Star | Mark::Plus | Mark::Minus | Mark::Tilde | Mark::Exclaim
+    )
+}
+
+/// Is it an operator that stands before an operand?
+#[tactic(auto, unfolding(k_reader::specs::Operators::is_prefix_mark, k_reader::specs::Operators::is_step_mark))]
+fn is_prefix(mark: Mark) -> bool
+    ensures { result ≡ is_prefix_mark mark }
+{
+    is_step(mark) || is_unary(mark)
+}
+
+/// A mark where an operand begins.
+#[tactic(auto, unfolding(k_reader::specs::Expressions::mark_operand))]
+fn mark(site: Site, opens: Stack<Open>, mark: Mark, place: Place) -> Result<Fed, NoMemory>
+    ensures { IfOk result (λ fed. fed ≡ spec.mark_operand site opens mark place) }
+{
+    if is_open(mark) {
+        opened(site, opens, place)
+    } else if is_close(mark) {
+        Ok(no_arguments(site, opens))
+    } else if is_prefix(mark) {
+        prefix(site, opens, mark, place)
+    } else {
+        Ok(Fed::Refused)
+    }
+}
+
+/// May the name of a type begin here? Then a `(` stands before it, and that may begin a cast, or follows `sizeof`.
+#[tactic(auto, unfolding(k_reader::specs::Expressions::is_before_type))]
+fn is_before_type(site: Site, opens: &mut Stack<Open>) -> Result<bool, NoMemory>
+    ensures kept { IfOk result (λ _. opens.new ≡ opens.old) }
+    ensures value { IfOk result (λ before. before ≡ spec.is_before_type site opens.old) }
+{
+    match opens.pop() {
+        Some(Open::Paren { place }) => {
+            let before = match opens.top() {
+                Some(Open::Sizeof { .. }) => true,
+                _ => hole(site, opens) <= 13,
+            };
+            opens.push(Open::Paren { place })?;
+            Ok(before)
+        }
+        Some(open) => {
+            opens.push(open)?;
+            Ok(false)
+        }
+        None => Ok(false),
+    }
+}
+
+/// A keyword where an operand begins.
+#[tactic(auto, unfolding(k_reader::specs::Expressions::word_operand))]
+fn word(
+    alloc: Global,
+    site: Site,
+    mut opens: Stack<Open>,
+    word: Word,
+    place: Place,
+) -> Result<Fed, NoMemory>
+    ensures { IfOk result (λ fed. fed ≡ spec.word_operand site opens word place) }
+{
+    if matches!(word, Word::Sizeof) {
+        let reach = level(site, &opens);
+        opens.push(Open::Sizeof { place })?;
+        return Ok(goes(site, opens, Now::Operand, reach));
+    }
+    let before = is_before_type(site, &mut opens)?;
+    if is_spec(word) && before {
+        type_begins(alloc, site, opens, word)
+    } else {
+        Ok(Fed::Refused)
+    }
+}
+
+/// The first specifier of a type.
+fn type_begins(alloc: Global, site: Site, opens: Stack<Open>, word: Word) -> Result<Fed, NoMemory>
+    ensures { IfOk result (λ fed. fed ≡ spec.type_begun site opens word) }
+{
+    let mut specs = Seq::new(alloc);
+    specs.push(word)?;
+    let now = Now::Type {
+        specs,
+        stars: no_stars(alloc),
+    };
+    Ok(goes(site, opens, now, 0))
+}
+
+/// The first token of an operand.
+#[tactic(auto, unfolding(k_reader::specs::Expressions::operand))]
+pub fn operand(
+    alloc: Global,
+    site: Site,
+    opens: Stack<Open>,
+    token: &Token,
+) -> Result<Fed, NoMemory>
+    ensures { IfOk result (λ fed. fed ≡ spec.operand site opens token.now) }
+{
+    let place = token.place;
+    match &token.what {
+        TokenKind::Name(name) => {
+            let name = Text::copy_of(alloc, name.as_str())?;
+            let reach = level(site, &opens);
+            Ok(goes(site, opens, Now::Named { place, name }, reach))
+        }
+        TokenKind::Number(kind, value) => {
+            let tree = Expr::Number {
+                place,
+                kind: *kind,
+                value: *value,
+            };
+            Ok(leaf(site, opens, tree))
+        }
+        TokenKind::Char(value) => {
+            let tree = Expr::Char {
+                place,
+                value: *value,
+            };
+            Ok(leaf(site, opens, tree))
+        }
+        TokenKind::Str(bytes) => {
+            let bytes = Seq::copy_of(alloc, bytes.as_slice())?;
+            Ok(leaf(site, opens, Expr::Str { place, bytes }))
+        }
+        TokenKind::Mark(mark_read) => mark(site, opens, *mark_read, place),
+        TokenKind::Word(word_read) => word(alloc, site, opens, *word_read, place),
+        TokenKind::End => Ok(Fed::Refused),
+    }
+}

@@ -1,0 +1,150 @@
+//! The name of a type, in a cast or behind `sizeof` (C17 6.7.7).
+ghost use Rattle.std.specs.Prelude.{◌≡◌, IfOk};
+ghost use Rattle.k_reader.specs.Expressions as spec;
+
+use crate::expression::goes;
+use k_num::{NoMemory, Place, Seq};
+use k_reader::expression::{Fed, Now, Open, Site, Term};
+use k_reader::operators::is_spec;
+use k_reader::stack::Stack;
+use k_reader::stars::{Stars, all_stars, constant, star};
+use k_tree::{Expr, Mark, Token, TokenKind, Word};
+
+/// The closing parenthesis of a type.
+#[tactic(auto, unfolding(k_reader::specs::Expressions::close_type))]
+fn close(
+    site: Site,
+    mut opens: Stack<Open>,
+    specs: Seq<Word>,
+    stars: Stars,
+) -> Result<Fed, NoMemory>
+    ensures { IfOk result (λ fed. fed ≡ spec.close_type site opens specs stars) }
+{
+    let stars = all_stars(stars)?;
+    match opens.pop() {
+        Some(Open::Paren { place }) => close_over(site, opens, place, specs, stars),
+        Some(_open) => Ok(Fed::Refused),
+        None => Ok(Fed::Refused),
+    }
+}
+
+/// A type in parentheses, the first of which stands at `place`.
+#[tactic(auto, unfolding(k_reader::specs::Expressions::close_over))]
+fn close_over(
+    site: Site,
+    mut opens: Stack<Open>,
+    place: Place,
+    specs: Seq<Word>,
+    stars: Seq<bool>,
+) -> Result<Fed, NoMemory>
+    ensures { IfOk result (λ fed. fed ≡ spec.close_over site opens place specs stars) }
+{
+    match opens.pop() {
+        Some(Open::Sizeof { place }) => {
+            let tree = Expr::SizeofType {
+                place,
+                specs,
+                stars,
+            };
+            let term = Term {
+                tree,
+                rank: 14,
+                height: 1,
+            };
+            Ok(goes(site, opens, Now::Value { term }, 0))
+        }
+        Some(around) => {
+            opens.push(around)?;
+            cast(
+                site,
+                opens,
+                Open::Cast {
+                    place,
+                    specs,
+                    stars,
+                },
+            )
+        }
+        None => cast(
+            site,
+            opens,
+            Open::Cast {
+                place,
+                specs,
+                stars,
+            },
+        ),
+    }
+}
+
+/// A cast awaits its operand.
+fn cast(site: Site, mut opens: Stack<Open>, around: Open) -> Result<Fed, NoMemory>
+    ensures { IfOk result (λ fed. fed ≡ spec.cast_opened site opens around) }
+{
+    opens.push(around)?;
+    Ok(goes(site, opens, Now::Operand, 0))
+}
+
+/// One more keyword of a type.
+#[tactic(auto, unfolding(k_reader::specs::Expressions::word_of_type))]
+fn word(
+    site: Site,
+    opens: Stack<Open>,
+    mut specs: Seq<Word>,
+    stars: Stars,
+    word: Word,
+) -> Result<Fed, NoMemory>
+    ensures { IfOk result (λ fed. fed ≡ spec.word_of_type site opens specs stars word) }
+{
+    if stars.pending {
+        if !matches!(word, Word::Const) {
+            return Ok(Fed::Refused);
+        }
+        let stars = constant(stars)?;
+        return Ok(goes(site, opens, Now::Type { specs, stars }, 0));
+    }
+    if stars.done.len() > 0 || !is_spec(word) {
+        return Ok(Fed::Refused);
+    }
+    specs.push(word)?;
+    Ok(goes(site, opens, Now::Type { specs, stars }, 0))
+}
+
+/// One more mark in the name of a type.
+#[tactic(auto, unfolding(k_reader::specs::Expressions::mark_of_type))]
+fn mark(
+    site: Site,
+    opens: Stack<Open>,
+    specs: Seq<Word>,
+    stars: Stars,
+    mark: Mark,
+) -> Result<Fed, NoMemory>
+    ensures { IfOk result (λ fed. fed ≡ spec.mark_of_type site opens specs stars mark) }
+{
+    match mark {
+        Mark::Star => {
+            let stars = star(stars)?;
+            Ok(goes(site, opens, Now::Type { specs, stars }, 0))
+        }
+        Mark::RightParen => close(site, opens, specs, stars),
+        _ => Ok(Fed::Refused),
+    }
+}
+
+/// One more token in the name of a type.
+#[tactic(auto, unfolding(k_reader::specs::Expressions::in_type))]
+pub fn in_type(
+    site: Site,
+    opens: Stack<Open>,
+    specs: Seq<Word>,
+    stars: Stars,
+    token: &Token,
+) -> Result<Fed, NoMemory>
+    ensures { IfOk result (λ fed. fed ≡ spec.in_type site opens specs stars token.now) }
+{
+    match &token.what {
+        TokenKind::Word(word_read) => word(site, opens, specs, stars, *word_read),
+        TokenKind::Mark(mark_read) => mark(site, opens, specs, stars, *mark_read),
+        _ => Ok(Fed::Refused),
+    }
+}

@@ -1,0 +1,271 @@
+//! A source (C17 6.9), token by token.
+ghost use Rattle.std.specs.Prelude.{◌≡◌, IfOk};
+ghost use Rattle.k_reader.specs.Sources as spec;
+
+use crate::statement::{begin_body, feed_body};
+use k_declaration::declaration::{begin_declaration, feed_declaration};
+use k_declaration::parameter::{begin_parameters, feed_parameters};
+use k_expression::reading::is_left_paren;
+use k_num::{NoMemory, Place, Seq, Text};
+use k_reader::declaration::{Declaration, Declared, Front, Stage};
+use k_reader::operators::is_spec;
+use k_reader::parameter::{Parameters, Parametric};
+use k_reader::source::{Phase, Source, Sourced, Title};
+use k_reader::statement::{Body, Stepped};
+use k_tree::{Declarator, Head, Item, Mark, Params, Token, TokenKind, Unit, Word};
+use std::alloc::Global;
+
+fn goes_on(items: Seq<Item>, phase: Phase, reach: usize) -> Sourced
+    ensures { result ≡ spec.goes_on items phase reach }
+{
+    let source = Source { items, phase };
+    Sourced::Goes { source, reach }
+}
+
+/// No token was read.
+pub fn begin_source(alloc: Global) -> Source
+    ensures { result ≡ spec.begin_source }
+{
+    Source {
+        items: Seq::new(alloc),
+        phase: Phase::Starts,
+    }
+}
+
+/// An item ended.
+fn item_done(mut items: Seq<Item>, item: Item) -> Result<Sourced, NoMemory>
+    ensures { IfOk result (λ fed. fed ≡ spec.item_done items item) }
+{
+    items.push(item)?;
+    Ok(goes_on(items, Phase::Starts, 0))
+}
+
+/// A token where an item begins.
+#[tactic(auto, unfolding(k_reader::specs::Sources::starts))]
+fn starts(alloc: Global, items: Seq<Item>, token: &Token) -> Result<Sourced, NoMemory>
+    ensures { IfOk result (λ fed. fed ≡ spec.starts items token.now) }
+{
+    let place = token.place;
+    match &token.what {
+        TokenKind::End => Ok(Sourced::Done {
+            unit: Unit { items, end: place },
+        }),
+        TokenKind::Word(word) => {
+            if !is_spec(*word) {
+                return Ok(Sourced::Refused);
+            }
+            let declaration = begin_declaration(alloc, *word, 1)?;
+            Ok(goes_on(items, Phase::Declares { place, declaration }, 0))
+        }
+        _ => Ok(Sourced::Refused),
+    }
+}
+
+/// Was just the name of the first declarator read?
+#[tactic(auto, unfolding(k_reader::specs::Sources::is_titled))]
+fn is_titled(declaration: &Declaration) -> bool
+    ensures { result ≡ spec.is_titled declaration.now }
+{
+    match &declaration.stage {
+        Stage::Named { declarator } => {
+            declaration.front.list.len() == 0 && declarator.dims.len() == 0
+        }
+        _ => false,
+    }
+}
+
+/// The parameters of a function begin.
+#[tactic(auto, unfolding(k_reader::specs::Sources::titled))]
+fn titled(alloc: Global, items: Seq<Item>, place: Place, declaration: Declaration) -> Sourced
+    ensures { result ≡ spec.titled items place declaration }
+{
+    let Declaration { front, stage } = declaration;
+    match stage {
+        Stage::Named { declarator } => {
+            let Front {
+                specs,
+                list: _list,
+                level: _level,
+            } = front;
+            let Declarator {
+                place: name_place,
+                stars,
+                name,
+                dims: _dims,
+                init: _init,
+            } = declarator;
+            let title = Title {
+                specs,
+                stars,
+                name,
+                name_place,
+            };
+            let parameters = begin_parameters(alloc);
+            let phase = Phase::Parameters {
+                place,
+                title,
+                parameters,
+            };
+            goes_on(items, phase, 0)
+        }
+        _stage => Sourced::Refused,
+    }
+}
+
+/// A token in an item that may be a declaration or a function.
+#[tactic(auto, unfolding(k_reader::specs::Sources::declares))]
+fn declares(
+    alloc: Global,
+    items: Seq<Item>,
+    place: Place,
+    declaration: Declaration,
+    token: &Token,
+) -> Result<Sourced, NoMemory>
+    ensures { IfOk result (λ fed. fed ≡ spec.declares items place declaration token.now) }
+{
+    if is_left_paren(token) && is_titled(&declaration) {
+        return Ok(titled(alloc, items, place, declaration));
+    }
+    match feed_declaration(alloc, declaration, token)? {
+        Declared::Goes { declaration, reach } => {
+            Ok(goes_on(items, Phase::Declares { place, declaration }, reach))
+        }
+        Declared::Done { specs, list } => item_done(items, Item::Objects { place, specs, list }),
+        Declared::Refused => Ok(Sourced::Refused),
+    }
+}
+
+fn head_of(title: Title, params: Params) -> Head
+    ensures { result ≡ spec.head_of title params }
+{
+    let Title {
+        specs,
+        stars,
+        name,
+        name_place,
+    } = title;
+    Head {
+        specs,
+        stars,
+        name,
+        name_place,
+        params,
+    }
+}
+
+/// A token in the parameters of a function.
+#[tactic(auto, unfolding(k_reader::specs::Sources::parameters))]
+fn parameters(
+    alloc: Global,
+    items: Seq<Item>,
+    place: Place,
+    title: Title,
+    parameters: Parameters,
+    token: &Token,
+) -> Result<Sourced, NoMemory>
+    ensures { IfOk result (λ fed. fed ≡ spec.parameters items place title parameters token.now) }
+{
+    match feed_parameters(alloc, parameters, token)? {
+        Parametric::Goes { parameters, reach } => {
+            let phase = Phase::Parameters {
+                place,
+                title,
+                parameters,
+            };
+            Ok(goes_on(items, phase, reach))
+        }
+        Parametric::Done { params } => {
+            let head = head_of(title, params);
+            Ok(goes_on(items, Phase::Headed { place, head }, 0))
+        }
+        Parametric::Refused => Ok(Sourced::Refused),
+    }
+}
+
+/// The mark behind the head of a function.
+#[tactic(auto, unfolding(k_reader::specs::Sources::mark_headed))]
+fn mark_headed(
+    alloc: Global,
+    items: Seq<Item>,
+    place: Place,
+    head: Head,
+    mark: Mark,
+) -> Result<Sourced, NoMemory>
+    ensures { IfOk result (λ fed. fed ≡ spec.mark_headed items place head mark) }
+{
+    match mark {
+        Mark::Semicolon => item_done(items, Item::Prototype { place, head }),
+        Mark::LeftBrace => {
+            let body = begin_body(alloc);
+            Ok(goes_on(items, Phase::Body { place, head, body }, 0))
+        }
+        _ => Ok(Sourced::Refused),
+    }
+}
+
+/// The token behind the head of a function.
+#[tactic(auto, unfolding(k_reader::specs::Sources::headed))]
+fn headed(
+    alloc: Global,
+    items: Seq<Item>,
+    place: Place,
+    head: Head,
+    token: &Token,
+) -> Result<Sourced, NoMemory>
+    ensures { IfOk result (λ fed. fed ≡ spec.headed items place head token.now) }
+{
+    match &token.what {
+        TokenKind::Mark(mark) => mark_headed(alloc, items, place, head, *mark),
+        _ => Ok(Sourced::Refused),
+    }
+}
+
+/// A token in the block of a function.
+#[tactic(auto, unfolding(k_reader::specs::Sources::in_body))]
+fn in_body(
+    alloc: Global,
+    items: Seq<Item>,
+    place: Place,
+    head: Head,
+    body: Body,
+    token: &Token,
+) -> Result<Sourced, NoMemory>
+    ensures { IfOk result (λ fed. fed ≡ spec.in_body items place head body token.now) }
+{
+    match feed_body(alloc, body, token)? {
+        Stepped::Goes { body, reach } => {
+            Ok(goes_on(items, Phase::Body { place, head, body }, reach))
+        }
+        Stepped::Done { parts } => {
+            let item = Item::Function {
+                place,
+                head,
+                body: parts,
+                close: token.place,
+            };
+            item_done(items, item)
+        }
+        Stepped::Refused => Ok(Sourced::Refused),
+    }
+}
+
+/// The next token of a source.
+#[tactic(auto, unfolding(k_reader::specs::Sources::feed_source))]
+pub fn feed_source(alloc: Global, source: Source, token: &Token) -> Result<Sourced, NoMemory>
+    ensures { IfOk result (λ fed. fed ≡ spec.feed_source source token.now) }
+{
+    let Source { items, phase } = source;
+    match phase {
+        Phase::Starts => starts(alloc, items, token),
+        Phase::Declares { place, declaration } => {
+            declares(alloc, items, place, declaration, token)
+        }
+        Phase::Parameters {
+            place,
+            title,
+            parameters: list,
+        } => parameters(alloc, items, place, title, list, token),
+        Phase::Headed { place, head } => headed(alloc, items, place, head, token),
+        Phase::Body { place, head, body } => in_body(alloc, items, place, head, body, token),
+    }
+}

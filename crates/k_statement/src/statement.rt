@@ -1,0 +1,191 @@
+//! The block of a function (C17 6.8), token by token, from behind its opening brace.
+pub mod begin;
+pub mod clause;
+pub mod loops;
+
+ghost use Rattle.std.specs.Prelude.{◌≡◌, IfOk};
+ghost use Rattle.k_reader.specs.Statements as spec;
+
+use k_declaration::declaration::feed_declaration;
+use k_expression::reading::{closes, read_maybe, read_needed};
+use k_num::{Box, NoMemory, Place, Seq};
+use k_reader::declaration::{Declaration, Declared};
+use k_reader::expression::Reading;
+use k_reader::level::plus;
+use k_reader::reading::{Closer, Maybe, Read};
+use k_reader::stack::Stack;
+use k_reader::statement::{Body, Frame, Step, Stepped};
+use k_tree::{Expr, First, Stmt, Token};
+use std::alloc::Global;
+
+/// The block goes on.
+pub fn steps(parts: Seq<Stmt>, frames: Stack<Frame>, step: Step, reach: usize) -> Stepped
+    ensures { result ≡ spec.steps parts frames step reach }
+{
+    let body = Body {
+        parts,
+        frames,
+        step,
+    };
+    Stepped::Goes { body, reach }
+}
+
+/// A statement ended.
+pub fn whole(parts: Seq<Stmt>, frames: Stack<Frame>, stmt: Stmt) -> Stepped
+    ensures { result ≡ spec.whole parts frames stmt }
+{
+    steps(parts, frames, Step::Whole { stmt }, 0)
+}
+
+/// A statement opened, of which a part is awaited.
+pub fn await_part(
+    parts: Seq<Stmt>,
+    mut frames: Stack<Frame>,
+    frame: Frame,
+    reach: usize,
+) -> Result<Stepped, NoMemory>
+    ensures { IfOk result (λ fed. fed ≡ spec.await_part parts frames frame reach) }
+{
+    frames.push(frame)?;
+    Ok(steps(parts, frames, Step::Begins, reach))
+}
+
+/// The level of a statement that begins.
+pub fn level(frames: &Stack<Frame>) -> usize
+    ensures { result ≡ spec.level frames.now }
+{
+    plus(1, frames.len())
+}
+
+/// No token of a block was read.
+pub fn begin_body(alloc: Global) -> Body
+    ensures { result ≡ spec.begin_body }
+{
+    Body {
+        parts: Seq::new(alloc),
+        frames: Stack::new(alloc),
+        step: Step::Begins,
+    }
+}
+
+/// A token in a statement that is an expression.
+#[tactic(auto, unfolding(k_reader::specs::Statements::value))]
+fn value(
+    alloc: Global,
+    parts: Seq<Stmt>,
+    frames: Stack<Frame>,
+    place: Place,
+    reading: Reading,
+    token: &Token,
+) -> Result<Stepped, NoMemory>
+    ensures { IfOk result (λ fed. fed ≡ spec.value parts frames place reading token.now) }
+{
+    match read_needed(alloc, reading, token, Closer::Semicolon)? {
+        Read::Goes { reading, reach } => {
+            Ok(steps(parts, frames, Step::Value { place, reading }, reach))
+        }
+        Read::Closed { value } => {
+            let value = Box::new(alloc, value)?;
+            Ok(whole(parts, frames, Stmt::Expr { place, value }))
+        }
+        Read::Refused => Ok(Stepped::Refused),
+    }
+}
+
+/// A value that may be left out, in its box.
+pub fn boxed(alloc: Global, value: Option<Expr>) -> Result<Option<Box<Expr>>, NoMemory>
+    ensures { IfOk result (λ made. made ≡ value) }
+{
+    match value {
+        None => Ok(None),
+        Some(value) => Ok(Some(Box::new(alloc, value)?)),
+    }
+}
+
+/// A token in the value of a `return`.
+#[tactic(auto, unfolding(k_reader::specs::Statements::returned))]
+fn returned(
+    alloc: Global,
+    parts: Seq<Stmt>,
+    frames: Stack<Frame>,
+    place: Place,
+    reading: Reading,
+    token: &Token,
+) -> Result<Stepped, NoMemory>
+    ensures { IfOk result (λ fed. fed ≡ spec.returned parts frames place reading token.now) }
+{
+    match read_maybe(alloc, reading, token, Closer::Semicolon)? {
+        Maybe::Goes { reading, reach } => {
+            Ok(steps(parts, frames, Step::Return { place, reading }, reach))
+        }
+        Maybe::Closed { value } => {
+            let value = boxed(alloc, value)?;
+            Ok(whole(parts, frames, Stmt::Return { place, value }))
+        }
+        Maybe::Refused => Ok(Stepped::Refused),
+    }
+}
+
+/// A token in a declaration of a block.
+#[tactic(auto, unfolding(k_reader::specs::Statements::local))]
+fn local(
+    alloc: Global,
+    parts: Seq<Stmt>,
+    frames: Stack<Frame>,
+    place: Place,
+    declaration: Declaration,
+    token: &Token,
+) -> Result<Stepped, NoMemory>
+    ensures { IfOk result (λ fed. fed ≡ spec.local parts frames place declaration token.now) }
+{
+    match feed_declaration(alloc, declaration, token)? {
+        Declared::Goes { declaration, reach } => {
+            Ok(steps(parts, frames, Step::Local { place, declaration }, reach))
+        }
+        Declared::Done { specs, list } => Ok(whole(
+            parts,
+            frames,
+            Stmt::Declare { place, specs, list },
+        )),
+        Declared::Refused => Ok(Stepped::Refused),
+    }
+}
+
+/// The semicolon of a statement.
+#[tactic(auto, unfolding(k_reader::specs::Statements::semicolon))]
+fn semicolon(parts: Seq<Stmt>, frames: Stack<Frame>, stmt: Stmt, token: &Token) -> Stepped
+    ensures { result ≡ spec.semicolon parts frames stmt token.now }
+{
+    if closes(token, Closer::Semicolon) {
+        whole(parts, frames, stmt)
+    } else {
+        Stepped::Refused
+    }
+}
+
+/// The next token of a function's block.
+#[tactic(auto, unfolding(k_reader::specs::Statements::feed_body))]
+pub fn feed_body(alloc: Global, body: Body, token: &Token) -> Result<Stepped, NoMemory>
+    ensures { IfOk result (λ fed. fed ≡ spec.feed_body body token.now) }
+{
+    let Body {
+        parts,
+        frames,
+        step,
+    } = body;
+    match step {
+        Step::Begins => begin::begins(alloc, parts, frames, token),
+        Step::Whole { stmt } => clause::behind(alloc, parts, frames, stmt, token),
+        Step::Value { place, reading } => value(alloc, parts, frames, place, reading, token),
+        Step::Keyword { tested } => Ok(clause::opened(alloc, parts, frames, tested, token)),
+        Step::Test { tested, reading } => clause::test(
+            alloc, parts, frames, tested, reading, token,
+        ),
+        Step::Semicolon { stmt } => Ok(semicolon(parts, frames, stmt, token)),
+        Step::Return { place, reading } => returned(alloc, parts, frames, place, reading, token),
+        Step::Local { place, declaration } => {
+            local(alloc, parts, frames, place, declaration, token)
+        }
+        step => loops::in_for(alloc, parts, frames, step, token),
+    }
+}

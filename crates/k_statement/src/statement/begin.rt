@@ -1,0 +1,217 @@
+//! The first token of a statement.
+ghost use Rattle.std.specs.Prelude.{◌≡◌, IfOk};
+ghost use Rattle.k_reader.specs.Statements as spec;
+
+use crate::statement::{await_part, level, steps, whole};
+use k_declaration::declaration::begin_declaration;
+use k_expression::expression::{begin, feed};
+use k_num::{NoMemory, Place, Seq};
+use k_reader::expression::Fed;
+use k_reader::level::plus;
+use k_reader::operators::{is_left_brace, is_right_brace, is_semicolon, is_spec};
+use k_reader::stack::Stack;
+use k_reader::statement::{Frame, Step, Stepped, Tested};
+use k_tree::{Mark, Stmt, Token, TokenKind, Word};
+use std::alloc::Global;
+
+/// Does a declaration or the end of a block stand here as well?
+#[tactic(auto, unfolding(k_reader::specs::Statements::is_in_block))]
+fn is_in_block(frames: &Stack<Frame>) -> bool
+    ensures { result ≡ spec.is_in_block frames.now }
+{
+    matches!(frames.top(), None | Some(Frame::Block { .. }))
+}
+
+/// The end of a block.
+#[tactic(auto, unfolding(k_reader::specs::Statements::block_ends))]
+fn block_ends(parts: Seq<Stmt>, mut frames: Stack<Frame>) -> Stepped
+    ensures { result ≡ spec.block_ends parts frames }
+{
+    match frames.pop() {
+        None => Stepped::Done { parts },
+        Some(
+            Frame::Block {
+                place,
+                parts: inner,
+            },
+        ) => whole(
+            parts,
+            frames,
+            Stmt::Block {
+                place,
+                parts: inner,
+            },
+        ),
+        Some(_frame) => Stepped::Refused,
+    }
+}
+
+/// A declaration of a block begins.
+#[tactic(auto, unfolding(k_reader::specs::Statements::declares))]
+fn declares(
+    alloc: Global,
+    parts: Seq<Stmt>,
+    frames: Stack<Frame>,
+    word: Word,
+    place: Place,
+) -> Result<Stepped, NoMemory>
+    ensures { IfOk result (λ fed. fed ≡ spec.declares parts frames word place) }
+{
+    if !is_spec(word) || !is_in_block(&frames) {
+        return Ok(Stepped::Refused);
+    }
+    let reach = level(&frames);
+    let declaration = begin_declaration(alloc, word, plus(reach, 1))?;
+    Ok(steps(parts, frames, Step::Local { place, declaration }, reach))
+}
+
+/// A keyword that begins a declaration or a statement.
+#[tactic(auto, unfolding(k_reader::specs::Statements::keyword))]
+fn keyword(
+    alloc: Global,
+    parts: Seq<Stmt>,
+    frames: Stack<Frame>,
+    word: Word,
+    place: Place,
+) -> Result<Stepped, NoMemory>
+    ensures { IfOk result (λ fed. fed ≡ spec.keyword parts frames word place) }
+{
+    if is_spec(word) {
+        declares(alloc, parts, frames, word, place)
+    } else {
+        jump(alloc, parts, frames, word, place)
+    }
+}
+
+/// A keyword that begins a statement.
+#[tactic(auto, unfolding(k_reader::specs::Statements::jump))]
+fn jump(
+    alloc: Global,
+    parts: Seq<Stmt>,
+    frames: Stack<Frame>,
+    word: Word,
+    place: Place,
+) -> Result<Stepped, NoMemory>
+    ensures { IfOk result (λ fed. fed ≡ spec.jump parts frames word place) }
+{
+    let own = level(&frames);
+    let inner = plus(own, 1);
+    let (step, reach) = match word {
+        Word::If => {
+            let tested = Tested::If { place };
+            (Step::Keyword { tested }, inner)
+        }
+        Word::While => {
+            let tested = Tested::While { place };
+            (Step::Keyword { tested }, inner)
+        }
+        Word::Do => return await_part(parts, frames, Frame::Do { place }, inner),
+        Word::For => (Step::For { place }, inner),
+        Word::Break => {
+            let stmt = Stmt::Break { place };
+            (Step::Semicolon { stmt }, own)
+        }
+        Word::Continue => {
+            let stmt = Stmt::Continue { place };
+            (Step::Semicolon { stmt }, own)
+        }
+        Word::Return => {
+            let reading = begin(alloc, 0, inner);
+            (Step::Return { place, reading }, own)
+        }
+        _ => return Ok(Stepped::Refused),
+    };
+    Ok(steps(parts, frames, step, reach))
+}
+
+/// The first token of a statement that is an expression.
+#[tactic(auto, unfolding(k_reader::specs::Statements::expression))]
+fn expression(
+    alloc: Global,
+    parts: Seq<Stmt>,
+    frames: Stack<Frame>,
+    token: &Token,
+) -> Result<Stepped, NoMemory>
+    ensures { IfOk result (λ fed. fed ≡ spec.expression parts frames token.now) }
+{
+    let reading = begin(alloc, 0, plus(level(&frames), 1));
+    match feed(alloc, reading, token)? {
+        Fed::Goes { reading, reach } => {
+            let place = token.place;
+            Ok(steps(parts, frames, Step::Value { place, reading }, reach))
+        }
+        Fed::Ends { value: _value } => Ok(Stepped::Refused),
+        Fed::Refused => Ok(Stepped::Refused),
+    }
+}
+
+/// `;` alone.
+fn empty(parts: Seq<Stmt>, frames: Stack<Frame>, place: Place) -> Stepped
+    ensures { result ≡ spec.empty parts frames place }
+{
+    let reach = level(&frames);
+    let stmt = Stmt::Empty { place };
+    steps(parts, frames, Step::Whole { stmt }, reach)
+}
+
+/// A mark that begins a statement, or ends a block.
+#[tactic(auto, unfolding(k_reader::specs::Statements::mark_begins))]
+fn mark_begins(
+    alloc: Global,
+    parts: Seq<Stmt>,
+    frames: Stack<Frame>,
+    token: &Token,
+    mark: Mark,
+) -> Result<Stepped, NoMemory>
+    ensures { IfOk result (λ fed. fed ≡ spec.mark_begins parts frames token.now mark) }
+{
+    if is_semicolon(mark) {
+        Ok(empty(parts, frames, token.place))
+    } else if is_left_brace(mark) {
+        block_begins(alloc, parts, frames, token.place)
+    } else if is_right_brace(mark) {
+        Ok(block_ends(parts, frames))
+    } else {
+        expression(alloc, parts, frames, token)
+    }
+}
+
+/// A block begins.
+fn block_begins(
+    alloc: Global,
+    parts: Seq<Stmt>,
+    frames: Stack<Frame>,
+    place: Place,
+) -> Result<Stepped, NoMemory>
+    ensures { IfOk result (λ fed. fed ≡ spec.block_begins parts frames place) }
+{
+    let reach = level(&frames);
+    let frame = Frame::Block {
+        place,
+        parts: Seq::new(alloc),
+    };
+    await_part(parts, frames, frame, reach)
+}
+
+/// The first token of a statement, or in a block of a declaration, or its end.
+#[tactic(auto, unfolding(k_reader::specs::Statements::begins))]
+pub fn begins(
+    alloc: Global,
+    parts: Seq<Stmt>,
+    frames: Stack<Frame>,
+    token: &Token,
+) -> Result<Stepped, NoMemory>
+    ensures { IfOk result (λ fed. fed ≡ spec.begins parts frames token.now) }
+{
+    match &token.what {
+        TokenKind::Mark(mark) => mark_begins(alloc, parts, frames, token, *mark),
+        TokenKind::Word(word) => {
+            if matches!(word, Word::Sizeof) {
+                expression(alloc, parts, frames, token)
+            } else {
+                keyword(alloc, parts, frames, *word, token.place)
+            }
+        }
+        _ => expression(alloc, parts, frames, token),
+    }
+}

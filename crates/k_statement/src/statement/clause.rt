@@ -1,0 +1,244 @@
+//! Tests in parentheses, and the token behind a statement.
+ghost use Rattle.std.specs.Prelude.{◌≡◌, IfOk};
+ghost use Rattle.k_reader.specs.Statements as spec;
+
+use crate::statement::begin::begins;
+use crate::statement::{await_part, level, steps};
+use k_expression::expression::begin;
+use k_expression::reading::{is_left_paren, read_needed};
+use k_num::{Box, NoMemory, Place, Seq};
+use k_reader::expression::Reading;
+use k_reader::level::plus;
+use k_reader::reading::{Closer, Read};
+use k_reader::stack::Stack;
+use k_reader::statement::{Frame, Step, Stepped, Tested};
+use k_tree::{Expr, Stmt, Token, TokenKind, Word};
+use std::alloc::Global;
+
+/// The parenthesis of a test.
+#[tactic(auto, unfolding(k_reader::specs::Statements::opened))]
+pub fn opened(
+    alloc: Global,
+    parts: Seq<Stmt>,
+    frames: Stack<Frame>,
+    tested: Tested,
+    token: &Token,
+) -> Stepped
+    ensures { result ≡ spec.opened parts frames tested token.now }
+{
+    if !is_left_paren(token) {
+        return Stepped::Refused;
+    }
+    let reading = begin(alloc, 0, plus(level(&frames), 1));
+    steps(parts, frames, Step::Test { tested, reading }, 0)
+}
+
+/// A test is done.
+#[tactic(auto, unfolding(k_reader::specs::Statements::test_done))]
+fn test_done(
+    alloc: Global,
+    parts: Seq<Stmt>,
+    frames: Stack<Frame>,
+    tested: Tested,
+    test: Expr,
+) -> Result<Stepped, NoMemory>
+    ensures { IfOk result (λ fed. fed ≡ spec.test_done parts frames tested test) }
+{
+    let test = Box::new(alloc, test)?;
+    match tested {
+        Tested::If { place } => await_part(parts, frames, Frame::Then { place, test }, 0),
+        Tested::While { place } => await_part(parts, frames, Frame::While { place, test }, 0),
+        Tested::Do { place, body } => {
+            let body = Box::new(alloc, body)?;
+            let stmt = Stmt::DoWhile { place, body, test };
+            Ok(steps(parts, frames, Step::Semicolon { stmt }, 0))
+        }
+    }
+}
+
+/// A token in a test.
+#[tactic(auto, unfolding(k_reader::specs::Statements::test))]
+pub fn test(
+    alloc: Global,
+    parts: Seq<Stmt>,
+    frames: Stack<Frame>,
+    tested: Tested,
+    reading: Reading,
+    token: &Token,
+) -> Result<Stepped, NoMemory>
+    ensures { IfOk result (λ fed. fed ≡ spec.test parts frames tested reading token.now) }
+{
+    match read_needed(alloc, reading, token, Closer::Paren)? {
+        Read::Goes { reading, reach } => {
+            Ok(steps(parts, frames, Step::Test { tested, reading }, reach))
+        }
+        Read::Closed { value } => test_done(alloc, parts, frames, tested, value),
+        Read::Refused => Ok(Stepped::Refused),
+    }
+}
+
+/// Is a token `else`?
+fn is_else(token: &Token) -> bool
+    ensures { result ≡ spec.is_else token.now.what }
+{
+    matches!(token.what, TokenKind::Word(Word::Else))
+}
+
+/// Is a token `while`?
+fn is_while(token: &Token) -> bool
+    ensures { result ≡ spec.is_while token.now.what }
+{
+    matches!(token.what, TokenKind::Word(Word::While))
+}
+
+/// A statement that ends is put into the statement around it; `other` says whether `else` follows.
+#[tactic(auto, unfolding(k_reader::specs::Statements::close))]
+fn close(alloc: Global, frame: Frame, stmt: Stmt, other: bool) -> Result<Closed, NoMemory>
+    ensures { IfOk result (λ made. made ≡ spec.close frame stmt other) }
+{
+    let stmt = match frame {
+        Frame::Then { place, test } => {
+            if other {
+                let frame = Frame::Then { place, test };
+                return Ok(Closed::Part { frame, stmt });
+            }
+            if_alone(alloc, place, test, stmt)?
+        }
+        Frame::Else { place, test, then } => Stmt::If {
+            place,
+            test,
+            then,
+            other: Some(Box::new(alloc, stmt)?),
+        },
+        Frame::While { place, test } => Stmt::While {
+            place,
+            test,
+            body: Box::new(alloc, stmt)?,
+        },
+        Frame::For {
+            place,
+            start,
+            test,
+            step,
+        } => Stmt::For {
+            place,
+            first: start,
+            test,
+            step,
+            body: Box::new(alloc, stmt)?,
+        },
+        frame => return Ok(Closed::Part { frame, stmt }),
+    };
+    Ok(Closed::Whole { stmt })
+}
+
+/// `else` behind the statement of an `if`.
+fn otherwise(
+    alloc: Global,
+    parts: Seq<Stmt>,
+    frames: Stack<Frame>,
+    place: Place,
+    test: Box<Expr>,
+    then: Stmt,
+) -> Result<Stepped, NoMemory>
+    ensures { IfOk result (λ fed. fed ≡ spec.otherwise parts frames place test «then») }
+{
+    let then = Box::new(alloc, then)?;
+    await_part(parts, frames, Frame::Else { place, test, then }, 0)
+}
+
+/// An `if` without `else`.
+fn if_alone(alloc: Global, place: Place, test: Box<Expr>, then: Stmt) -> Result<Stmt, NoMemory>
+    ensures { IfOk result (λ made. made ≡ spec.if_alone place test «then») }
+{
+    Ok(Stmt::If {
+        place,
+        test,
+        then: Box::new(alloc, then)?,
+        other: None,
+    })
+}
+
+/// `while` behind the statement of a `do`.
+#[tactic(auto, unfolding(k_reader::specs::Statements::do_while))]
+fn do_while(
+    parts: Seq<Stmt>,
+    frames: Stack<Frame>,
+    place: Place,
+    body: Stmt,
+    token: &Token,
+) -> Stepped
+    ensures { result ≡ spec.do_while parts frames place body token.now }
+{
+    if !is_while(token) {
+        return Stepped::Refused;
+    }
+    let tested = Tested::Do { place, body };
+    steps(parts, frames, Step::Keyword { tested }, 0)
+}
+
+/// One more part of a block, and the token behind it.
+#[tactic(auto, unfolding(k_reader::specs::Statements::more))]
+fn more(
+    alloc: Global,
+    parts: Seq<Stmt>,
+    mut frames: Stack<Frame>,
+    place: Place,
+    inner: Seq<Stmt>,
+    stmt: Stmt,
+    token: &Token,
+) -> Result<Stepped, NoMemory>
+    ensures { IfOk result (λ fed. fed ≡ spec.more parts frames place inner stmt token.now) }
+{
+    let mut inner = inner;
+    inner.push(stmt)?;
+    frames.push(Frame::Block {
+        place,
+        parts: inner,
+    })?;
+    begins(alloc, parts, frames, token)
+}
+
+/// The statement around goes on with the token behind one of its parts.
+#[tactic(auto, unfolding(k_reader::specs::Statements::part))]
+fn part(
+    alloc: Global,
+    parts: Seq<Stmt>,
+    frames: Stack<Frame>,
+    frame: Frame,
+    stmt: Stmt,
+    token: &Token,
+) -> Result<Stepped, NoMemory>
+    ensures { IfOk result (λ fed. fed ≡ spec.part parts frames frame stmt token.now) }
+{
+    match frame {
+        Frame::Then { place, test } => otherwise(alloc, parts, frames, place, test, stmt),
+        Frame::Do { place } => Ok(do_while(parts, frames, place, stmt, token)),
+        Frame::Block {
+            place,
+            parts: inner,
+        } => more(alloc, parts, frames, place, inner, stmt, token),
+        _frame => Ok(Stepped::Refused),
+    }
+}
+
+/// The token behind a statement.
+#[tactic(auto, unfolding(k_reader::specs::Statements::behind))]
+pub fn behind(
+    alloc: Global,
+    mut parts: Seq<Stmt>,
+    mut frames: Stack<Frame>,
+    stmt: Stmt,
+    token: &Token,
+) -> Result<Stepped, NoMemory>
+    ensures { IfOk result (λ fed. fed ≡ spec.behind parts frames stmt token.now) }
+{
+    let Some(frame) = frames.pop() else {
+        parts.push(stmt)?;
+        return begins(alloc, parts, frames, token);
+    };
+    match close(alloc, frame, stmt, is_else(token))? {
+        Closed::Whole { stmt } => behind(alloc, parts, frames, stmt, token),
+        Closed::Part { frame, stmt } => part(alloc, parts, frames, frame, stmt, token),
+    }
+}

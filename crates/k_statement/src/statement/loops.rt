@@ -1,0 +1,248 @@
+//! The parts of a `for` (C17 6.8.5.3).
+ghost use Rattle.std.specs.Prelude.{◌≡◌, IfOk};
+ghost use Rattle.k_reader.specs.Statements as spec;
+
+use crate::statement::{await_part, boxed, level, steps};
+use k_declaration::declaration::{begin_declaration, feed_declaration};
+use k_expression::expression::begin;
+use k_expression::reading::{is_fresh, is_left_paren, read_maybe};
+use k_num::{NoMemory, Place, Seq};
+use k_reader::declaration::{Declaration, Declared};
+use k_reader::expression::Reading;
+use k_reader::level::plus;
+use k_reader::operators::is_spec;
+use k_reader::reading::{Closer, Maybe};
+use k_reader::stack::Stack;
+use k_reader::statement::{Frame, Step, Stepped};
+use k_tree::{Expr, First, Stmt, Token, TokenKind, Word};
+use std::alloc::Global;
+
+/// The parenthesis of a `for`.
+#[tactic(auto, unfolding(k_reader::specs::Statements::for_opened))]
+fn opened(
+    alloc: Global,
+    parts: Seq<Stmt>,
+    frames: Stack<Frame>,
+    place: Place,
+    token: &Token,
+) -> Stepped
+    ensures { result ≡ spec.for_opened parts frames place token.now }
+{
+    if !is_left_paren(token) {
+        return Stepped::Refused;
+    }
+    let reading = begin(alloc, 0, plus(level(&frames), 1));
+    steps(parts, frames, Step::Start { place, reading }, 0)
+}
+
+/// The second part of a `for` begins.
+fn second_begins(
+    alloc: Global,
+    parts: Seq<Stmt>,
+    frames: Stack<Frame>,
+    place: Place,
+    start: First,
+) -> Stepped
+    ensures { result ≡ spec.second_begins parts frames place start }
+{
+    let reading = begin(alloc, 0, plus(level(&frames), 1));
+    let step = Step::Second {
+        place,
+        start,
+        reading,
+    };
+    steps(parts, frames, step, 0)
+}
+
+fn first_of(value: Option<Expr>) -> First
+    ensures { result ≡ spec.first_of value }
+{
+    match value {
+        None => First::Nothing,
+        Some(value) => First::Value(value),
+    }
+}
+
+/// The first keyword of a declaration in a `for`, if it is one.
+#[tactic(auto, unfolding(k_reader::specs::Statements::specifier))]
+fn specifier(reading: &Reading, token: &Token) -> Option<Word>
+    ensures { result ≡ spec.specifier reading.now token.now }
+{
+    match &token.what {
+        TokenKind::Word(word) => {
+            if is_spec(*word) && is_fresh(reading) {
+                Some(*word)
+            } else {
+                None
+            }
+        }
+        _ => None,
+    }
+}
+
+/// A token in the first part of a `for`.
+#[tactic(auto, unfolding(k_reader::specs::Statements::start))]
+fn start(
+    alloc: Global,
+    parts: Seq<Stmt>,
+    frames: Stack<Frame>,
+    place: Place,
+    reading: Reading,
+    token: &Token,
+) -> Result<Stepped, NoMemory>
+    ensures { IfOk result (λ fed. fed ≡ spec.start parts frames place reading token.now) }
+{
+    if let Some(word) = specifier(&reading, token) {
+        let declaration = begin_declaration(alloc, word, plus(level(&frames), 1))?;
+        return Ok(steps(parts, frames, Step::Declares { place, declaration }, 0));
+    }
+    match read_maybe(alloc, reading, token, Closer::Semicolon)? {
+        Maybe::Goes { reading, reach } => {
+            Ok(steps(parts, frames, Step::Start { place, reading }, reach))
+        }
+        Maybe::Closed { value } => Ok(second_begins(alloc, parts, frames, place, first_of(value))),
+        Maybe::Refused => Ok(Stepped::Refused),
+    }
+}
+
+/// A token in the declaration of a `for`.
+#[tactic(auto, unfolding(k_reader::specs::Statements::for_declares))]
+fn declares(
+    alloc: Global,
+    parts: Seq<Stmt>,
+    frames: Stack<Frame>,
+    place: Place,
+    declaration: Declaration,
+    token: &Token,
+) -> Result<Stepped, NoMemory>
+    ensures { IfOk result (λ fed. fed ≡ spec.for_declares parts frames place declaration token.now) }
+{
+    match feed_declaration(alloc, declaration, token)? {
+        Declared::Goes { declaration, reach } => {
+            Ok(steps(parts, frames, Step::Declares { place, declaration }, reach))
+        }
+        Declared::Done { specs, list } => {
+            let start = First::Declare(specs, list);
+            Ok(second_begins(alloc, parts, frames, place, start))
+        }
+        Declared::Refused => Ok(Stepped::Refused),
+    }
+}
+
+/// A token in the second part of a `for`.
+#[tactic(auto, unfolding(k_reader::specs::Statements::second))]
+fn second(
+    alloc: Global,
+    parts: Seq<Stmt>,
+    frames: Stack<Frame>,
+    place: Place,
+    start: First,
+    reading: Reading,
+    token: &Token,
+) -> Result<Stepped, NoMemory>
+    ensures { IfOk result (λ fed. fed ≡ spec.second parts frames place start reading token.now) }
+{
+    match read_maybe(alloc, reading, token, Closer::Semicolon)? {
+        Maybe::Goes { reading, reach } => {
+            let step = Step::Second {
+                place,
+                start,
+                reading,
+            };
+            Ok(steps(parts, frames, step, reach))
+        }
+        Maybe::Closed { value: test } => {
+            let reading = begin(alloc, 0, plus(level(&frames), 1));
+            let step = Step::Third {
+                place,
+                start,
+                test,
+                reading,
+            };
+            Ok(steps(parts, frames, step, 0))
+        }
+        Maybe::Refused => Ok(Stepped::Refused),
+    }
+}
+
+/// The parts of a `for` are done.
+fn body_begins(
+    alloc: Global,
+    parts: Seq<Stmt>,
+    frames: Stack<Frame>,
+    place: Place,
+    start: First,
+    test: Option<Expr>,
+    step: Option<Expr>,
+) -> Result<Stepped, NoMemory>
+    ensures { IfOk result (λ fed. fed ≡ spec.body_begins parts frames place start test step) }
+{
+    let frame = Frame::For {
+        place,
+        start,
+        test: boxed(alloc, test)?,
+        step: boxed(alloc, step)?,
+    };
+    await_part(parts, frames, frame, 0)
+}
+
+/// A token in the third part of a `for`.
+#[tactic(auto, unfolding(k_reader::specs::Statements::third))]
+fn third(
+    alloc: Global,
+    parts: Seq<Stmt>,
+    frames: Stack<Frame>,
+    place: Place,
+    start: First,
+    test: Option<Expr>,
+    reading: Reading,
+    token: &Token,
+) -> Result<Stepped, NoMemory>
+    ensures { IfOk result (λ fed. fed ≡ spec.third parts frames place start test reading token.now) }
+{
+    match read_maybe(alloc, reading, token, Closer::Paren)? {
+        Maybe::Goes { reading, reach } => {
+            let step = Step::Third {
+                place,
+                start,
+                test,
+                reading,
+            };
+            Ok(steps(parts, frames, step, reach))
+        }
+        Maybe::Closed { value } => body_begins(alloc, parts, frames, place, start, test, value),
+        Maybe::Refused => Ok(Stepped::Refused),
+    }
+}
+
+/// A token in the parentheses of a `for`.
+#[tactic(auto, unfolding(k_reader::specs::Statements::in_for))]
+pub fn in_for(
+    alloc: Global,
+    parts: Seq<Stmt>,
+    frames: Stack<Frame>,
+    step: Step,
+    token: &Token,
+) -> Result<Stepped, NoMemory>
+    ensures { IfOk result (λ fed. fed ≡ spec.in_for parts frames step token.now) }
+{
+    match step {
+        Step::For { place } => Ok(opened(alloc, parts, frames, place, token)),
+        Step::Start { place, reading } => start(alloc, parts, frames, place, reading, token),
+        Step::Declares { place, declaration } => {
+            declares(alloc, parts, frames, place, declaration, token)
+        }
+        Step::Second {
+            place,
+            start,
+            reading,
+        } => second(alloc, parts, frames, place, start, reading, token),
+        Step::Third {
+            place,
+            start,
+            test,
+            reading,
+        } => third(alloc, parts, frames, place, start, test, reading, token),
+        _step => Ok(Stepped::Refused),
+    }
+}
