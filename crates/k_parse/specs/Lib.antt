@@ -1,4 +1,1 @@
-pub mod First
-pub mod Outcome
-pub mod Program
-pub mod Reader
+pub mod Parse

@@ -1,13 +1,7 @@
-//! Tokens read as trees of syntax.
+//! Token lists read as trees of syntax: the whole grammar.
 #![tactic(auto)]
 
-mod expression;
-mod first;
-mod source;
-mod statement;
-mod tokens;
+mod parse;
 
-pub use first::{FirstFault, first_program};
-
-#[cfg(test)]
-mod tests;
+pub use k_reader::whole::ParseFault;
+pub use parse::parse;

@@ -1,0 +1,64 @@
+//! The tree of a token list.
+ghost use Rattle.std.specs.Prelude.{◌≡◌, ◌⊎◌, IfOk, IfErr, Some, Ok, Err};
+ghost use Rattle.k_reader.specs.Closed.{EndsOnce};
+ghost use Rattle.k_reader.specs.Runs.{runs};
+ghost use Rattle.k_reader.specs.Sources.{begin_source};
+ghost use Rattle.k_parse.specs.Parse.{IsParse, IsOne, IsOnly};
+
+use k_num::{NoMemory, Seq};
+use k_reader::source::Sourced;
+use k_reader::whole::ParseFault;
+use k_statement::source::{begin_source, feed_source};
+use k_tree::{Token, Unit, nodes};
+use std::alloc::Global;
+
+/// The greatest nesting of a tree, in levels.
+const NESTING: usize = 200;
+
+/// The greatest count of nodes of a tree.
+const NODES: u64 = 262_144;
+
+/// Reads tokens up to the end.
+fn read(alloc: Global, tokens: &[Token]) -> Result<Unit, ParseFault>
+    // The tree is that of the definition.
+    ensures tree { IfOk result (λ u. runs 200 begin_source tokens.now ≡ Some (Ok u)) }
+    // Every refusal but want of memory is that of the definition.
+    ensures refused { IfErr result (λ f. (f ≡ ParseFault.Memory) ⊎ (runs 200 begin_source tokens.now ≡ Some (Err f))) }
+{
+    let mut source = begin_source(alloc);
+    for token in tokens {
+        let fed = match feed_source(alloc, source, token) {
+            Ok(fed) => fed,
+            Err(NoMemory) => return Err(ParseFault::Memory),
+        };
+        source = match fed {
+            Sourced::Goes { source, reach } => {
+                if reach > NESTING {
+                    return Err(ParseFault::TooDeep(token.place));
+                }
+                source
+            }
+            Sourced::Done { unit } => return Ok(unit),
+            Sourced::Refused => return Err(ParseFault::Syntax(token.place)),
+        };
+    }
+    // Never reached where the last token is the end.
+    Err(ParseFault::Memory)
+}
+
+/// The tree of a token list, of which the last token is the end and no other token is: the one tree that the grammar of
+/// C17 6.5 to 6.9 gives and that the list spells, or the reason why the list has none within the limits of 200 levels and
+/// 262,144 nodes. Its time is linear in the count of tokens, each of which is read once.
+pub fn parse(alloc: Global, tokens: &Seq<Token>) -> Result<Unit, ParseFault>
+    requires { EndsOnce tokens.now }
+    ensures tree { IfOk result (λ u. IsParse tokens.now (Ok u)) }
+    ensures one { IfOk result (IsOne tokens.now) }
+    ensures only { IfOk result (IsOnly tokens.now) }
+    ensures refused { IfErr result (λ f. (f ≡ ParseFault.Memory) ⊎ IsParse tokens.now (Err f)) }
+{
+    let unit = read(alloc, tokens.as_slice())?;
+    if nodes(&unit) > NODES {
+        return Err(ParseFault::NodesMany);
+    }
+    Ok(unit)
+}
