@@ -20,10 +20,11 @@ pub record Begins (limit : ℕ) (tokens : List Token) : Type 0 where
   pub within : nesting tree ≤ limit
   pub spelled : spelling tree ≡ kinds tokens ++ rest
 
--- a refusal at a token behind others has its place, and Syntax says that these tokens with it begin no source of any nesting
+-- a refusal at a token behind others has its place; Syntax says that these tokens with it begin no source of any nesting, and
+-- TooDeep that they begin one of a greater nesting
 abbrev pub IsRefusalAt : ParseFault → List Token → Token → Type 0
 IsRefusalAt (fault.Syntax p) before t = (p ≡ t.place) × ((limit : ℕ) → Begins limit (before ++ t ∷ []) → ⊥)
-IsRefusalAt (fault.TooDeep p) before t = p ≡ t.place
+IsRefusalAt (fault.TooDeep p) before t = (p ≡ t.place) × ((limit : ℕ) × Begins limit (before ++ t ∷ []))
 IsRefusalAt _ before t = ⊥
 
 -- the refusal is at the first token such that the tokens up to and with it begin no source within the limit: those before it begin one

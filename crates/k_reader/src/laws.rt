@@ -17,8 +17,9 @@ pub fn one_tree_per_spelling()
     ensures { OneTreePerSpelling }
 {}
 
-/// A list that is refused is refused at its first wrong token: those before it begin a source within the limit of nesting, with
-/// it they begin none, and where it is refused as Syntax they begin none of any nesting.
+/// A list that is refused is refused at its first wrong token: those before it begin a source within the limit of nesting, and
+/// with it they begin none; where it is refused as Syntax they begin none of any nesting, and where it is refused as TooDeep they
+/// begin one of a greater nesting.
 pub fn refusals_are_first_wrong()
     ensures { RefusalsAreFirstWrong }
 {}
