@@ -44,6 +44,7 @@ pub mod ReadingBound
 pub mod ReadingReach
 pub mod ReadingSound
 pub mod ReadingViable
+pub mod Ranks
 pub mod Rows
 pub mod RunSound
 pub mod Runs

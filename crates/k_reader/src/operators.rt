@@ -1,7 +1,11 @@
 //! Ranks of operators (C17 6.5.2 to 6.5.17).
-ghost use Rattle.std.specs.Prelude.{◌≡◌};
+ghost use Rattle.std.specs.Prelude.{◌≡◌, ◌≤◌};
+ghost use Rattle.k_tree.specs.Ranked.{is_assignment};
 ghost use Rattle.k_reader.specs.Operators as spec;
+ghost use Rattle.k_reader.specs.Ranks as ranks;
 
+use k_num::Bin;
+use k_optab::Table;
 use k_tree::{Mark, Word};
 
 /// An operator behind an operand: the least rank of that operand, the rank of what it makes, and the least rank of an
@@ -13,39 +17,117 @@ pub struct Binding {
     pub right: u8,
 }
 
-/// How an operator behind an operand binds.
-#[tactic(auto, unfolding(crate::specs::Operators::binding))]
-pub fn binding_of(mark: Mark) -> Option<Binding>
-    ensures { result ≡ spec.binding mark }
+/// The binary operator that a mark is between two operands (C17 6.5.5 to 6.5.14).
+pub fn operator_of(mark: Mark) -> Option<Bin>
+    ensures { result ≡ ranks.operator_of mark }
+{
+    let operator = match mark {
+        Mark::Plus => Bin::Add,
+        Mark::Minus => Bin::Sub,
+        Mark::Star => Bin::Mul,
+        Mark::Slash => Bin::Div,
+        Mark::Percent => Bin::Rem,
+        Mark::Ampersand => Bin::And,
+        Mark::Bar => Bin::Or,
+        Mark::Caret => Bin::Xor,
+        Mark::ShiftLeft => Bin::Shl,
+        Mark::ShiftRight => Bin::Shr,
+        Mark::Less => Bin::Lt,
+        Mark::LessEqual => Bin::Le,
+        Mark::Greater => Bin::Gt,
+        Mark::GreaterEqual => Bin::Ge,
+        Mark::EqualEqual => Bin::Eq,
+        Mark::ExclaimEqual => Bin::Ne,
+        Mark::AmpersandAmpersand => Bin::LogAnd,
+        Mark::BarBar => Bin::LogOr,
+        _ => return None,
+    };
+    Some(operator)
+}
+
+/// The ranks of the binary operators, in the order of `Bin`.
+fn ranks() -> Table<18>
+    ensures { result ≡ ranks.ranks }
+{
+    let mut table = Table::filled(9);
+    table.set(Bin::Add as usize, 11);
+    table.set(Bin::Sub as usize, 11);
+    table.set(Bin::Mul as usize, 12);
+    table.set(Bin::Div as usize, 12);
+    table.set(Bin::Rem as usize, 12);
+    table.set(Bin::And as usize, 7);
+    table.set(Bin::Or as usize, 5);
+    table.set(Bin::Xor as usize, 6);
+    table.set(Bin::Shl as usize, 10);
+    table.set(Bin::Shr as usize, 10);
+    table.set(Bin::Eq as usize, 8);
+    table.set(Bin::Ne as usize, 8);
+    table.set(Bin::LogAnd as usize, 4);
+    table.set(Bin::LogOr as usize, 3);
+    table
+}
+
+/// The rank of a binary operator.
+fn rank_of(operator: Bin) -> u8
+    ensures rank { result ≡ ranks.rank_of operator }
+    ensures small { result ≤ 12 }
+{
+    ranks().get(operator as usize) as u8
+}
+
+/// Is it an operator of assignment (C17 6.5.16)?
+fn is_assignment(mark: Mark) -> bool
+    ensures { result ≡ is_assignment mark }
+{
+    matches!(
+        mark,
+        Mark::Equal
+            | Mark::StarEqual
+            | Mark::SlashEqual
+            | Mark::PercentEqual
+            | Mark::PlusEqual
+            | Mark::MinusEqual
+            | Mark::ShiftLeftEqual
+            | Mark::ShiftRightEqual
+            | Mark::AmpersandEqual
+            | Mark::CaretEqual
+            | Mark::BarEqual
+    )
+}
+
+/// How an operator behind an operand binds that is neither binary nor an assignment.
+fn other_binding(mark: Mark) -> Option<Binding>
+    ensures { result ≡ spec.other_binding mark }
 {
     let (left, own, right) = match mark {
         Mark::Comma => (0, 0, 1),
-        Mark::Equal
-        | Mark::StarEqual
-        | Mark::SlashEqual
-        | Mark::PercentEqual
-        | Mark::PlusEqual
-        | Mark::MinusEqual
-        | Mark::ShiftLeftEqual
-        | Mark::ShiftRightEqual
-        | Mark::AmpersandEqual
-        | Mark::CaretEqual
-        | Mark::BarEqual => (14, 1, 1),
         Mark::Question => (3, 2, 2),
-        Mark::BarBar => (3, 3, 4),
-        Mark::AmpersandAmpersand => (4, 4, 5),
-        Mark::Bar => (5, 5, 6),
-        Mark::Caret => (6, 6, 7),
-        Mark::Ampersand => (7, 7, 8),
-        Mark::EqualEqual | Mark::ExclaimEqual => (8, 8, 9),
-        Mark::Less | Mark::Greater | Mark::LessEqual | Mark::GreaterEqual => (9, 9, 10),
-        Mark::ShiftLeft | Mark::ShiftRight => (10, 10, 11),
-        Mark::Plus | Mark::Minus => (11, 11, 12),
-        Mark::Star | Mark::Slash | Mark::Percent => (12, 12, 13),
         Mark::LeftBracket | Mark::PlusPlus | Mark::MinusMinus => (15, 15, 0),
         _ => return None,
     };
     Some(Binding { left, own, right })
+}
+
+/// How an operator behind an operand binds.
+pub fn binding_of(mark: Mark) -> Option<Binding>
+    ensures { result ≡ spec.binding mark }
+{
+    if let Some(operator) = operator_of(mark) {
+        let rank = rank_of(operator);
+        return Some(Binding {
+            left: rank,
+            own: rank,
+            right: rank + 1,
+        });
+    }
+    if is_assignment(mark) {
+        return Some(Binding {
+            left: 14,
+            own: 1,
+            right: 1,
+        });
+    }
+    other_binding(mark)
 }
 
 /// The least rank of an operand behind an operator.
