@@ -1,9 +1,6 @@
 //! Expressions (C17 6.5), token by token.
 pub mod call;
-pub mod close;
-pub mod operand;
 pub mod plug;
-pub mod types;
 
 use crate::stack::Stack;
 use crate::stars::Stars;

@@ -1,7 +1,5 @@
 //! The block of a function (C17 6.8), token by token, from behind its opening brace.
-pub mod begin;
 pub mod clause;
-pub mod loops;
 
 use crate::declaration::Declaration;
 use crate::expression::Reading;

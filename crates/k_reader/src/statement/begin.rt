@@ -1,1 +1,0 @@
-//! The first token of a statement.

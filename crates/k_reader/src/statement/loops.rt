@@ -1,1 +1,0 @@
-//! The parts of a `for` (C17 6.8.5.3).
