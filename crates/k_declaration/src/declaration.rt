@@ -1,5 +1,5 @@
 //! Declarations (C17 6.7), token by token, from behind their first specifier.
-pub mod initialiser;
+mod initialiser;
 
 ghost use Rattle.std.specs.Prelude.{◌≡◌, IfOk};
 ghost use Rattle.k_reader.specs.Declarations as spec;
@@ -19,7 +19,7 @@ use k_tree::{Declarator, Init, Mark, Token, TokenKind, Word};
 use std::alloc::Global;
 
 /// The declaration goes on.
-pub fn declares(front: Front, stage: Stage, reach: usize) -> Declared
+fn declares(front: Front, stage: Stage, reach: usize) -> Declared
     ensures { result ≡ spec.declares front stage reach }
 {
     let declaration = Declaration { front, stage };
@@ -164,6 +164,21 @@ fn named(
         Ok(declares(front, Stage::Starts { declarator, braces }, reach))
     } else {
         end(alloc, front, declarator, mark)
+    }
+}
+
+/// A token behind the name of a declarator, or behind a dimension.
+fn behind_name(
+    alloc: Global,
+    front: Front,
+    declarator: Declarator,
+    token: &Token,
+) -> Result<Declared, NoMemory>
+    ensures { IfOk result (λ fed. fed ≡ spec.kind_named front declarator token.now.what) }
+{
+    match &token.what {
+        TokenKind::Mark(mark) => named(alloc, front, declarator, *mark),
+        _ => Ok(Declared::Refused),
     }
 }
 
@@ -350,10 +365,7 @@ pub fn feed_declaration(
     let Declaration { front, stage } = declaration;
     match stage {
         Stage::Before { stars } => before(alloc, front, stars, token),
-        Stage::Named { declarator } => match &token.what {
-            TokenKind::Mark(mark) => named(alloc, front, declarator, *mark),
-            _ => Ok(Declared::Refused),
-        },
+        Stage::Named { declarator } => behind_name(alloc, front, declarator, token),
         Stage::Size {
             declarator,
             reading,

@@ -13,6 +13,7 @@ use k_reader::stars::{Stars, all_stars, constant, no_stars, star};
 use k_tree::{Mark, Param, Params, Token, TokenKind, Word};
 use std::alloc::Global;
 
+/// The parameters go on.
 fn follows(list: Seq<Param>, part: Part, reach: usize) -> Parametric
     ensures { result ≡ spec.follows list part reach }
 {
@@ -133,6 +134,21 @@ fn named(alloc: Global, list: Seq<Param>, param: Param, mark: Mark) -> Result<Pa
         Ok(follows(list, Part::Size { param, reading }, 0))
     } else {
         end(list, param, mark)
+    }
+}
+
+/// A token behind the name of a parameter, or behind a dimension.
+fn behind_name(
+    alloc: Global,
+    list: Seq<Param>,
+    param: Param,
+    token: &Token,
+) -> Result<Parametric, NoMemory>
+    ensures { IfOk result (λ fed. fed ≡ spec.kind_named list param token.now.what) }
+{
+    match &token.what {
+        TokenKind::Mark(mark) => named(alloc, list, param, *mark),
+        _ => Ok(Parametric::Refused),
     }
 }
 
@@ -257,10 +273,7 @@ pub fn feed_parameters(
     match part {
         Part::Starts => first(alloc, list, token),
         Part::Typed { param, stars } => typed(alloc, list, param, stars, token),
-        Part::Named { param } => match &token.what {
-            TokenKind::Mark(mark) => named(alloc, list, param, *mark),
-            _ => Ok(Parametric::Refused),
-        },
+        Part::Named { param } => behind_name(alloc, list, param, token),
         Part::Size { param, reading } => size(alloc, list, param, reading, token),
     }
 }

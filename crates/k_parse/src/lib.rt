@@ -1,7 +1,8 @@
 //! Token lists read as trees of syntax: the whole grammar.
 #![tactic(auto)]
 
-mod parse;
+pub mod laws;
+mod parser;
 
 pub use k_reader::whole::ParseFault;
-pub use parse::parse;
+pub use parser::parse;

@@ -56,7 +56,7 @@ pub fn behind(opened: Opened, mark: Mark) -> Result<After, NoMemory>
 }
 
 /// The initialisers of a brace that closes.
-pub fn listed(brace: Brace, comma: bool) -> Init
+fn listed(brace: Brace, comma: bool) -> Init
     ensures { result ≡ spec.listed brace comma }
 {
     let Brace { place, items } = brace;

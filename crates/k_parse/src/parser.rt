@@ -20,6 +20,7 @@ const NODES: u64 = 262_144;
 
 /// Reads tokens up to the end.
 fn read(alloc: Global, tokens: &[Token]) -> Result<Unit, ParseFault>
+    requires { EndsOnce tokens.now }
     // The tree is that of the definition.
     ensures tree { IfOk result (λ u. runs 200 begin_source tokens.now ≡ Some (Ok u)) }
     // Every refusal but want of memory is that of the definition.
@@ -42,8 +43,7 @@ fn read(alloc: Global, tokens: &[Token]) -> Result<Unit, ParseFault>
             Sourced::Refused => return Err(ParseFault::Syntax(token.place)),
         };
     }
-    // Never reached where the last token is the end.
-    Err(ParseFault::Memory)
+    unreachable!()
 }
 
 /// The tree of a token list, of which the last token is the end and no other token is: the one tree that the grammar of
