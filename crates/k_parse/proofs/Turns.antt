@@ -1,5 +1,5 @@
 -- What one token of a list gives, where the rest of the list from that token on leads somewhere.
-use Rattle.std.proofs.Common.{ℕ, suc, ◌≡◌, ◌+◌, ◌<◌, ◌≤◌, cond, List, ◌∷◌, length, get_or, drop, Some, Ok, Err, sym, ap, ◌∙◌, add-one, drop-cons, le-leb, nat_le}
+use Rattle.std.proofs.Common.{ℕ, suc, ◌≡◌, ◌+◌, ◌<◌, ◌≤◌, cond, List, ◌∷◌, length, get_or, drop, Some, Ok, Err, sym, ap, ◌∙◌, add-one, drop-cons, le-leb}
 use Rattle.std.proofs.lemmas.Bool.{lt-leb}
 use Rattle.k_tree.specs.declared.tokens.Token.{Token}
 use Rattle.k_tree.specs.declared.tree.unit.Unit as source

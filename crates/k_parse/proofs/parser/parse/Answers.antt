@@ -1,9 +1,8 @@
-use Rattle.std.proofs.Common.{◌≡◌, ◌≤◌, ◌<◌, ◌*◌, ◌∙◌, length, Err, ap, sym, inr, rules, arith}
+use Rattle.std.proofs.Common.{◌≡◌, ◌≤◌, ◌*◌, ◌∙◌, length, Err, ap, sym, inr, rules, arith}
 use Rattle.k_tree.specs.Count.{unit_count}
-use Rattle.k_reader.specs.Closed.{EndsOnce}
 use Rattle.k_reader.specs.Runs.{runs}
 use Rattle.k_reader.specs.Sources.{begin_source}
-use Rattle.k_parse.specs.Parse.{IsTreeOf, IsParse, IsOne, IsOnly}
+use Rattle.k_parse.specs.Parse.{IsTreeOf}
 use Rattle.k_parse.proofs.Trees.{few_nodes, only_tree, one_tree}
 use Rattle.k_parse.proofs.Whole.{tree_read, err_refused}
 use Rattle.k_parse.proofs.parser.parse.Goals as goal
