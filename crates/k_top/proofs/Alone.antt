@@ -7,14 +7,13 @@ use Rattle.k_optab.specs.Latencies.{standard_latencies}
 use Rattle.k_optab.specs.Single.{AreOperations, IsSingle, one_instance}
 use Rattle.k_optab.specs.Tree.{Node, IsTree}
 use Rattle.k_optab.proofs.Single.{operations_of_one, single_bounded, tree_of_one}
-use Rattle.k_tree.specs.declared.tree.unit.Item.{Item}
-use Rattle.k_tree.specs.declared.tree.unit.Item.TheVariants.{Function, Prototype, Objects}
 use Rattle.k_tree.specs.declared.tree.unit.Unit as tree
 use Rattle.k_code.specs.declared.ending.End.{End}
 use Rattle.k_code.specs.declared.ending.End.TheVariants.{Returned}
 use Rattle.k_graph.specs.Listings.{node_of}
 use Rattle.k_graph.specs.declared.tree.Instance.{Instance}
-use Rattle.k_parse.specs.First.{FirstItems, IsFirst}
+use Rattle.k_form.specs.First.{IsFirst}
+use Rattle.k_form.proofs.First.{items_are_main}
 use Rattle.k_plain.specs.declared.listing.Listing.{Listing}
 use Rattle.k_plain.specs.Laws as laws
 use Rattle.k_plain.specs.Laws.{HasShape}
@@ -29,14 +28,7 @@ use Rattle.k_top.proofs.OneRow.{one_profile, one_row, row_of}
 
 -- a first program has one region
 pub one_region : (unit : tree.Unit) → IsFirst unit → length (regions_of unit) ≡ 1
-one_region unit first = of_items unit.items first
-  where
-    of_items : (items : List Item) → FirstItems items → length (functions_of items) ≡ 1
-    of_items [] is = absurd is
-    of_items (Function place head body close ∷ []) is = refl
-    of_items (Prototype place head ∷ []) is = absurd is
-    of_items (Objects place specs list ∷ []) is = absurd is
-    of_items (i ∷ j ∷ items) is = absurd is
+one_region unit first = ap (λ items. length (functions_of items)) (items_are_main unit.items first).alone
 
 -- the sources of each operation of a run are earlier, and its latencies are far below the greatest number
 pub run_sources : (unit : tree.Unit) → SourcesAreEarlier (operations (listing_of unit).events)

@@ -1,5 +1,5 @@
+mod LexEnds
 mod Growing
-mod FormLemmas
 mod ReportLemmas
 mod EndingLemmas
 mod OneRow

@@ -10,18 +10,20 @@ use Rattle.k_tree.specs.declared.tokens.Token.{Token}
 use Rattle.k_tree.specs.declared.tree.unit.Unit as tree
 use Rattle.k_lex.specs.declared.fault.LexFault.{LexFault}
 use Rattle.k_lex.specs.Tokens.{tokens}
+use Rattle.k_parse.specs.Parse.{IsParse}
+use Rattle.k_parse.proofs.OneAnswer.{one_answer}
 use Rattle.k_code.specs.declared.ending.End.{End}
 use Rattle.k_code.specs.declared.ending.End.TheVariants.{Returned, Trapped, OutOfSteps}
 use Rattle.k_top.specs.declared.command.Usage as usages
 use Rattle.k_top.specs.declared.ending.Ending.{Ending}
 use Rattle.k_top.specs.declared.ending.Ending.TheVariants.{Ran, Refused, Usage, Absent, ReadFault, WriteFault, NoMemory, TooLong}
-use Rattle.k_top.specs.declared.refusal.SourceFault.TheVariants.{Lex, NotBuilt}
+use Rattle.k_top.specs.declared.refusal.SourceFault.TheVariants.{Lex, Parse, NotBuilt}
 use Rattle.k_top.specs.Command.{command_of}
 use Rattle.k_top.specs.Form.{IsProgram}
 use Rattle.k_top.specs.Answer
-use Rattle.k_top.specs.Answer.{IsAnswer, AnswersCommand, AnswersContent, AnswersSource, AnswersTokens, IsOutput, end_line, end_status, ran, file_limit, refusal, usage_line, absent_line, long_line, refused_line}
+use Rattle.k_top.specs.Answer.{IsAnswer, AnswersCommand, AnswersContent, AnswersSource, AnswersTokens, AnswersTree, IsOutput, end_line, end_status, ran, file_limit, refusal, usage_line, absent_line, long_line, refused_line}
 use Rattle.k_top.specs.Clauses.{MayHold, PartOfAnswer}
-use Rattle.k_top.specs.Endings.{EndsWords, IsAlone, status_of, line_of}
+use Rattle.k_top.specs.Endings.{EndsWords, status_of, line_of}
 use Rattle.k_top.proofs.Growing.{grows_no_part, grows_nothing, grows_in_part}
 use Rattle.k_top.proofs.Unique.{one_output}
 
@@ -75,19 +77,21 @@ module _ (words : List (List ℕ)) (files files' : FilesState) (out out' : SinkS
   is_answer held file content answer command holds answers =
       subst (λ c. AnswersCommand c held answer) (sym command) (subst (λ c. AnswersContent file c answer) (sym holds) answers)
 
-  -- the output of the answer is that of the one program that the file's tokens spell
+  -- the output of the answer is that of the program that the file's tokens spell
   answer_output : (held : List ℕ → Option (List ℕ)) (answer : Answer.Answer) (file source text : List ℕ) (list : List Token) (unit : tree.Unit)
       → command_of words ≡ Ok file → held file ≡ Some source → length source ≤ file_limit → tokens source ≡ Ok list
-      → IsProgram list unit → IsAlone list unit → IsOutput unit text → IsAnswer words held answer → answer.out ≡ text
-  answer_output held answer file source text list unit command content fits lexed program alone output is =
+      → IsParse list (Ok unit) → IsProgram unit → IsOutput unit text → IsAnswer words held answer → answer.out ≡ text
+  answer_output held answer file source text list unit command content fits lexed parsed program output is =
       of_content (subst (λ c. AnswersContent file c answer) content (subst (λ c. AnswersCommand c held answer) command is))
     where
       of_list : AnswersTokens (Ok list) answer → answer.out ≡ text
-      of_list (inl refused) = absurd (refused.0 unit program)
-      of_list (inr (other, other_program, (out_text, other_output, same))) =
-          let one : other ≡ unit = alone other other_program in
-          ap (λ (a : Answer.Answer). a.out) same
-          ∙ one_output unit out_text text program.spelled.form (subst (λ u. IsOutput u out_text) one other_output) output
+      of_list (found, is_found, answers) =
+          of_tree (subst (λ f. AnswersTree f answer) (one_answer list found (Ok unit) is_found parsed) answers)
+        where
+          of_tree : AnswersTree (Ok unit) answer → answer.out ≡ text
+          of_tree (inl refused) = absurd (refused.0 program)
+          of_tree (inr (is, (out_text, other_output, same))) =
+              ap (λ (a : Answer.Answer). a.out) same ∙ one_output unit out_text text program.form other_output output
 
       of_content : AnswersContent file (Some source) answer → answer.out ≡ text
       of_content (inl long) = absurd (omega (arith, fits, long.0))
@@ -104,12 +108,12 @@ module _ (words : List (List ℕ)) (files files' : FilesState) (out out' : SinkS
 
   -- a prefix of the program's output is one of the answer's
   program_put : (file : List ℕ) (source : Vec ℕ Global) (list : List Token) (unit : tree.Unit) (text : List ℕ) → command_of words ≡ Ok file
-      → Loads (Ok source) file file_limit files files' → tokens source.items ≡ Ok list → IsProgram list unit → IsAlone list unit → IsOutput unit text
+      → Loads (Ok source) file file_limit files files' → tokens source.items ≡ Ok list → IsParse list (Ok unit) → IsProgram unit → IsOutput unit text
       → GrowsInPart out.written text out'.written → PartOfAnswer words files out out'
-  program_put file source list unit text command loads lexed program alone output grows =
+  program_put file source list unit text command loads lexed parsed program output grows =
       let content = content_of_file files.held file (Some source.items) loads.0 in
       let same = λ (answer : Answer.Answer) (is : IsAnswer words content.0 answer).
-      answer_output content.0 answer file source.items text list unit command content.2 loads.1 lexed program alone output is in
+      answer_output content.0 answer file source.items text list unit command content.2 loads.1 lexed parsed program output is in
       record {
         held = content.0;
         may_hold = content.1;
@@ -117,21 +121,23 @@ module _ (words : List (List ℕ)) (files files' : FilesState) (out out' : SinkS
       }
 
   pub part_put : (ending : Ending) → EndsWords words ending files files' out out' → PartOfAnswer words files out out'
-  part_put (Ran end) (file, command, (source, loads, (list, lexed, (unit, program, alone, (text, output, same, grows, faults))))) =
-      program_put file source list unit text command loads lexed program alone output (grows_in_part out.written text out'.written grows)
+  part_put (Ran end) (file, command, (source, loads, (list, lexed, (unit, parsed, (program, (text, output, same, grows, faults)))))) =
+      program_put file source list unit text command loads lexed parsed program output (grows_in_part out.written text out'.written grows)
   part_put (Refused (Lex fault)) (file, command, (source, loads, (lexed, same))) = nothing_put same
-  part_put (Refused NotBuilt) (file, command, (source, loads, (list, lexed, (none, same)))) = nothing_put same
+  part_put (Refused (Parse fault)) (file, command, (source, loads, (list, lexed, (parsed, same)))) = nothing_put same
+  part_put (Refused NotBuilt) (file, command, (source, loads, (list, lexed, (unit, parsed, (none, same))))) = nothing_put same
   part_put (Usage usage) (command, kept, same) = nothing_put same
   part_put (Absent name) (file, command, (named, loads, same)) = nothing_put same
   part_put ReadFault (file, command, (loads, same)) = nothing_put same
-  part_put WriteFault (file, command, (source, loads, (list, lexed, (unit, program, alone, ((text, output, grows), fault))))) =
-      program_put file source list unit text command loads lexed program alone output grows
+  part_put WriteFault (file, command, (source, loads, (list, lexed, (unit, parsed, (program, ((text, output, grows), fault)))))) =
+      program_put file source list unit text command loads lexed parsed program output grows
   part_put NoMemory (file, command, inl (kept, same)) = nothing_put same
   part_put NoMemory (file, command, inr (source, loads, inl same)) = nothing_put same
   part_put NoMemory (file, command, inr (source, loads, inr (list, lexed, inl same))) = nothing_put same
-  part_put NoMemory (file, command, inr (source, loads, inr (list, lexed, inr (unit, program, alone, (inl same, faults))))) = nothing_put same
-  part_put NoMemory (file, command, inr (source, loads, inr (list, lexed, inr (unit, program, alone, (inr (text, output, grows), faults))))) =
-      program_put file source list unit text command loads lexed program alone output grows
+  part_put NoMemory (file, command, inr (source, loads, inr (list, lexed, inr (unit, parsed, inl same)))) = nothing_put same
+  part_put NoMemory (file, command, inr (source, loads, inr (list, lexed, inr (unit, parsed, inr (program, (inl same, faults)))))) = nothing_put same
+  part_put NoMemory (file, command, inr (source, loads, inr (list, lexed, inr (unit, parsed, inr (program, (inr (text, output, grows), faults)))))) =
+      program_put file source list unit text command loads lexed parsed program output grows
   part_put (TooLong name) (file, command, (named, loads, same)) = nothing_put same
 
   -- out grows by nothing
@@ -162,17 +168,21 @@ module _ (words : List (List ℕ)) (files files' : FilesState) (out out' : SinkS
       }
 
   pub answered : (ending : Ending) → EndsWords words ending files files' out out' → Unless (status_of ending) (line_of ending)
-  answered (Ran end) (file, command, (source, loads, (list, lexed, (unit, program, alone, (text, output, same, grows, faults))))) =
+  answered (Ran end) (file, command, (source, loads, (list, lexed, (unit, parsed, (program, (text, output, same, grows, faults)))))) =
       let answer : Answer.Answer = ran end text in
-      let answers = by_tokens source.items (Ok list) answer lexed (inr (unit, program, (text, output, ap (λ e. ran e text) same))) in
+      let answers = by_tokens source.items (Ok list) answer lexed (Ok unit, parsed, inr (program, (text, output, ap (λ e. ran e text) same))) in
       answer_of (end_status end) (end_line end) (by_source file source answer command loads answers grows)
   answered (Refused (Lex fault)) (file, command, (source, loads, (lexed, same))) =
       let answer : Answer.Answer = refusal 3 (refused_line (Lex fault)) in
       let answers = by_tokens source.items (Err fault) answer lexed refl in
       answer_of 3 (refused_line (Lex fault)) (by_source file source answer command loads answers (refused answer refl same))
-  answered (Refused NotBuilt) (file, command, (source, loads, (list, lexed, (none, same)))) =
+  answered (Refused (Parse fault)) (file, command, (source, loads, (list, lexed, (parsed, same)))) =
+      let answer : Answer.Answer = refusal 3 (refused_line (Parse fault)) in
+      let answers = by_tokens source.items (Ok list) answer lexed (Err fault, parsed, refl) in
+      answer_of 3 (refused_line (Parse fault)) (by_source file source answer command loads answers (refused answer refl same))
+  answered (Refused NotBuilt) (file, command, (source, loads, (list, lexed, (unit, parsed, (none, same))))) =
       let answer : Answer.Answer = refusal 3 (refused_line NotBuilt) in
-      let answers = by_tokens source.items (Ok list) answer lexed (inl (none, refl)) in
+      let answers = by_tokens source.items (Ok list) answer lexed (Ok unit, parsed, inl (none, refl)) in
       answer_of 3 (refused_line NotBuilt) (by_source file source answer command loads answers (refused answer refl same))
   answered (Usage usage) (command, kept, same) =
       let any = any_content files.held in
@@ -243,17 +253,19 @@ module _ (words : List (List ℕ)) (files files' : FilesState) (out out' : SinkS
   OutAfter ending = out' ≡ out
 
   pub out_after : (ending : Ending) → EndsWords words ending files files' out out' → OutAfter ending
-  out_after (Ran end) (file, command, (source, loads, (list, lexed, (unit, program, alone, (text, output, same, grows, faults))))) = faults
+  out_after (Ran end) (file, command, (source, loads, (list, lexed, (unit, parsed, (program, (text, output, same, grows, faults)))))) = faults
   out_after (Refused (Lex fault)) (file, command, (source, loads, (lexed, same))) = same
-  out_after (Refused NotBuilt) (file, command, (source, loads, (list, lexed, (none, same)))) = same
+  out_after (Refused (Parse fault)) (file, command, (source, loads, (list, lexed, (parsed, same)))) = same
+  out_after (Refused NotBuilt) (file, command, (source, loads, (list, lexed, (unit, parsed, (none, same))))) = same
   out_after (Usage usage) (command, kept, same) = same
   out_after (Absent name) (file, command, (named, loads, same)) = same
   out_after ReadFault (file, command, (loads, same)) = same
-  out_after WriteFault (file, command, (source, loads, (list, lexed, (unit, program, alone, (put, fault))))) = fault
+  out_after WriteFault (file, command, (source, loads, (list, lexed, (unit, parsed, (program, (put, fault)))))) = fault
   out_after NoMemory (file, command, inl (kept, same)) = ap (λ (o : SinkState). o.faults) same
   out_after NoMemory (file, command, inr (source, loads, inl same)) = ap (λ (o : SinkState). o.faults) same
   out_after NoMemory (file, command, inr (source, loads, inr (list, lexed, inl same))) = ap (λ (o : SinkState). o.faults) same
-  out_after NoMemory (file, command, inr (source, loads, inr (list, lexed, inr (unit, program, alone, (put, faults))))) = faults
+  out_after NoMemory (file, command, inr (source, loads, inr (list, lexed, inr (unit, parsed, inl same)))) = ap (λ (o : SinkState). o.faults) same
+  out_after NoMemory (file, command, inr (source, loads, inr (list, lexed, inr (unit, parsed, inr (program, (put, faults)))))) = faults
   out_after (TooLong name) (file, command, (named, loads, same)) = same
 
   pub command_after : (ending : Ending) → EndsWords words ending files files' out out'

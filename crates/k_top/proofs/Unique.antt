@@ -4,7 +4,7 @@ use Rattle.k_optab.specs.Events.{operations}
 use Rattle.k_tree.specs.declared.tree.unit.Unit as tree
 use Rattle.k_code.specs.declared.ending.End.{End}
 use Rattle.k_code.specs.declared.ending.End.TheVariants.{Returned, Trapped, OutOfSteps}
-use Rattle.k_parse.specs.First.{IsFirst}
+use Rattle.k_form.specs.First.{IsFirst}
 use Rattle.k_top.specs.declared.rows.Row.{Row}
 use Rattle.k_top.specs.Run.{listing_of, regions_of}
 use Rattle.k_top.specs.Report.{report_text, with_report}

@@ -8,6 +8,8 @@ use Rattle.k_tree.specs.declared.tokens.Token.{Token}
 use Rattle.k_tree.specs.declared.tree.unit.Unit as tree
 use Rattle.k_lex.specs.declared.fault.LexFault.{LexFault}
 use Rattle.k_lex.specs.Tokens.{tokens}
+use Rattle.k_reader.specs.declared.whole.ParseFault.{ParseFault}
+use Rattle.k_parse.specs.Parse.{IsParse}
 use Rattle.k_code.specs.declared.ending.End.{End}
 use Rattle.k_code.specs.declared.ending.End.TheVariants.{Returned, Trapped, OutOfSteps}
 use Rattle.k_code.specs.declared.ending.Trap.{Trap}
@@ -15,7 +17,7 @@ use Rattle.k_code.specs.Traps.{trap_name}
 use Rattle.k_top.specs.declared.command.Usage.{Usage}
 use Rattle.k_top.specs.declared.command.Usage.TheVariants.{NoCommand, UnknownWord, NoFile}
 use Rattle.k_top.specs.declared.refusal.SourceFault.{SourceFault}
-use Rattle.k_top.specs.declared.refusal.SourceFault.TheVariants.{Lex, NotBuilt}
+use Rattle.k_top.specs.declared.refusal.SourceFault.TheVariants.{Lex, Parse, NotBuilt}
 use Rattle.k_top.specs.declared.rows.Row.{Row}
 use Rattle.k_top.specs.Command.{command_of}
 use Rattle.k_top.specs.Refusal.{fault_text, named_at}
@@ -109,12 +111,16 @@ ran end out = record { out = out; err = end_line end; status = end_status end }
 abbrev pub AnswersRun : tree.Unit → Answer → Type 0
 AnswersRun unit answer = (out : List ℕ) × IsOutput unit out × (answer ≡ ran (listing_of unit).end out)
 
--- the tokens decide: a source without tokens is refused, and so is one whose tokens spell no program
+-- the tree decides: a source without a tree is refused, and so is one whose tree is no program of the form that is run so far
+abbrev pub AnswersTree : Result tree.Unit ParseFault → Answer → Type 0
+AnswersTree (Err fault) answer = answer ≡ refusal 3 (refused_line (Parse fault))
+AnswersTree (Ok unit) answer =
+    ((IsProgram unit → ⊥) × (answer ≡ refusal 3 (refused_line NotBuilt))) ⊎ (IsProgram unit × AnswersRun unit answer)
+
+-- the tokens decide: a source without tokens is refused
 abbrev pub AnswersTokens : Result (List Token) LexFault → Answer → Type 0
 AnswersTokens (Err fault) answer = answer ≡ refusal 3 (refused_line (Lex fault))
-AnswersTokens (Ok list) answer =
-    (((unit : tree.Unit) → IsProgram list unit → ⊥) × (answer ≡ refusal 3 (refused_line NotBuilt)))
-    ⊎ ((unit : tree.Unit) × IsProgram list unit × AnswersRun unit answer)
+AnswersTokens (Ok list) answer = (found : Result tree.Unit ParseFault) × IsParse list found × AnswersTree found answer
 
 -- the source decides
 abbrev pub AnswersSource : List ℕ → Answer → Type 0

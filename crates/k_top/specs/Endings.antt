@@ -10,9 +10,12 @@ use Rattle.k_tree.specs.declared.tree.unit.Unit as tree
 use Rattle.k_lex.specs.declared.fault.LexFault.{LexFault}
 use Rattle.k_lex.specs.declared.fault.LexFault.TheVariants as l
 use Rattle.k_lex.specs.Tokens.{tokens}
+use Rattle.k_reader.specs.declared.whole.ParseFault.{ParseFault}
+use Rattle.k_reader.specs.declared.whole.ParseFault.TheVariants as p
+use Rattle.k_parse.specs.Parse.{IsParse}
 use Rattle.k_top.specs.declared.ending.Ending.{Ending}
 use Rattle.k_top.specs.declared.ending.Ending.TheVariants.{Ran, Refused, Usage, Absent, ReadFault, WriteFault, NoMemory, TooLong}
-use Rattle.k_top.specs.declared.refusal.SourceFault.TheVariants.{Lex, NotBuilt}
+use Rattle.k_top.specs.declared.refusal.SourceFault.TheVariants.{Lex, Parse, NotBuilt}
 use Rattle.k_top.specs.Command.{command_of}
 use Rattle.k_top.specs.Form.{IsProgram}
 use Rattle.k_top.specs.Run.{listing_of}
@@ -53,19 +56,26 @@ EndsProgram unit WriteFault out out' = PutsPart unit out out' × Rose out.faults
 EndsProgram unit NoMemory out out' = ((out' ≡ out) ⊎ PutsPart unit out out') × (out'.faults ≡ out.faults)
 EndsProgram unit _ out out' = ⊥
 
--- no other program is spelled by these tokens
-abbrev pub IsAlone : List Token → tree.Unit → Type 0
-IsAlone list unit = (other : tree.Unit) → IsProgram list other → other ≡ unit
+-- how a tree ended: it is no program of the form that is run so far, or its run ended so
+abbrev pub EndsTree : tree.Unit → Ending → SinkState → SinkState → Type 0
+EndsTree unit (Refused NotBuilt) out out' = (IsProgram unit → ⊥) × (out' ≡ out)
+EndsTree unit NoMemory out out' = (out' ≡ out) ⊎ (IsProgram unit × EndsProgram unit NoMemory out out')
+EndsTree unit ending out out' = IsProgram unit × EndsProgram unit ending out out'
 
--- the tokens spell one program, and its run ended so
-abbrev pub EndsOne : List Token → Ending → SinkState → SinkState → Type 0
-EndsOne list ending out out' = (unit : tree.Unit) × IsProgram list unit × IsAlone list unit × EndsProgram unit ending out out'
+-- the tokens spell a tree, and that ended so
+abbrev pub EndsParsed : List Token → Ending → SinkState → SinkState → Type 0
+EndsParsed list ending out out' = (unit : tree.Unit) × IsParse list (Ok unit) × EndsTree unit ending out out'
+
+-- how a token list without a tree ends
+abbrev pub ending_without_tree : ParseFault → Ending
+ending_without_tree p.Memory = NoMemory
+ending_without_tree fault = Refused (Parse fault)
 
 -- how a token list ended
 abbrev pub EndsTokens : List Token → Ending → SinkState → SinkState → Type 0
-EndsTokens list (Refused NotBuilt) out out' = ((unit : tree.Unit) → IsProgram list unit → ⊥) × (out' ≡ out)
-EndsTokens list NoMemory out out' = (out' ≡ out) ⊎ EndsOne list NoMemory out out'
-EndsTokens list ending out out' = EndsOne list ending out out'
+EndsTokens list (Refused (Parse fault)) out out' = IsParse list (Err fault) × (out' ≡ out)
+EndsTokens list NoMemory out out' = (out' ≡ out) ⊎ EndsParsed list NoMemory out out'
+EndsTokens list ending out out' = EndsParsed list ending out out'
 
 -- how a source without tokens ends
 abbrev pub ending_without_tokens : LexFault → Ending

@@ -3,8 +3,10 @@ use Rattle.std.specs.Prelude.{ℕ, List, [], ◌++◌, codes}
 use Rattle.k_num.specs.declared.place.Place.{Place}
 use Rattle.k_lex.specs.declared.fault.LexFault.{LexFault}
 use Rattle.k_lex.specs.declared.fault.LexFault.TheVariants as l
+use Rattle.k_reader.specs.declared.whole.ParseFault.{ParseFault}
+use Rattle.k_reader.specs.declared.whole.ParseFault.TheVariants as p
 use Rattle.k_top.specs.declared.refusal.SourceFault.{SourceFault}
-use Rattle.k_top.specs.declared.refusal.SourceFault.TheVariants.{Lex, NotBuilt}
+use Rattle.k_top.specs.declared.refusal.SourceFault.TheVariants.{Lex, Parse, NotBuilt}
 use Rattle.k_top.specs.Report.{place_text}
 
 -- a name and a place, as NAME at line:column
@@ -26,7 +28,19 @@ lex_fault_text (l.SourceLong place) = named_at (codes "SourceLong") place
 lex_fault_text (l.TokensMany place) = named_at (codes "TokensMany") place
 lex_fault_text l.Memory = []
 
--- the name and the place of a refusal: a source whose tokens are not of the form is refused as a whole
+-- the place of what is refused as a whole
+abbrev pub whole_place : Place
+whole_place = record { line = 1; column = 1 }
+
+-- the name of each fault of the tree, and its place; a tree with too many nodes is refused as a whole
+abbrev pub parse_fault_text : ParseFault → List ℕ
+parse_fault_text (p.Syntax place) = named_at (codes "Syntax") place
+parse_fault_text (p.TooDeep place) = named_at (codes "TooDeep") place
+parse_fault_text p.NodesMany = named_at (codes "NodesMany") whole_place
+parse_fault_text p.Memory = []
+
+-- the name and the place of a refusal: a source whose tree is not of the form that is run so far is refused as a whole
 abbrev pub fault_text : SourceFault → List ℕ
 fault_text (Lex fault) = lex_fault_text fault
-fault_text NotBuilt = named_at (codes "NotBuilt") (record { line = 1; column = 1 })
+fault_text (Parse fault) = parse_fault_text fault
+fault_text NotBuilt = named_at (codes "NotBuilt") whole_place

@@ -1,26 +1,22 @@
-//! How a token list is read as a program.
-ghost use Rattle.std.specs.Prelude.{IfOk, MatchOption};
+//! Which trees are run so far.
+ghost use Rattle.std.specs.Prelude.{IfOk};
+ghost use Rattle.std.specs.Bool.{OnTrue, OnFalse};
 ghost use Rattle.k_top.specs.Form.{IsProgram};
-ghost use Rattle.k_top.specs.Endings.{IsAlone};
 
 use crate::names::names_stand;
-use k_num::{NoMemory, Seq};
-use k_parse::{FirstFault, first_program};
-use k_tree::{Token, Unit};
+use k_form::is_first;
+use k_num::NoMemory;
+use k_tree::Unit;
 use std::alloc::Global;
 
-/// The program that the tokens spell, if they spell one.
-pub fn program_of(alloc: Global, tokens: &Seq<Token>) -> Result<Option<Unit>, NoMemory>
-    ensures { IfOk result (λ found. MatchOption found ((unit : _) → IsProgram tokens.now unit → ⊥) (λ unit. IsProgram tokens.now unit × IsAlone tokens.now unit)) }
+/// Whether the tree is a program of the form that is run so far.
+pub fn is_program(alloc: Global, unit: &Unit) -> Result<bool, NoMemory>
+    ensures program { IfOk result (λ is. OnTrue is (IsProgram unit.now)) }
+    ensures other { IfOk result (λ is. OnFalse is (IsProgram unit.now → ⊥)) }
 {
-    let unit = match first_program(alloc, tokens) {
-        Ok(unit) => unit,
-        Err(FirstFault::Other) => return Ok(None),
-        Err(FirstFault::Memory) => return Err(NoMemory),
-    };
-    if names_stand(alloc, &unit)? {
-        Ok(Some(unit))
+    if is_first(unit) {
+        names_stand(alloc, unit)
     } else {
-        Ok(None)
+        Ok(false)
     }
 }

@@ -1,17 +1,20 @@
 //! Why a source is refused, and how that is written.
 ghost use Rattle.std.specs.Prelude.{◌≡◌, ◌++◌, OnOk, codes};
-ghost use Rattle.k_top.specs.Refusal.{named_at, lex_fault_text, fault_text};
+ghost use Rattle.k_top.specs.Refusal.{named_at, lex_fault_text, parse_fault_text, fault_text};
 
 use crate::report::{push, push_place};
 use k_lex::LexFault;
 use k_num::{NoMemory, Place};
+use k_parse::ParseFault;
 
 /// Why a source is refused.
 #[derive(Clone, Copy, Debug, PartialEq, Eq)]
 pub enum SourceFault {
     /// It has no tokens.
     Lex(LexFault),
-    /// Its tokens are not of the form that is run so far.
+    /// Its tokens spell no tree within the limits.
+    Parse(ParseFault),
+    /// Its tree is not of the form that is run so far.
     NotBuilt,
 }
 
@@ -21,9 +24,13 @@ pub fn push_fault(line: &mut Vec<u8>, fault: SourceFault) -> Result<(), NoMemory
 {
     match fault {
         SourceFault::Lex(fault) => push_lex_fault(line, fault),
-        SourceFault::NotBuilt => push_named_at(line, "NotBuilt", Place { line: 1, column: 1 }),
+        SourceFault::Parse(fault) => push_parse_fault(line, fault),
+        SourceFault::NotBuilt => push_named_at(line, "NotBuilt", WHOLE),
     }
 }
+
+/// The place of what is refused as a whole.
+const WHOLE: Place = Place { line: 1, column: 1 };
 
 /// The same, of a fault of the tokens. Want of memory is no refusal, and has no name here.
 fn push_lex_fault(line: &mut Vec<u8>, fault: LexFault) -> Result<(), NoMemory>
@@ -42,6 +49,18 @@ fn push_lex_fault(line: &mut Vec<u8>, fault: LexFault) -> Result<(), NoMemory>
         LexFault::SourceLong(place) => push_named_at(line, "SourceLong", place),
         LexFault::TokensMany(place) => push_named_at(line, "TokensMany", place),
         LexFault::Memory => Ok(()),
+    }
+}
+
+/// The same, of a fault of the tree.
+fn push_parse_fault(line: &mut Vec<u8>, fault: ParseFault) -> Result<(), NoMemory>
+    ensures { OnOk result (line.new.items ≡ line.old.items ++ parse_fault_text fault) }
+{
+    match fault {
+        ParseFault::Syntax(place) => push_named_at(line, "Syntax", place),
+        ParseFault::TooDeep(place) => push_named_at(line, "TooDeep", place),
+        ParseFault::NodesMany => push_named_at(line, "NodesMany", WHOLE),
+        ParseFault::Memory => Ok(()),
     }
 }
 

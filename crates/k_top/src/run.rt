@@ -2,7 +2,7 @@
 ghost use Rattle.std.specs.Prelude.{◌≡◌, length, IfOk};
 ghost use Rattle.k_optab.specs.Events.{operations};
 ghost use Rattle.k_code.specs.declared.ending.End.TheVariants.{Returned};
-ghost use Rattle.k_parse.specs.First.{IsFirst};
+ghost use Rattle.k_form.specs.First.{IsFirst};
 ghost use Rattle.k_top.specs.Run.{listing_of, regions_of};
 ghost use Rattle.k_top.specs.Answer.{IsProfile, IsOutput, IsOutputAt};
 

@@ -1,6 +1,8 @@
 //! The top call over files, sources and sinks in memory.
 mod ends;
 mod faults;
+mod parses;
+mod places;
 mod programs;
 mod puts;
 mod refusals;

@@ -1,19 +1,21 @@
 //! The top call.
 ghost use Rattle.std.specs.Prelude.{◌≡◌, ◌<◌, ◌⊎◌, map, string_bytes};
 ghost use Rattle.k_edge.specs.Fault.{Rose};
-ghost use Rattle.k_parse.specs.First.{IsFirst};
+ghost use Rattle.k_form.specs.First.{IsFirst};
+ghost use Rattle.k_reader.specs.Closed.{EndsOnce};
 ghost use Rattle.k_top.specs.Clauses.{Answered, HasRun, IsRefusal, IsUsage, NoFault, PartOfAnswer, SameFaults, ToldFault};
-ghost use Rattle.k_top.specs.Endings.{EndsProgram, EndsTokens, EndsSource, EndsFile, EndsWords, ending_without_tokens, PutsLine, Tells};
+ghost use Rattle.k_top.specs.Endings.{EndsProgram, EndsTree, EndsTokens, EndsSource, EndsFile, EndsWords, ending_without_tokens, ending_without_tree, PutsLine, Tells};
 
 use crate::command::file_to_run;
 use crate::ending::Ending;
-use crate::form::program_of;
+use crate::form::is_program;
 use crate::output::put_all;
 use crate::refusal::SourceFault;
 use crate::run::run;
 use k_edge::{Files, LoadFault, PutFault, Sink, Source};
 use k_lex::{LexFault, lex};
 use k_num::Seq;
+use k_parse::{ParseFault, parse};
 use k_tree::{Token, Unit};
 use std::alloc::Global;
 
@@ -123,11 +125,32 @@ fn without_tokens(fault: LexFault) -> Ending<'static>
 
 /// Runs a token list.
 fn run_tokens<K: Sink>(alloc: Global, tokens: &Seq<Token>, out: &mut K) -> Ending<'static>
+    requires { EndsOnce tokens.now }
     ensures { EndsTokens tokens.now result (K.seen out.old) (K.seen out.new) }
 {
-    match program_of(alloc, tokens) {
-        Ok(Some(unit)) => run_program(alloc, &unit, out),
-        Ok(None) => Ending::Refused(SourceFault::NotBuilt),
+    match parse(alloc, tokens) {
+        Ok(unit) => run_tree(alloc, &unit, out),
+        Err(fault) => without_tree(fault),
+    }
+}
+
+/// How a token list ends that has no tree.
+fn without_tree(fault: ParseFault) -> Ending<'static>
+    ensures { result ≡ ending_without_tree fault }
+{
+    match fault {
+        ParseFault::Memory => Ending::NoMemory,
+        fault => Ending::Refused(SourceFault::Parse(fault)),
+    }
+}
+
+/// Runs a tree.
+fn run_tree<K: Sink>(alloc: Global, unit: &Unit, out: &mut K) -> Ending<'static>
+    ensures { EndsTree unit.now result (K.seen out.old) (K.seen out.new) }
+{
+    match is_program(alloc, unit) {
+        Ok(true) => run_program(alloc, unit, out),
+        Ok(false) => Ending::Refused(SourceFault::NotBuilt),
         Err(_) => Ending::NoMemory,
     }
 }

@@ -184,7 +184,7 @@ fn deepest_nesting(rt: HostRuntime) -> Result<(), Fail> {
         is_refused(
             alloc,
             parenthesised(alloc, 199)?.as_slice(),
-            "kremlin: source refused: NotBuilt at 1:1\n"
+            "kremlin: source refused: TooDeep at 1:221\n"
         )?
     );
     Ok(())

@@ -57,8 +57,55 @@ static LEX_FAULTS: [(&[u8], &str); 12] = [
     ),
 ];
 
-/// Sources whose tokens are not of the form.
-static OTHER_FORMS: [&[u8]; 37] = [
+/// Sources without a tree, and the line that they have.
+static SYNTAX: [(&[u8], &str); 10] = [
+    (
+        b"int main(void){return 1 2;}",
+        "kremlin: source refused: Syntax at 1:25\n",
+    ),
+    (
+        b"int main(void){return ((1);}",
+        "kremlin: source refused: Syntax at 1:27\n",
+    ),
+    (
+        b"int main(void){return (1;}",
+        "kremlin: source refused: Syntax at 1:25\n",
+    ),
+    (
+        b"intmain(void){return 7;}",
+        "kremlin: source refused: Syntax at 1:1\n",
+    ),
+    (
+        b"Int main(void){return 7;}",
+        "kremlin: source refused: Syntax at 1:1\n",
+    ),
+    // The end is a token too.
+    (
+        b"int main(void){return 7;",
+        "kremlin: source refused: Syntax at 1:25\n",
+    ),
+    (
+        b"int main(void){return 7;}}",
+        "kremlin: source refused: Syntax at 1:26\n",
+    ),
+    (
+        b"int main(void){return 7;}\n ;",
+        "kremlin: source refused: Syntax at 2:2\n",
+    ),
+    // The tokens of a macro stand where it is used.
+    (
+        b"#define A 1 1\nint main(void){return A;}",
+        "kremlin: source refused: Syntax at 2:23\n",
+    ),
+    // A fault of the tokens comes first, wherever it is.
+    (
+        b"int main(void){return 1 2;} @",
+        "kremlin: source refused: BadByte at 1:29\n",
+    ),
+];
+
+/// Sources whose trees are not of the form.
+static OTHER_FORMS: [&[u8]; 32] = [
     b"int main(void){return 2147483648;}",
     b"int main(void){return 4294967296;}",
     b"int main(void){return 0xffffffff;}",
@@ -66,22 +113,16 @@ static OTHER_FORMS: [&[u8]; 37] = [
     b"int main(void){return 7L;}",
     b"int main(void){return -1;}",
     b"int main(void){return +1;}",
-    b"int main(void){return (1;}",
-    b"int main(void){return 1 1;}",
     b"int main(void){return \"a\";}",
     b"int main(void){return n;}",
     b"int main(void){return ;}",
     b"int main(void){return7;}",
-    b"intmain(void){return 7;}",
     b"long main(void){return 7;}",
     b"int main(){return 7;}",
     b"int main(int){return 7;}",
+    b"int main(void);",
+    b"int x; int main(void){return 7;}",
     b"int f(void){return 7;}",
-    b"Int main(void){return 7;}",
-    b"int main(void){return 7;",
-    b"int main(void){return 7;}}",
-    b"int main(void){return 7;} ;",
-    b"#define A 1 1\nint main(void){return A;}",
     // A name is declared once, before its uses, and is none of the library's.
     b"int main(void){int x; int x; return 0;}",
     b"int main(void){int x, x; return 0;}",
@@ -97,6 +138,7 @@ static OTHER_FORMS: [&[u8]; 37] = [
     b"int main(void){1+2;}",
     b"int main(void){return 4/2;}",
     b"int main(void){int x; return x=1;}",
+    b"int main(void){int a=1,b=0,x=0; if(a) if(b) x=1; else x=2; return x;}",
     b"",
 ];
 
@@ -105,6 +147,30 @@ fn faults_of_the_lexer(rt: HostRuntime) -> Result<(), Fail> {
     for (source, err) in &LEX_FAULTS {
         assert!(rt; is_refused(rt.alloc(), source, err)?);
     }
+    Ok(())
+}
+
+#[test]
+fn faults_of_the_parser(rt: HostRuntime) -> Result<(), Fail> {
+    for (source, err) in &SYNTAX {
+        assert!(rt; is_refused(rt.alloc(), source, err)?);
+    }
+    Ok(())
+}
+
+/// 262,145 nodes.
+#[test]
+fn many_nodes(rt: HostRuntime) -> Result<(), Fail> {
+    let mut source = Vec::from_slice(rt.alloc(), b"int main(void){")?;
+    source.resize(15 + 262_144, b';')?;
+    source.push(b'}')?;
+    assert!(rt;
+        is_refused(
+            rt.alloc(),
+            source.as_slice(),
+            "kremlin: source refused: NodesMany at 1:1\n"
+        )?
+    );
     Ok(())
 }
 
