@@ -1,12 +1,13 @@
 //! Expressions (C17 6.5), token by token.
-pub mod call;
-pub mod close;
-pub mod operand;
-pub mod plug;
-pub mod types;
+mod call;
+mod close;
+mod operand;
+mod plug;
+mod types;
 
 ghost use Rattle.std.specs.Prelude.{◌≡◌, IfOk};
 ghost use Rattle.k_reader.specs.Expressions as spec;
+ghost use Rattle.k_reader.specs.declared.expression.Fed.TheVariants as feds;
 
 use crate::reading::is_left_paren;
 use k_num::{NoMemory, Place, Seq, Text};
@@ -14,19 +15,26 @@ use k_reader::expression::{Fed, Now, Open, Reading, Site, Term};
 use k_reader::level::plus;
 use k_reader::operators::right_rank;
 use k_reader::stack::Stack;
-use k_tree::{Expr, Mark, Token, Word};
+use k_tree::{Expr, Mark, Token};
 use std::alloc::Global;
 
 /// The expression goes on.
-pub fn goes(site: Site, opens: Stack<Open>, state: Now, reach: usize) -> Fed
+fn goes(site: Site, opens: Stack<Open>, state: Now, reach: usize) -> Fed
     ensures { result ≡ spec.goes site opens state reach }
 {
     let reading = Reading { site, opens, state };
     Fed::Goes { reading, reach }
 }
 
+/// The token can't stand in the construct around it. The construct is dropped here, where each of its variants may come.
+fn refused(_around: Open) -> Fed
+    ensures { result ≡ feds.Refused }
+{
+    Fed::Refused
+}
+
 /// The level of a node that stands in the innermost open construct.
-pub fn level(site: Site, opens: &Stack<Open>) -> usize
+fn level(site: Site, opens: &Stack<Open>) -> usize
     ensures { result ≡ spec.level site opens.now }
 {
     plus(site.level, opens.len())
@@ -34,7 +42,7 @@ pub fn level(site: Site, opens: &Stack<Open>) -> usize
 
 /// The least rank of an operand in the innermost open construct.
 #[tactic(auto, unfolding(k_reader::specs::Expressions::hole))]
-pub fn hole(site: Site, opens: &Stack<Open>) -> u8
+fn hole(site: Site, opens: &Stack<Open>) -> u8
     ensures { result ≡ spec.hole site opens.now }
 {
     match opens.top() {

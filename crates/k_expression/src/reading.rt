@@ -1,13 +1,15 @@
 //! An expression up to the mark that closes it.
-ghost use Rattle.std.specs.Prelude.{◌≡◌, IfOk};
+ghost use Rattle.std.specs.Prelude.{◌≡◌, ◌&&◌, IfOk};
 ghost use Rattle.k_reader.specs.Readings as spec;
 ghost use Rattle.k_reader.specs.Expressions.{is_left_paren};
+ghost use Rattle.k_reader.specs.declared.reading.Closer.TheVariants as closers;
+ghost use Rattle.k_tree.specs.declared.tokens.TokenKind.TheVariants as kinds;
 
 use crate::expression::feed;
 use k_num::NoMemory;
 use k_reader::expression::{Fed, Now, Reading};
 use k_reader::reading::{Closer, Maybe, Read};
-use k_tree::{Expr, Mark, Token, TokenKind};
+use k_tree::{Mark, Token, TokenKind};
 use std::alloc::Global;
 
 /// Is a token this mark?
@@ -15,21 +17,56 @@ use std::alloc::Global;
 pub fn closes(token: &Token, closer: Closer) -> bool
     ensures { result ≡ spec.closes token.now closer }
 {
-    let TokenKind::Mark(mark) = &token.what else {
-        return false;
-    };
-    match closer {
-        Closer::Bracket => matches!(mark, Mark::RightBracket),
-        Closer::Paren => matches!(mark, Mark::RightParen),
-        Closer::Semicolon => matches!(mark, Mark::Semicolon),
+    match &token.what {
+        TokenKind::Mark(mark) => mark_closes(*mark, closer),
+        _ => false,
     }
+}
+
+/// Is it this mark?
+fn mark_closes(mark: Mark, closer: Closer) -> bool
+    ensures { result ≡ spec.mark_closes closer mark }
+{
+    match closer {
+        Closer::Bracket => is_right_bracket(mark),
+        Closer::Paren => is_right_paren(mark),
+        Closer::Semicolon => is_semicolon(mark),
+    }
+}
+
+fn is_right_bracket(mark: Mark) -> bool
+    ensures { result ≡ spec.mark_closes closers.Bracket mark }
+{
+    matches!(mark, Mark::RightBracket)
+}
+
+fn is_right_paren(mark: Mark) -> bool
+    ensures { result ≡ spec.mark_closes closers.Paren mark }
+{
+    matches!(mark, Mark::RightParen)
+}
+
+fn is_semicolon(mark: Mark) -> bool
+    ensures { result ≡ spec.mark_closes closers.Semicolon mark }
+{
+    matches!(mark, Mark::Semicolon)
 }
 
 /// Is a token `(`?
 pub fn is_left_paren(token: &Token) -> bool
     ensures { result ≡ is_left_paren token.now.what }
 {
-    matches!(token.what, TokenKind::Mark(Mark::LeftParen))
+    match &token.what {
+        TokenKind::Mark(mark) => is_mark_left_paren(*mark),
+        _ => false,
+    }
+}
+
+/// Is a mark `(`?
+fn is_mark_left_paren(mark: Mark) -> bool
+    ensures { result ≡ is_left_paren (kinds.Mark mark) }
+{
+    matches!(mark, Mark::LeftParen)
 }
 
 /// Has nothing of the expression been read yet?
@@ -53,17 +90,23 @@ pub fn read_needed(
 ) -> Result<Read, NoMemory>
     ensures { IfOk result (λ read. read ≡ spec.read_needed reading token.now closer) }
 {
-    Ok(match feed(alloc, reading, token)? {
-        Fed::Goes { reading, reach } => Read::Goes { reading, reach },
+    match feed(alloc, reading, token)? {
+        Fed::Goes { reading, reach } => Ok(Read::Goes { reading, reach }),
         Fed::Ends { value } => {
             if closes(token, closer) {
-                Read::Closed { value }
-            } else {
-                Read::Refused
+                return Ok(Read::Closed { value });
             }
+            Ok(Read::Refused)
         }
-        Fed::Refused => Read::Refused,
-    })
+        Fed::Refused => Ok(Read::Refused),
+    }
+}
+
+/// Does a token close an expression of which nothing has been read?
+fn is_left_out(reading: &Reading, token: &Token, closer: Closer) -> bool
+    ensures { result ≡ (spec.is_fresh reading.now && spec.closes token.now closer) }
+{
+    is_fresh(reading) && closes(token, closer)
 }
 
 /// The next token of an expression that may be left out, up to a mark.
@@ -76,12 +119,12 @@ pub fn read_maybe(
 ) -> Result<Maybe, NoMemory>
     ensures { IfOk result (λ read. read ≡ spec.read_maybe reading token.now closer) }
 {
-    if is_fresh(&reading) && closes(token, closer) {
+    if is_left_out(&reading, token, closer) {
         return Ok(Maybe::Closed { value: None });
     }
-    Ok(match read_needed(alloc, reading, token, closer)? {
-        Read::Goes { reading, reach } => Maybe::Goes { reading, reach },
-        Read::Closed { value } => Maybe::Closed { value: Some(value) },
-        Read::Refused => Maybe::Refused,
-    })
+    match read_needed(alloc, reading, token, closer)? {
+        Read::Goes { reading, reach } => Ok(Maybe::Goes { reading, reach }),
+        Read::Closed { value } => Ok(Maybe::Closed { value: Some(value) }),
+        Read::Refused => Ok(Maybe::Refused),
+    }
 }

@@ -3,7 +3,7 @@ ghost use Rattle.std.specs.Prelude.{◌≡◌, IfOk};
 ghost use Rattle.k_reader.specs.Expressions as spec;
 
 use crate::expression::goes;
-use k_num::{NoMemory, Place, Seq, Text};
+use k_num::NoMemory;
 use k_reader::expression::call::Called;
 use k_reader::expression::{Fed, Now, Open, Site, Term};
 use k_reader::level::plus;

@@ -4,8 +4,8 @@ ghost use Rattle.k_reader.specs.Expressions as spec;
 
 use crate::expression::call::argued;
 use crate::expression::plug::plug;
-use crate::expression::{goes, hole, level};
-use k_num::{Box, NoMemory, Place, Seq};
+use crate::expression::{goes, hole, level, refused};
+use k_num::{Box, NoMemory, Place};
 use k_reader::expression::call::Called;
 use k_reader::expression::plug::Plugged;
 use k_reader::expression::{Fed, Now, Open, Site, Term};
@@ -200,7 +200,7 @@ fn enclose(
             };
             argued(site, opens, called, mark)
         }
-        _around => Ok(Fed::Refused),
+        around => Ok(refused(around)),
     }
 }
 
@@ -262,10 +262,9 @@ pub fn value(
     match opens.pop() {
         None => {
             if goes_on {
-                take_token(alloc, site, opens, term, token)
-            } else {
-                Ok(Fed::Ends { value: term.tree })
+                return take_token(alloc, site, opens, term, token);
             }
+            Ok(Fed::Ends { value: term.tree })
         }
         Some(around) => {
             if goes_on {

@@ -1,10 +1,10 @@
 //! The first token of an operand.
-ghost use Rattle.std.specs.Prelude.{◌≡◌, IfOk};
+ghost use Rattle.std.specs.Prelude.{◌≡◌, IfOk, nat_eq, length};
 ghost use Rattle.k_reader.specs.Expressions as spec;
 ghost use Rattle.k_reader.specs.Operators.{is_prefix_mark};
 ghost use Rattle.k_tree.specs.Ranked as ranked;
 
-use crate::expression::{goes, hole, level};
+use crate::expression::{goes, hole, level, refused};
 use k_num::{NoMemory, Place, Seq, Text};
 use k_reader::expression::{Fed, Now, Open, Site, Term};
 use k_reader::level::plus;
@@ -40,6 +40,13 @@ fn opened(site: Site, mut opens: Stack<Open>, place: Place) -> Result<Fed, NoMem
     Ok(goes(site, opens, Now::Operand, reach))
 }
 
+/// Are there no arguments?
+fn has_none(args: &Seq<Expr>) -> bool
+    ensures { result ≡ nat_eq (length args.now) 0 }
+{
+    args.len() == 0
+}
+
 /// `)` where an operand could begin: the end of a call without arguments.
 #[tactic(auto, unfolding(k_reader::specs::Expressions::no_arguments))]
 fn no_arguments(site: Site, mut opens: Stack<Open>) -> Fed
@@ -54,18 +61,17 @@ fn no_arguments(site: Site, mut opens: Stack<Open>) -> Fed
                 height: _height,
             },
         ) => {
-            if args.len() > 0 {
+            if !has_none(&args) {
                 return Fed::Refused;
             }
-            let tree = Expr::Call { place, name, args };
             let term = Term {
-                tree,
+                tree: Expr::Call { place, name, args },
                 rank: 15,
                 height: 1,
             };
             goes(site, opens, Now::Value { term }, 0)
         }
-        Some(_open) => Fed::Refused,
+        Some(around) => refused(around),
         None => Fed::Refused,
     }
 }
@@ -104,14 +110,15 @@ fn mark(site: Site, opens: Stack<Open>, mark: Mark, place: Place) -> Result<Fed,
     ensures { IfOk result (λ fed. fed ≡ spec.mark_operand site opens mark place) }
 {
     if is_open(mark) {
-        opened(site, opens, place)
-    } else if is_close(mark) {
-        Ok(no_arguments(site, opens))
-    } else if is_prefix(mark) {
-        prefix(site, opens, mark, place)
-    } else {
-        Ok(Fed::Refused)
+        return opened(site, opens, place);
     }
+    if is_close(mark) {
+        return Ok(no_arguments(site, opens));
+    }
+    if is_prefix(mark) {
+        return prefix(site, opens, mark, place);
+    }
+    Ok(Fed::Refused)
 }
 
 /// May the name of a type begin here? Then a `(` stands before it, and that may begin a cast, or follows `sizeof`.
@@ -137,6 +144,13 @@ fn is_before_type(site: Site, opens: &mut Stack<Open>) -> Result<bool, NoMemory>
     }
 }
 
+/// Is it `sizeof`?
+fn is_sizeof(word: Word) -> bool
+    ensures { result ≡ spec.is_sizeof word }
+{
+    matches!(word, Word::Sizeof)
+}
+
 /// A keyword where an operand begins.
 #[tactic(auto, unfolding(k_reader::specs::Expressions::word_operand))]
 fn word(
@@ -148,17 +162,18 @@ fn word(
 ) -> Result<Fed, NoMemory>
     ensures { IfOk result (λ fed. fed ≡ spec.word_operand site opens word place) }
 {
-    if matches!(word, Word::Sizeof) {
+    if is_sizeof(word) {
         let reach = level(site, &opens);
         opens.push(Open::Sizeof { place })?;
         return Ok(goes(site, opens, Now::Operand, reach));
     }
-    let before = is_before_type(site, &mut opens)?;
-    if is_spec(word) && before {
-        type_begins(alloc, site, opens, word)
-    } else {
-        Ok(Fed::Refused)
+    if !is_spec(word) {
+        return Ok(Fed::Refused);
     }
+    if !is_before_type(site, &mut opens)? {
+        return Ok(Fed::Refused);
+    }
+    type_begins(alloc, site, opens, word)
 }
 
 /// The first specifier of a type.

@@ -1,13 +1,16 @@
 //! An operand put into the construct that awaits it.
-ghost use Rattle.std.specs.Prelude.{◌≡◌, IfOk};
+ghost use Rattle.std.specs.Prelude.{◌≡◌, IfOk, cond};
 ghost use Rattle.k_reader.specs.Expressions as spec;
+ghost use Rattle.k_reader.specs.Operators.{is_step_mark};
+ghost use Rattle.k_reader.specs.Level.{above as above_of};
+ghost use Rattle.k_tree.specs.declared.tree.expression.Expr.TheVariants as expr;
 
-use k_num::{Box, NoMemory, Place};
+use k_num::{Box, NoMemory, Place, Seq};
 use k_reader::expression::plug::Plugged;
 use k_reader::expression::{Open, Term};
 use k_reader::level::above;
 use k_reader::operators::{is_step, own_rank};
-use k_tree::{Expr, Mark};
+use k_tree::{Expr, Mark, Word};
 use std::alloc::Global;
 
 #[tactic(auto, unfolding(k_reader::specs::Expressions::infix_made))]
@@ -59,19 +62,60 @@ fn conditional(
     })
 }
 
+/// The tree of an operator before its operand.
+fn prefix_tree(place: Place, op: Mark, of: Box<Expr>) -> Expr
+    ensures { result ≡ cond (is_step_mark op) (expr.Pre place op of) (expr.Unary place op of) }
+{
+    if is_step(op) {
+        Expr::Pre { place, op, of }
+    } else {
+        Expr::Unary { place, op, of }
+    }
+}
+
 #[tactic(auto, unfolding(k_reader::specs::Expressions::prefixed))]
 fn prefixed(alloc: Global, place: Place, op: Mark, term: Term) -> Result<Term, NoMemory>
     ensures { IfOk result (λ made. made ≡ spec.prefixed place op term) }
 {
     let height = above(term.height, 0);
     let of = Box::new(alloc, term.tree)?;
-    let tree = if is_step(op) {
-        Expr::Pre { place, op, of }
-    } else {
-        Expr::Unary { place, op, of }
-    };
     Ok(Term {
-        tree,
+        tree: prefix_tree(place, op, of),
+        rank: 14,
+        height,
+    })
+}
+
+fn cast(
+    alloc: Global,
+    place: Place,
+    specs: Seq<Word>,
+    stars: Seq<bool>,
+    term: Term,
+) -> Result<Term, NoMemory>
+    ensures { IfOk result (λ made. made ≡ spec.term (expr.Cast place specs stars term.tree) 13 (above_of term.height 0)) }
+{
+    let height = above(term.height, 0);
+    let of = Box::new(alloc, term.tree)?;
+    Ok(Term {
+        tree: Expr::Cast {
+            place,
+            specs,
+            stars,
+            of,
+        },
+        rank: 13,
+        height,
+    })
+}
+
+fn sizeof(alloc: Global, place: Place, term: Term) -> Result<Term, NoMemory>
+    ensures { IfOk result (λ made. made ≡ spec.term (expr.SizeofExpr place term.tree) 14 (above_of term.height 0)) }
+{
+    let height = above(term.height, 0);
+    let of = Box::new(alloc, term.tree)?;
+    Ok(Term {
+        tree: Expr::SizeofExpr { place, of },
         rank: 14,
         height,
     })
@@ -82,33 +126,31 @@ fn prefixed(alloc: Global, place: Place, op: Mark, term: Term) -> Result<Term, N
 pub fn plug(alloc: Global, around: Open, term: Term) -> Result<Plugged, NoMemory>
     ensures { IfOk result (λ made. made ≡ spec.plug around term) }
 {
-    let term = match around {
-        Open::Infix { place, op, left } => infix(alloc, place, op, left, term)?,
-        Open::Other { place, test, then } => conditional(alloc, place, test, then, term)?,
+    match around {
+        Open::Infix { place, op, left } => {
+            let term = infix(alloc, place, op, left, term)?;
+            Ok(Plugged::Whole { term })
+        }
+        Open::Other { place, test, then } => {
+            let term = conditional(alloc, place, test, then, term)?;
+            Ok(Plugged::Whole { term })
+        }
         Open::Cast {
             place,
             specs,
             stars,
-        } => Term {
-            height: above(term.height, 0),
-            tree: Expr::Cast {
-                place,
-                specs,
-                stars,
-                of: Box::new(alloc, term.tree)?,
-            },
-            rank: 13,
-        },
-        Open::Prefix { place, op } => prefixed(alloc, place, op, term)?,
-        Open::Sizeof { place } => Term {
-            height: above(term.height, 0),
-            tree: Expr::SizeofExpr {
-                place,
-                of: Box::new(alloc, term.tree)?,
-            },
-            rank: 14,
-        },
-        around => return Ok(Plugged::Part { around, term }),
-    };
-    Ok(Plugged::Whole { term })
+        } => {
+            let term = cast(alloc, place, specs, stars, term)?;
+            Ok(Plugged::Whole { term })
+        }
+        Open::Prefix { place, op } => {
+            let term = prefixed(alloc, place, op, term)?;
+            Ok(Plugged::Whole { term })
+        }
+        Open::Sizeof { place } => {
+            let term = sizeof(alloc, place, term)?;
+            Ok(Plugged::Whole { term })
+        }
+        around => Ok(Plugged::Part { around, term }),
+    }
 }

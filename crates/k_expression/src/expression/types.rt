@@ -2,7 +2,7 @@
 ghost use Rattle.std.specs.Prelude.{◌≡◌, IfOk};
 ghost use Rattle.k_reader.specs.Expressions as spec;
 
-use crate::expression::goes;
+use crate::expression::{goes, refused};
 use k_num::{NoMemory, Place, Seq};
 use k_reader::expression::{Fed, Now, Open, Site, Term};
 use k_reader::operators::is_spec;
@@ -23,7 +23,7 @@ fn close(
     let stars = all_stars(stars)?;
     match opens.pop() {
         Some(Open::Paren { place }) => close_over(site, opens, place, specs, stars),
-        Some(_open) => Ok(Fed::Refused),
+        Some(around) => Ok(refused(around)),
         None => Ok(Fed::Refused),
     }
 }
