@@ -3,4 +3,4 @@
 #![tactic(auto)]
 
 pub mod source;
-pub mod statement;
+mod statement;

@@ -1,12 +1,16 @@
 //! A source (C17 6.9), token by token.
 ghost use Rattle.std.specs.Prelude.{◌≡◌, IfOk};
+ghost use Rattle.k_reader.specs.Parameters.{begin_parameters};
 ghost use Rattle.k_reader.specs.Sources as spec;
+ghost use Rattle.k_reader.specs.declared.source.Phase.TheVariants as phases;
+ghost use Rattle.k_reader.specs.declared.source.Sourced.TheVariants as sourced;
+ghost use Rattle.k_reader.specs.Declarations.{feed_declaration};
 
 use crate::statement::{begin_body, feed_body};
 use k_declaration::declaration::{begin_declaration, feed_declaration};
 use k_declaration::parameter::{begin_parameters, feed_parameters};
 use k_expression::reading::is_left_paren;
-use k_num::{NoMemory, Place, Seq, Text};
+use k_num::{NoMemory, Place, Seq};
 use k_reader::declaration::{Declaration, Declared, Front, Stage};
 use k_reader::operators::is_spec;
 use k_reader::parameter::{Parameters, Parametric};
@@ -74,41 +78,88 @@ fn is_titled(declaration: &Declaration) -> bool
     }
 }
 
+/// The head of a function before its parameters.
+fn title_of(front: Front, declarator: Declarator) -> Title
+    ensures { result ≡ spec.title_of front declarator }
+{
+    let Front { specs, .. } = front;
+    let Declarator {
+        place: name_place,
+        stars,
+        name,
+        ..
+    } = declarator;
+    Title {
+        specs,
+        stars,
+        name,
+        name_place,
+    }
+}
+
 /// The parameters of a function begin.
+fn parameters_begin(
+    alloc: Global,
+    items: Seq<Item>,
+    place: Place,
+    front: Front,
+    declarator: Declarator,
+) -> Sourced
+    ensures { result ≡ spec.goes_on items (phases.Parameters place (spec.title_of front declarator) begin_parameters) 0 }
+{
+    let title = title_of(front, declarator);
+    let parameters = begin_parameters(alloc);
+    let phase = Phase::Parameters {
+        place,
+        title,
+        parameters,
+    };
+    goes_on(items, phase, 0)
+}
+
+/// `(` at a stage where no function's parameters can begin.
+fn refused(stage: Stage) -> Sourced
+    ensures { result ≡ sourced.Refused }
+{
+    drop(stage);
+    Sourced::Refused
+}
+
+/// `(` in an item at this stage.
+fn titled_at(alloc: Global, items: Seq<Item>, place: Place, front: Front, stage: Stage) -> Sourced
+    ensures { result ≡ spec.titled_at items place front stage }
+{
+    match stage {
+        Stage::Named { declarator } => parameters_begin(alloc, items, place, front, declarator),
+        stage => refused(stage),
+    }
+}
+
+/// `(` in an item of which just the name of the first declarator was read.
 #[tactic(auto, unfolding(k_reader::specs::Sources::titled))]
 fn titled(alloc: Global, items: Seq<Item>, place: Place, declaration: Declaration) -> Sourced
     ensures { result ≡ spec.titled items place declaration }
 {
     let Declaration { front, stage } = declaration;
-    match stage {
-        Stage::Named { declarator } => {
-            let Front {
-                specs,
-                list: _list,
-                level: _level,
-            } = front;
-            let Declarator {
-                place: name_place,
-                stars,
-                name,
-                dims: _dims,
-                init: _init,
-            } = declarator;
-            let title = Title {
-                specs,
-                stars,
-                name,
-                name_place,
-            };
-            let parameters = begin_parameters(alloc);
-            let phase = Phase::Parameters {
-                place,
-                title,
-                parameters,
-            };
-            goes_on(items, phase, 0)
+    titled_at(alloc, items, place, front, stage)
+}
+
+/// A token in an item that is a declaration, as far as can be told.
+fn declared(
+    alloc: Global,
+    items: Seq<Item>,
+    place: Place,
+    declaration: Declaration,
+    token: &Token,
+) -> Result<Sourced, NoMemory>
+    ensures { IfOk result (λ fed. fed ≡ spec.declares_by items place (feed_declaration declaration token.now)) }
+{
+    match feed_declaration(alloc, declaration, token)? {
+        Declared::Goes { declaration, reach } => {
+            Ok(goes_on(items, Phase::Declares { place, declaration }, reach))
         }
-        _stage => Sourced::Refused,
+        Declared::Done { specs, list } => item_done(items, Item::Objects { place, specs, list }),
+        Declared::Refused => Ok(Sourced::Refused),
     }
 }
 
@@ -124,14 +175,9 @@ fn declares(
     ensures { IfOk result (λ fed. fed ≡ spec.declares items place declaration token.now) }
 {
     if is_left_paren(token) && is_titled(&declaration) {
-        return Ok(titled(alloc, items, place, declaration));
-    }
-    match feed_declaration(alloc, declaration, token)? {
-        Declared::Goes { declaration, reach } => {
-            Ok(goes_on(items, Phase::Declares { place, declaration }, reach))
-        }
-        Declared::Done { specs, list } => item_done(items, Item::Objects { place, specs, list }),
-        Declared::Refused => Ok(Sourced::Refused),
+        Ok(titled(alloc, items, place, declaration))
+    } else {
+        declared(alloc, items, place, declaration, token)
     }
 }
 

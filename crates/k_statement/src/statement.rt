@@ -1,7 +1,7 @@
 //! The block of a function (C17 6.8), token by token, from behind its opening brace.
-pub mod begin;
-pub mod clause;
-pub mod loops;
+mod begin;
+mod clause;
+mod loops;
 
 ghost use Rattle.std.specs.Prelude.{◌≡◌, IfOk};
 ghost use Rattle.k_reader.specs.Statements as spec;
@@ -15,7 +15,7 @@ use k_reader::level::plus;
 use k_reader::reading::{Closer, Maybe, Read};
 use k_reader::stack::Stack;
 use k_reader::statement::{Body, Frame, Step, Stepped};
-use k_tree::{Expr, First, Stmt, Token};
+use k_tree::{Expr, Stmt, Token};
 use std::alloc::Global;
 
 /// The block goes on.

@@ -11,6 +11,7 @@ use k_reader::expression::Reading;
 use k_reader::level::plus;
 use k_reader::reading::{Closer, Read};
 use k_reader::stack::Stack;
+use k_reader::statement::clause::Closed;
 use k_reader::statement::{Frame, Step, Stepped, Tested};
 use k_tree::{Expr, Stmt, Token, TokenKind, Word};
 use std::alloc::Global;
