@@ -58,7 +58,6 @@ fn test_done(
 }
 
 /// A token in a test.
-#[tactic(auto, unfolding(k_reader::specs::Statements::test))]
 pub fn test(
     alloc: Global,
     parts: Seq<Stmt>,

@@ -134,7 +134,7 @@ static REFUSED: [(&[u8], u32); 75] = [
     (b"int a=;", 7),
     (b"int a,const b;", 7),
     (b"int *long a;", 6),
-    (b"int a=1=2;", 8),
+    (b"int a=1+1=2;", 10),
     (b"int a={1;", 9),
     (b"int f(void){x}", 14),
     (b"int f(void){{", 14),
@@ -148,7 +148,7 @@ static REFUSED: [(&[u8], u32); 75] = [
     (b"int f(void){do;while(x)}", 24),
     (b"int f(void){do while(x);}", 25),
     (b"int f(void){for(;);}", 18),
-    (b"int f(void){for(int i;;;);}", 25),
+    (b"int f(void){for(int i;;;);}", 24),
     (b"int f(void){for()}", 17),
     (b"int f(void){for(int i)}", 22),
     (b"int f(void){break x;}", 19),
@@ -223,7 +223,7 @@ fn verdict_of(alloc: Global, tokens: &Seq<Token>) -> Result<Verdict, NoMemory> {
     })
 }
 
-fn verdict(alloc: Global, source: &[u8]) -> Result<Verdict, NoMemory> {
+fn source_verdict(alloc: Global, source: &[u8]) -> Result<Verdict, NoMemory> {
     match lex(alloc, source) {
         Ok(tokens) => verdict_of(alloc, &tokens),
         Err(_) => Ok(Verdict::NoTokens),
@@ -233,7 +233,7 @@ fn verdict(alloc: Global, source: &[u8]) -> Result<Verdict, NoMemory> {
 #[test]
 fn read(rt: HostRuntime) -> Result<(), Fail> {
     for source in &READ {
-        assert_eq!(rt; verdict(rt.alloc(), source)?, Verdict::Read);
+        assert_eq!(rt; source_verdict(rt.alloc(), source)?, Verdict::Read);
     }
     Ok(())
 }
@@ -246,7 +246,7 @@ fn refused(rt: HostRuntime) -> Result<(), Fail> {
             column: *column,
         };
         let wanted = Verdict::Refused(ParseFault::Syntax(place));
-        assert_eq!(rt; verdict(rt.alloc(), source)?, wanted);
+        assert_eq!(rt; source_verdict(rt.alloc(), source)?, wanted);
     }
     Ok(())
 }
@@ -271,14 +271,17 @@ fn nested(alloc: Global, count: usize) -> Result<Vec<u8>, NoMemory> {
 #[test]
 fn nesting(rt: HostRuntime) -> Result<(), Fail> {
     let deepest = nested(rt.alloc(), 198)?;
-    assert_eq!(rt; verdict(rt.alloc(), deepest.as_slice())?, Verdict::Read);
+    assert_eq!(rt;
+        source_verdict(rt.alloc(), deepest.as_slice())?,
+        Verdict::Read
+    );
     let deeper = nested(rt.alloc(), 199)?;
     let place = Place {
         line: 1,
         column: 205,
     };
     let wanted = Verdict::Refused(ParseFault::TooDeep(place));
-    assert_eq!(rt; verdict(rt.alloc(), deeper.as_slice())?, wanted);
+    assert_eq!(rt; source_verdict(rt.alloc(), deeper.as_slice())?, wanted);
     Ok(())
 }
 
@@ -288,9 +291,12 @@ fn nodes(rt: HostRuntime) -> Result<(), Fail> {
     let mut source = Vec::from_slice(rt.alloc(), b"int main(void){")?;
     source.resize(15 + 262_143, b';')?;
     source.push(b'}')?;
-    assert_eq!(rt; verdict(rt.alloc(), source.as_slice())?, Verdict::Read);
+    assert_eq!(rt;
+        source_verdict(rt.alloc(), source.as_slice())?,
+        Verdict::Read
+    );
     source.insert(15, b';')?;
     let wanted = Verdict::Refused(ParseFault::NodesMany);
-    assert_eq!(rt; verdict(rt.alloc(), source.as_slice())?, wanted);
+    assert_eq!(rt; source_verdict(rt.alloc(), source.as_slice())?, wanted);
     Ok(())
 }
