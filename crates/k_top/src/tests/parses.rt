@@ -167,7 +167,7 @@ static REFUSED: [(&[u8], u32); 75] = [
     (b"int f(void){a||;;}", 16),
     (b"int f(void){(int);;}", 18),
     (b"int f(void){(int x)1;}", 18),
-    (b"int f(void){(int[1])x;}", 18),
+    (b"int f(void){(int[1])x;}", 17),
     (b"int f(void){++(int)x;}", 16),
     (b"int f(void){sizeof(int)x;}", 24),
     (b"int f(void){sizeof;;}", 19),
