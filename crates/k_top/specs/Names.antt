@@ -94,6 +94,7 @@ stmt_step (Stmt-F.Return place value) = option_names value
 stmt_step (Stmt-F.Declare place specs list) = declarators_names list
 stmt_step _ = other ∷ []
 
+-- those of a statement or a declaration
 abbrev pub stmt_names : Stmt → Namings
 stmt_names = fold-Stmt Namings stmt_step
 
