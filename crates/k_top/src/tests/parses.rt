@@ -7,7 +7,8 @@ use std::alloc::Global;
 use std::test::Fail;
 
 /// Sources that are read.
-static READ: [&[u8]; 97] = [
+static READ: [&[u8]; 98] = [
+    b"int main(void){int a=1,b=0,x=0; if(a) if(b) x=1; else x=2; return x;}",
     b"",
     b"int f(void){}",
     b"int f(void);",
