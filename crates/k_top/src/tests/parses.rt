@@ -1,4 +1,6 @@
 //! What the parser reads and refuses, on the tokens that the lexer gives.
+ghost use Rattle.k_reader.specs.Closed.{EndsOnce};
+
 use k_lex::lex;
 use k_num::{NoMemory, Place, Seq};
 use k_parse::{ParseFault, parse};
@@ -210,7 +212,9 @@ fn are_kinds(kinds: &[TokenKind], tokens: &[Token]) -> bool {
 }
 
 /// What comes of a token list.
-fn verdict_of(alloc: Global, tokens: &Seq<Token>) -> Result<Verdict, NoMemory> {
+fn verdict_of(alloc: Global, tokens: &Seq<Token>) -> Result<Verdict, NoMemory>
+    requires { EndsOnce tokens.now }
+{
     let unit = match parse(alloc, tokens) {
         Ok(unit) => unit,
         Err(ParseFault::Memory) => return Err(NoMemory),
