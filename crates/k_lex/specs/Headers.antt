@@ -1,4 +1,6 @@
 -- How the code keeps the macros of headers.
+use Rattle.std.specs.Prelude.{ℕ, List, map}
+use Rattle.std.specs.Borrow.{Bor}
 use Rattle.k_tree.specs.declared.tokens.TokenKind.{TokenKind}
 use Rattle.k_tree.specs.declared.tokens.TokenKind.TheVariants as t
 use Rattle.k_lex.specs.declared.headers.Plain.{Plain}
@@ -21,3 +23,7 @@ kind_of (f.Number k v) = t.Number k v
 -- a part of a macro, as a token of its body
 abbrev pub lexeme_of : Part → Lexeme
 lexeme_of p = lexeme (kind_of p.what) p.size
+
+-- a row of a table, as the macro that it gives
+abbrev pub macro_of : Bor (List ℕ) × Bor (List Part) → Macro
+macro_of row = (row.0.now, map lexeme_of row.1.now)

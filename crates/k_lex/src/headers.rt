@@ -2,7 +2,7 @@
 ghost use Rattle.std.specs.Prelude.{◌≡◌, [], ◌∷◌, map, IfOk, OnOk};
 ghost use Rattle.k_lex.specs.Macros as spec;
 ghost use Rattle.k_lex.specs.Table.{listed, IsIndexed, ArePlanned};
-ghost use Rattle.k_lex.specs.Headers.{plain, lexeme_of};
+ghost use Rattle.k_lex.specs.Headers.{plain, lexeme_of, macro_of};
 
 use crate::macros::{Lexeme, Macros, same_body};
 use crate::tokens::{copy_of, copy_of_bytes};
@@ -134,68 +134,53 @@ fn plain_of(alloc: Global, name: &[u8], parts: &[Part]) -> Result<Plain, NoMemor
     Ok(Plain { name, body })
 }
 
-fn size_type(alloc: Global) -> Result<Plain, NoMemory>
-    ensures { IfOk result (λ p. plain p ≡ spec.size_type) }
-{
-    plain_of(alloc, b"size_t", &[UNSIGNED, LONG])
-}
+/// A macro of a header as the tables below have it: its name and its body.
+type Row<'a> = (&'a [u8], &'a [Part]);
 
-fn of_stdio(alloc: Global) -> Result<Vec<Plain>, NoMemory>
-    ensures { IfOk result (λ list. map plain list.items ≡ spec.header_macros Header.Stdio) }
-{
-    let end = plain_of(alloc, b"EOF", &[OPEN, MINUS, ONE, CLOSE])?;
-    let size = size_type(alloc)?;
-    let mut list = Vec::new(alloc);
-    list.push(end)?;
-    list.push(size)?;
-    Ok(list)
-}
+const SIZE_TYPE: Row<'static> = (b"size_t", &[UNSIGNED, LONG]);
 
-fn of_stddef(alloc: Global) -> Result<Vec<Plain>, NoMemory>
-    ensures { IfOk result (λ list. map plain list.items ≡ spec.size_type ∷ []) }
-{
-    let size = size_type(alloc)?;
-    let mut list = Vec::new(alloc);
-    list.push(size)?;
-    Ok(list)
-}
+const STDIO: &[Row<'static>] = &[(b"EOF", &[OPEN, MINUS, ONE, CLOSE]), SIZE_TYPE];
 
-fn of_limits(alloc: Global) -> Result<Vec<Plain>, NoMemory>
-    ensures { IfOk result (λ list. map plain list.items ≡ spec.header_macros Header.Limits) }
-{
-    let int_min = plain_of(
-        alloc,
-        b"INT_MIN",
-        &[OPEN, MINUS, GREATEST_INT, MINUS, ONE, CLOSE],
-    )?;
-    let int_max = plain_of(alloc, b"INT_MAX", &[GREATEST_INT])?;
-    let uint_max = plain_of(alloc, b"UINT_MAX", &[GREATEST_UNSIGNED])?;
-    let long_min = plain_of(
-        alloc,
+const STDDEF: &[Row<'static>] = &[SIZE_TYPE];
+
+const LIMITS: &[Row<'static>] = &[
+    (b"INT_MIN", &[OPEN, MINUS, GREATEST_INT, MINUS, ONE, CLOSE]),
+    (b"INT_MAX", &[GREATEST_INT]),
+    (b"UINT_MAX", &[GREATEST_UNSIGNED]),
+    (
         b"LONG_MIN",
         &[OPEN, MINUS, GREATEST_LONG, MINUS, ONE, CLOSE],
-    )?;
-    let long_max = plain_of(alloc, b"LONG_MAX", &[GREATEST_LONG])?;
-    let ulong_max = plain_of(alloc, b"ULONG_MAX", &[GREATEST_UNSIGNED_LONG])?;
+    ),
+    (b"LONG_MAX", &[GREATEST_LONG]),
+    (b"ULONG_MAX", &[GREATEST_UNSIGNED_LONG]),
+];
+
+/// The macros of a table.
+fn plains_of(alloc: Global, rows: &[Row<'_>]) -> Result<Vec<Plain>, NoMemory>
+    ensures { IfOk result (λ list. map plain list.items ≡ map macro_of rows.now) }
+{
     let mut list = Vec::new(alloc);
-    list.push(int_min)?;
-    list.push(int_max)?;
-    list.push(uint_max)?;
-    list.push(long_min)?;
-    list.push(long_max)?;
-    list.push(ulong_max)?;
+    for (name, parts) in rows {
+        list.push(plain_of(alloc, name, parts)?)?;
+    }
     Ok(list)
+}
+
+fn rows_of(header: Header) -> &'static [Row<'static>]
+    ensures { map macro_of result.now ≡ spec.header_macros header }
+{
+    match header {
+        Header::Stdio => STDIO,
+        Header::Stdlib | Header::Stddef => STDDEF,
+        Header::Limits => LIMITS,
+    }
 }
 
 /// The macros of a header.
 pub fn macros_of(alloc: Global, header: Header) -> Result<Vec<Plain>, NoMemory>
     ensures { IfOk result (λ list. map plain list.items ≡ spec.header_macros header) }
 {
-    match header {
-        Header::Stdio => of_stdio(alloc),
-        Header::Stdlib | Header::Stddef => of_stddef(alloc),
-        Header::Limits => of_limits(alloc),
-    }
+    plains_of(alloc, rows_of(header))
 }
 
 /// Whether a new name stands in the body of an earlier macro.

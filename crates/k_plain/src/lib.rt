@@ -14,6 +14,3 @@ mod variables;
 mod work;
 
 pub use listing::{Listing, plain};
-
-#[cfg(test)]
-mod tests;

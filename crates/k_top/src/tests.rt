@@ -1,6 +1,7 @@
 //! The top call over files, sources and sinks in memory.
 mod ends;
 mod faults;
+mod listings;
 mod parses;
 mod places;
 mod programs;

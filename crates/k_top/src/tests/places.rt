@@ -46,7 +46,7 @@ static STATEMENTS: [&[u8]; 12] = [
 ];
 
 /// The tree of a source, if it has one.
-fn tree(alloc: Global, source: &[u8]) -> Option<Unit> {
+pub fn tree(alloc: Global, source: &[u8]) -> Option<Unit> {
     match lex(alloc, source) {
         Ok(tokens) => parse(alloc, &tokens).ok(),
         Err(_) => None,
