@@ -134,7 +134,10 @@ fn end(
             let Front { specs, list, .. } = front;
             Ok(Declared::Done { specs, list })
         }
-        _ => Ok(Declared::Refused),
+        _ => {
+            drop(declarator);
+            Ok(Declared::Refused)
+        }
     }
 }
 
@@ -178,7 +181,10 @@ fn behind_name(
 {
     match &token.what {
         TokenKind::Mark(mark) => named(alloc, front, declarator, *mark),
-        _ => Ok(Declared::Refused),
+        _ => {
+            drop(declarator);
+            Ok(Declared::Refused)
+        }
     }
 }
 
@@ -193,7 +199,14 @@ fn size(
 ) -> Result<Declared, NoMemory>
     ensures { IfOk result (λ fed. fed ≡ spec.size front declarator reading token.now) }
 {
-    match read_maybe(alloc, reading, token, Closer::Bracket)? {
+    let read = match read_maybe(alloc, reading, token, Closer::Bracket) {
+        Ok(read) => read,
+        Err(NoMemory) => {
+            drop(declarator);
+            return Err(NoMemory);
+        }
+    };
+    match read {
         Maybe::Goes { reading, reach } => {
             Ok(declares(
                 front,
@@ -205,10 +218,16 @@ fn size(
             ))
         }
         Maybe::Closed { value } => {
-            declarator.dims.push(value)?;
+            if let Err(NoMemory) = declarator.dims.push(value) {
+                drop(declarator);
+                return Err(NoMemory);
+            }
             Ok(declares(front, Stage::Named { declarator }, 0))
         }
-        Maybe::Refused => Ok(Declared::Refused),
+        Maybe::Refused => {
+            drop(declarator);
+            Ok(Declared::Refused)
+        }
     }
 }
 
@@ -218,6 +237,7 @@ fn behind(alloc: Global, front: Front, opened: Opened, token: &Token) -> Result<
     ensures { IfOk result (λ fed. fed ≡ spec.after front opened token.now) }
 {
     let TokenKind::Mark(mark) = &token.what else {
+        drop(opened);
         return Ok(Declared::Refused);
     };
     match initialiser::behind(opened, *mark)? {
@@ -281,7 +301,10 @@ fn open_brace(
     } = opened;
     let reach = plus(plus(front.level, braces.len()), 2);
     let items = Seq::new(alloc);
-    braces.push(Brace { place, items })?;
+    if let Err(NoMemory) = braces.push(Brace { place, items }) {
+        drop(declarator);
+        return Err(NoMemory);
+    }
     Ok(declares(front, Stage::Starts { declarator, braces }, reach))
 }
 
@@ -306,7 +329,14 @@ fn first(alloc: Global, front: Front, opened: Opened, token: &Token) -> Result<D
 {
     let Opened { declarator, braces } = opened;
     let level = plus(plus(front.level, braces.len()), 1);
-    match feed(alloc, begin(alloc, 1, level), token)? {
+    let fed = match feed(alloc, begin(alloc, 1, level), token) {
+        Ok(fed) => fed,
+        Err(NoMemory) => {
+            drop(declarator);
+            return Err(NoMemory);
+        }
+    };
+    match fed {
         Fed::Goes { reading, reach } => {
             let place = token.place;
             let stage = Stage::Value {
@@ -317,8 +347,15 @@ fn first(alloc: Global, front: Front, opened: Opened, token: &Token) -> Result<D
             };
             Ok(declares(front, stage, reach))
         }
-        Fed::Ends { value: _value } => Ok(Declared::Refused),
-        Fed::Refused => Ok(Declared::Refused),
+        Fed::Ends { value } => {
+            drop(value);
+            drop(declarator);
+            Ok(Declared::Refused)
+        }
+        Fed::Refused => {
+            drop(declarator);
+            Ok(Declared::Refused)
+        }
     }
 }
 
@@ -334,7 +371,14 @@ fn value(
 ) -> Result<Declared, NoMemory>
     ensures { IfOk result (λ fed. fed ≡ spec.value front opened place reading token.now) }
 {
-    match feed(alloc, reading, token)? {
+    let fed = match feed(alloc, reading, token) {
+        Ok(fed) => fed,
+        Err(NoMemory) => {
+            drop(opened);
+            return Err(NoMemory);
+        }
+    };
+    match fed {
         Fed::Goes { reading, reach } => {
             let Opened { declarator, braces } = opened;
             let stage = Stage::Value {
@@ -349,7 +393,10 @@ fn value(
             let opened = initialiser::plug(opened, Init::One { place, value })?;
             behind(alloc, front, opened, token)
         }
-        Fed::Refused => Ok(Declared::Refused),
+        Fed::Refused => {
+            drop(opened);
+            Ok(Declared::Refused)
+        }
     }
 }
 

@@ -111,6 +111,7 @@ fn end(mut list: Seq<Param>, param: Param, mark: Mark) -> Result<Parametric, NoM
         }
         Mark::RightParen => {
             if list.len() == 0 && is_void_alone(&param) {
+                drop(param);
                 return Ok(Parametric::Done {
                     params: Params::Void,
                 });
@@ -120,7 +121,10 @@ fn end(mut list: Seq<Param>, param: Param, mark: Mark) -> Result<Parametric, NoM
                 params: Params::List(list),
             })
         }
-        _ => Ok(Parametric::Refused),
+        _ => {
+            drop(param);
+            Ok(Parametric::Refused)
+        }
     }
 }
 
@@ -148,7 +152,10 @@ fn behind_name(
 {
     match &token.what {
         TokenKind::Mark(mark) => named(alloc, list, param, *mark),
-        _ => Ok(Parametric::Refused),
+        _ => {
+            drop(param);
+            Ok(Parametric::Refused)
+        }
     }
 }
 
@@ -250,13 +257,26 @@ fn size(
 ) -> Result<Parametric, NoMemory>
     ensures { IfOk result (λ fed. fed ≡ spec.size list param reading token.now) }
 {
-    match read_maybe(alloc, reading, token, Closer::Bracket)? {
+    let read = match read_maybe(alloc, reading, token, Closer::Bracket) {
+        Ok(read) => read,
+        Err(NoMemory) => {
+            drop(param);
+            return Err(NoMemory);
+        }
+    };
+    match read {
         Maybe::Goes { reading, reach } => Ok(follows(list, Part::Size { param, reading }, reach)),
         Maybe::Closed { value } => {
-            param.dims.push(value)?;
+            if let Err(NoMemory) = param.dims.push(value) {
+                drop(param);
+                return Err(NoMemory);
+            }
             Ok(follows(list, Part::Named { param }, 0))
         }
-        Maybe::Refused => Ok(Parametric::Refused),
+        Maybe::Refused => {
+            drop(param);
+            Ok(Parametric::Refused)
+        }
     }
 }
 

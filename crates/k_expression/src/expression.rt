@@ -26,10 +26,11 @@ fn goes(site: Site, opens: Stack<Open>, state: Now, reach: usize) -> Fed
     Fed::Goes { reading, reach }
 }
 
-/// The token can't stand in the construct around it. The construct is dropped here, where each of its variants may come.
-fn refused(_around: Open) -> Fed
+/// The token can't stand in the construct around it.
+fn refused(around: Open) -> Fed
     ensures { result ≡ feds.Refused }
 {
+    drop(around);
     Fed::Refused
 }
 

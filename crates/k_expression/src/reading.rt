@@ -96,6 +96,7 @@ pub fn read_needed(
             if closes(token, closer) {
                 return Ok(Read::Closed { value });
             }
+            drop(value);
             Ok(Read::Refused)
         }
         Fed::Refused => Ok(Read::Refused),
@@ -120,6 +121,7 @@ pub fn read_maybe(
     ensures { IfOk result (λ read. read ≡ spec.read_maybe reading token.now closer) }
 {
     if is_left_out(&reading, token, closer) {
+        drop(reading);
         return Ok(Maybe::Closed { value: None });
     }
     match read_needed(alloc, reading, token, closer)? {

@@ -1,10 +1,21 @@
 //! Initialisers (C17 6.7.9).
-ghost use Rattle.std.specs.Prelude.{◌≡◌, IfOk};
+ghost use Rattle.std.specs.Prelude.{◌≡◌, ◌++◌, ◌∷◌, [], IfOk, OnOk};
 ghost use Rattle.k_reader.specs.Initialisers as spec;
 
 use k_num::{NoMemory, Place, Seq};
 use k_reader::declaration::initialiser::{After, Brace, Opened};
+use k_reader::stack::Stack;
 use k_tree::{Declarator, Init, Mark};
+use std::mem;
+
+/// One more initialiser in the innermost brace, which was taken off.
+fn put(braces: &mut Stack<Brace>, brace: Brace, init: Init) -> Result<(), NoMemory>
+    ensures { OnOk result (braces.new ≡ record { place = brace.place; items = brace.items ++ init ∷ [] } ∷ braces.old) }
+{
+    let Brace { place, mut items } = brace;
+    items.push(init)?;
+    braces.push(Brace { place, items })
+}
 
 /// An initialiser that ends belongs to the innermost brace, or to the declarator.
 #[tactic(auto, unfolding(k_reader::specs::Initialisers::plug))]
@@ -17,12 +28,13 @@ pub fn plug(opened: Opened, init: Init) -> Result<Opened, NoMemory>
     } = opened;
     match braces.pop() {
         None => {
-            declarator.init = Some(init);
+            drop(mem::replace(&mut declarator.init, Some(init)));
         }
         Some(brace) => {
-            let Brace { place, mut items } = brace;
-            items.push(init)?;
-            braces.push(Brace { place, items })?;
+            if let Err(NoMemory) = put(&mut braces, brace, init) {
+                drop(declarator);
+                return Err(NoMemory);
+            }
         }
     }
     Ok(Opened { declarator, braces })
@@ -42,7 +54,10 @@ pub fn behind(opened: Opened, mark: Mark) -> Result<After, NoMemory>
     };
     match mark {
         Mark::Comma => {
-            braces.push(brace)?;
+            if let Err(NoMemory) = braces.push(brace) {
+                drop(declarator);
+                return Err(NoMemory);
+            }
             let opened = Opened { declarator, braces };
             Ok(After::Starts { opened })
         }
@@ -51,7 +66,10 @@ pub fn behind(opened: Opened, mark: Mark) -> Result<After, NoMemory>
             let opened = plug(opened, listed(brace, false))?;
             Ok(After::Closed { opened })
         }
-        _ => Ok(After::Refused),
+        _ => {
+            drop(declarator);
+            Ok(After::Refused)
+        }
     }
 }
 
@@ -77,9 +95,11 @@ pub fn last_comma(opened: Opened) -> Result<Option<Opened>, NoMemory>
         mut braces,
     } = opened;
     let Some(brace) = braces.pop() else {
+        drop(declarator);
         return Ok(None);
     };
     if brace.items.len() == 0 {
+        drop(declarator);
         return Ok(None);
     }
     let opened = Opened { declarator, braces };

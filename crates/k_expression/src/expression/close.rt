@@ -3,7 +3,7 @@ ghost use Rattle.std.specs.Prelude.{◌≡◌, IfOk};
 ghost use Rattle.k_reader.specs.Expressions as spec;
 
 use crate::expression::call::argued;
-use crate::expression::plug::plug;
+use crate::expression::plug::{boxed, plug};
 use crate::expression::{goes, hole, level, refused};
 use k_num::{Box, NoMemory, Place};
 use k_reader::expression::call::Called;
@@ -77,8 +77,7 @@ fn indexed(alloc: Global, place: Place, base: Term, index: Term) -> Result<Term,
     ensures { IfOk result (λ made. made ≡ spec.indexed place base index) }
 {
     let height = above(base.height, index.height);
-    let base = Box::new(alloc, base.tree)?;
-    let index = Box::new(alloc, index.tree)?;
+    let (base, index) = boxed(alloc, base.tree, index.tree)?;
     Ok(Term {
         tree: Expr::Index { place, base, index },
         rank: 15,
@@ -121,7 +120,11 @@ fn then_ends(
 {
     match mark {
         Mark::Colon => colon(site, opens, place, test, then),
-        _ => Ok(Fed::Refused),
+        _ => {
+            drop(test);
+            drop(then);
+            Ok(Fed::Refused)
+        }
     }
 }
 
@@ -142,7 +145,10 @@ fn paren_ends(
             let term = paren(alloc, place, term)?;
             Ok(valued(site, opens, term))
         }
-        _ => Ok(Fed::Refused),
+        _ => {
+            drop(term);
+            Ok(Fed::Refused)
+        }
     }
 }
 
@@ -164,7 +170,11 @@ fn index_ends(
             let term = indexed(alloc, place, base, index)?;
             Ok(valued(site, opens, term))
         }
-        _ => Ok(Fed::Refused),
+        _ => {
+            drop(base);
+            drop(index);
+            Ok(Fed::Refused)
+        }
     }
 }
 
@@ -200,7 +210,10 @@ fn enclose(
             };
             argued(site, opens, called, mark)
         }
-        around => Ok(refused(around)),
+        around => {
+            drop(term);
+            Ok(refused(around))
+        }
     }
 }
 
@@ -226,7 +239,10 @@ fn take_token(
 {
     match &token.what {
         TokenKind::Mark(mark) => take(alloc, site, opens, term, *mark, token.place),
-        _ => Ok(Fed::Refused),
+        _ => {
+            drop(term);
+            Ok(Fed::Refused)
+        }
     }
 }
 
@@ -243,7 +259,10 @@ fn enclose_by(
 {
     match &token.what {
         TokenKind::Mark(mark) => enclose(alloc, site, opens, around, term, *mark),
-        _ => Ok(Fed::Refused),
+        _ => {
+            drop(term);
+            Ok(refused(around))
+        }
     }
 }
 
@@ -268,7 +287,10 @@ pub fn value(
         }
         Some(around) => {
             if goes_on {
-                opens.push(around)?;
+                if let Err(NoMemory) = opens.push(around) {
+                    drop(term);
+                    return Err(NoMemory);
+                }
                 return take_token(alloc, site, opens, term, token);
             }
             match plug(alloc, around, term)? {

@@ -13,14 +13,28 @@ use k_reader::operators::{is_step, own_rank};
 use k_tree::{Expr, Mark, Word};
 use std::alloc::Global;
 
+/// Two operands, each in memory of its own.
+pub fn boxed(alloc: Global, left: Expr, right: Expr) -> Result<(Box<Expr>, Box<Expr>), NoMemory>
+    ensures { IfOk result (λ both. both ≡ (left, right)) }
+{
+    let left = match Box::new(alloc, left) {
+        Ok(left) => left,
+        Err(NoMemory) => {
+            drop(right);
+            return Err(NoMemory);
+        }
+    };
+    let right = Box::new(alloc, right)?;
+    Ok((left, right))
+}
+
 #[tactic(auto, unfolding(k_reader::specs::Expressions::infix_made))]
 fn infix(alloc: Global, place: Place, op: Mark, left: Term, right: Term) -> Result<Term, NoMemory>
     ensures { IfOk result (λ term. term ≡ spec.infix_made place op left right) }
 {
     let height = above(left.height, right.height);
     let rank = own_rank(op);
-    let left = Box::new(alloc, left.tree)?;
-    let right = Box::new(alloc, right.tree)?;
+    let (left, right) = boxed(alloc, left.tree, right.tree)?;
     let tree = match rank {
         0 => Expr::Comma { place, left, right },
         1 => Expr::Assign {
@@ -49,14 +63,21 @@ fn conditional(
     ensures { IfOk result (λ term. term ≡ spec.conditional place test «then» other) }
 {
     let height = above(test.height, then.height.max(other.height));
-    let tree = Expr::Cond {
-        place,
-        test: Box::new(alloc, test.tree)?,
-        then: Box::new(alloc, then.tree)?,
-        other: Box::new(alloc, other.tree)?,
+    let (test, then) = match boxed(alloc, test.tree, then.tree) {
+        Ok(both) => both,
+        Err(NoMemory) => {
+            drop(other);
+            return Err(NoMemory);
+        }
     };
+    let other = Box::new(alloc, other.tree)?;
     Ok(Term {
-        tree,
+        tree: Expr::Cond {
+            place,
+            test,
+            then,
+            other,
+        },
         rank: 2,
         height,
     })
