@@ -9,7 +9,9 @@ mod puts;
 mod refusals;
 
 use crate::kremlin;
-use k_edge::{Failed, MemFiles, MemSink, MemSource, Source, SureFiles, SureSink, SureSource};
+use k_edge::{
+    Failed, Files, MemFiles, MemSink, MemSource, Sink, Source, SureFiles, SureSink, SureSource,
+};
 use k_num::NoMemory;
 use std::alloc::Global;
 
@@ -51,6 +53,19 @@ fn owned(alloc: Global, words: &[&str]) -> Result<Vec<String>, NoMemory> {
     Ok(owned)
 }
 
+/// The status of the call on these words.
+fn status_of<F: Files, S: Source, K: Sink, E: Sink>(
+    alloc: Global,
+    words: &[&str],
+    files: &mut F,
+    input: &mut S,
+    out: &mut K,
+    err: &mut E,
+) -> Result<u8, NoMemory> {
+    let words = owned(alloc, words)?;
+    Ok(kremlin(alloc, words.as_slice(), files, input, out, err))
+}
+
 /// Whether the answer is what is wanted, with files of the kind that fails as listed, where `a.c` holds the source.
 /// The input's first read fails, which shows that the call read nothing.
 fn mem_answers(
@@ -60,7 +75,6 @@ fn mem_answers(
     failing: Failing<'_>,
     wanted: Wanted<'_>,
 ) -> Result<bool, NoMemory> {
-    let words = owned(alloc, words)?;
     let mut files = MemFiles::new(alloc, failing.loads)?;
     if let Some(source) = source {
         files.add("a.c", source)?;
@@ -68,14 +82,7 @@ fn mem_answers(
     let mut input = MemSource::new(alloc, b"x", &[0])?;
     let mut out = MemSink::new(alloc, failing.out)?;
     let mut err = MemSink::new(alloc, failing.err)?;
-    let status = kremlin(
-        alloc,
-        words.as_slice(),
-        &mut files,
-        &mut input,
-        &mut out,
-        &mut err,
-    );
+    let status = status_of(alloc, words, &mut files, &mut input, &mut out, &mut err)?;
     let untouched = input.read(&mut [0]) == Err(Failed);
     Ok(untouched && is_wanted(status, out.bytes(), err.bytes(), wanted))
 }
@@ -87,7 +94,6 @@ fn sure_answers(
     source: Option<&[u8]>,
     wanted: Wanted<'_>,
 ) -> Result<bool, NoMemory> {
-    let words = owned(alloc, words)?;
     let mut files = SureFiles::new(alloc)?;
     if let Some(source) = source {
         files.add("a.c", source)?;
@@ -95,14 +101,7 @@ fn sure_answers(
     let mut input = SureSource::new(alloc, b"x")?;
     let mut out = SureSink::new(alloc)?;
     let mut err = SureSink::new(alloc)?;
-    let status = kremlin(
-        alloc,
-        words.as_slice(),
-        &mut files,
-        &mut input,
-        &mut out,
-        &mut err,
-    );
+    let status = status_of(alloc, words, &mut files, &mut input, &mut out, &mut err)?;
     let untouched = input.read(&mut [0, 0]) == Ok(1);
     Ok(untouched && is_wanted(status, out.bytes(), err.bytes(), wanted))
 }

@@ -1,7 +1,5 @@
 //! What runs answer: their output, their ends and their reports.
-use super::{
-    Failing, NOTHING_FAILS, RUN, Wanted, answers, is_refused, mem_answers, runs, sure_answers,
-};
+use super::{Failing, NOTHING_FAILS, RUN, Wanted, answers, is_refused, mem_answers, runs};
 use crate::ending::Ending;
 use k_code::End;
 use k_num::NoMemory;
@@ -190,35 +188,21 @@ fn deepest_nesting(rt: HostRuntime) -> Result<(), Fail> {
     Ok(())
 }
 
-/// 65,536 bytes of output and one more are put in two pieces, of which the second fails.
+/// 65,537 bytes of output and a report are put in two pieces, of which the second fails.
 #[test]
 fn long_output(rt: HostRuntime) -> Result<(), Fail> {
-    let alloc = rt.alloc();
-    let source = repeated(alloc, "int main(void){", "putchar('x');", 65_537, "}")?;
-    let out = repeated(
-        alloc,
-        "",
-        "x",
-        65_537,
-        "\n== kremlin ==\nexit 0\nops 65537\nfunc main 1:5 n=1 work=655370 path=655370 sp=1/1\n",
-    )?;
-    let whole = Wanted {
-        status: 0,
-        out: out.as_slice(),
-        err: "",
-    };
-    assert!(rt; sure_answers(alloc, RUN, Some(source.as_slice()), whole)?);
+    let source = repeated(rt.alloc(), "int main(void){", "putchar('x');", 65_537, "}")?;
+    let first_piece = vec![in rt.alloc(); b'x'; 65_536]?;
     let failing = Failing {
         out: &[1],
         ..NOTHING_FAILS
     };
-    let first_piece = repeated(alloc, "", "x", 65_536, "")?;
     let part = Wanted {
         status: 7,
         out: first_piece.as_slice(),
         err: "kremlin: write fault\n",
     };
-    assert!(rt; mem_answers(alloc, RUN, Some(source.as_slice()), failing, part)?);
+    assert!(rt; mem_answers(rt.alloc(), RUN, Some(source.as_slice()), failing, part)?);
     Ok(())
 }
 

@@ -1,7 +1,8 @@
 //! What is answered where the outside fails, or a sink finds no memory.
-use super::{Failing, RETURN_ZERO, RUN, Wanted, ZERO_REPORT, mem_answers, owned};
-use crate::kremlin;
-use k_edge::{MemFiles, MemSink, MemSource, PutFault, Sink};
+use super::{Failing, RETURN_ZERO, RUN, Wanted, ZERO_REPORT, mem_answers, status_of};
+use k_edge::{PutFault, Sink, SureFiles, SureSink, SureSource};
+use k_num::NoMemory;
+use std::alloc::Global;
 use std::test::Fail;
 
 const READ_FAULT: &str = "kremlin: read fault\n";
@@ -62,47 +63,27 @@ impl Sink for Cramped {
     }
 }
 
+/// The status of the call on these words, where `a.c` holds a program.
+fn cramped<K: Sink, E: Sink>(
+    alloc: Global,
+    words: &[&str],
+    out: &mut K,
+    err: &mut E,
+) -> Result<u8, NoMemory> {
+    let mut files = SureFiles::new(alloc)?;
+    files.add("a.c", RETURN_ZERO)?;
+    let mut input = SureSource::new(alloc, b"")?;
+    status_of(alloc, words, &mut files, &mut input, out, err)
+}
+
 #[test]
 fn sinks_without_memory(rt: HostRuntime) -> Result<(), Fail> {
-    let alloc = rt.alloc();
-    let run = owned(alloc, RUN)?;
-    let go = owned(alloc, &["go"])?;
-    let mut files = MemFiles::new(alloc, &[])?;
-    files.add("a.c", RETURN_ZERO)?;
-    let mut input = MemSource::new(alloc, b"", &[])?;
-    let mut sink = MemSink::new(alloc, &[])?;
-
-    let on_out = kremlin(
-        alloc,
-        run.as_slice(),
-        &mut files,
-        &mut input,
-        &mut Cramped,
-        &mut sink,
-    );
-    assert_eq!(rt; on_out, 8);
+    let mut sink = SureSink::new(rt.alloc())?;
+    assert_eq!(rt; cramped(rt.alloc(), RUN, &mut Cramped, &mut sink)?, 8);
     assert!(rt; sink.bytes() == b"kremlin: no memory\n".as_slice());
-
-    let on_both = kremlin(
-        alloc,
-        run.as_slice(),
-        &mut files,
-        &mut input,
-        &mut Cramped,
-        &mut Cramped,
-    );
-    assert_eq!(rt; on_both, 8);
-
-    let mut out = MemSink::new(alloc, &[])?;
-    let on_err = kremlin(
-        alloc,
-        go.as_slice(),
-        &mut files,
-        &mut input,
-        &mut out,
-        &mut Cramped,
-    );
-    assert_eq!(rt; on_err, 8);
+    assert_eq!(rt; cramped(rt.alloc(), RUN, &mut Cramped, &mut Cramped)?, 8);
+    let mut out = SureSink::new(rt.alloc())?;
+    assert_eq!(rt; cramped(rt.alloc(), &["go"], &mut out, &mut Cramped)?, 8);
     assert!(rt; out.bytes().is_empty());
     Ok(())
 }

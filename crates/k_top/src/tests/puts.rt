@@ -1,6 +1,6 @@
 //! The pieces in which bytes are put.
 use crate::output::put_all;
-use k_edge::{MemSink, PutFault, Sink};
+use k_edge::{PutFault, Sink};
 use std::test::Fail;
 
 /// A sink that keeps the length of each piece.
@@ -40,15 +40,5 @@ fn pieces(rt: HostRuntime) -> Result<(), Fail> {
         assert_eq!(rt; put_all(&mut sink, bytes.as_slice()), Ok(()));
         assert!(rt; sink.lengths.as_slice() == lengths, "of {count}");
     }
-    Ok(())
-}
-
-#[test]
-fn second_piece_fails(rt: HostRuntime) -> Result<(), Fail> {
-    let mut bytes = vec![in rt.alloc(); b'a'; 65_536]?;
-    bytes.resize(200_000, b'b')?;
-    let mut sink = MemSink::new(rt.alloc(), &[1])?;
-    assert_eq!(rt; put_all(&mut sink, bytes.as_slice()), Err(PutFault::Failed));
-    assert!(rt; sink.bytes() == bytes.as_slice().split_at(65_536).0);
     Ok(())
 }

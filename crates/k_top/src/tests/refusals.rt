@@ -4,6 +4,8 @@ use std::test::Fail;
 
 const NOT_BUILT: &str = "kremlin: source refused: NotBuilt at 1:1\n";
 
+const NODES_MANY: &str = "kremlin: source refused: NodesMany at 1:1\n";
+
 /// A source for each refusal of the lexer but those for length, and the line that it has.
 static LEX_FAULTS: [(&[u8], &str); 12] = [
     (
@@ -158,19 +160,15 @@ fn faults_of_the_parser(rt: HostRuntime) -> Result<(), Fail> {
     Ok(())
 }
 
-/// 262,145 nodes.
+/// 262,144 nodes, and one more.
 #[test]
 fn many_nodes(rt: HostRuntime) -> Result<(), Fail> {
     let mut source = Vec::from_slice(rt.alloc(), b"int main(void){")?;
-    source.resize(15 + 262_144, b';')?;
+    source.resize(15 + 262_143, b';')?;
     source.push(b'}')?;
-    assert!(rt;
-        is_refused(
-            rt.alloc(),
-            source.as_slice(),
-            "kremlin: source refused: NodesMany at 1:1\n"
-        )?
-    );
+    assert!(rt; is_refused(rt.alloc(), source.as_slice(), NOT_BUILT)?);
+    source.insert(15, b';')?;
+    assert!(rt; is_refused(rt.alloc(), source.as_slice(), NODES_MANY)?);
     Ok(())
 }
 
