@@ -1,14 +1,14 @@
 -- What the values of the operators are.
-use Rattle.std.specs.Prelude.{ℕ, zero, suc, ◌-◌, ◌/◌, ◌%◌, ◌^◌, ◌<◌, ◌≤◌, ◌⊎◌, Bool, true, false, ◌&&◌, not, if◌then◌else◌, IsTrue, IfOk, ◌≡◌, refl, ℤ, pos, negsuc, neg_ℤ, ◌-ℤ◌, int_rem, unsigned_abs, bit_and, bit_or, bit_xor, Result, Ok, Err}
+use Rattle.std.specs.Prelude.{ℕ, zero, suc, ◌-◌, ◌/◌, ◌%◌, ◌^◌, ◌<◌, ◌≤◌, Bool, true, false, ◌&&◌, not, if◌then◌else◌, IsTrue, IfOk, ◌≡◌, refl, ℤ, pos, negsuc, neg_ℤ, int_rem, unsigned_abs, bit_and, bit_or, bit_xor, Result, Ok, Err}
 use Rattle.std.proofs.Common.{arith, sym, ap, subst, inl, inr}
 use Rattle.std.proofs.Math.Nat.{div-le_self, mod-le}
 use Rattle.std.proofs.lemmas.Int.{ints, quot-rem}
-use Rattle.std.proofs.lemmas.Nat.{and_le_l, or_lt, xor_lt}
+use Rattle.std.proofs.lemmas.Nat.{or_lt, xor_lt}
 use Rattle.k_num.specs.declared.numbers.Kind.{Kind}
 use Rattle.k_num.specs.declared.numbers.Kind.TheVariants.{I8, U8, I16, U16, I32, U32, I64, U64}
 use Rattle.k_num.specs.declared.numbers.Bin.{Bin}
 use Rattle.k_num.specs.declared.numbers.Bin.TheVariants.{Add, Sub, Mul, Div, Rem, And, Or, Xor, Shl, Shr, Lt, Le, Gt, Ge, Eq, Ne, LogAnd, LogOr}
-use Rattle.k_num.specs.declared.numbers.Un.TheVariants.{Neg, Complement, Not}
+use Rattle.k_num.specs.declared.numbers.Un.TheVariants.{Not}
 use Rattle.k_num.specs.declared.numbers.NumTrap.{NumTrap}
 use Rattle.k_num.specs.declared.numbers.NumTrap.TheVariants.{Overflow, DivideByZero, Shift}
 use Rattle.k_num.specs.Kind.{width, is_signed, is_held, remainder, converted}

@@ -1,23 +1,21 @@
 -- Operators modulo 2^n.
-use Rattle.std.proofs.Common.{arith, ◌≡◌, ◌^◌, ◌≤◌, ◌+◌, ◌*◌, true, false, ℕ, List, ℤ, ◌+ℤ◌, ◌*ℤ◌, refl, sym, ap, subst, ◌∙◌, bit_and, bit_or, bit_xor}
-use Rattle.std.specs.Prelude.{IsTrue, IfOk, neg_ℤ, Result, Ok, Err}
-use Rattle.std.specs.List.{fold}
-use Rattle.std.specs.List.Sorted.{IsPermutation}
+use Rattle.std.proofs.Common.{arith, ◌≡◌, ◌^◌, ◌≤◌, ◌*◌, true, ℕ, ℤ, ◌*ℤ◌, refl, sym, ap, subst, ◌∙◌, bit_and, bit_or, bit_xor}
+use Rattle.std.specs.Prelude.{IfOk, Result, Ok, Err}
 use Rattle.std.proofs.Math.IntN.{+ℤ_comm, +ℤ_assoc, *ℤ_comm}
 use borrow.Author.Differences.{up, down, same_in, product_is}
 use Rattle.k_num.specs.declared.numbers.Kind.{Kind}
 use Rattle.k_num.specs.declared.numbers.Bin.{Bin}
-use Rattle.k_num.specs.declared.numbers.Bin.TheVariants.{Add, Sub, Mul, Div, Rem, And, Or, Xor, Shl, Shr, Lt, Le, Gt, Ge, Eq, Ne, LogAnd, LogOr}
+use Rattle.k_num.specs.declared.numbers.Bin.TheVariants.{Add, Sub, Mul, And, Or, Xor}
 use Rattle.k_num.specs.declared.numbers.NumTrap.{NumTrap}
 use Rattle.k_num.specs.declared.numbers.NumTrap.TheVariants.{Overflow}
-use Rattle.k_num.specs.Kind.{width, is_signed, is_held, remainder, value_of_bits, converted}
+use Rattle.k_num.specs.Kind.{width, remainder, value_of_bits, converted}
 use Rattle.k_num.specs.KindLaws.{IsSameModulo}
 use Rattle.k_num.specs.Arithmetic.{exact, value, on_bits}
 use Rattle.k_num.specs.ArithmeticLaws.{gives_number}
-use Rattle.k_num.specs.Combining.{combined, is_modular, is_commutative, WorksOnBits, CombinedIsAlike, CombinedIsCommutative, CombinedIsAssociative, CombinedInAnyOrder, DifferenceIsSum, CombinedInNarrower, AssignedIsCombined, UnsignedNeverTraps, CombinedOnBits}
+use Rattle.k_num.specs.Combining.{combined, is_modular, is_commutative, CombinedIsAlike, CombinedIsCommutative, CombinedIsAssociative, CombinedInAnyOrder, DifferenceIsSum, CombinedInNarrower, AssignedIsCombined, UnsignedNeverTraps, CombinedOnBits}
 use Rattle.k_num.proofs.KindLaws.{same_self, same_sum, same_difference, same_product, same_narrower, remainder_alike, held_converted, same_converted, converted_alike, converted_held}
 use Rattle.k_num.proofs.ArithmeticLaws.{held_on_bits, given_unsigned, value_converted}
-use Rattle.k_num.proofs.OnBits.{and_below, IsBitwise, and_bitwise, or_bitwise, xor_bitwise, remainder-on_bits, on_bits_comm, on_bits_assoc, low_bits_of_on_bits}
+use Rattle.k_num.proofs.OnBits.{IsBitwise, and_bitwise, or_bitwise, xor_bitwise, remainder-on_bits, on_bits_comm, on_bits_assoc, low_bits_of_on_bits}
 use Rattle.k_num.proofs.Orders.{fold-IsPermutation}
 
 product_assoc : (a b c : ℤ) → (a *ℤ b) *ℤ c ≡ a *ℤ (b *ℤ c)

@@ -1,12 +1,12 @@
 -- Promotion, and the common kind of two operands.
-use Rattle.std.proofs.Common.{arith, ◌≡◌, ◌-◌, ◌^◌, ◌<◌, ◌≤◌, Bool, true, false, IsTrue, ℕ, suc, ℤ, pos, negsuc, ◌+ℤ◌, refl, sym, ◌∙◌}
+use Rattle.std.proofs.Common.{arith, ◌≡◌, ◌-◌, ◌^◌, ◌<◌, ◌≤◌, Bool, true, false, IsTrue, ℕ, suc, pos, negsuc, refl, sym, ◌∙◌}
 use Rattle.std.specs.Prelude.{nat_lt, if◌then◌else◌}
 use Rattle.std.proofs.Math.Nat.{pow-le-pow_right}
 use Rattle.std.proofs.lemmas.Bool.{ltb-true, ltb-false}
 use Rattle.std.proofs.lemmas.Int.{ints}
 use Rattle.k_num.specs.declared.numbers.Kind.{Kind}
 use Rattle.k_num.specs.declared.numbers.Kind.TheVariants.{I8, U8, I16, U16, I32, U32, I64, U64}
-use Rattle.k_num.specs.Kind.{width, is_signed, is_held, converted, promoted, higher, common_kind}
+use Rattle.k_num.specs.Kind.{width, is_signed, is_held, promoted, higher, common_kind}
 use Rattle.k_num.specs.KindLaws.{Covers, PromotedKeepsValue, CommonIsSymmetric, CommonIsWider, CommonIsUnsigned, CommonIsNotNarrower, CommonKeepsValue, CommonKeepsNatural, CommonLiftsNegative}
 use Rattle.k_num.proofs.KindLaws.{zero_held, natural_held, held_span, held_wider, held_unsigned_wider, converted_held, converted_is}
 

@@ -1,6 +1,6 @@
 -- What is combined by an operation whose operands may come in any order: a list's items may come in any order.
 use Rattle.std.proofs.Common.{arith, ◌≡◌, ◌<◌, ℕ, zero, suc, List, [], ◌∷◌, length, get_or, set, refl, sym, ap, ◌∙◌}
-use Rattle.std.specs.List.{fold, swap}
+use Rattle.std.specs.List.{fold}
 use Rattle.std.specs.List.Sorted.{IsPermutation}
 use Rattle.std.proofs.lemmas.List.Edits.{swap_is}
 use Rattle.std.proofs.lemmas.List.Sorted.{IsPermutation-keeps}

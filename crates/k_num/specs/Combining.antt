@@ -1,11 +1,11 @@
 -- Operators modulo 2^n: what they combine may come in any order. Reductions rest on it.
-use Rattle.std.specs.Prelude.{ℕ, ◌^◌, ◌≤◌, Bool, true, false, IsTrue, IfOk, ◌≡◌, List, ℤ, neg_ℤ, bit_and, bit_or, bit_xor, Ok}
+use Rattle.std.specs.Prelude.{ℕ, ◌^◌, ◌≤◌, Bool, true, false, IfOk, ◌≡◌, List, ℤ, neg_ℤ, bit_and, bit_or, bit_xor, Ok}
 use Rattle.std.specs.List.{fold}
 use Rattle.std.specs.List.Sorted.{IsPermutation}
 use Rattle.k_num.specs.declared.numbers.Kind.{Kind}
 use Rattle.k_num.specs.declared.numbers.Bin.{Bin}
 use Rattle.k_num.specs.declared.numbers.Bin.TheVariants.{Add, Sub, Mul, And, Or, Xor}
-use Rattle.k_num.specs.Kind.{width, is_signed, is_held, remainder, converted}
+use Rattle.k_num.specs.Kind.{width, is_signed, remainder, converted}
 use Rattle.k_num.specs.KindLaws.{IsSameModulo}
 use Rattle.k_num.specs.Arithmetic.{exact, value}
 

@@ -1,5 +1,5 @@
 -- What holds of conversion, of promotion and of the common kind of two operands: the statements of the laws.
-use Rattle.std.specs.Prelude.{ℕ, ◌*◌, ◌^◌, ◌<◌, ◌≤◌, ◌⊎◌, true, false, IsTrue, ◌≡◌, ℤ, pos, negsuc, ◌+ℤ◌}
+use Rattle.std.specs.Prelude.{ℕ, ◌*◌, ◌^◌, ◌<◌, ◌≤◌, true, false, IsTrue, ◌≡◌, ℤ, pos, negsuc, ◌+ℤ◌}
 use Rattle.k_num.specs.declared.numbers.Kind.{Kind}
 use Rattle.k_num.specs.Kind.{width, is_signed, is_held, remainder, converted, promoted, common_kind}
 

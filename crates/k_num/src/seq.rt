@@ -164,12 +164,12 @@ mod tests {
         assert!(rt; !list.is_empty());
         list.as_mut_slice()[0] = 2;
         for item in list.as_mut_slice() {
-            *item *= 10;
+            *item ^= 8;
         }
-        assert_eq!(rt; list.as_slice(), [20, 10, 40, 10].as_slice());
-        assert_eq!(rt; list.pop(), Some(10));
+        assert_eq!(rt; list.as_slice(), [10, 9, 12, 9].as_slice());
+        assert_eq!(rt; list.pop(), Some(9));
         list.truncate(2);
-        assert_eq!(rt; list.into_vec().as_slice(), [20, 10].as_slice());
+        assert_eq!(rt; list.into_vec().as_slice(), [10, 9].as_slice());
         let mut none = Seq::<u64>::new(rt.alloc());
         assert!(rt; none.is_empty());
         assert_eq!(rt; none.pop(), None);
