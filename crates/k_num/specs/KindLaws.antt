@@ -1,17 +1,7 @@
--- Laws of conversion between kinds: it gives a value of the kind, keeps the kind's own values, depends on the number
--- modulo 2^n alone, and so commutes with sums and products.
-use Rattle.std.specs.Prelude.{ℕ, ◌+◌, ◌-◌, ◌*◌, ◌/◌, ◌^◌, ◌<◌, ◌≤◌, ◌⊎◌, Bool, true, false, ◌&&◌, if◌then◌else◌, IsTrue, ◌≡◌, refl, ℤ, pos, negsuc, neg_ℤ, ◌+ℤ◌, ◌-ℤ◌, ◌*ℤ◌, ◌<ℤ◌, int_le, unsigned_abs}
-use Rattle.std.specs.Int.{int_rem_euclid}
-use Rattle.std.proofs.Common.{arith, sym, ap, inl, inr, ◌∙◌, subst}
-use Rattle.std.proofs.Math.Nat.{mul-le-mul_left, mul-le-mul_right, pow-le-pow_right, mod-lt}
-use Rattle.std.proofs.Math.IntN.{*ℤ_comm}
-use Rattle.std.proofs.lemmas.Bool.{cases_order}
-use Rattle.std.proofs.lemmas.Int.{ints, int_rem_euclid_is}
-use Rattle.std.proofs.lemmas.Nat.{div-add-mod', pow_pos}
-use borrow.Author.Differences.{up, down, same_in, same_out, sum_is_lem, product_is}
+-- What holds of conversion, of promotion and of the common kind of two operands: the statements of the laws.
+use Rattle.std.specs.Prelude.{ℕ, ◌*◌, ◌^◌, ◌<◌, ◌≤◌, true, false, IsTrue, ◌≡◌, ℤ, pos, negsuc, ◌+ℤ◌}
 use Rattle.k_num.specs.declared.numbers.Kind.{Kind}
-use Rattle.k_num.specs.declared.numbers.Kind.TheVariants.{I8, U8, I16, U16, I32, U32, I64, U64}
-use Rattle.k_num.specs.Kind.{width, is_signed, is_held, remainder, value_of_bits, converted}
+use Rattle.k_num.specs.Kind.{width, is_signed, is_held, remainder, converted, promoted, common_kind}
 
 -- two numbers are equal modulo m: they differ by a multiple of m
 pub record IsSameModulo (m : ℕ) (a b : ℤ) : Type 0 where
@@ -19,165 +9,71 @@ pub record IsSameModulo (m : ℕ) (a b : ℤ) : Type 0 where
   pub under : ℕ
   pub same : a +ℤ pos (over * m) ≡ b +ℤ pos (under * m)
 
-pub same_back : (m : ℕ) (a b : ℤ) → IsSameModulo m a b → IsSameModulo m b a
-same_back m a b s = record { over = s.under; under = s.over; same = sym s.same }
+-- each value of the first kind is one of the second
+abbrev pub Covers : Kind → Kind → Type 0
+Covers from to = (v : ℤ) → IsTrue (is_held from v) → IsTrue (is_held to v)
 
-pub same_chain : (m : ℕ) (a b c : ℤ) → IsSameModulo m a b → IsSameModulo m b c → IsSameModulo m a c
-same_chain m a b c s t = record { over = s.over + t.over; under = s.under + t.under; same = let p = s.same in let q = t.same in omega (arith, ints) }
-
-pub same_sum : (m : ℕ) (a b c d : ℤ) → IsSameModulo m a b → IsSameModulo m c d → IsSameModulo m (a +ℤ c) (b +ℤ d)
-same_sum m a b c d s t = record { over = s.over + t.over; under = s.under + t.under; same = let p = s.same in let q = t.same in omega (arith, ints) }
-
-same_times : (m : ℕ) (a b c : ℤ) → IsSameModulo m a b → IsSameModulo m (a *ℤ c) (b *ℤ c)
-same_times m a b c s =
-    let p = s.same in
-    let sum : up a + s.over * m + down b ≡ up b + s.under * m + down a = omega (arith, same_out, sum_is_lem) in
-    let above = ap (λ x. x * up c) sum in
-    let below = ap (λ x. x * down c) sum in
-    record {
-      over = s.over * up c + s.under * down c;
-      under = s.under * up c + s.over * down c;
-      same = omega (arith, same_in, sum_is_lem, product_is);
-    }
-
-pub same_product : (m : ℕ) (a b c d : ℤ) → IsSameModulo m a b → IsSameModulo m c d → IsSameModulo m (a *ℤ c) (b *ℤ d)
-same_product m a b c d s t =
-    same_chain m (a *ℤ c) (b *ℤ c) (b *ℤ d) (same_times m a b c s)
-    (subst (λ x. IsSameModulo m x (b *ℤ d)) (*ℤ_comm c b) (subst (λ x. IsSameModulo m (c *ℤ b) x) (*ℤ_comm d b) (same_times m c d b t)))
-
--- the remainder depends on the number modulo m alone
-remainder_same : (m : ℕ) (a b : ℤ) → 0 < m → IsSameModulo m a b → int_rem_euclid a (pos m) ≡ int_rem_euclid b (pos m)
-remainder_same m a b some s =
-    let p = s.same in
-    let t = down a + down b in
-    let far : t * 1 ≤ t * m = mul-le-mul_left t some in
-    let n = up a + (s.over + t) * m - down a in
-    int_rem_euclid_is a (pos m) m (s.over + t) n some refl (omega (arith, ints))
-    ∙ sym (int_rem_euclid_is b (pos m) m (s.under + t) n some refl (omega (arith, ints)))
-
--- a number is its remainder modulo m
-same_remainder : (m : ℕ) (v : ℤ) → 0 < m → IsSameModulo m (pos (unsigned_abs (int_rem_euclid v (pos m)))) v
-same_remainder m (pos a) some = record { over = a / m; under = 0; same = let split = div-add-mod' a m in omega (arith, ints) }
-same_remainder m (negsuc a) some =
-    record { over = 0; under = a / m + 1; same = let split = div-add-mod' a m in let small = mod-lt a some in omega (arith, ints) }
-
-remainder_small : (m : ℕ) (v : ℤ) → 0 < m → unsigned_abs (int_rem_euclid v (pos m)) < m
-remainder_small m (pos a) some = mod-lt a some
-remainder_small m (negsuc a) some = omega arith
-
-pub remainder_below : (kind : Kind) (v : ℤ) → remainder kind v < 2 ^ width kind
-remainder_below kind v = remainder_small (2 ^ width kind) v (pow_pos (width kind))
-
--- ---- what a kind holds
-
--- two values of a kind are less than 2^n apart
-held_span : (kind : Kind) (a b : ℤ) → IsTrue (is_held kind a) → IsTrue (is_held kind b) → a <ℤ (b +ℤ pos (2 ^ width kind))
-held_span I8 a b p q = grind (arith, ints)
-held_span U8 a b p q = grind (arith, ints)
-held_span I16 a b p q = grind (arith, ints)
-held_span U16 a b p q = grind (arith, ints)
-held_span I32 a b p q = grind (arith, ints)
-held_span U32 a b p q = grind (arith, ints)
-held_span I64 a b p q = grind (arith, ints)
-held_span U64 a b p q = grind (arith, ints)
-
--- two numbers less than m apart and equal modulo m are one
-apart : (m : ℕ) (a b : ℤ) → a <ℤ (b +ℤ pos m) → b <ℤ (a +ℤ pos m) → IsSameModulo m a b → a ≡ b
-apart m a b p q s = by (cases_order s.over s.under)
-  where
-    by : (s.over ≡ s.under) ⊎ ((s.over < s.under) ⊎ (s.under < s.over)) → a ≡ b
-    by (inr (inl l)) = absurd (let e = s.same in let far : (s.over + 1) * m ≤ s.under * m = mul-le-mul_right m (omega arith) in omega (arith, ints))
-    by (inl l) = let e = s.same in let even : s.over * m ≡ s.under * m = ap (λ x. x * m) l in omega (arith, ints)
-    by (inr (inr l)) = absurd (let e = s.same in let far : (s.under + 1) * m ≤ s.over * m = mul-le-mul_right m (omega arith) in omega (arith, ints))
-
--- a kind has one value that equals a number modulo 2^n
-pub held_once : (kind : Kind) (a b : ℤ) → IsTrue (is_held kind a) → IsTrue (is_held kind b) → IsSameModulo (2 ^ width kind) a b → a ≡ b
-held_once kind a b p q s = apart (2 ^ width kind) a b (held_span kind a b p q) (held_span kind b a q p) s
-
-pub held_value_of_bits : (kind : Kind) (r : ℕ) → r < 2 ^ width kind → IsTrue (is_held kind (value_of_bits kind r))
-held_value_of_bits kind r h = by kind (is_held kind (pos r)) refl h
-  where
-    by : (kind : Kind) (t : Bool) → is_held kind (pos r) ≡ t → r < 2 ^ width kind → IsTrue (is_held kind (if t then pos r else pos r -ℤ pos (2 ^ width kind)))
-    by kind true e h = e
-    by I8 false e h = grind (arith, ints)
-    by U8 false e h = grind (arith, ints)
-    by I16 false e h = grind (arith, ints)
-    by U16 false e h = grind (arith, ints)
-    by I32 false e h = grind (arith, ints)
-    by U32 false e h = grind (arith, ints)
-    by I64 false e h = grind (arith, ints)
-    by U64 false e h = grind (arith, ints)
-
-same_value_of_bits : (kind : Kind) (r : ℕ) → IsSameModulo (2 ^ width kind) (value_of_bits kind r) (pos r)
-same_value_of_bits kind r = by (is_held kind (pos r))
-  where
-    by : (t : Bool) → IsSameModulo (2 ^ width kind) (if t then pos r else pos r -ℤ pos (2 ^ width kind)) (pos r)
-    by true = record { over = 0; under = 0; same = refl }
-    by false = record { over = 1; under = 0; same = omega (arith, ints) }
-
--- ---- conversion
-
--- it gives a value of the kind
-pub held_converted : (kind : Kind) (v : ℤ) → IsTrue (is_held kind (converted kind v))
-held_converted kind v = held_value_of_bits kind (remainder kind v) (remainder_below kind v)
+-- a conversion gives a value of the kind
+abbrev pub ConvertedIsHeld : Type 0
+ConvertedIsHeld = (kind : Kind) (v : ℤ) → IsTrue (is_held kind (converted kind v))
 
 -- it equals the number modulo 2^n
-pub same_converted : (kind : Kind) (v : ℤ) → IsSameModulo (2 ^ width kind) (converted kind v) v
-same_converted kind v =
-    same_chain (2 ^ width kind) (converted kind v) (pos (remainder kind v)) v (same_value_of_bits kind (remainder kind v))
-    (same_remainder (2 ^ width kind) v (pow_pos (width kind)))
+abbrev pub ConvertedIsSame : Type 0
+ConvertedIsSame = (kind : Kind) (v : ℤ) → IsSameModulo (2 ^ width kind) (converted kind v) v
 
--- and it is the one value of the kind that does
-pub converted_is : (kind : Kind) (v r : ℤ) → IsTrue (is_held kind r) → IsSameModulo (2 ^ width kind) r v → converted kind v ≡ r
-converted_is kind v r h s =
-    held_once kind (converted kind v) r (held_converted kind v) h
-    (same_chain (2 ^ width kind) (converted kind v) v r (same_converted kind v) (same_back (2 ^ width kind) r v s))
+-- no other value of the kind does
+abbrev pub ConvertedIsUnique : Type 0
+ConvertedIsUnique = (kind : Kind) (v r : ℤ) → IsTrue (is_held kind r) → IsSameModulo (2 ^ width kind) r v → converted kind v ≡ r
 
--- numbers that are equal modulo 2^n are converted alike
-pub converted_alike : (kind : Kind) (a b : ℤ) → IsSameModulo (2 ^ width kind) a b → converted kind a ≡ converted kind b
-converted_alike kind a b s =
-    converted_is kind a (converted kind b) (held_converted kind b)
-    (same_chain (2 ^ width kind) (converted kind b) b a (same_converted kind b) (same_back (2 ^ width kind) a b s))
+-- so it leaves what the kind holds (6.3.1.3p1)
+abbrev pub ConvertedKeepsHeld : Type 0
+ConvertedKeepsHeld = (kind : Kind) (v : ℤ) → IsTrue (is_held kind v) → converted kind v ≡ v
 
--- a value of the kind stays as it is
-pub converted_held : (kind : Kind) (v : ℤ) → IsTrue (is_held kind v) → converted kind v ≡ v
-converted_held kind v h = converted_is kind v v h (record { over = 0; under = 0; same = refl })
+-- and it is alike for numbers that are equal modulo 2^n
+abbrev pub ConvertedIsAlike : Type 0
+ConvertedIsAlike = (kind : Kind) (a b : ℤ) → IsSameModulo (2 ^ width kind) a b → converted kind a ≡ converted kind b
 
--- to convert again changes nothing
-pub converted-converted : (kind : Kind) (v : ℤ) → converted kind (converted kind v) ≡ converted kind v
-converted-converted kind v = converted_held kind (converted kind v) (held_converted kind v)
+-- to an unsigned kind it gives the remainder modulo 2^n (6.3.1.3p2)
+abbrev pub ConvertedIsRemainder : Type 0
+ConvertedIsRemainder = (kind : Kind) (v : ℤ) → is_signed kind ≡ false → converted kind v ≡ pos (remainder kind v)
 
--- to convert on the way to a sum or a product changes nothing
-pub converted-sum : (kind : Kind) (x y : ℤ) → converted kind (x +ℤ y) ≡ converted kind (converted kind x +ℤ converted kind y)
-converted-sum kind x y =
-    sym (converted_alike kind (converted kind x +ℤ converted kind y) (x +ℤ y)
-    (same_sum (2 ^ width kind) (converted kind x) x (converted kind y) y (same_converted kind x) (same_converted kind y)))
+-- a kind that is no narrower, and signed alike, has all values of the other
+abbrev pub WiderCovers : Type 0
+WiderCovers = (from to : Kind) → is_signed from ≡ is_signed to → width from ≤ width to → Covers from to
 
-pub converted-product : (kind : Kind) (x y : ℤ) → converted kind (x *ℤ y) ≡ converted kind (converted kind x *ℤ converted kind y)
-converted-product kind x y =
-    sym (converted_alike kind (converted kind x *ℤ converted kind y) (x *ℤ y)
-    (same_product (2 ^ width kind) (converted kind x) x (converted kind y) y (same_converted kind x) (same_converted kind y)))
+-- a wider kind has all values of an unsigned one, whether it is signed or not
+abbrev pub WiderCoversUnsigned : Type 0
+WiderCoversUnsigned = (from to : Kind) → is_signed from ≡ false → width from < width to → Covers from to
 
-signed_wider : (p q : ℕ) (v : ℤ) → 0 < p → p ≤ q → IsTrue (int_le (neg_ℤ (pos p)) v && int_le v (pos (p - 1))) → IsTrue (int_le (neg_ℤ (pos q)) v && int_le v (pos (q - 1)))
-signed_wider p q v some h held = grind (arith, ints)
+-- a promotion keeps the value (6.3.1.1p3)
+abbrev pub PromotedKeepsValue : Type 0
+PromotedKeepsValue = (kind : Kind) (v : ℤ) → IsTrue (is_held kind v) → converted (promoted kind) v ≡ v
 
-unsigned_wider : (p q : ℕ) (v : ℤ) → 0 < p → p ≤ q → IsTrue (int_le (pos 0) v && int_le v (pos (p - 1))) → IsTrue (int_le (pos 0) v && int_le v (pos (q - 1)))
-unsigned_wider p q v some h held = grind (arith, ints)
+-- the common kind is the same whichever operand stands first
+abbrev pub CommonIsSymmetric : Type 0
+CommonIsSymmetric = (a b : Kind) → common_kind a b ≡ common_kind b a
 
--- a wider kind of the same sign holds what the narrower holds
-pub held_wider : (from to : Kind) (v : ℤ) → is_signed from ≡ is_signed to → width from ≤ width to → IsTrue (is_held from v) → IsTrue (is_held to v)
-held_wider from to v e h p = by (is_signed from) (is_signed to) e p
-  where
-    bounds : Bool → ℕ → ℤ → Bool
-    bounds signed n v =
-        int_le (if signed then neg_ℤ (pos (2 ^ (n - 1))) else pos 0) v && int_le v (if signed then pos (2 ^ (n - 1) - 1) else pos (2 ^ n - 1))
+-- it is the wider of the two promoted kinds
+abbrev pub CommonIsWider : Type 0
+CommonIsWider = (a b : Kind) → width (promoted a) < width (promoted b) → common_kind a b ≡ promoted b
 
-    by : (s t : Bool) → s ≡ t → IsTrue (bounds s (width from) v) → IsTrue (bounds t (width to) v)
-    by true true e p = signed_wider (2 ^ (width from - 1)) (2 ^ (width to - 1)) v (pow_pos (width from - 1)) (pow-le-pow_right (omega arith) (omega arith)) p
-    by true false e p = cc
-    by false true e p = cc
-    by false false e p = unsigned_wider (2 ^ width from) (2 ^ width to) v (pow_pos (width from)) (pow-le-pow_right (omega arith) h) p
+-- of two that are equally wide it is the unsigned one
+abbrev pub CommonIsUnsigned : Type 0
+CommonIsUnsigned = (a b : Kind) → width (promoted a) ≡ width (promoted b) → is_signed (promoted b) ≡ false → common_kind a b ≡ promoted b
 
--- so a conversion to it keeps the number
-pub converted_wider : (from to : Kind) (v : ℤ) → is_signed from ≡ is_signed to → width from ≤ width to → IsTrue (is_held from v) → converted to v ≡ v
-converted_wider from to v e h p = converted_held to v (held_wider from to v e h p)
+-- so it is no narrower than an operand's own kind
+abbrev pub CommonIsNotNarrower : Type 0
+CommonIsNotNarrower = (a b : Kind) → width a ≤ width (common_kind a b)
+
+-- a signed common kind keeps the value of an operand
+abbrev pub CommonKeepsValue : Type 0
+CommonKeepsValue = (a b : Kind) (v : ℤ) → is_signed (common_kind a b) ≡ true → IsTrue (is_held a v) → converted (common_kind a b) v ≡ v
+
+-- every common kind keeps one that is not negative
+abbrev pub CommonKeepsNatural : Type 0
+CommonKeepsNatural = (a b : Kind) (v : ℕ) → IsTrue (is_held a (pos v)) → converted (common_kind a b) (pos v) ≡ pos v
+
+-- an unsigned common kind has the remainder modulo 2^n of an operand, which for a negative one is the value and 2^n
+abbrev pub CommonLiftsNegative : Type 0
+CommonLiftsNegative = (a b : Kind) (v : ℕ) → is_signed (common_kind a b) ≡ false → IsTrue (is_held a (negsuc v))
+    → converted (common_kind a b) (negsuc v) ≡ negsuc v +ℤ pos (2 ^ width (common_kind a b))

@@ -20,7 +20,7 @@ pub(crate) fn given(kind: Kind, exact: i128, trap: NumTrap) -> Result<i128, NumT
     }
 }
 
-/// The same for a product or a shifted number, which may be above the greatest i128.
+/// The same for a product of unsigned numbers, which may be above the greatest i128, and for a number shifted left.
 fn given_natural(kind: Kind, exact: u128, trap: NumTrap) -> Result<i128, NumTrap>
     ensures { result ≡ given_by trap kind (pos exact) }
 {
@@ -40,6 +40,7 @@ pub(crate) fn truth(test: bool) -> i128
     if test { 1 } else { 0 }
 }
 
+/// The exact sum: of two values of a kind it fits an i128.
 fn sum(kind: Kind, a: i128, b: i128) -> i128
     requires left { IsTrue (is_held kind a) }
     requires right { IsTrue (is_held kind b) }
@@ -56,6 +57,7 @@ fn add(kind: Kind, a: i128, b: i128) -> Result<i128, NumTrap>
     given(kind, sum(kind, a, b), NumTrap::Overflow)
 }
 
+/// The exact difference.
 fn difference(kind: Kind, a: i128, b: i128) -> i128
     requires left { IsTrue (is_held kind a) }
     requires right { IsTrue (is_held kind b) }
@@ -72,6 +74,7 @@ fn subtract(kind: Kind, a: i128, b: i128) -> Result<i128, NumTrap>
     given(kind, difference(kind, a, b), NumTrap::Overflow)
 }
 
+/// The exact product of two values of a signed kind, which fits an i128.
 fn product(kind: Kind, a: i128, b: i128) -> i128
     requires signed { is_signed_kind kind ≡ true }
     requires left { IsTrue (is_held kind a) }
@@ -81,6 +84,7 @@ fn product(kind: Kind, a: i128, b: i128) -> i128
     a * b
 }
 
+/// The exact product of two values of an unsigned kind, which fits a u128.
 fn product_of_naturals(kind: Kind, a: i128, b: i128) -> u128
     requires unsigned { is_signed_kind kind ≡ false }
     requires left { IsTrue (is_held kind a) }
@@ -109,6 +113,7 @@ pub(crate) fn is_zero(a: i128) -> bool
     a == 0
 }
 
+/// The quotient, rounded toward zero.
 fn quotient(kind: Kind, a: i128, b: i128) -> i128
     requires left { IsTrue (is_held kind a) }
     requires right { IsTrue (is_held kind b) }
@@ -118,6 +123,7 @@ fn quotient(kind: Kind, a: i128, b: i128) -> i128
     a / b
 }
 
+/// The dividend without the quotient times the divisor.
 fn rest(kind: Kind, a: i128, b: i128) -> i128
     requires left { IsTrue (is_held kind a) }
     requires right { IsTrue (is_held kind b) }
@@ -193,6 +199,7 @@ fn can_shift_left(kind: Kind, a: i128, b: i128) -> bool
     is_distance(kind, b) && !(is_signed(kind) && a < 0)
 }
 
+/// The exact number shifted left, below 2^127.
 fn shifted_left(kind: Kind, a: i128, b: i128) -> u128
     requires left { IsTrue (is_held kind a) }
     requires can_shift { may_shift_left kind a b ≡ true }
@@ -201,6 +208,7 @@ fn shifted_left(kind: Kind, a: i128, b: i128) -> u128
     (a as u128) << (b as u32)
 }
 
+/// The number shifted right, rounded down.
 fn shifted_right(kind: Kind, a: i128, b: i128) -> i128
     requires { is_distance_of kind b ≡ true }
     ensures { result ≡ int_shr a (unsigned_abs b) }

@@ -1,10 +1,11 @@
 //! The base of every other crate: lists and texts that contracts see as plain data, places in a source,
-//! and the kinds and operators of C's whole numbers.
+//! and the kinds and operators of C's whole numbers with their laws.
 #![tactic(auto)]
 
 mod binary_operators;
 mod boxed;
 mod kinds;
+pub mod laws;
 mod memory;
 mod numbers;
 mod place;
@@ -14,7 +15,7 @@ mod unary_operators;
 
 pub use binary_operators::binary;
 pub use boxed::Box;
-pub use kinds::{common, convert, holds, promote};
+pub use kinds::{bytes, common, convert, holds, promote};
 pub use memory::NoMemory;
 pub use numbers::{Bin, Kind, NumTrap, Un};
 pub use place::Place;

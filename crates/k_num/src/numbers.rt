@@ -48,11 +48,11 @@ pub enum Un {
 /// Why an operation has no value: C leaves it undefined, and the profile stops there.
 #[derive(Clone, Copy, Debug, PartialEq, Eq, Hash)]
 pub enum NumTrap {
-    /// The kind is signed and doesn't hold the exact result.
+    /// The kind is signed and doesn't hold the exact result; for `%` it doesn't hold the quotient.
     Overflow,
     /// The divisor is 0.
     DivideByZero,
-    /// The right operand of a shift is negative or not below the width, or the left shift of a signed
-    /// number has no exact result in its kind.
+    /// The right operand of a shift is negative or not below the width, or a left shift in a signed kind is of
+    /// a negative number or has an exact result that the kind doesn't hold.
     Shift,
 }

@@ -7,7 +7,8 @@ use Rattle.k_num.specs.declared.numbers.Kind.TheVariants.{I32}
 use Rattle.k_num.specs.declared.numbers.NumTrap.{NumTrap}
 use Rattle.k_num.specs.Kind.{is_held}
 use Rattle.k_num.specs.Arithmetic.{value}
-use Rattle.k_num.specs.ArithmeticLaws.{gives_number, IsTruth, held_value, truth_value}
+use Rattle.k_num.specs.ArithmeticLaws.{gives_number, IsTruth}
+use Rattle.k_num.proofs.ArithmeticLaws.{held_value, truth_value}
 
 pub int_held : (v : ℤ) → FitsSigned w32 v → IsTrue (is_held I32 v)
 int_held v h = grind (arith, ints)

@@ -4,7 +4,7 @@ use Rattle.std.specs.Cmp.Lexicographic.{pointwise}
 use Rattle.k_num.specs.declared.numbers.Kind.TheVariants.{U8}
 use Rattle.k_num.specs.declared.place.Place.{Place}
 use Rattle.k_num.specs.Kind.{remainder}
-use Rattle.k_num.specs.KindLaws.{remainder_below}
+use Rattle.k_num.proofs.KindLaws.{remainder_below}
 use Rattle.k_optab.specs.declared.class.Class.{Class}
 use Rattle.k_optab.specs.declared.event.Event.{Event}
 use Rattle.k_optab.specs.declared.event.Event.TheVariants.{Op, Enter, Exit}

@@ -517,7 +517,7 @@ static ROWS: [(Bin, Kind, i128, i128, Result<i128, NumTrap>); 493] = [
     (Bin::Shr, Kind::I32, -5, 1, Ok(-3)),
 ];
 
-#[tactic(auto, using(crate::specs::ArithmeticLaws::can_be_right))]
+#[tactic(auto, using(crate::proofs::ArithmeticLaws::can_be_right))]
 fn value_of(op: Bin, kind: Kind, a: i128, b: i128) -> Option<Result<i128, NumTrap>> {
     if holds(kind, a) && holds(kind, b) {
         Some(binary(op, kind, a, b))

@@ -27,6 +27,7 @@ use Rattle.k_num.specs.contracts.boxed.Box.TheInside as inside
 abbrev pub the_former : Former {0} → Former {0}
 the_former value = value
 
+-- it weighs what that weighs
 abbrev pub the_weighed : {value : Former {0}} → Weighed value → Weighed (the_former value)
 the_weighed weight = weight
 
@@ -35,6 +36,7 @@ abbrev fields : Former {0}
 fields = via (pair (const (Ptr × Global)) this) Inside (λ X b. ((b.inner.ptr, b.inner.alloc), b.inner.value))
     (λ X v. record { inner = record { ptr = v.0.0; alloc = v.0.1; value = v.1 } }) (λ X b. refl) (λ X v. refl)
 
+-- std's box of values of a type
 abbrev std_box_of : RattleType → RattleType
 std_box_of R = std_row.the_row R global.the_row ghosts
 
@@ -52,6 +54,7 @@ module _ (R S : RattleType) (h : R.Denot → S.Denot) where
     shr_same = λ b i. (std_box_of (one_value R (alike.mir_same i) (alike.own_same b.value i) (alike.shr_same b.value i) gnil)).shr_at (with_value b tt);
   }
 
+  -- so a Box is alike at a value of each
   pub the_places : Alike R S h → Alike (box.the_row R) (box.the_row S) ((the_former this).map R.Denot S.Denot h)
   the_places alike = view_places fields this view (λ X Y k u. refl) (λ X u. refl) R.Denot S.Denot h
       (box.the_row R).coded (box.the_row S).coded
@@ -60,5 +63,6 @@ module _ (R S : RattleType) (h : R.Denot → S.Denot) where
       (struct_places (inside.the_type R) (inside.the_type S) ((λ b. with_value b (h b.value)), tt) _ (λ d. refl) refl
       (laid _ _ _ (std_box_places alike), tt))
 
+  -- a Box has the code of what it holds
   pub the_codes_placed : Recodes R S h → Recodes (box.the_row R) (box.the_row S) ((the_former this).map R.Denot S.Denot h)
   the_codes_placed same d = same d

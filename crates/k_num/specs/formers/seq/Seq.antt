@@ -24,15 +24,19 @@ use Rattle.k_num.specs.contracts.seq.Seq.TheInside as inside
 abbrev pub the_former : Former {0} → Former {0}
 the_former item = list item
 
+-- it weighs what its items weigh together
 abbrev pub the_weighed : {item : Former {0}} → Weighed item → Weighed (the_former item)
 the_weighed weight = w_list weight
 
+-- a Seq that holds nothing
 pub the_empty : List ⊥
 the_empty = []
 
+-- the items, in order
 abbrev pub the_items : (X : Type 0) → List X → List X
 the_items X items = items
 
+-- they are what the former lists of a Seq
 pub the_items_listed : (X : Type 0) (items : List X) → listed _ (children (the_former this) X items) ≡ the_items X items
 the_items_listed X items = list-listed X items
 
@@ -42,6 +46,7 @@ fields =
     via (vec.the_former this Global) Inside (λ X s. s.items) (λ X v. record { items = v }) (λ X s. refl) (λ X v. refl)
 
 module _ (R S : RattleType) (h : R.Denot → S.Denot) where
+  -- a Seq is alike at items of each of two types that are alike
   pub the_places : Alike R S h → Alike (seq.the_row R) (seq.the_row S) ((the_former this).map R.Denot S.Denot h)
   the_places alike =
       let vec_places = vec.the_places global.the_row ghosts R S h alike in
@@ -51,5 +56,6 @@ module _ (R S : RattleType) (h : R.Denot → S.Denot) where
       (over (inside.the_row R)) (over (inside.the_row S))
       (struct_places (inside.the_type R) (inside.the_type S) (vec.mapped h, tt) _ (λ d. refl) refl (laid _ _ _ vec_places, tt))
 
+  -- a Seq has the code of the list of its items
   pub the_codes_placed : Recodes R S h → Recodes (seq.the_row R) (seq.the_row S) ((the_former this).map R.Denot S.Denot h)
   the_codes_placed same items = sym (code_map R.coded.code S.coded.code h (λ x. sym (same x)) items)

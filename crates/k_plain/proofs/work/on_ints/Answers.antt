@@ -3,7 +3,7 @@ use Rattle.std.specs.Int.{w128}
 use Rattle.std.proofs.lemmas.Int.{to_z-of_z}
 use Rattle.k_num.specs.declared.numbers.Kind.TheVariants.{I32}
 use Rattle.k_num.specs.Kind.{is_held}
-use Rattle.k_num.specs.ArithmeticLaws.{can_be_right}
+use Rattle.k_num.proofs.ArithmeticLaws.{can_be_right}
 use Rattle.k_plain.proofs.Ints.{int_held, int_wide, value_held}
 use Rattle.k_plain.proofs.work.on_ints.Goals as goal
 
