@@ -5,7 +5,8 @@ use Rattle.k_optab.specs.declared.event.Event.TheVariants.{Op, Enter, Exit}
 use Rattle.k_optab.specs.Events.{SourcesAreEarlier, operations, total_latency}
 use Rattle.k_optab.specs.Latencies.{standard_latencies}
 use Rattle.k_optab.specs.Single.{AreOperations, IsSingle, one_instance}
-use Rattle.k_optab.specs.Tree.{Node, IsTree}
+use Rattle.k_optab.specs.declared.node.Node.{Node}
+use Rattle.k_optab.specs.Tree.{IsTree}
 use Rattle.k_optab.proofs.Single.{operations_of_one, single_bounded, tree_of_one}
 use Rattle.k_tree.specs.declared.tree.unit.Unit as tree
 use Rattle.k_code.specs.declared.ending.End.{End}
