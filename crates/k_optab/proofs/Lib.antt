@@ -8,3 +8,5 @@ pub mod Rows
 pub mod Single
 pub mod Trees
 pub mod Heaviest
+pub mod Opening
+pub mod Leaving

@@ -6,7 +6,7 @@ use Rattle.std.proofs.lemmas.List.Sums.{sum_by-cons}
 use Rattle.k_optab.specs.Events.{Operation, SourcesAreEarlier}
 use Rattle.k_optab.specs.Graph.{Heaviest, work}
 use Rattle.k_optab.specs.GraphLaws.{Part, AreParts}
-use Rattle.k_optab.specs.Instances.{Closed}
+use Rattle.k_optab.specs.declared.closed.Closed.{Closed}
 use Rattle.k_optab.specs.Meaning.{HasBoundedPath, paths, works}
 use Rattle.k_optab.specs.declared.node.Node.{Node}
 use Rattle.k_optab.specs.Tree.{EachWith, IsNodeOf}

@@ -8,7 +8,8 @@ use Rattle.std.proofs.lemmas.List.Sums.{sum_by-cons}
 use Rattle.k_optab.specs.declared.event.Event.{Event}
 use Rattle.k_optab.specs.declared.event.Event.TheVariants.{Op, Enter, Exit}
 use Rattle.k_optab.specs.Events.{Operation, SourcesAreEarlier, operations}
-use Rattle.k_optab.specs.Instances.{Balanced, nothing, operation, instance, Closed, closed_from, instance_of, tracked, until_exit}
+use Rattle.k_optab.specs.declared.closed.Closed.{Closed}
+use Rattle.k_optab.specs.Instances.{Balanced, nothing, operation, instance, closed_from, instance_of, tracked, until_exit}
 use Rattle.k_optab.specs.Meaning.{HasBoundedPath, HaveBoundedPaths, children, paths, serial, serial_of}
 use Rattle.k_optab.specs.declared.node.Node.{Node}
 use Rattle.k_optab.specs.Tree.{EachWith, IsNodeOf, IsTree}

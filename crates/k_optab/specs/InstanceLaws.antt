@@ -2,7 +2,8 @@
 use Rattle.std.specs.Prelude.{ℕ, ◌≡◌, ◌<◌, ◌≤◌, ◌⊎◌, ◌↔◌, List, ◌∷◌, ◌++◌, Some, All, AllPairs}
 use Rattle.k_optab.specs.declared.event.Event.{Event}
 use Rattle.k_optab.specs.declared.event.Event.TheVariants.{Exit}
-use Rattle.k_optab.specs.Instances.{Closed, Balanced, until_exit, tracked}
+use Rattle.k_optab.specs.declared.closed.Closed.{Closed}
+use Rattle.k_optab.specs.Instances.{Balanced, until_exit, tracked}
 
 -- the events before the matching Exit are the balanced ones that an Exit follows
 abbrev pub ExitIsMatching : Type 0

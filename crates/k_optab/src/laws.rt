@@ -18,6 +18,16 @@ ghost use Rattle.k_optab.specs.GraphLaws.{
 };
 ghost use Rattle.k_optab.specs.InstanceLaws.{ExitIsMatching, InstancesAreLeftLater, InstancesNeverCross, IntervalsLieAsInstances};
 ghost use Rattle.k_optab.specs.Meaning.{RegionsAreBounded, TreesHaveBoundedPaths};
+ghost use Rattle.k_optab.specs.OpenLaws.{
+  BalancedLeaveNothingOpen,
+  EntersOpenInstances,
+  ExitsCloseTheLast,
+  IdleExitsKeepInstances,
+  OpenDepthsCount,
+  OpenInstancesBegan,
+  OpenInstancesNest,
+  OperationsKeepInstances,
+};
 ghost use Rattle.k_optab.specs.Single.{
   OneInstanceIsBalanced,
   OperationsOfOneInstance,
@@ -103,4 +113,20 @@ pub fn tree_of_one_instance()
     ensures exists { SingleExists }
     ensures unique { SingleIsUnique }
     ensures bounded { SingleIsBounded }
+{}
+
+/// What one event more does to the instances that are open and to those that are closed.
+pub fn events_change_instances()
+    ensures operation { OperationsKeepInstances }
+    ensures enter { EntersOpenInstances }
+    ensures exit { ExitsCloseTheLast }
+    ensures idle { IdleExitsKeepInstances }
+{}
+
+/// Open instances lie within each other, in order of entry, and balanced events leave none.
+pub fn open_instances_nest()
+    ensures depths { OpenDepthsCount }
+    ensures around { OpenInstancesNest }
+    ensures began { OpenInstancesBegan }
+    ensures balanced { BalancedLeaveNothingOpen }
 {}

@@ -3,6 +3,7 @@
 #![tactic(auto)]
 
 mod class;
+mod closed;
 mod event;
 mod latencies;
 pub mod laws;
@@ -11,6 +12,7 @@ mod region;
 mod table;
 
 pub use class::Class;
+pub use closed::Closed;
 pub use event::{Event, Src};
 pub use latencies::{Latencies, name, of, standard};
 pub use node::Node;

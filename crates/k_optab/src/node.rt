@@ -1,4 +1,4 @@
-//! What is kept of a run's instances.
+//! What the tree of a run says of an instance.
 
 /// What the tree of a run says of an instance. Work and path are in units of the table of latencies.
 #[derive(Clone, Copy, Debug, PartialEq, Eq)]
