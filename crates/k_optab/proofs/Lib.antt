@@ -10,3 +10,4 @@ pub mod Trees
 pub mod Heaviest
 pub mod Opening
 pub mod Leaving
+pub mod Choices

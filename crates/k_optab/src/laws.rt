@@ -11,13 +11,13 @@ ghost use Rattle.k_optab.specs.GraphLaws.{
   LongerHistoryKeepsHeaviest,
   LongerHistoryKeepsTimes,
   TimeFromSources,
+  GreatestOfSources,
   HeaviestOfOneMore,
   HeaviestIsAtMostWork,
   InnerPathIsAtMostOuter,
-  PathIsAtMostPartsAndOwnWork,
 };
 ghost use Rattle.k_optab.specs.InstanceLaws.{ExitIsMatching, InstancesAreLeftLater, InstancesNeverCross, IntervalsLieAsInstances};
-ghost use Rattle.k_optab.specs.Meaning.{RegionsAreBounded, TreesHaveBoundedPaths};
+ghost use Rattle.k_optab.specs.Meaning.{ChoicesAreBounded, PathIsAtMostRowAndOwnWork, RegionsAreBounded, TreesHaveBoundedPaths};
 ghost use Rattle.k_optab.specs.OpenLaws.{
   BalancedLeaveNothingOpen,
   EntersOpenInstances,
@@ -68,7 +68,8 @@ pub fn longer_history()
 
 /// The heaviest path to an operation adds its latency to the greatest time of its unbroken sources.
 pub fn time_from_sources()
-    ensures { TimeFromSources }
+    ensures time { TimeFromSources }
+    ensures greatest { GreatestOfSources }
 {}
 
 /// With one operation more, the heaviest path is the heavier of that so far and that to the new operation.
@@ -77,18 +78,19 @@ pub fn heaviest_of_one_more()
 {}
 
 /// What the numbers of an interval mean: its path is at most its work, at least the path of each interval
-/// within it, and at most the paths of parts of it together and the work outside of them.
+/// within it, and at most the paths of instances in a row within it together and the work outside of them.
 pub fn meaning_of_numbers()
     ensures work { HeaviestIsAtMostWork }
     ensures inner { InnerPathIsAtMostOuter }
-    ensures parts { PathIsAtMostPartsAndOwnWork }
+    ensures parts { PathIsAtMostRowAndOwnWork }
 {}
 
 /// What the numbers of a run's instances mean, where all that is entered is left: the path of each is at most its work, at
 /// least each child's path, and at most its children's paths and its own work. So the paths of a region's instances
-/// together are at most their children's paths and their own work together.
+/// together are at most their children's paths and their own work together, and so are those of any other choice of instances.
 pub fn meaning_of_trees()
     ensures instances { TreesHaveBoundedPaths }
+    ensures choices { ChoicesAreBounded }
     ensures regions { RegionsAreBounded }
 {}
 
