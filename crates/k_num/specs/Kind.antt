@@ -1,5 +1,5 @@
 -- The kinds of whole numbers (C17 6.2.5, 6.3.1). A kind is told by its width n and by whether it is signed.
-use Rattle.std.specs.Prelude.{ℕ, ◌-◌, ◌^◌, Bool, true, false, ◌&&◌, nat_lt, if◌then◌else◌, ℤ, pos, neg_ℤ, ◌-ℤ◌, int_le, unsigned_abs}
+use Rattle.std.specs.Prelude.{ℕ, ◌-◌, ◌/◌, ◌^◌, Bool, true, false, ◌&&◌, nat_lt, if◌then◌else◌, ℤ, pos, neg_ℤ, ◌-ℤ◌, int_le, unsigned_abs}
 use Rattle.std.specs.Int.{int_rem_euclid}
 use Rattle.k_num.specs.declared.numbers.Kind.{Kind}
 use Rattle.k_num.specs.declared.numbers.Kind.TheVariants.{I8, U8, I16, U16, I32, U32, I64, U64}
@@ -14,6 +14,10 @@ width I32 = 32
 width U32 = 32
 width I64 = 64
 width U64 = 64
+
+-- its size: how many bytes, of 8 bits each (6.5.3.4p2)
+abbrev pub size : Kind → ℕ
+size kind = width kind / 8
 
 -- whether negative numbers are among its values (6.2.5p4, p6)
 abbrev pub is_signed : Kind → Bool

@@ -1,6 +1,6 @@
 //! What the kinds of whole numbers hold, and the conversions between them.
 ghost use Rattle.std.specs.Prelude.{◌≡◌, ◌<◌, ◌^◌, ◌%◌};
-ghost use Rattle.k_num.specs.Kind.{width, is_signed as is_signed_kind, least as least_of, greatest as greatest_of, is_held, remainder as remainder_of, value_of_bits as value_of, converted, promoted, common_kind};
+ghost use Rattle.k_num.specs.Kind.{width, size, is_signed as is_signed_kind, least as least_of, greatest as greatest_of, is_held, remainder as remainder_of, value_of_bits as value_of, converted, promoted, common_kind};
 
 use crate::Kind;
 
@@ -14,6 +14,13 @@ pub(crate) fn bits(kind: Kind) -> u32
         Kind::I32 | Kind::U32 => 32,
         Kind::I64 | Kind::U64 => 64,
     }
+}
+
+/// How many bytes a value of the kind takes: what `sizeof` gives.
+pub fn bytes(kind: Kind) -> u64
+    ensures { result ≡ size kind }
+{
+    u64::from(bits(kind) / 8)
 }
 
 /// Whether a kind has negative values.

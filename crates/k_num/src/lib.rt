@@ -14,7 +14,7 @@ mod unary_operators;
 
 pub use binary_operators::binary;
 pub use boxed::Box;
-pub use kinds::{common, convert, holds, promote};
+pub use kinds::{bytes, common, convert, holds, promote};
 pub use memory::NoMemory;
 pub use numbers::{Bin, Kind, NumTrap, Un};
 pub use place::Place;

@@ -1,5 +1,6 @@
 //! A list that contracts see as the list of its items.
-ghost use Rattle.std.specs.Prelude.{◌≡◌, [], ◌∷◌, ◌++◌, length, IfOk, OnOk, OnErr};
+ghost use Rattle.std.specs.Prelude.{◌≡◌, ◌==◌, [], ◌∷◌, ◌++◌, length, take, option_to_list, IfNone, IfOk, OnOk, OnErr};
+ghost use Rattle.std.specs.Borrow.{sem};
 
 use crate::NoMemory;
 use std::alloc::Global;
@@ -24,6 +25,8 @@ impl<T> Model for Seq<T> {
 }
 
 impl<T> Seq<T> {
+    ghost use Rattle.k_num.specs.Lending.{LendsItems};
+
     /// The empty list. It takes no memory until an item is pushed.
     pub fn new(alloc: Global) -> Seq<T>
         ensures { result ≡ [] }
@@ -33,6 +36,21 @@ impl<T> Seq<T> {
         }
     }
 
+    /// The list of a vector's items, in the vector's own memory.
+    pub fn from_vec(items: Vec<T>) -> Seq<T>
+        ensures { result ≡ items.items }
+    {
+        Seq { items }
+    }
+
+    /// The items as a vector, in the list's own memory.
+    pub fn into_vec(self) -> Vec<T>
+        ensures { result.items ≡ self }
+    {
+        let Seq { items } = self;
+        items
+    }
+
     /// How many items there are.
     pub fn len(&self) -> usize
         ensures { result ≡ length self.now }
@@ -40,11 +58,34 @@ impl<T> Seq<T> {
         self.items.len()
     }
 
+    /// Whether there is no item.
+    pub fn is_empty(&self) -> bool
+        ensures { result ≡ (length self.now == 0) }
+    {
+        self.items.is_empty()
+    }
+
     /// The items, in order.
     pub fn as_slice(&self) -> &[T]
         ensures { result.now ≡ self.now }
     {
         self.items.as_slice()
+    }
+
+    /// The items, in order, for writing.
+    pub fn as_mut_slice(&mut self) -> &mut [T]
+        ensures* writes_back { sem 𝓛 (LendsItems T.row self.entry result) }
+        ensures value { result.now ≡ self.old }
+    {
+        self.items.as_mut_slice()
+    }
+
+    /// Takes the last item off, if there is one.
+    pub fn pop(&mut self) -> Option<T>
+        ensures items { self.old ≡ self.new ++ option_to_list result }
+        ensures none { IfNone result (self.old ≡ []) }
+    {
+        self.items.pop()
     }
 }
 
@@ -67,6 +108,13 @@ impl<T: Drop> Seq<T> {
     {
         self.items.push(item)?;
         Ok(())
+    }
+
+    /// Drops all items but the first `len`. A list that is no longer than that stays as it is.
+    pub fn truncate(&mut self, len: usize)
+        ensures { self.new ≡ take len self.old }
+    {
+        self.items.truncate(len)
     }
 }
 
@@ -98,5 +146,33 @@ impl<T: Hash> Hash for Seq<T> {
 
     fn hash<H: Hasher>(&self, state: &mut H) {
         self.items.as_slice().hash(state)
+    }
+}
+
+#[cfg(test)]
+mod tests {
+    use super::*;
+    use std::test::Fail;
+
+    #[test]
+    fn a_list_is_built_in_a_vector_and_changed_in_place(rt: HostRuntime) -> Result<(), Fail> {
+        let mut items = Vec::new(rt.alloc());
+        for item in [3u64, 1, 4, 1] {
+            items.push(item)?;
+        }
+        let mut list = Seq::from_vec(items);
+        assert!(rt; !list.is_empty());
+        list.as_mut_slice()[0] = 2;
+        for item in list.as_mut_slice() {
+            *item *= 10;
+        }
+        assert_eq!(rt; list.as_slice(), [20, 10, 40, 10].as_slice());
+        assert_eq!(rt; list.pop(), Some(10));
+        list.truncate(2);
+        assert_eq!(rt; list.into_vec().as_slice(), [20, 10].as_slice());
+        let mut none = Seq::<u64>::new(rt.alloc());
+        assert!(rt; none.is_empty());
+        assert_eq!(rt; none.pop(), None);
+        Ok(())
     }
 }

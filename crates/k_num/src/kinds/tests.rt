@@ -15,6 +15,18 @@ static ENDS: [(Kind, i128, i128); 8] = [
     (Kind::U64, 0, 18446744073709551615),
 ];
 
+/// Each kind with its `sizeof`.
+static SIZES: [(Kind, u64); 8] = [
+    (Kind::I8, 1),
+    (Kind::U8, 1),
+    (Kind::I16, 2),
+    (Kind::U16, 2),
+    (Kind::I32, 4),
+    (Kind::U32, 4),
+    (Kind::I64, 8),
+    (Kind::U64, 8),
+];
+
 static CONVERSIONS: [(Kind, i128, i128); 52] = [
     (Kind::I8, 200, -56),
     (Kind::I8, -1, -1),
@@ -149,12 +161,18 @@ static COMMON: [(Kind, Kind, Kind); 64] = [
 ];
 
 #[test]
-fn each_kind_holds_what_lies_between_its_ends(rt: HostRuntime) -> Result<(), Fail> {
+fn each_kind_has_its_size_and_holds_what_lies_between_its_ends(
+    rt: HostRuntime,
+) -> Result<(), Fail> {
     for row in &ENDS {
         let (kind, least, greatest) = *row;
         assert!(rt; holds(kind, least) && holds(kind, 0) && holds(kind, greatest));
         let (below, above) = (least.wrapping_sub(1), greatest.wrapping_add(1));
         assert!(rt; !holds(kind, below) && !holds(kind, above));
+    }
+    for row in &SIZES {
+        let (kind, size) = *row;
+        assert_eq!(rt; bytes(kind), size);
     }
     Ok(())
 }
