@@ -11,3 +11,4 @@ pub mod Heaviest
 pub mod Opening
 pub mod Leaving
 pub mod Choices
+pub mod Counting

@@ -16,7 +16,7 @@ ghost use Rattle.k_optab.specs.GraphLaws.{
   HeaviestIsAtMostWork,
   InnerPathIsAtMostOuter,
 };
-ghost use Rattle.k_optab.specs.InstanceLaws.{ExitIsMatching, InstancesAreLeftLater, InstancesNeverCross, IntervalsLieAsInstances};
+ghost use Rattle.k_optab.specs.InstanceLaws.{ExitIsMatching, IntervalsCountOperations, InstancesAreLeftLater, InstancesNeverCross, IntervalsLieAsInstances};
 ghost use Rattle.k_optab.specs.Meaning.{ChoicesAreBounded, PathIsAtMostRowAndOwnWork, RegionsAreBounded, TreesHaveBoundedPaths};
 ghost use Rattle.k_optab.specs.OpenLaws.{
   BalancedLeaveNothingOpen,
@@ -99,11 +99,13 @@ pub fn exit_is_matching()
     ensures { ExitIsMatching }
 {}
 
-/// Closed instances stand in order of entry, each is left after it is entered, and no two of them cross.
+/// Closed instances stand in order of entry, each is left after it is entered, and no two of them cross. Their
+/// intervals lie as they do, and count the operations between their Enter and their Exit.
 pub fn instances_never_cross()
     ensures left { InstancesAreLeftLater }
     ensures apart { InstancesNeverCross }
     ensures intervals { IntervalsLieAsInstances }
+    ensures counts { IntervalsCountOperations }
 {}
 
 /// A run that enters one instance, makes operations within it, and leaves it, has a tree of one node, whose work is that of
