@@ -8,7 +8,8 @@ use Rattle.k_optab.specs.declared.event.Src.{Src}
 use Rattle.k_optab.specs.declared.event.Event.{Event}
 use Rattle.k_optab.specs.declared.event.Event.TheVariants.{Op, Enter, Exit}
 use Rattle.k_optab.specs.Events.{operations}
-use Rattle.k_optab.specs.Instances.{Closed, until_exit, instance_of}
+use Rattle.k_optab.specs.declared.closed.Closed.{Closed}
+use Rattle.k_optab.specs.Instances.{until_exit, instance_of}
 use Rattle.k_graph.specs.declared.level.Level.{Level}
 use Rattle.k_graph.specs.declared.level.Measured.{Measured}
 use Rattle.k_graph.specs.Levels.{added, measured}

@@ -3,7 +3,8 @@ use Rattle.std.proofs.Common.{◌≡◌, ℕ, zero, suc, ◌<◌, ◌≤◌, inl
 use Rattle.std.proofs.lemmas.Option.{slice_get_within, get_or_from_slice_get}
 use Rattle.k_optab.specs.declared.event.Event.{Event}
 use Rattle.k_optab.specs.Events.{operations, SourcesAreEarlier}
-use Rattle.k_optab.specs.Instances.{Closed, Encloses, IsNearest, IsParent, tracked}
+use Rattle.k_optab.specs.declared.closed.Closed.{Closed}
+use Rattle.k_optab.specs.Instances.{Encloses, IsNearest, IsParent, tracked}
 use Rattle.k_optab.specs.InstanceLaws.{LieAsInstances, Precedes}
 use Rattle.k_optab.specs.Tree.{EachWith}
 use Rattle.k_optab.proofs.Crossing.{instances_are_left_later, instances_never_cross}

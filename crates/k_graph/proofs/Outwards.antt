@@ -4,7 +4,8 @@ use Rattle.std.specs.Prelude.{map, option_map, unwrap_or, MatchOption}
 use Rattle.std.specs.Option.{ForSome}
 use Rattle.std.proofs.lemmas.Bool.{cases_lt, cases_order}
 use Rattle.std.proofs.lemmas.Option.{slice_get_within, slice_get-get_or, slice_get-map, get_or_from_slice_get}
-use Rattle.k_optab.specs.Instances.{Closed, Encloses, IsNearest, IsParent}
+use Rattle.k_optab.specs.declared.closed.Closed.{Closed}
+use Rattle.k_optab.specs.Instances.{Encloses, IsNearest, IsParent}
 use Rattle.k_optab.specs.InstanceLaws.{Precedes}
 use Rattle.k_optab.specs.Tree.{EachWith}
 use Rattle.k_graph.specs.declared.level.Measured.{Measured}

@@ -3,10 +3,12 @@ use Rattle.std.specs.Prelude.{ℕ, ◌≡◌, ◌<◌, ◌==◌, Bool, false, Li
 use Rattle.k_optab.specs.declared.event.Event.{Event}
 use Rattle.k_optab.specs.Events.{Operation, operations}
 use Rattle.k_optab.specs.Graph.{Heaviest, work}
-use Rattle.k_optab.specs.Instances.{Closed, IsParent, tracked}
+use Rattle.k_optab.specs.declared.closed.Closed.{Closed}
+use Rattle.k_optab.specs.Instances.{IsParent, tracked}
 use Rattle.k_optab.specs.InstanceLaws.{Precedes}
 use Rattle.k_optab.specs.Meaning.{HasBoundedPath}
-use Rattle.k_optab.specs.Tree.{Node, EachWith}
+use Rattle.k_optab.specs.declared.node.Node.{Node}
+use Rattle.k_optab.specs.Tree.{EachWith}
 use Rattle.k_graph.specs.declared.level.Measured.{Measured}
 use Rattle.k_graph.specs.declared.tree.Instance.{Instance}
 

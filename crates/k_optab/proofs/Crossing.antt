@@ -6,7 +6,8 @@ use Rattle.std.proofs.lemmas.List.Kept.{AllPairs-filter, AllPairs-cons}
 use Rattle.k_optab.specs.declared.event.Event.{Event}
 use Rattle.k_optab.specs.declared.event.Event.TheVariants.{Op, Enter, Exit}
 use Rattle.k_optab.specs.Events.{operations}
-use Rattle.k_optab.specs.Instances.{Closed, until_exit, instance_of, closed_from, tracked}
+use Rattle.k_optab.specs.declared.closed.Closed.{Closed}
+use Rattle.k_optab.specs.Instances.{until_exit, instance_of, closed_from, tracked}
 use Rattle.k_optab.specs.InstanceLaws.{Precedes}
 use Rattle.k_optab.proofs.Matching.{mapped}
 

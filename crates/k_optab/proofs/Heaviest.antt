@@ -1,15 +1,13 @@
 -- The weight of the heaviest path of an interval: there is one, and what it is bounded by.
-use Rattle.std.proofs.Common.{◌≡◌, ℕ, zero, suc, ◌+◌, ◌-◌, ◌<◌, ◌≤◌, ◌⊎◌, inl, inr, List, [], ◌∷◌, ◌++◌, length, Some, refl, subst, ap, arith, max, true, false}
-use Rattle.std.specs.Prelude.{sum_by}
+use Rattle.std.proofs.Common.{◌≡◌, ℕ, zero, suc, ◌+◌, ◌<◌, ◌≤◌, ◌⊎◌, inl, inr, List, [], ◌∷◌, ◌++◌, length, Some, refl, sym, subst, ap, arith, max, true, false}
+use Rattle.std.specs.Prelude.{if◌then◌else◌}
 use Rattle.std.proofs.Common.{get_or}
 use Rattle.std.proofs.lemmas.Bool.{cases_lt, cases_Bool}
-use Rattle.std.proofs.lemmas.List.Sums.{sum_by-cons}
 use Rattle.std.proofs.lemmas.Option.{slice_get_within, slice_get-get_or}
 use Rattle.k_optab.specs.declared.event.Src.{Src}
 use Rattle.k_optab.specs.Events.{Operation, IsOperation, ListsUnbroken, SourcesAreEarlier}
 use Rattle.k_optab.specs.Graph.{IsNode, Path, alone, joined, Weighs, Heaviest, HeaviestTo, IsTime, work}
-use Rattle.k_optab.specs.GraphLaws.{AtMost, IsGreatestTime, Part, AreParts}
-use Rattle.k_optab.proofs.Intervals.{work_split}
+use Rattle.k_optab.specs.GraphLaws.{AtMost, IsGreatestTime, greatest_of}
 use Rattle.k_optab.proofs.Paths.{last_node, widened, narrowed, source_before, weight_at_most_work}
 
 -- an operation has one number's worth of fields
@@ -78,6 +76,24 @@ greatest_unbroken ops s m t src sources whole time most = record {
         (other.0, other.1, omega arith))
   ];
 }
+
+-- the greatest time is the greatest of these
+pub greatest_of_sources : (ops : List Operation) (s : ℕ) (time : ℕ → ℕ) (sources : List Src)
+    → ((j : ℕ) → ListsUnbroken sources j → IsTime ops s (Some j) (time j)) → IsGreatestTime ops s sources (greatest_of time sources)
+greatest_of_sources ops s time [] times = greatest_none ops s
+greatest_of_sources ops s time (src ∷ sources) times =
+    let rest : IsGreatestTime ops s sources (greatest_of time sources) = greatest_of_sources ops s time sources (λ j listed. times j (inr listed)) in
+    elim (cases_Bool src.broken) [
+      | inl broken ↦
+          (let is : greatest_of time (src ∷ sources) ≡ greatest_of time sources =
+          ap (λ b. if b then greatest_of time sources else max (time src.number) (greatest_of time sources)) broken in
+          subst (λ n. IsGreatestTime ops s (src ∷ sources) n) (sym is) (greatest_broken ops s (greatest_of time sources) src sources broken rest))
+      | inr whole ↦
+          (let is : greatest_of time (src ∷ sources) ≡ max (time src.number) (greatest_of time sources) =
+          ap (λ b. if b then greatest_of time sources else max (time src.number) (greatest_of time sources)) whole in
+          subst (λ n. IsGreatestTime ops s (src ∷ sources) n) (sym is)
+          (greatest_unbroken ops s (greatest_of time sources) (time src.number) src sources whole (times src.number (inl (refl, whole))) rest))
+    ]
 
 module _ (ops : List Operation) (earlier : SourcesAreEarlier ops) where
   -- the heaviest path to an operation adds its latency to the greatest time of its unbroken sources
@@ -244,49 +260,8 @@ module _ (ops : List Operation) (earlier : SourcesAreEarlier ops) where
         | inr long ↦ (let tail : long.0 ≤ b = high k long.0 long.1 in let under : w ≤ a + long.0 = long.2 in omega arith)
       ]
 
-  at_most_work : (s e : ℕ) → AtMost ops s e (work ops s e)
+  pub at_most_work : (s e : ℕ) → AtMost ops s e (work ops s e)
   at_most_work s e k w weighs = weight_at_most_work ops earlier s e k w weighs.0 weighs.1
-
-  -- the parts' work together is at most the work
-  pub parts_work : (s e : ℕ) (parts : List Part) → AreParts ops s e parts → (s ≤ e) × (sum_by (λ part. part.work) parts ≤ work ops s e)
-  parts_work s e [] within = (within, omega arith)
-  parts_work s e (part ∷ parts) are =
-      let rest : (part.end ≤ e) × (sum_by (λ p. p.work) parts ≤ work ops part.end e) = parts_work part.end e parts are.4 in
-      let end : part.end ≤ e = rest.0 in
-      let other : sum_by (λ p. p.work) parts ≤ work ops part.end e = rest.1 in
-      let one : s ≤ part.start = are.0 in
-      let two : part.start ≤ part.end = are.1 in
-      let its : part.work ≡ work ops part.start part.end = are.2 in
-      let split : work ops s e ≡ work ops s part.start + work ops part.start e = work_split ops s part.start e (omega arith) (omega arith) in
-      let split2 : work ops part.start e ≡ work ops part.start part.end + work ops part.end e = work_split ops part.start part.end e (omega arith) (omega arith) in
-      let works : sum_by (λ p. p.work) (part ∷ parts) ≡ part.work + sum_by (λ p. p.work) parts = sum_by-cons (λ (p : Part). p.work) part parts in
-      (omega arith, omega arith)
-
-  at_most_parts : (s e : ℕ) (parts : List Part) → AreParts ops s e parts
-      → AtMost ops s e (sum_by (λ part. part.path) parts + (work ops s e - sum_by (λ part. part.work) parts))
-  at_most_parts s e [] within k w weighs = let under : w ≤ work ops s e = at_most_work s e k w weighs in omega arith
-  at_most_parts s e (part ∷ parts) are k w weighs =
-      let rest : (part.end ≤ e) × (sum_by (λ p. p.work) parts ≤ work ops part.end e) = parts_work part.end e parts are.4 in
-      let end : part.end ≤ e = rest.0 in
-      let other : sum_by (λ p. p.work) parts ≤ work ops part.end e = rest.1 in
-      let one : s ≤ part.start = are.0 in
-      let two : part.start ≤ part.end = are.1 in
-      let its : part.work ≡ work ops part.start part.end = are.2 in
-      let split : work ops s e ≡ work ops s part.start + work ops part.start e = work_split ops s part.start e (omega arith) (omega arith) in
-      let split2 : work ops part.start e ≡ work ops part.start part.end + work ops part.end e = work_split ops part.start part.end e (omega arith) (omega arith) in
-      let under : w ≤ work ops s part.start + (part.path + (sum_by (λ p. p.path) parts + (work ops part.end e - sum_by (λ p. p.work) parts))) =
-      at_most_split s part.start e _ _ (at_most_work s part.start)
-      (at_most_split part.start part.end e _ _ (are.3.greatest) (at_most_parts part.end e parts are.4)) k w weighs in
-      let works : sum_by (λ p. p.work) (part ∷ parts) ≡ part.work + sum_by (λ p. p.work) parts = sum_by-cons (λ (p : Part). p.work) part parts in
-      let paths : sum_by (λ p. p.path) (part ∷ parts) ≡ part.path + sum_by (λ p. p.path) parts = sum_by-cons (λ (p : Part). p.path) part parts in
-      omega arith
-
-  pub heaviest_at_most_parts : (s e p : ℕ) (parts : List Part) → AreParts ops s e parts → Heaviest ops s e p
-      → p ≤ sum_by (λ part. part.path) parts + (work ops s e - sum_by (λ part. part.work) parts)
-  heaviest_at_most_parts s e p parts are most = elim most.reached [
-    | inl none ↦ (let is : p ≡ 0 = none.1 in omega arith)
-    | inr some ↦ at_most_parts s e parts are some.0 p some.1
-  ]
 
 -- the path of an interval within another is at most the other's
 pub inner_at_most_outer : (ops : List Operation) (s e s' e' p q : ℕ) → s ≤ s' → e' ≤ e → Heaviest ops s e p → Heaviest ops s' e' q → q ≤ p

@@ -8,3 +8,7 @@ pub mod Rows
 pub mod Single
 pub mod Trees
 pub mod Heaviest
+pub mod Opening
+pub mod Leaving
+pub mod Choices
+pub mod Counting

@@ -35,7 +35,7 @@ pub data Nested : ℕ → List Event → Type 0 where
   last : (events : List Event) → Balanced events → Nested zero events
   more : (within : ℕ) (events later : List Event) → Balanced events → Nested within later → Nested (suc within) (events ++ Exit ∷ later)
 
-entered_before : (within : ℕ) (region : ℕ) (events : List Event) → Nested (suc within) events → Nested within (Enter region ∷ events)
+pub entered_before : (within : ℕ) (region : ℕ) (events : List Event) → Nested (suc within) events → Nested within (Enter region ∷ events)
 entered_before _ region _ (more _ events later balanced (last _ other)) = last _ (instance region events later balanced other)
 entered_before _ region _ (more _ events later balanced (more within second third other nested)) =
     let assoc : (events ++ Exit ∷ second) ++ Exit ∷ third ≡ events ++ (Exit ∷ (second ++ Exit ∷ third)) =
@@ -43,7 +43,7 @@ entered_before _ region _ (more _ events later balanced (more within second thir
     subst (λ es. Nested (suc within) (Enter region ∷ es)) assoc
     (more within (Enter region ∷ events ++ Exit ∷ second) third (instance region events second balanced other) nested)
 
-operation_before : (class : Class) (latency : ℕ) (sources : List Src) (place : Place) (within : ℕ) (events : List Event)
+pub operation_before : (class : Class) (latency : ℕ) (sources : List Src) (place : Place) (within : ℕ) (events : List Event)
     → Nested within events → Nested within (Op class latency sources place ∷ events)
 operation_before class latency sources place _ _ (last events balanced) = last _ (operation class latency sources place events balanced)
 operation_before class latency sources place _ _ (more within events later balanced nested) =
@@ -75,7 +75,7 @@ nested_until (Exit ∷ events) (suc within) inside h =
     subst (λ es. Nested (suc within) es × ((after : List Event) × (Exit ∷ events ≡ es ++ Exit ∷ after))) found.2
     (more within [] found.0 nothing rest.0, (rest.1.0, ap (λ es. Exit ∷ es) rest.1.1))
 
-balanced_of : (events : List Event) → Nested zero events → Balanced events
+pub balanced_of : (events : List Event) → Nested zero events → Balanced events
 balanced_of _ (last events balanced) = balanced
 
 pub matching_exit : (events inside : List Event) → until_exit events 0 ≡ Some inside

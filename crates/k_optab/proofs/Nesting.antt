@@ -6,7 +6,8 @@ use Rattle.std.proofs.lemmas.List.Kept.{AllPairs-filter, AllPairs-cons}
 use Rattle.k_optab.specs.declared.event.Event.{Event}
 use Rattle.k_optab.specs.declared.event.Event.TheVariants.{Op, Enter, Exit}
 use Rattle.k_optab.specs.Events.{operations}
-use Rattle.k_optab.specs.Instances.{Closed, until_exit, instance_of, closed_from, tracked}
+use Rattle.k_optab.specs.declared.closed.Closed.{Closed}
+use Rattle.k_optab.specs.Instances.{until_exit, instance_of, closed_from, tracked}
 use Rattle.k_optab.specs.InstanceLaws.{LieAsInstances}
 use Rattle.k_optab.proofs.Crossing.{all_with_instance, entered_from, left_later}
 use Rattle.k_optab.proofs.Matching.{mapped}

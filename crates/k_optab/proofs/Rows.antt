@@ -1,20 +1,17 @@
 -- An instance's path by its work and by the numbers of instances in a row within its interval.
-use Rattle.std.proofs.Common.{◌≡◌, ℕ, ◌+◌, ◌≤◌, List, [], ◌∷◌, ◌++◌, sym, ◌∙◌, ap, arith}
-use Rattle.std.specs.Prelude.{All, sum_by}
+use Rattle.std.proofs.Common.{◌≡◌, ℕ, ◌+◌, ◌-◌, ◌≤◌, inl, inr, List, [], ◌∷◌, ◌++◌, arith}
+use Rattle.std.specs.Prelude.{All}
 use Rattle.std.proofs.lemmas.List.Elements.{All-nil, All-cons}
 use Rattle.std.proofs.lemmas.List.Sums.{sum_by-cons}
 use Rattle.k_optab.specs.Events.{Operation, SourcesAreEarlier}
 use Rattle.k_optab.specs.Graph.{Heaviest, work}
-use Rattle.k_optab.specs.GraphLaws.{Part, AreParts}
-use Rattle.k_optab.specs.Instances.{Closed}
-use Rattle.k_optab.specs.Meaning.{HasBoundedPath, paths, works}
-use Rattle.k_optab.specs.Tree.{EachWith, IsNodeOf, Node}
-use Rattle.k_optab.proofs.Heaviest.{heaviest_at_most_work, heaviest_at_most_parts, inner_at_most_outer, parts_work}
-
--- these instances' intervals lie in [s, e), one behind the other
-abbrev pub AreInARow : ℕ → ℕ → List Closed → Type 0
-AreInARow s e [] = s ≤ e
-AreInARow s e (i ∷ row) = (s ≤ i.start) × (i.start ≤ i.end) × AreInARow i.end e row
+use Rattle.k_optab.specs.GraphLaws.{AtMost}
+use Rattle.k_optab.specs.declared.closed.Closed.{Closed}
+use Rattle.k_optab.specs.Meaning.{AreInARow, HasBoundedPath, paths, works}
+use Rattle.k_optab.specs.declared.node.Node.{Node}
+use Rattle.k_optab.specs.Tree.{EachWith, IsNodeOf}
+use Rattle.k_optab.proofs.Heaviest.{at_most_split, at_most_work, heaviest_at_most_work, inner_at_most_outer}
+use Rattle.k_optab.proofs.Intervals.{work_split}
 
 pub row_within : (s e : ℕ) (row : List Closed) → AreInARow s e row → s ≤ e
 row_within s e [] are = are
@@ -30,35 +27,50 @@ pub row_append : (s m e : ℕ) (first second : List Closed) → AreInARow s m fi
 row_append s m e [] second one other = row_sooner s m e second one other
 row_append s m e (i ∷ first) second one other = (one.0, one.1, row_append i.end m e first second one.2 other)
 
--- the instances of a row, with their nodes, as parts of the interval
-abbrev parts_of : List Closed → List Node → List Part
-parts_of [] nodes = []
-parts_of (i ∷ row) [] = []
-parts_of (i ∷ row) (n ∷ nodes) = record { start = i.start; end = i.end; work = n.work; path = n.path } ∷ parts_of row nodes
-
 module _ (ops : List Operation) where
-  are_parts : (s e : ℕ) (row : List Closed) (nodes : List Node) → EachWith (IsNodeOf ops) row nodes → AreInARow s e row → AreParts ops s e (parts_of row nodes)
-  are_parts s e [] nodes each are = are
-  are_parts s e (i ∷ row) [] each are = absurd each
-  are_parts s e (i ∷ row) (n ∷ nodes) each are = (are.0, are.1, each.0.work, each.0.path, are_parts i.end e row nodes each.1 are.2)
+  -- the work of the instances of a row together is at most that of the interval
+  row_works : (s e : ℕ) (row : List Closed) (nodes : List Node) → EachWith (IsNodeOf ops) row nodes → AreInARow s e row → works nodes ≤ work ops s e
+  row_works s e [] [] each are = omega arith
+  row_works s e [] (n ∷ nodes) each are = absurd each
+  row_works s e (i ∷ row) [] each are = absurd each
+  row_works s e (i ∷ row) (n ∷ nodes) each are =
+      let end : i.end ≤ e = row_within i.end e row are.2 in
+      let one : s ≤ i.start = are.0 in
+      let two : i.start ≤ i.end = are.1 in
+      let rest : works nodes ≤ work ops i.end e = row_works i.end e row nodes each.1 are.2 in
+      let its : n.work ≡ work ops i.start i.end = each.0.work in
+      let split : work ops s e ≡ work ops s i.start + work ops i.start e = work_split ops s i.start e one (omega arith) in
+      let split2 : work ops i.start e ≡ work ops i.start i.end + work ops i.end e = work_split ops i.start i.end e two end in
+      let whole : works (n ∷ nodes) ≡ n.work + works nodes = sum_by-cons (λ (m : Node). m.work) n nodes in
+      omega arith
 
-  parts_paths : (row : List Closed) (nodes : List Node) → EachWith (IsNodeOf ops) row nodes → sum_by (λ part. part.path) (parts_of row nodes) ≡ paths nodes
-  parts_paths [] [] each = omega arith
-  parts_paths [] (n ∷ nodes) each = absurd each
-  parts_paths (i ∷ row) [] each = absurd each
-  parts_paths (i ∷ row) (n ∷ nodes) each =
-      let rest : sum_by (λ part. part.path) (parts_of row nodes) ≡ paths nodes = parts_paths row nodes each.1 in
-      sum_by-cons (λ (part : Part). part.path) (record { start = i.start; end = i.end; work = n.work; path = n.path }) (parts_of row nodes)
-      ∙ (ap (λ t. n.path + t) rest ∙ sym (sum_by-cons (λ (m : Node). m.path) n nodes))
+  -- a path weighs at most the paths of the instances together and the work outside of them
+  row_at_most : SourcesAreEarlier ops → (s e : ℕ) (row : List Closed) (nodes : List Node) → EachWith (IsNodeOf ops) row nodes → AreInARow s e row
+      → AtMost ops s e (paths nodes + (work ops s e - works nodes))
+  row_at_most earlier s e [] [] each are k w weighs = let under : w ≤ work ops s e = at_most_work ops earlier s e k w weighs in omega arith
+  row_at_most earlier s e [] (n ∷ nodes) each are k w weighs = absurd each
+  row_at_most earlier s e (i ∷ row) [] each are k w weighs = absurd each
+  row_at_most earlier s e (i ∷ row) (n ∷ nodes) each are k w weighs =
+      let end : i.end ≤ e = row_within i.end e row are.2 in
+      let one : s ≤ i.start = are.0 in
+      let two : i.start ≤ i.end = are.1 in
+      let rest : works nodes ≤ work ops i.end e = row_works i.end e row nodes each.1 are.2 in
+      let its : n.work ≡ work ops i.start i.end = each.0.work in
+      let split : work ops s e ≡ work ops s i.start + work ops i.start e = work_split ops s i.start e one (omega arith) in
+      let split2 : work ops i.start e ≡ work ops i.start i.end + work ops i.end e = work_split ops i.start i.end e two end in
+      let under : w ≤ work ops s i.start + (n.path + (paths nodes + (work ops i.end e - works nodes))) =
+      at_most_split ops earlier s i.start e _ _ (at_most_work ops earlier s i.start)
+      (at_most_split ops earlier i.start i.end e _ _ (each.0.path.greatest) (row_at_most earlier i.end e row nodes each.1 are.2)) k w weighs in
+      let all_works : works (n ∷ nodes) ≡ n.work + works nodes = sum_by-cons (λ (m : Node). m.work) n nodes in
+      let all_paths : paths (n ∷ nodes) ≡ n.path + paths nodes = sum_by-cons (λ (m : Node). m.path) n nodes in
+      omega arith
 
-  parts_works : (row : List Closed) (nodes : List Node) → EachWith (IsNodeOf ops) row nodes → sum_by (λ part. part.work) (parts_of row nodes) ≡ works nodes
-  parts_works [] [] each = omega arith
-  parts_works [] (n ∷ nodes) each = absurd each
-  parts_works (i ∷ row) [] each = absurd each
-  parts_works (i ∷ row) (n ∷ nodes) each =
-      let rest : sum_by (λ part. part.work) (parts_of row nodes) ≡ works nodes = parts_works row nodes each.1 in
-      sum_by-cons (λ (part : Part). part.work) (record { start = i.start; end = i.end; work = n.work; path = n.path }) (parts_of row nodes)
-      ∙ (ap (λ t. n.work + t) rest ∙ sym (sum_by-cons (λ (m : Node). m.work) n nodes))
+  pub heaviest_at_most_row : SourcesAreEarlier ops → (s e p : ℕ) (row : List Closed) (nodes : List Node) → AreInARow s e row → EachWith (IsNodeOf ops) row nodes
+      → Heaviest ops s e p → p ≤ paths nodes + (work ops s e - works nodes)
+  heaviest_at_most_row earlier s e p row nodes are each most = elim most.reached [
+    | inl none ↦ (let is : p ≡ 0 = none.1 in omega arith)
+    | inr some ↦ row_at_most earlier s e row nodes each are some.0 p some.1
+  ]
 
   inner_paths : (s e p low : ℕ) (row : List Closed) (nodes : List Node) → Heaviest ops s e p → s ≤ low → EachWith (IsNodeOf ops) row nodes
       → AreInARow low e row → All (λ n. n.path ≤ p) nodes
@@ -76,12 +88,10 @@ module _ (ops : List Operation) where
       → EachWith (IsNodeOf ops) row nodes → AreInARow outer.start outer.end row → HasBoundedPath n nodes
   bounded_path earlier outer n row nodes is each are =
       let whole : n.work ≡ work ops outer.start outer.end = is.work in
-      let parts : AreParts ops outer.start outer.end (parts_of row nodes) = are_parts outer.start outer.end row nodes each are in
-      let all_works = parts_works row nodes each in
-      let all_paths = parts_paths row nodes each in
       let under : n.path ≤ work ops outer.start outer.end = heaviest_at_most_work ops earlier outer.start outer.end n.path is.path in
-      let inside = (parts_work ops earlier outer.start outer.end (parts_of row nodes) parts).1 in
-      let short = heaviest_at_most_parts ops earlier outer.start outer.end n.path (parts_of row nodes) parts is.path in
+      let inside : works nodes ≤ work ops outer.start outer.end = row_works outer.start outer.end row nodes each are in
+      let short : n.path ≤ paths nodes + (work ops outer.start outer.end - works nodes) =
+      heaviest_at_most_row earlier outer.start outer.end n.path row nodes are each is.path in
       record {
         work = omega arith;
         child = inner_paths outer.start outer.end n.path outer.start row nodes is.path (omega arith) each are;

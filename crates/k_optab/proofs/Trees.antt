@@ -1,18 +1,19 @@
 -- The tree of balanced events: each instance's children are the roots of what lies within it.
 use Rattle.std.proofs.Common.{◌≡◌, ℕ, suc, ◌+◌, ◌-◌, ◌≤◌, inl, inr, Bool, true, false, cond, List, [], ◌∷◌, ◌++◌, length, take, Some, refl, sym, ◌∙◌, subst, ap, arith, append_assoc, append-nil, length-append, eq-eqb, ne_eqb, lt-ltb, le-ltb}
-use Rattle.std.specs.Prelude.{filter, nat_lt, ◌==◌, if◌then◌else◌, take_while}
+use Rattle.std.specs.Prelude.{filter, nat_lt, ◌==◌, take_while}
 use Rattle.std.specs.List.{prefix_len}
 use Rattle.std.proofs.lemmas.Bool.{cases_lt, cond-true, cond-false}
 use Rattle.std.proofs.lemmas.List.Elements.{filter-append}
-use Rattle.std.proofs.lemmas.List.Sums.{sum_by-cons}
 use Rattle.k_optab.specs.declared.event.Event.{Event}
 use Rattle.k_optab.specs.declared.event.Event.TheVariants.{Op, Enter, Exit}
 use Rattle.k_optab.specs.Events.{Operation, SourcesAreEarlier, operations}
-use Rattle.k_optab.specs.Instances.{Balanced, nothing, operation, instance, Closed, closed_from, instance_of, tracked, until_exit}
-use Rattle.k_optab.specs.Meaning.{HasBoundedPath, HaveBoundedPaths, children, paths, serial, serial_of}
-use Rattle.k_optab.specs.Tree.{EachWith, IsNodeOf, IsTree, Node}
+use Rattle.k_optab.specs.declared.closed.Closed.{Closed}
+use Rattle.k_optab.specs.Instances.{Balanced, nothing, operation, instance, closed_from, instance_of, tracked, until_exit}
+use Rattle.k_optab.specs.Meaning.{AreInARow, HasBoundedPath, HaveBoundedPaths, children}
+use Rattle.k_optab.specs.declared.node.Node.{Node}
+use Rattle.k_optab.specs.Tree.{EachWith, IsNodeOf, IsTree}
 use Rattle.k_optab.proofs.Matching.{balanced_to_exit}
-use Rattle.k_optab.proofs.Rows.{AreInARow, bounded_path}
+use Rattle.k_optab.proofs.Rows.{bounded_path}
 
 -- instances in order of entry, whose outermost have depth d and lie in [s, e) one behind the other, and each of which has what
 -- lies within it behind it
@@ -246,16 +247,3 @@ trees_have_bounded_paths depth events nodes balanced earlier tree =
     (forest_tracked depth 0 0 (length (operations events)) all.list all.forest) in
     subst (λ l. HaveBoundedPaths l) (append-nil nodes)
     (bounded_forest (operations events) earlier 0 0 (length (operations events)) (tracked depth events) nodes [] forest tree tt tt)
-
--- what one instance more adds to the paths of a region and to its serial times
-region_grows : (b : Bool) (n : Node) (nodes : List Node) (its others : ℕ) → n.path ≤ its → paths nodes ≤ others
-    → paths (cond b (n ∷ nodes) nodes) ≤ (if b then its else 0) + others
-region_grows true n nodes its others one rest =
-    let whole : paths (n ∷ nodes) ≡ n.path + paths nodes = sum_by-cons (λ (m : Node). m.path) n nodes in omega arith
-region_grows false n nodes its others one rest = omega arith
-
-pub regions_are_bounded : (region : ℕ) (nodes : List Node) → HaveBoundedPaths nodes → paths (filter (λ n. n.region == region) nodes) ≤ serial_of region nodes
-regions_are_bounded region [] bounded = omega arith
-regions_are_bounded region (n ∷ nodes) bounded =
-    region_grows (n.region == region) n (filter (λ m. m.region == region) nodes) (serial n nodes) (serial_of region nodes) bounded.0.parts
-    (regions_are_bounded region nodes bounded.1)

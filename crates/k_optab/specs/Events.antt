@@ -1,5 +1,5 @@
 -- *Event*: the operations of a run, numbered from 0.
-use Rattle.std.specs.Prelude.{ℕ, ◌≡◌, ◌+◌, ◌-◌, ◌<◌, ◌⊎◌, false, List, [], ◌∷◌, take, drop, slice_get, Some}
+use Rattle.std.specs.Prelude.{ℕ, ◌≡◌, ◌+◌, ◌-◌, ◌<◌, ◌⊎◌, false, List, [], ◌∷◌, length, take, drop, slice_get, Some}
 use Rattle.k_num.specs.declared.place.Place.{Place}
 use Rattle.k_optab.specs.declared.class.Class.{Class}
 use Rattle.k_optab.specs.declared.event.Event.{Event}
@@ -20,6 +20,10 @@ operations (Op class latency sources place ∷ events) =
     record { class = class; latency = latency; sources = sources; place = place } ∷ operations events
 operations (Enter region ∷ events) = operations events
 operations (Exit ∷ events) = operations events
+
+-- how many operations stand before a place among events
+abbrev pub made_before : ℕ → List Event → ℕ
+made_before place events = length (operations (take place events))
 
 -- operation number k is this one
 abbrev pub IsOperation : List Operation → ℕ → Operation → Type 0

@@ -1,5 +1,5 @@
 -- What holds of paths, of work and of times, whatever the run: the statements of the laws.
-use Rattle.std.specs.Prelude.{ℕ, ◌≡◌, ◌+◌, ◌-◌, ◌<◌, ◌≤◌, ◌⊎◌, max, List, [], ◌∷◌, ◌++◌, length, Some, sum_by}
+use Rattle.std.specs.Prelude.{ℕ, ◌≡◌, ◌+◌, ◌<◌, ◌≤◌, ◌⊎◌, max, if◌then◌else◌, List, [], ◌∷◌, ◌++◌, length, Some}
 use Rattle.k_optab.specs.declared.event.Src.{Src}
 use Rattle.k_optab.specs.Events.{Operation, IsOperation, ListsUnbroken, SourcesAreEarlier}
 use Rattle.k_optab.specs.Graph.{Path, Weighs, Heaviest, HeaviestTo, IsTime, work}
@@ -12,6 +12,16 @@ AtMost ops s e p = (k w : ℕ) → Weighs ops s e k w → w ≤ p
 pub record IsGreatestTime (ops : List Operation) (s : ℕ) (sources : List Src) (m : ℕ) : Type 0 where
   pub reached : (m ≡ 0) ⊎ ((j : ℕ) × ListsUnbroken sources j × IsTime ops s (Some j) m)
   pub greatest : (j : ℕ) → ListsUnbroken sources j → (t : ℕ) × IsTime ops s (Some j) t × (t ≤ m)
+
+-- the greatest of the times of the unbroken ones of these sources, where each number has its time; 0 where there is none
+abbrev pub greatest_of : (ℕ → ℕ) → List Src → ℕ
+greatest_of time [] = 0
+greatest_of time (src ∷ sources) = if src.broken then greatest_of time sources else max (time src.number) (greatest_of time sources)
+
+-- where the numbers have the times of the interval, that is the greatest time of the unbroken sources
+abbrev pub GreatestOfSources : Type 0
+GreatestOfSources = (ops : List Operation) (s : ℕ) (time : ℕ → ℕ) (sources : List Src)
+    → ((j : ℕ) → ListsUnbroken sources j → IsTime ops s (Some j) (time j)) → IsGreatestTime ops s sources (greatest_of time sources)
 
 -- a path weighs at most the work of its interval
 abbrev pub PathIsAtMostWork : Type 0
@@ -63,19 +73,6 @@ abbrev pub HeaviestOfOneMore : Type 0
 HeaviestOfOneMore = (ops : List Operation) → SourcesAreEarlier ops → (s k p q : ℕ) → s ≤ k → Heaviest ops s k p → HeaviestTo ops s k q
     → Heaviest ops s (k + 1) (max p q)
 
--- an interval with its work and the weight of its heaviest path
-pub record Part : Type 0 where
-  pub start : ℕ
-  pub end : ℕ
-  pub work : ℕ
-  pub path : ℕ
-
--- these parts lie in [s, e), one behind the other, each with its own work and path
-abbrev pub AreParts : List Operation → ℕ → ℕ → List Part → Type 0
-AreParts ops s e [] = s ≤ e
-AreParts ops s e (part ∷ parts) = (s ≤ part.start) × (part.start ≤ part.end) × (part.work ≡ work ops part.start part.end)
-    × Heaviest ops part.start part.end part.path × AreParts ops part.end e parts
-
 -- a path of an interval is at most its work
 abbrev pub HeaviestIsAtMostWork : Type 0
 HeaviestIsAtMostWork = (ops : List Operation) → SourcesAreEarlier ops → (s e p : ℕ) → Heaviest ops s e p → p ≤ work ops s e
@@ -83,8 +80,3 @@ HeaviestIsAtMostWork = (ops : List Operation) → SourcesAreEarlier ops → (s e
 -- the path of an interval within another is at most the other's
 abbrev pub InnerPathIsAtMostOuter : Type 0
 InnerPathIsAtMostOuter = (ops : List Operation) (s e s' e' p q : ℕ) → s ≤ s' → e' ≤ e → Heaviest ops s e p → Heaviest ops s' e' q → q ≤ p
-
--- the path of an interval is at most the paths of parts of it together and the work outside of them
-abbrev pub PathIsAtMostPartsAndOwnWork : Type 0
-PathIsAtMostPartsAndOwnWork = (ops : List Operation) → SourcesAreEarlier ops → (s e p : ℕ) (parts : List Part) → AreParts ops s e parts
-    → Heaviest ops s e p → p ≤ sum_by (λ part. part.path) parts + (work ops s e - sum_by (λ part. part.work) parts)

@@ -1,8 +1,10 @@
 -- What holds of instances, whatever the events: the statements of the laws.
-use Rattle.std.specs.Prelude.{ℕ, ◌≡◌, ◌<◌, ◌≤◌, ◌⊎◌, ◌↔◌, List, ◌∷◌, ◌++◌, Some, All, AllPairs}
+use Rattle.std.specs.Prelude.{ℕ, ◌≡◌, ◌<◌, ◌≤◌, ◌⊎◌, ◌↔◌, List, ◌∷◌, ◌++◌, length, Some, All, AllPairs}
 use Rattle.k_optab.specs.declared.event.Event.{Event}
 use Rattle.k_optab.specs.declared.event.Event.TheVariants.{Exit}
-use Rattle.k_optab.specs.Instances.{Closed, Balanced, until_exit, tracked}
+use Rattle.k_optab.specs.declared.closed.Closed.{Closed}
+use Rattle.k_optab.specs.Events.{made_before}
+use Rattle.k_optab.specs.Instances.{Balanced, until_exit, tracked}
 
 -- the events before the matching Exit are the balanced ones that an Exit follows
 abbrev pub ExitIsMatching : Type 0
@@ -31,3 +33,13 @@ pub record LieAsInstances (a b : Closed) : Type 0 where
 -- the intervals of any two closed instances lie as the instances do
 abbrev pub IntervalsLieAsInstances : Type 0
 IntervalsLieAsInstances = (depth : ℕ) (events : List Event) → AllPairs LieAsInstances (tracked depth events)
+
+-- an instance's interval is that of the operations between its Enter and its Exit
+pub record IsCounted (events : List Event) (i : Closed) : Type 0 where
+  pub start : made_before i.enter events ≡ i.start
+  pub end : made_before i.exit events ≡ i.end
+  pub among : i.exit < length events
+
+-- the intervals of closed instances count the operations among the events
+abbrev pub IntervalsCountOperations : Type 0
+IntervalsCountOperations = (depth : ℕ) (events : List Event) → All (IsCounted events) (tracked depth events)

@@ -2,20 +2,11 @@
 use Rattle.std.specs.Prelude.{ℕ, zero, suc, ◌≡◌, ◌+◌, ◌-◌, ◌<◌, ◌≤◌, List, [], ◌∷◌, ◌++◌, length, Option, Some, None, option_map, nat_lt, filter, slice_get}
 use Rattle.k_num.specs.declared.place.Place.{Place}
 use Rattle.k_optab.specs.declared.class.Class.{Class}
+use Rattle.k_optab.specs.declared.closed.Closed.{Closed}
 use Rattle.k_optab.specs.declared.event.Src.{Src}
 use Rattle.k_optab.specs.declared.event.Event.{Event}
 use Rattle.k_optab.specs.declared.event.Event.TheVariants.{Op, Enter, Exit}
 use Rattle.k_optab.specs.Events.{operations}
-
--- a closed instance: its region, how many instances were open when it was entered, the places of its Enter
--- and its Exit among the events, and the interval [start, end) of the numbers of the operations between them
-pub record Closed : Type 0 where
-  pub region : ℕ
-  pub depth : ℕ
-  pub enter : ℕ
-  pub exit : ℕ
-  pub start : ℕ
-  pub end : ℕ
 
 -- the events before the Exit that leaves an instance just entered, after so many more instances within it
 -- are left; None where that Exit does not come

@@ -5,5 +5,7 @@ pub mod InstanceLaws
 pub mod Instances
 pub mod Latencies
 pub mod Meaning
+pub mod Open
+pub mod OpenLaws
 pub mod Single
 pub mod Tree

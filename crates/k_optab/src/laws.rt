@@ -11,13 +11,23 @@ ghost use Rattle.k_optab.specs.GraphLaws.{
   LongerHistoryKeepsHeaviest,
   LongerHistoryKeepsTimes,
   TimeFromSources,
+  GreatestOfSources,
   HeaviestOfOneMore,
   HeaviestIsAtMostWork,
   InnerPathIsAtMostOuter,
-  PathIsAtMostPartsAndOwnWork,
 };
-ghost use Rattle.k_optab.specs.InstanceLaws.{ExitIsMatching, InstancesAreLeftLater, InstancesNeverCross, IntervalsLieAsInstances};
-ghost use Rattle.k_optab.specs.Meaning.{RegionsAreBounded, TreesHaveBoundedPaths};
+ghost use Rattle.k_optab.specs.InstanceLaws.{ExitIsMatching, IntervalsCountOperations, InstancesAreLeftLater, InstancesNeverCross, IntervalsLieAsInstances};
+ghost use Rattle.k_optab.specs.Meaning.{ChoicesAreBounded, PathIsAtMostRowAndOwnWork, RegionsAreBounded, TreesHaveBoundedPaths};
+ghost use Rattle.k_optab.specs.OpenLaws.{
+  BalancedLeaveNothingOpen,
+  EntersOpenInstances,
+  ExitsCloseTheLast,
+  IdleExitsKeepInstances,
+  OpenDepthsCount,
+  OpenInstancesBegan,
+  OpenInstancesNest,
+  OperationsKeepInstances,
+};
 ghost use Rattle.k_optab.specs.Single.{
   OneInstanceIsBalanced,
   OperationsOfOneInstance,
@@ -58,7 +68,8 @@ pub fn longer_history()
 
 /// The heaviest path to an operation adds its latency to the greatest time of its unbroken sources.
 pub fn time_from_sources()
-    ensures { TimeFromSources }
+    ensures time { TimeFromSources }
+    ensures greatest { GreatestOfSources }
 {}
 
 /// With one operation more, the heaviest path is the heavier of that so far and that to the new operation.
@@ -67,18 +78,19 @@ pub fn heaviest_of_one_more()
 {}
 
 /// What the numbers of an interval mean: its path is at most its work, at least the path of each interval
-/// within it, and at most the paths of parts of it together and the work outside of them.
+/// within it, and at most the paths of instances in a row within it together and the work outside of them.
 pub fn meaning_of_numbers()
     ensures work { HeaviestIsAtMostWork }
     ensures inner { InnerPathIsAtMostOuter }
-    ensures parts { PathIsAtMostPartsAndOwnWork }
+    ensures parts { PathIsAtMostRowAndOwnWork }
 {}
 
 /// What the numbers of a run's instances mean, where all that is entered is left: the path of each is at most its work, at
 /// least each child's path, and at most its children's paths and its own work. So the paths of a region's instances
-/// together are at most their children's paths and their own work together.
+/// together are at most their children's paths and their own work together, and so are those of any other choice of instances.
 pub fn meaning_of_trees()
     ensures instances { TreesHaveBoundedPaths }
+    ensures choices { ChoicesAreBounded }
     ensures regions { RegionsAreBounded }
 {}
 
@@ -87,11 +99,13 @@ pub fn exit_is_matching()
     ensures { ExitIsMatching }
 {}
 
-/// Closed instances stand in order of entry, each is left after it is entered, and no two of them cross.
+/// Closed instances stand in order of entry, each is left after it is entered, and no two of them cross. Their
+/// intervals lie as they do, and count the operations between their Enter and their Exit.
 pub fn instances_never_cross()
     ensures left { InstancesAreLeftLater }
     ensures apart { InstancesNeverCross }
     ensures intervals { IntervalsLieAsInstances }
+    ensures counts { IntervalsCountOperations }
 {}
 
 /// A run that enters one instance, makes operations within it, and leaves it, has a tree of one node, whose work is that of
@@ -103,4 +117,20 @@ pub fn tree_of_one_instance()
     ensures exists { SingleExists }
     ensures unique { SingleIsUnique }
     ensures bounded { SingleIsBounded }
+{}
+
+/// What one event more does to the instances that are open and to those that are closed.
+pub fn events_change_instances()
+    ensures operation { OperationsKeepInstances }
+    ensures enter { EntersOpenInstances }
+    ensures exit { ExitsCloseTheLast }
+    ensures idle { IdleExitsKeepInstances }
+{}
+
+/// Open instances lie within each other, in order of entry, and balanced events leave none.
+pub fn open_instances_nest()
+    ensures depths { OpenDepthsCount }
+    ensures around { OpenInstancesNest }
+    ensures began { OpenInstancesBegan }
+    ensures balanced { BalancedLeaveNothingOpen }
 {}

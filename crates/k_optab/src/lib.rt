@@ -3,14 +3,18 @@
 #![tactic(auto)]
 
 mod class;
+mod closed;
 mod event;
 mod latencies;
 pub mod laws;
+mod node;
 mod region;
 mod table;
 
 pub use class::Class;
+pub use closed::Closed;
 pub use event::{Event, Src};
 pub use latencies::{Latencies, name, of, standard};
+pub use node::Node;
 pub use region::{Region, RegionKind};
 pub use table::Table;
