@@ -6,3 +6,5 @@ pub mod Calls
 pub mod MemoryWords
 pub mod HostWords
 pub mod Sure
+pub mod ReadAll
+pub mod Texts

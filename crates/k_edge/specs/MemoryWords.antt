@@ -19,6 +19,7 @@ pub record SureBytes : Type 0 where
   pub left : List ℕ
   pub taken : ℕ
 
+-- what is known of a source that never fails
 abbrev pub sure_source : SureBytes → SourceState
 sure_source s = record { left = Some s.left; faults = 0; taken = s.taken }
 
@@ -29,6 +30,7 @@ pub record MemBytes : Type 0 where
   pub faults : ℕ
   pub calls : Schedule
 
+-- what is known of a source that fails at listed calls
 abbrev pub mem_source : MemBytes → SourceState
 mem_source s = record { left = Some s.left; faults = s.faults; taken = s.taken }
 
@@ -38,6 +40,7 @@ pub record MemWritten : Type 0 where
   pub faults : ℕ
   pub calls : Schedule
 
+-- what is known of a sink that fails at listed calls
 abbrev pub mem_sink : MemWritten → SinkState
 mem_sink s = record { written = Some s.written; faults = s.faults }
 
@@ -52,6 +55,7 @@ abbrev pub content_of : List File → List ℕ → Option (List ℕ)
 content_of [] name = None
 content_of (file ∷ files) name = if pointwise nat_eq file.name name then Some file.bytes else content_of files name
 
+-- what is known of files that never fail
 abbrev pub sure_files : SureHeld → FilesState
 sure_files f = record {
   held = Some (content_of f.files);
@@ -65,6 +69,7 @@ pub record MemHeld : Type 0 where
   pub save_faults : ℕ
   pub calls : Schedule
 
+-- what is known of files that fail at listed calls
 abbrev pub mem_files : MemHeld → FilesState
 mem_files f = record {
   held = Some (content_of f.held.files);

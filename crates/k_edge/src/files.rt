@@ -19,14 +19,18 @@ pub enum LoadFault {
 }
 
 impl fmt::Display for LoadFault {
+    ghost use Rattle.std.specs.Prelude.{Some};
+    ghost use Rattle.k_edge.specs.Texts.{load_fault_text};
+
+    ghost output = { λ fault. Some (load_fault_text fault) };
+
     fn fmt<W: fmt::Write>(&self, f: &mut fmt::Formatter<W>) -> fmt::Result {
-        let text = match self {
+        f.write_str(match self {
             LoadFault::Absent => "no such file",
             LoadFault::TooLong => "the file is too long",
             LoadFault::Failed => "the load failed",
             LoadFault::Memory => "no memory",
-        };
-        write!(f, "{text}")
+        })
     }
 }
 
@@ -42,12 +46,16 @@ pub enum SaveFault {
 }
 
 impl fmt::Display for SaveFault {
+    ghost use Rattle.std.specs.Prelude.{Some};
+    ghost use Rattle.k_edge.specs.Texts.{save_fault_text};
+
+    ghost output = { λ fault. Some (save_fault_text fault) };
+
     fn fmt<W: fmt::Write>(&self, f: &mut fmt::Formatter<W>) -> fmt::Result {
-        let text = match self {
+        f.write_str(match self {
             SaveFault::Failed => "the save failed",
             SaveFault::Memory => "no memory",
-        };
-        write!(f, "{text}")
+        })
     }
 }
 

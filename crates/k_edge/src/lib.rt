@@ -8,6 +8,7 @@ mod files;
 mod host;
 pub mod laws;
 mod memory;
+mod reading;
 mod sink;
 mod source;
 
@@ -17,6 +18,7 @@ pub use host::streams::{StdSink, StdSource};
 pub use memory::files::{MemFiles, SureFiles};
 pub use memory::sink::{MemSink, SureSink};
 pub use memory::source::{MemSource, SureSource};
+pub use reading::{ReadAllFault, read_all};
 pub use sink::{PutFault, Sink};
 pub use source::{Failed, Source};
 

@@ -14,12 +14,16 @@ pub enum PutFault {
 }
 
 impl fmt::Display for PutFault {
+    ghost use Rattle.std.specs.Prelude.{Some};
+    ghost use Rattle.k_edge.specs.Texts.{put_fault_text};
+
+    ghost output = { λ fault. Some (put_fault_text fault) };
+
     fn fmt<W: fmt::Write>(&self, f: &mut fmt::Formatter<W>) -> fmt::Result {
-        let text = match self {
+        f.write_str(match self {
             PutFault::Failed => "the write failed",
             PutFault::Memory => "no memory",
-        };
-        write!(f, "{text}")
+        })
     }
 }
 

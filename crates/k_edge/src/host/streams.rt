@@ -1,13 +1,13 @@
 //! Adapters over readers and writers.
-ghost use Rattle.std.specs.Prelude.{◌≡◌, ◌≢◌, None, Err, OnOk};
-ghost use Rattle.std.specs.Io.KnownBytes.{Appends, ReadConsumes};
+ghost use Rattle.std.specs.Prelude.{◌≡◌, ◌≢◌, None, Err};
+ghost use Rattle.std.specs.Io.KnownBytes.{ReadConsumes};
 ghost use Rattle.k_edge.specs.SourceWords.{Reads};
 ghost use Rattle.k_edge.specs.SinkWords.{Puts};
-ghost use Rattle.k_edge.specs.HostWords.{std_source, std_sink, reader_of, writer_of};
+ghost use Rattle.k_edge.specs.HostWords.{std_source, std_sink, reader_of, writer_of, Hands, Writes};
 
 use crate::count::risen;
 use crate::{Failed, PutFault, Sink, Source};
-use std::io::{Read, Write};
+use std::io::{ErrorKind, Read, Write};
 
 /// A source over a reader.
 #[derive(Debug, Drop)]
@@ -76,13 +76,32 @@ impl<W: Write> Sink for StdSink<W> {
 
     fn put(&mut self, piece: &[u8]) -> Result<(), PutFault>
         ensures puts { Puts result piece.now (std_sink self.old) (std_sink self.new) }
-        ensures writes_inner { OnOk result (Appends (W.contents (writer_of self.old)) (W.contents (writer_of self.new)) piece.now) }
+        ensures hands_inner { Hands result piece.now (W.contents (writer_of self.old)) (W.contents (writer_of self.new)) }
         ensures never_memory { result ≢ Err PutFault.Memory }
     {
-        if self.inner.write_all(piece).is_ok() && self.inner.flush().is_ok() {
+        if write_whole(&mut self.inner, piece) && self.inner.flush().is_ok() {
             return Ok(());
         }
         self.faults = risen(self.faults);
         Err(PutFault::Failed)
     }
+}
+
+/// Writes a piece until it is whole, and answers whether it is. A write that was interrupted is tried again.
+fn write_whole<W: Write>(writer: &mut W, piece: &[u8]) -> bool
+    ensures { Writes result piece.now (W.contents writer.old) (W.contents writer.new) }
+{
+    let mut rest = piece;
+    'tries: for _ in 0..u64::MAX {
+        if rest.is_empty() {
+            return true;
+        }
+        match writer.write(rest) {
+            Ok(0) => return false,
+            Ok(count) => rest = &rest[count..],
+            Err(error) if error.kind() == ErrorKind::Interrupted => {}
+            Err(_) => return false,
+        }
+    }
+    false
 }

@@ -104,6 +104,33 @@ impl Write for Stuck {
     }
 }
 
+/// A writer that takes a byte at a time, and is interrupted before each.
+#[derive(Drop)]
+struct Slow {
+    calls: usize,
+    bytes: [u8; 2],
+}
+
+impl Write for Slow {
+    fn write(&mut self, buf: &[u8]) -> io::Result<usize> {
+        let at = self.calls / 2;
+        let is_interrupted = self.calls % 2 == 0;
+        self.calls = self.calls.saturating_add(1);
+        match buf {
+            [first, ..] if !is_interrupted && at < 2 => {
+                self.bytes[at] = *first;
+                Ok(1)
+            }
+            _ if is_interrupted => Err(io::Error::from(ErrorKind::Interrupted)),
+            _ => Ok(0),
+        }
+    }
+
+    fn flush(&mut self) -> io::Result<()> {
+        Ok(())
+    }
+}
+
 #[test]
 fn sinks(rt: HostRuntime) -> Result<(), Fail> {
     let whole = [("ab", Ok(())), ("", Ok(())), ("c", Ok(()))];
@@ -117,6 +144,16 @@ fn sinks(rt: HostRuntime) -> Result<(), Fail> {
     let mut written = Vec::new(rt.alloc());
     expect_puts(&rt, &mut StdSink::new(&mut written), &whole);
     assert_eq!(rt; written.as_slice(), b"abc".as_slice());
+    let mut slow = Slow {
+        calls: 0,
+        bytes: [0; 2],
+    };
+    expect_puts(
+        &rt,
+        &mut StdSink::new(&mut slow),
+        &[("ab", Ok(())), ("c", Err(PutFault::Failed))],
+    );
+    assert_eq!(rt; slow.bytes, *b"ab");
     expect_puts(
         &rt,
         &mut StdSink::new(Full),
