@@ -50,7 +50,7 @@ use Rattle.k_reader.specs.declared.source.Sourced.{Sourced}
 use Rattle.k_reader.specs.declared.source.Sourced.TheVariants as sourced
 use Rattle.k_tree.specs.declared.tree.declaration.Param.{Param}
 use Rattle.k_tree.specs.declared.tree.unit.Item.{Item}
-use Rattle.k_reader.specs.Closed.{EndsOnce}
+use Rattle.k_tree.specs.Closed.{EndsOnce}
 use Rattle.k_reader.proofs.CompleteLeads.{token_at}
 use Rattle.k_parse.proofs.Turns.{drop_here}
 

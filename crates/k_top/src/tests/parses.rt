@@ -1,5 +1,5 @@
 //! What the parser reads and refuses, on the tokens that the lexer gives.
-ghost use Rattle.k_reader.specs.Closed.{EndsOnce};
+ghost use Rattle.k_tree.specs.Closed.{EndsOnce};
 
 use k_lex::lex;
 use k_num::{NoMemory, Place, Seq};
