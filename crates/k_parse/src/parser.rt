@@ -35,6 +35,7 @@ fn read(alloc: Global, tokens: &[Token]) -> Result<Unit, ParseFault>
         source = match fed {
             Sourced::Goes { source, reach } => {
                 if reach > NESTING {
+                    drop(source);
                     return Err(ParseFault::TooDeep(token.place));
                 }
                 source

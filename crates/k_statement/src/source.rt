@@ -87,8 +87,11 @@ fn title_of(front: Front, declarator: Declarator) -> Title
         place: name_place,
         stars,
         name,
-        ..
+        dims,
+        init,
     } = declarator;
+    drop(dims);
+    drop(init);
     Title {
         specs,
         stars,
@@ -211,7 +214,14 @@ fn parameters(
 ) -> Result<Sourced, NoMemory>
     ensures { IfOk result (λ fed. fed ≡ spec.parameters items place title parameters token.now) }
 {
-    match feed_parameters(alloc, parameters, token)? {
+    let fed = match feed_parameters(alloc, parameters, token) {
+        Ok(fed) => fed,
+        Err(NoMemory) => {
+            drop(title);
+            return Err(NoMemory);
+        }
+    };
+    match fed {
         Parametric::Goes { parameters, reach } => {
             let phase = Phase::Parameters {
                 place,
@@ -224,7 +234,10 @@ fn parameters(
             let head = head_of(title, params);
             Ok(goes_on(items, Phase::Headed { place, head }, 0))
         }
-        Parametric::Refused => Ok(Sourced::Refused),
+        Parametric::Refused => {
+            drop(title);
+            Ok(Sourced::Refused)
+        }
     }
 }
 
@@ -245,7 +258,10 @@ fn mark_headed(
             let body = begin_body(alloc);
             Ok(goes_on(items, Phase::Body { place, head, body }, 0))
         }
-        _ => Ok(Sourced::Refused),
+        _ => {
+            drop(head);
+            Ok(Sourced::Refused)
+        }
     }
 }
 
@@ -262,7 +278,10 @@ fn headed(
 {
     match &token.what {
         TokenKind::Mark(mark) => mark_headed(alloc, items, place, head, *mark),
-        _ => Ok(Sourced::Refused),
+        _ => {
+            drop(head);
+            Ok(Sourced::Refused)
+        }
     }
 }
 
@@ -278,7 +297,14 @@ fn in_body(
 ) -> Result<Sourced, NoMemory>
     ensures { IfOk result (λ fed. fed ≡ spec.in_body items place head body token.now) }
 {
-    match feed_body(alloc, body, token)? {
+    let fed = match feed_body(alloc, body, token) {
+        Ok(fed) => fed,
+        Err(NoMemory) => {
+            drop(head);
+            return Err(NoMemory);
+        }
+    };
+    match fed {
         Stepped::Goes { body, reach } => {
             Ok(goes_on(items, Phase::Body { place, head, body }, reach))
         }
@@ -291,7 +317,10 @@ fn in_body(
             };
             item_done(items, item)
         }
-        Stepped::Refused => Ok(Sourced::Refused),
+        Stepped::Refused => {
+            drop(head);
+            Ok(Sourced::Refused)
+        }
     }
 }
 

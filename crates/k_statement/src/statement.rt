@@ -159,6 +159,7 @@ fn semicolon(parts: Seq<Stmt>, frames: Stack<Frame>, stmt: Stmt, token: &Token) 
     if closes(token, Closer::Semicolon) {
         whole(parts, frames, stmt)
     } else {
+        drop(stmt);
         Stepped::Refused
     }
 }

@@ -42,7 +42,10 @@ fn block_ends(parts: Seq<Stmt>, mut frames: Stack<Frame>) -> Stepped
                 parts: inner,
             },
         ),
-        Some(_frame) => Stepped::Refused,
+        Some(frame) => {
+            drop(frame);
+            Stepped::Refused
+        }
     }
 }
 
@@ -140,7 +143,10 @@ fn expression(
             let place = token.place;
             Ok(steps(parts, frames, Step::Value { place, reading }, reach))
         }
-        Fed::Ends { value: _value } => Ok(Stepped::Refused),
+        Fed::Ends { value } => {
+            drop(value);
+            Ok(Stepped::Refused)
+        }
         Fed::Refused => Ok(Stepped::Refused),
     }
 }

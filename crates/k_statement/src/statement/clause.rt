@@ -28,6 +28,7 @@ pub fn opened(
     ensures { result ≡ spec.opened parts frames tested token.now }
 {
     if !is_left_paren(token) {
+        drop(tested);
         return Stepped::Refused;
     }
     let reading = begin(alloc, 0, plus(level(&frames), 1));
@@ -45,7 +46,13 @@ fn test_done(
 ) -> Result<Stepped, NoMemory>
     ensures { IfOk result (λ fed. fed ≡ spec.test_done parts frames tested test) }
 {
-    let test = Box::new(alloc, test)?;
+    let test = match Box::new(alloc, test) {
+        Ok(test) => test,
+        Err(NoMemory) => {
+            drop(tested);
+            return Err(NoMemory);
+        }
+    };
     match tested {
         Tested::If { place } => await_part(parts, frames, Frame::Then { place, test }, 0),
         Tested::While { place } => await_part(parts, frames, Frame::While { place, test }, 0),
@@ -68,12 +75,22 @@ pub fn test(
 ) -> Result<Stepped, NoMemory>
     ensures { IfOk result (λ fed. fed ≡ spec.test parts frames tested reading token.now) }
 {
-    match read_needed(alloc, reading, token, Closer::Paren)? {
+    let read = match read_needed(alloc, reading, token, Closer::Paren) {
+        Ok(read) => read,
+        Err(NoMemory) => {
+            drop(tested);
+            return Err(NoMemory);
+        }
+    };
+    match read {
         Read::Goes { reading, reach } => {
             Ok(steps(parts, frames, Step::Test { tested, reading }, reach))
         }
         Read::Closed { value } => test_done(alloc, parts, frames, tested, value),
-        Read::Refused => Ok(Stepped::Refused),
+        Read::Refused => {
+            drop(tested);
+            Ok(Stepped::Refused)
+        }
     }
 }
 
@@ -120,13 +137,22 @@ fn close(alloc: Global, frame: Frame, stmt: Stmt, other: bool) -> Result<Closed,
             start,
             test,
             step,
-        } => Stmt::For {
-            place,
-            first: start,
-            test,
-            step,
-            body: Box::new(alloc, stmt)?,
-        },
+        } => {
+            let body = match Box::new(alloc, stmt) {
+                Ok(body) => body,
+                Err(NoMemory) => {
+                    drop(start);
+                    return Err(NoMemory);
+                }
+            };
+            Stmt::For {
+                place,
+                first: start,
+                test,
+                step,
+                body,
+            }
+        }
         frame => return Ok(Closed::Part { frame, stmt }),
     };
     Ok(Closed::Whole { stmt })
@@ -171,6 +197,7 @@ fn do_while(
     ensures { result ≡ spec.do_while parts frames place body token.now }
 {
     if !is_while(token) {
+        drop(body);
         return Stepped::Refused;
     }
     let tested = Tested::Do { place, body };
@@ -218,7 +245,11 @@ fn part(
             place,
             parts: inner,
         } => more(alloc, parts, frames, place, inner, stmt, token),
-        _frame => Ok(Stepped::Refused),
+        frame => {
+            drop(frame);
+            drop(stmt);
+            Ok(Stepped::Refused)
+        }
     }
 }
 

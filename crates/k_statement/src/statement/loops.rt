@@ -93,6 +93,7 @@ fn start(
     ensures { IfOk result (λ fed. fed ≡ spec.start parts frames place reading token.now) }
 {
     if let Some(word) = specifier(&reading, token) {
+        drop(reading);
         let declaration = begin_declaration(alloc, word, plus(level(&frames), 1))?;
         return Ok(steps(parts, frames, Step::Declares { place, declaration }, 0));
     }
@@ -142,7 +143,14 @@ fn second(
 ) -> Result<Stepped, NoMemory>
     ensures { IfOk result (λ fed. fed ≡ spec.second parts frames place start reading token.now) }
 {
-    match read_maybe(alloc, reading, token, Closer::Semicolon)? {
+    let read = match read_maybe(alloc, reading, token, Closer::Semicolon) {
+        Ok(read) => read,
+        Err(NoMemory) => {
+            drop(start);
+            return Err(NoMemory);
+        }
+    };
+    match read {
         Maybe::Goes { reading, reach } => {
             let step = Step::Second {
                 place,
@@ -161,7 +169,10 @@ fn second(
             };
             Ok(steps(parts, frames, step, 0))
         }
-        Maybe::Refused => Ok(Stepped::Refused),
+        Maybe::Refused => {
+            drop(start);
+            Ok(Stepped::Refused)
+        }
     }
 }
 
@@ -177,11 +188,27 @@ fn body_begins(
 ) -> Result<Stepped, NoMemory>
     ensures { IfOk result (λ fed. fed ≡ spec.body_begins parts frames place start test step) }
 {
+    let test = match boxed(alloc, test) {
+        Ok(test) => test,
+        Err(NoMemory) => {
+            drop(start);
+            drop(step);
+            return Err(NoMemory);
+        }
+    };
+    let step = match boxed(alloc, step) {
+        Ok(step) => step,
+        Err(NoMemory) => {
+            drop(start);
+            drop(test);
+            return Err(NoMemory);
+        }
+    };
     let frame = Frame::For {
         place,
         start,
-        test: boxed(alloc, test)?,
-        step: boxed(alloc, step)?,
+        test,
+        step,
     };
     await_part(parts, frames, frame, 0)
 }
@@ -200,7 +227,15 @@ fn third(
 ) -> Result<Stepped, NoMemory>
     ensures { IfOk result (λ fed. fed ≡ spec.third parts frames place start test reading token.now) }
 {
-    match read_maybe(alloc, reading, token, Closer::Paren)? {
+    let read = match read_maybe(alloc, reading, token, Closer::Paren) {
+        Ok(read) => read,
+        Err(NoMemory) => {
+            drop(start);
+            drop(test);
+            return Err(NoMemory);
+        }
+    };
+    match read {
         Maybe::Goes { reading, reach } => {
             let step = Step::Third {
                 place,
@@ -211,7 +246,11 @@ fn third(
             Ok(steps(parts, frames, step, reach))
         }
         Maybe::Closed { value } => body_begins(alloc, parts, frames, place, start, test, value),
-        Maybe::Refused => Ok(Stepped::Refused),
+        Maybe::Refused => {
+            drop(start);
+            drop(test);
+            Ok(Stepped::Refused)
+        }
     }
 }
 
