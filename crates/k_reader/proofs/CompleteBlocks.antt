@@ -27,9 +27,8 @@ use Rattle.k_reader.specs.declared.declaration.Declaration.{Declaration}
 use Rattle.k_reader.specs.declared.statement.Frame.TheVariants as frame
 use Rattle.k_reader.specs.declared.statement.Step.TheVariants as step
 use Rattle.k_reader.specs.declared.statement.Body.{Body}
-use Rattle.k_reader.specs.declared.statement.Stepped.{Stepped}
 use Rattle.k_reader.specs.declared.statement.Stepped.TheVariants as stepped
-use Rattle.k_reader.proofs.CompleteLeads.{token_at, Step, Leads, leads-then, leads-more, leads-in}
+use Rattle.k_reader.proofs.CompleteLeads.{token_at, Leads, leads-then, leads-more, leads-in}
 use Rattle.k_reader.proofs.CompleteDepths.{depth_positive}
 use Rattle.k_reader.proofs.CompleteInitialisers.{Declares}
 use Rattle.k_reader.proofs.CompleteDeclarations.{DeclarationHolds, declaration_complete}

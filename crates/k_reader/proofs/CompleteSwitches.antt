@@ -1,5 +1,5 @@
 -- `switch`, with the parts of its braces.
-use Rattle.std.proofs.Common.{ℕ, ◌≡◌, ◌≢◌, ◌+◌, ◌<◌, ◌≤◌, max, true, false, List, [], ◌∷◌, ◌++◌, map, length, sym, ap, ◌∙◌, subst, refl, arith, append_assoc, append-nil}
+use Rattle.std.proofs.Common.{ℕ, ◌≡◌, ◌≢◌, ◌+◌, ◌≤◌, max, true, false, List, [], ◌∷◌, ◌++◌, map, length, sym, ap, ◌∙◌, subst, refl, arith, append_assoc, append-nil}
 use Rattle.std.proofs.lemmas.List.{map-append}
 use Rattle.k_num.specs.declared.place.Place.{Place}
 use Rattle.k_tree.specs.declared.tokens.Token.{Token}
@@ -12,7 +12,7 @@ use Rattle.k_tree.specs.declared.tree.statement.Stmt.{Stmt}
 use Rattle.k_tree.specs.declared.tree.statement.Stmt.TheVariants as stmt
 use Rattle.k_tree.specs.declared.tree.statement.Part.{Part}
 use Rattle.k_tree.specs.declared.tree.statement.Part.TheVariants as part_
-use Rattle.k_tree.specs.Bare.{bare_expr, bare_stmt, bare_part, bare_part_step, bare_stmt_step, nowhere}
+use Rattle.k_tree.specs.Bare.{bare_expr, bare_part, bare_part_step, bare_stmt_step, nowhere}
 use Rattle.k_tree.specs.Folds.{stmt_Switch, part_Case, part_Default, part_Does}
 use Rattle.k_tree.specs.Nesting.{expr_depth, stmt_depth, part_depth, part_depth_step, stmt_depth_step, deepest}
 use Rattle.k_tree.specs.Places.{stmt_place}
@@ -24,7 +24,6 @@ use Rattle.k_reader.specs.Readings.{closes}
 use Rattle.k_reader.specs.declared.reading.Closer.TheVariants as closer
 use Rattle.k_reader.specs.Statements.{mark_begins, jump, Parts, Frames, feed_body, begins, keyword, test_done, behind, close, part, more_switched, block_ends, case_begins, default_begins, is_in_switch, in_for, in_switch, braces, case_value, case_by, default_label, labelled, is_else, level, inner}
 use Rattle.k_reader.specs.declared.expression.Reading.{Reading}
-use Rattle.k_reader.specs.declared.statement.Frame.{Frame}
 use Rattle.k_reader.specs.declared.statement.Frame.TheVariants as frame
 use Rattle.k_reader.specs.declared.statement.Tested.TheVariants as tested
 use Rattle.k_reader.specs.declared.statement.Step.TheVariants as step

@@ -13,7 +13,6 @@ use Rattle.k_tree.specs.declared.tokens.word.Word.TheVariants as word
 use Rattle.k_tree.specs.declared.tree.expression.Expr.{Expr}
 use Rattle.k_tree.specs.declared.tree.statement.First.{First}
 use Rattle.k_tree.specs.declared.tree.statement.First.TheVariants as first
-use Rattle.k_tree.specs.declared.tree.statement.Part.{Part}
 use Rattle.k_tree.specs.declared.tree.statement.Part.TheVariants as part_
 use Rattle.k_tree.specs.Places.{stmt_place}
 use Rattle.k_tree.specs.declared.tree.statement.Stmt.{Stmt}
