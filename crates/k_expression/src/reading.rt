@@ -31,7 +31,14 @@ fn mark_closes(mark: Mark, closer: Closer) -> bool
         Closer::Bracket => is_right_bracket(mark),
         Closer::Paren => is_right_paren(mark),
         Closer::Semicolon => is_semicolon(mark),
+        Closer::Colon => is_colon(mark),
     }
+}
+
+fn is_colon(mark: Mark) -> bool
+    ensures { result ≡ spec.mark_closes closers.Colon mark }
+{
+    matches!(mark, Mark::Colon)
 }
 
 fn is_right_bracket(mark: Mark) -> bool

@@ -17,7 +17,7 @@ use Rattle.k_tree.specs.declared.tree.declaration.Declarator.{Declarator}
 use Rattle.k_tree.specs.declared.tree.declaration.Params.{Params}
 use Rattle.k_tree.specs.declared.tree.declaration.Params.TheVariants as params
 use Rattle.k_tree.specs.declared.tree.statement.Stmt.{Stmt, fold-Stmt}
-use Rattle.k_tree.specs.declared.tree.statement.Stmt.TheOpen.{Stmt-F}
+use Rattle.k_tree.specs.declared.tree.statement.Part.TheOpen.{Stmt-F}
 use Rattle.k_tree.specs.declared.tree.unit.Head.{Head}
 use Rattle.k_tree.specs.declared.tree.unit.Item.{Item}
 use Rattle.k_tree.specs.declared.tree.unit.Item.TheVariants as item
@@ -111,7 +111,7 @@ first_specs (word.Int ∷ []) = true
 first_specs _ = false
 
 -- `int` and declarators; `x = e;`; `putchar(e);`; `return e;` (C17 6.7, 6.8.3, 6.8.6.4)
-abbrev pub first_stmt_step : Stmt-F Bool → Bool
+abbrev pub first_stmt_step : Stmt-F (Unit {0}) Bool → Bool
 first_stmt_step (Stmt-F.Declare place specs list) = first_specs specs && list_all first_declarator list
 first_stmt_step (Stmt-F.Expr place value) = first_action value
 first_stmt_step (Stmt-F.Return place value) = first_returned value
@@ -119,7 +119,7 @@ first_stmt_step _ = false
 
 -- a statement or a declaration of a first program (C17 6.8.2)
 abbrev pub first_stmt : Stmt → Bool
-first_stmt = fold-Stmt Bool first_stmt_step
+first_stmt = fold-Stmt (Unit {0}) Bool (λ label. tt) first_stmt_step
 
 -- `(void)` (C17 6.7.6.3)
 abbrev pub first_params : Params → Bool

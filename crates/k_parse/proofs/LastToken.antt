@@ -4,6 +4,7 @@ use Rattle.std.proofs.Math.Bool.{and-false}
 use Rattle.k_num.specs.declared.place.Place.{Place}
 use Rattle.k_tree.specs.declared.tokens.Token.{Token}
 use Rattle.k_tree.specs.declared.tokens.TokenKind.TheVariants as token
+use Rattle.k_tree.specs.declared.tree.statement.Part.TheVariants as labels
 use Rattle.k_tree.specs.declared.tree.statement.Stmt.{Stmt}
 use Rattle.k_reader.specs.Expressions as expressions
 use Rattle.k_reader.specs.Expressions.{Opens}
@@ -50,7 +51,7 @@ use Rattle.k_reader.specs.declared.source.Sourced.{Sourced}
 use Rattle.k_reader.specs.declared.source.Sourced.TheVariants as sourced
 use Rattle.k_tree.specs.declared.tree.declaration.Param.{Param}
 use Rattle.k_tree.specs.declared.tree.unit.Item.{Item}
-use Rattle.k_reader.specs.Closed.{EndsOnce}
+use Rattle.k_tree.specs.Closed.{EndsOnce}
 use Rattle.k_reader.proofs.CompleteLeads.{token_at}
 use Rattle.k_parse.proofs.Turns.{drop_here}
 
@@ -165,18 +166,26 @@ module _ (p : Place) where
 
   frame_refused : (ps : Parts) (s : Frames) (f : Frame) (x : Stmt) → ((y : Stmt) → statements.behind ps s y end ≡ stepped.Refused)
       → statements.closed_by ps s (statements.close f x false) end (λ y. statements.behind ps s y end) ≡ stepped.Refused
-  unfolding statements.close statements.part statements.do_while statements.more
+  unfolding statements.close statements.part statements.do_while statements.more statements.more_switched
   frame_refused ps s (frame.Then q e) x h = h _
   frame_refused ps s (frame.Else q e a) x h = h _
   frame_refused ps s (frame.While q e) x h = h _
   frame_refused ps s (frame.Do q) x h = refl
   frame_refused ps s (frame.For q start test step) x h = h _
+  frame_refused ps s (frame.Switch q e parts) x h = begins_refused ps _
   frame_refused ps s (frame.Block q parts) x h = begins_refused ps _
 
   behind_refused : (ps : Parts) (s : Frames) (x : Stmt) → statements.behind ps s x end ≡ stepped.Refused
   unfolding statements.behind
   behind_refused ps [] x = begins_refused (ps ++ x ∷ []) []
   behind_refused ps (f ∷ s) x = frame_refused ps s f x (λ y. behind_refused ps s y)
+
+  switch_refused : (ps : Parts) (s : Frames) (x : Step) → statements.in_switch ps s x end ≡ stepped.Refused
+  unfolding statements.in_switch statements.braces statements.case_value statements.default_label
+  switch_refused ps s (step.Braces q e) = refl
+  switch_refused ps s (step.Case q r) = ap (statements.case_by ps s q) (needed_refused r closer.Colon)
+  switch_refused ps s (step.Default q) = ap (λ b. cond b (statements.labelled ps s (labels.Default q)) stepped.Refused) (not_closed closer.Colon)
+  switch_refused ps s _ = refl
 
   for_refused : (ps : Parts) (s : Frames) (x : Step) → statements.in_for ps s x end ≡ stepped.Refused
   unfolding statements.in_for statements.for_opened statements.start statements.specifier statements.for_declares statements.second statements.third
@@ -185,7 +194,7 @@ module _ (p : Place) where
   for_refused ps s (step.Declares q d) = ap (statements.for_declares_by ps s q) (declaration_refused d)
   for_refused ps s (step.Second q start r) = ap (statements.second_by ps s q start) (maybe_refused r closer.Semicolon)
   for_refused ps s (step.Third q start test r) = ap (statements.third_by ps s q start test) (maybe_refused r closer.Paren)
-  for_refused ps s _ = refl
+  for_refused ps s x = switch_refused ps s x
 
   step_refused : (ps : Parts) (s : Frames) (x : Step) → statements.step_fed ps s x end ≡ stepped.Refused
   unfolding statements.value statements.opened statements.test statements.semicolon statements.returned statements.local
@@ -202,6 +211,9 @@ module _ (p : Place) where
   step_refused ps s (step.Declares q d) = for_refused ps s (step.Declares q d)
   step_refused ps s (step.Second q start r) = for_refused ps s (step.Second q start r)
   step_refused ps s (step.Third q start test r) = for_refused ps s (step.Third q start test r)
+  step_refused ps s (step.Braces q e) = for_refused ps s (step.Braces q e)
+  step_refused ps s (step.Case q r) = for_refused ps s (step.Case q r)
+  step_refused ps s (step.Default q) = for_refused ps s (step.Default q)
 
   body_refused : (b : Body) → statements.feed_body b end ≡ stepped.Refused
   unfolding statements.feed_body

@@ -14,7 +14,9 @@ use Rattle.k_tree.specs.declared.tree.declaration.Params.TheVariants as params
 use Rattle.k_tree.specs.declared.tree.statement.First.{First}
 use Rattle.k_tree.specs.declared.tree.statement.First.TheVariants as first
 use Rattle.k_tree.specs.declared.tree.statement.Stmt.{Stmt, fold-Stmt}
-use Rattle.k_tree.specs.declared.tree.statement.Stmt.TheOpen.{Stmt-F}
+use Rattle.k_tree.specs.declared.tree.statement.Part.{Part, fold-Part}
+use Rattle.k_tree.specs.declared.tree.statement.Part.TheOpen.{Part-F, Stmt-F}
+use Rattle.k_tree.specs.declared.tree.statement.Part.TheVariants as part
 use Rattle.k_tree.specs.declared.tree.statement.Stmt.TheVariants as stmt
 use Rattle.k_tree.specs.declared.tree.unit.Head.{Head}
 use Rattle.k_tree.specs.declared.tree.unit.Item.{Item}
@@ -132,7 +134,7 @@ fill_first (first.Value value) ps = let a = (fill_expr value).from ps in (first.
 fill_first (first.Declare specs list) ps = let a = fill_declarators list ps in (first.Declare specs a.0, a.1)
 
 -- a statement, whose statements take their places
-abbrev pub fill_stmt_form : Stmt-F (Fill Stmt) → Filling Stmt
+abbrev pub fill_stmt_form : Stmt-F (Fill Part) (Fill Stmt) → Filling Stmt
 fill_stmt_form (Stmt-F.Expr place value) ps = let a = (fill_expr value).from (later_places ps) in (stmt.Expr (next_place ps) a.0, a.1)
 fill_stmt_form (Stmt-F.Empty place) ps = (stmt.Empty (next_place ps), later_places ps)
 fill_stmt_form (Stmt-F.Block place parts) ps = let a = fill_list parts (later_places ps) in (stmt.Block (next_place ps) a.0, a.1)
@@ -149,6 +151,8 @@ fill_stmt_form (Stmt-F.For place start test step body) ps =
     let a = fill_first start (later_places ps) in let b = fill_option fill_expr test a.1 in
     let c = fill_option fill_expr step b.1 in let d = body.from c.1 in
     (stmt.For (next_place ps) a.0 b.0 c.0 d.0, d.1)
+fill_stmt_form (Stmt-F.Switch place on parts) ps =
+    let a = (fill_expr on).from (later_places ps) in let b = fill_list parts a.1 in (stmt.Switch (next_place ps) a.0 b.0, b.1)
 fill_stmt_form (Stmt-F.Break place) ps = (stmt.Break (next_place ps), later_places ps)
 fill_stmt_form (Stmt-F.Continue place) ps = (stmt.Continue (next_place ps), later_places ps)
 fill_stmt_form (Stmt-F.Return place value) ps =
@@ -156,9 +160,23 @@ fill_stmt_form (Stmt-F.Return place value) ps =
 fill_stmt_form (Stmt-F.Declare place specs list) ps =
     let a = fill_declarators list (later_places ps) in (stmt.Declare (next_place ps) specs a.0, a.1)
 
+-- a part of a `switch`, whose statement takes its places
+abbrev pub fill_part_form : Part-F (Fill Part) (Fill Stmt) → Filling Part
+fill_part_form (Part-F.Case place value) ps = let a = (fill_expr value).from (later_places ps) in (part.Case (next_place ps) a.0, a.1)
+fill_part_form (Part-F.Default place) ps = (part.Default (next_place ps), later_places ps)
+fill_part_form (Part-F.Does place body) ps = let a = body.from (later_places ps) in (part.Does (next_place ps) a.0, a.1)
+
 -- a statement takes its places
 abbrev pub fill_stmt : Stmt → Fill Stmt
-fill_stmt = fold-Stmt (Fill Stmt) (λ x. record { from = fill_stmt_form x })
+fill_stmt = fold-Stmt (Fill Part) (Fill Stmt) (λ x. record { from = fill_part_form x }) (λ x. record { from = fill_stmt_form x })
+
+-- a part of a `switch` takes its places
+abbrev pub fill_part : Part → Fill Part
+fill_part = fold-Part (Fill Part) (Fill Stmt) (λ x. record { from = fill_part_form x }) (λ x. record { from = fill_stmt_form x })
+
+-- the parts of a `switch` take their places
+abbrev pub fill_switched : List Part → Filling (List Part)
+fill_switched parts = fill_list (map fill_part parts)
 
 -- the statements and declarations of a block take their places
 abbrev pub fill_stmts : List Stmt → Filling (List Stmt)

@@ -1,5 +1,5 @@
 -- Statements are given back by themselves without places and the places of their pieces.
-use Rattle.std.proofs.Common.{◌≡◌, ◌≢◌, List, [], ◌++◌, map, append_assoc, refl}
+use Rattle.std.proofs.Common.{◌≡◌, ◌≢◌, List, [], ◌++◌, map, append_assoc, refl, sym, ap, ◌∙◌}
 use Rattle.std.proofs.lemmas.List.{map-append}
 use Rattle.k_num.specs.declared.place.Place.{Place}
 use Rattle.k_tree.specs.declared.tokens.mark.Mark.TheVariants as mark
@@ -8,13 +8,17 @@ use Rattle.k_tree.specs.declared.tree.declaration.Declarator.{Declarator}
 use Rattle.k_tree.specs.declared.tree.statement.First.{First}
 use Rattle.k_tree.specs.declared.tree.statement.First.TheVariants as first
 use Rattle.k_tree.specs.declared.tree.statement.Stmt.{Stmt}
+use Rattle.k_tree.specs.declared.tree.statement.Part.{Part}
 use Rattle.k_tree.specs.declared.tree.statement.Stmt.TheVariants as stmt
-use Rattle.k_tree.specs.Bare.{bare_first, bare_stmt}
-use Rattle.k_tree.specs.Folds.{stmt_Expr, stmt_Empty, stmt_Block, if_alone as if_alone_folds, if_else as if_else_folds, stmt_While, stmt_DoWhile, stmt_For, stmt_Break, stmt_Continue, stmt_Return, stmt_Declare}
-use Rattle.k_tree.specs.Places.{plain, lay_expr, lay_declaration, lay_first, lay_stmt, lay_stmts}
-use Rattle.k_tree.specs.Ranked.{RankedDeclaration, RankedFirst, RankedStmt, RankedParts, value, empty, block, if_alone, if_else, while_loop, do_loop, for_loop, break_loop, continue_loop, return_value, no_parts, statement, declaration}
-use Rattle.k_tree.specs.Spelling.{the_mark}
-use Rattle.k_parse.proofs.ReplacedFilling.{fill_first, fill_stmt, fill_stmts}
+use Rattle.k_tree.specs.Bare.{bare_first, bare_stmt, bare_part}
+use Rattle.k_tree.specs.Folds.{stmt_Expr, stmt_Empty, stmt_Block, if_alone as if_alone_folds, if_else as if_else_folds, stmt_While, stmt_DoWhile, stmt_For, stmt_Switch, part_Case, part_Default, part_Does, stmt_Break, stmt_Continue, stmt_Return, stmt_Declare}
+use Rattle.k_tree.specs.Places.{plain, kinds_of, lay_expr, lay_declaration, lay_first, lay_stmt, lay_stmts, lay_switched}
+use Rattle.k_tree.specs.Ranked.{RankedDeclaration, RankedFirst, RankedStmt, RankedParts, value, empty, block, if_alone, if_else, while_loop, do_loop, for_loop, switch_stmt, RankedSwitch, no_labels, case_label, default_label, does, break_loop, continue_loop, return_value, no_parts, statement, declaration}
+use Rattle.k_tree.specs.Begins.{begins_stmt}
+use Rattle.k_tree.specs.Spelling.{the_mark, spell_stmt}
+use Rattle.k_tree.proofs.Begin.{stmt_begins, not_empty}
+use Rattle.k_tree.proofs.Laid.{stmt_spelled}
+use Rattle.k_parse.proofs.ReplacedFilling.{fill_first, fill_stmt, fill_stmts, fill_switched}
 use Rattle.k_parse.proofs.ReplacedPieces.{blank, Fills, blank-at, places-append, places-at, append_laid}
 use Rattle.k_parse.proofs.ReplacedExpressions.{expr_blank, expr_filled, expr_laid, option_blank, option_filled}
 use Rattle.k_parse.proofs.ReplacedDeclarations.{declaration_blank, declaration_filled, declaration_laid}
@@ -49,6 +53,7 @@ mutual
   stmt_blank _ (do_loop p s a x y) = simp (stmt_DoWhile, map-append, expr_blank 0 a y, stmt_blank s x)
   stmt_blank _ (for_loop p start a b s x y z w) =
       simp (stmt_For, map-append, first_blank start x, option_blank 0 a y, option_blank 0 b z, stmt_blank s w)
+  stmt_blank _ (switch_stmt p a parts x y) = simp (stmt_Switch, map-append, expr_blank 0 a x, switched_blank parts y)
   stmt_blank _ (break_loop p) = simp (stmt_Break)
   stmt_blank _ (continue_loop p) = simp (stmt_Continue)
   stmt_blank _ (return_value p a x) = simp (stmt_Return, map-append, option_blank 0 a x)
@@ -57,6 +62,16 @@ mutual
   parts_blank _ no_parts = refl
   parts_blank _ (statement s parts x y) = simp (map-append, stmt_blank s x, parts_blank parts y)
   parts_blank _ (declaration p specs list parts x y) = simp (map-append, declare_blank p specs list x, parts_blank parts y)
+
+  switched_blank : (parts : List Part) → RankedSwitch parts → lay_switched (map bare_part parts) ≡ blank (lay_switched parts)
+  switched_blank _ no_labels = refl
+  switched_blank _ (case_label p a parts x y) = simp (part_Case, map-append, expr_blank 2 a x, switched_blank parts y)
+  switched_blank _ (default_label p parts y) = simp (part_Default, map-append, switched_blank parts y)
+  switched_blank _ (does p s parts x y) = simp (part_Does, blank-at, map-append, stmt_blank s x, switched_blank parts y)
+
+-- a statement has pieces
+stmt_laid : (s : Stmt) → RankedStmt s → lay_stmt s ≢ []
+stmt_laid s x q = not_empty begins_stmt (spell_stmt s) (stmt_begins s x) (sym (stmt_spelled s x) ∙ ap kinds_of q)
 
 mutual
   stmt_filled : (s : Stmt) → RankedStmt s → Fills (lay_stmt s) (fill_stmt (bare_stmt s)).from s
@@ -72,6 +87,8 @@ mutual
   stmt_filled _ (do_loop p s a x y) ps = simp (stmt_DoWhile, places-append, append_assoc, expr_filled 0 a y, stmt_filled s x)
   stmt_filled _ (for_loop p start a b s x y z w) ps =
       simp (stmt_For, places-append, append_assoc, first_filled start x, option_filled 0 a y, option_filled 0 b z, stmt_filled s w)
+  stmt_filled _ (switch_stmt p a parts x y) ps =
+      simp (stmt_Switch, places-append, append_assoc, expr_filled 0 a x, switched_filled parts y)
   stmt_filled _ (break_loop p) ps = simp (stmt_Break)
   stmt_filled _ (continue_loop p) ps = simp (stmt_Continue)
   stmt_filled _ (return_value p a x) ps = simp (stmt_Return, places-append, append_assoc, option_filled 0 a x)
@@ -81,3 +98,12 @@ mutual
   parts_filled _ (statement s parts x y) ps = simp (places-append, append_assoc, stmt_filled s x, parts_filled parts y)
   parts_filled _ (declaration p specs list parts x y) ps =
       simp (places-append, append_assoc, declare_filled p specs list x, parts_filled parts y)
+
+  switched_filled : (parts : List Part) → RankedSwitch parts → Fills (lay_switched parts) (fill_switched (map bare_part parts)) parts
+  switched_filled _ no_labels ps = refl
+  switched_filled _ (case_label p a parts x y) ps =
+      simp (part_Case, places-append, append_assoc, expr_filled 2 a x, switched_filled parts y)
+  switched_filled _ (default_label p parts y) ps = simp (part_Default, places-append, append_assoc, switched_filled parts y)
+  switched_filled _ (does p s parts x y) ps =
+      let laid : lay_stmt s ≢ [] = stmt_laid s x in
+      simp (part_Does, places-append, places-at p (lay_stmt s) laid, append_assoc, stmt_filled s x, switched_filled parts y)

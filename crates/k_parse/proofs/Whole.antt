@@ -4,7 +4,7 @@ use Rattle.std.specs.Prelude.{◌⊎◌, Result, IfErr}
 use Rattle.k_tree.specs.declared.tokens.Token.{Token}
 use Rattle.k_tree.specs.declared.tree.unit.Unit as source
 use Rattle.k_reader.specs.Beginnings.{IsFirstWrong}
-use Rattle.k_reader.specs.Closed.{EndsOnce}
+use Rattle.k_tree.specs.Closed.{EndsOnce}
 use Rattle.k_reader.specs.Runs.{runs}
 use Rattle.k_reader.specs.Sources.{begin_source}
 use Rattle.k_reader.specs.declared.whole.ParseFault.{ParseFault}

@@ -1,6 +1,6 @@
 //! The tree of a token list.
 ghost use Rattle.std.specs.Prelude.{◌≡◌, ◌⊎◌, IfOk, IfErr, Some, Ok, Err};
-ghost use Rattle.k_reader.specs.Closed.{EndsOnce};
+ghost use Rattle.k_tree.specs.Closed.{EndsOnce};
 ghost use Rattle.k_reader.specs.Runs.{runs};
 ghost use Rattle.k_reader.specs.Sources.{begin_source};
 ghost use Rattle.k_parse.specs.Parse.{IsParse, IsOne, IsOnly};
@@ -35,6 +35,7 @@ fn read(alloc: Global, tokens: &[Token]) -> Result<Unit, ParseFault>
         source = match fed {
             Sourced::Goes { source, reach } => {
                 if reach > NESTING {
+                    drop(source);
                     return Err(ParseFault::TooDeep(token.place));
                 }
                 source

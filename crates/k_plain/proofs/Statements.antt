@@ -6,8 +6,10 @@ use Rattle.k_tree.specs.declared.tree.declaration.Declarator.{Declarator}
 use Rattle.k_tree.specs.declared.tree.declaration.Init.{Init, fold-Init, fold-roll-Init, ind-Init, map-Init}
 use Rattle.k_tree.specs.declared.tree.declaration.Init.TheOpen.{Init-F}
 use Rattle.k_tree.specs.declared.tree.expression.Expr.{Expr}
-use Rattle.k_tree.specs.declared.tree.statement.Stmt.{Stmt, fold-roll-Stmt, ind-Stmt, map-Stmt}
-use Rattle.k_tree.specs.declared.tree.statement.Stmt.TheOpen.{Stmt-F}
+use Rattle.k_tree.specs.declared.tree.statement.Stmt.{Stmt, fold_out-Stmt, map-Stmt, out-Stmt}
+use Rattle.k_tree.specs.declared.tree.statement.Part.{fold-Part}
+use Rattle.k_tree.specs.declared.tree.statement.Part as switch
+use Rattle.k_tree.specs.declared.tree.statement.Part.TheOpen.{Stmt-F}
 use Rattle.k_code.specs.declared.held.Held.{Held}
 use Rattle.k_plain.specs.declared.flow.Flow.{Flow}
 use Rattle.k_plain.specs.declared.flow.Flow.TheVariants.{Normal, Returned}
@@ -90,19 +92,16 @@ module _ (budget most : ℕ) where
       (λ a s good come. move_kept place a (λ (held : Held). gives (Returned held)) s good come (λ held t well gave. (well, tt, omega arith)))
 
   -- a statement
+  step_kept : (x : Stmt-F switch.Part Stmt)
+      → FlowKept budget most (does_step (map-Stmt switch.Part Stmt (Unit {0}) (Part Flow) (fold-Part (Unit {0}) (Part Flow) (λ label. tt) does_step) does x))
+  step_kept (Stmt-F.Expr place value) = value_kept value (λ unused. goes_on) (λ a s good come. goes_on_kept s good)
+  step_kept (Stmt-F.Return place value) = returned_kept place value
+  step_kept (Stmt-F.Declare place words list) = behind_kept (declarators list) (λ done. goes_on) (declarators_kept list) (λ done. goes_on_kept)
+  step_kept _ = goes_on_kept
+
   pub does_kept : (statement : Stmt) → FlowKept budget most (does statement)
-  does_kept =
-      ind-Stmt (λ statement. FlowKept budget most (does statement))
-      (λ x y is.
-      let parts : FlowKept budget most (does_step (map-Stmt Stmt (Part Flow) does x)) =
-      subst (λ (z : Stmt-F Stmt). FlowKept budget most (does_step (map-Stmt Stmt (Part Flow) does z))) is
-      (elim y as (λ z. FlowKept budget most (does_step (map-Stmt Stmt (Part Flow) does (map-Stmt _ Stmt (λ e. e.0) z)))) [
-        | Stmt-F.Expr place value ↦ value_kept value (λ unused. goes_on) (λ a s good come. goes_on_kept s good)
-        | Stmt-F.Return place value ↦ returned_kept place value
-        | Stmt-F.Declare place words list ↦ behind_kept (declarators list) (λ done. goes_on) (declarators_kept list) (λ done. goes_on_kept)
-        | _ ↦ goes_on_kept
-      ]) in
-      subst (FlowKept budget most) (sym (fold-roll-Stmt (Part Flow) does_step x)) parts)
+  does_kept statement =
+      subst (FlowKept budget most) (sym (fold_out-Stmt (Unit {0}) (Part Flow) (λ label. tt) does_step statement)) (step_kept (out-Stmt statement))
 
   unless_returned_kept : (next : Part Flow) → FlowKept budget most next → (flow : Flow) → FlowKept budget most (unless_returned next flow)
   unless_returned_kept next kept Normal = kept

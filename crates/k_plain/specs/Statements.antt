@@ -7,7 +7,7 @@ use Rattle.k_tree.specs.declared.tree.declaration.Init.{Init, fold-Init}
 use Rattle.k_tree.specs.declared.tree.declaration.Init.TheOpen.{Init-F}
 use Rattle.k_tree.specs.declared.tree.expression.Expr.{Expr}
 use Rattle.k_tree.specs.declared.tree.statement.Stmt.{Stmt, fold-Stmt}
-use Rattle.k_tree.specs.declared.tree.statement.Stmt.TheOpen.{Stmt-F}
+use Rattle.k_tree.specs.declared.tree.statement.Part.TheOpen.{Stmt-F}
 use Rattle.k_plain.specs.declared.flow.Flow.{Flow}
 use Rattle.k_plain.specs.declared.flow.Flow.TheVariants.{Normal, Returned}
 use Rattle.k_plain.specs.declared.operand.Operand.{Operand}
@@ -62,7 +62,7 @@ returned place None = goes_on
 returned place (Some value) = eval value >>= returns_value place
 
 -- A statement. The value of an expression statement is not used, and so not read (6.8.3p2).
-abbrev pub does_step : Stmt-F (Part Flow) → Part Flow
+abbrev pub does_step : Stmt-F (Unit {0}) (Part Flow) → Part Flow
 does_step (Stmt-F.Expr place value) = eval value >>= λ unused. goes_on
 does_step (Stmt-F.Return place value) = returned place value
 does_step (Stmt-F.Declare place specs list) = declarators list >>= λ done. goes_on
@@ -70,7 +70,7 @@ does_step other = goes_on
 
 -- a statement
 abbrev pub does : Stmt → Part Flow
-does = fold-Stmt (Part Flow) does_step
+does = fold-Stmt (Unit {0}) (Part Flow) (λ label. tt) does_step
 
 -- the statements of a block, in order (6.8.2p3)
 abbrev pub body : List Stmt → Part Flow

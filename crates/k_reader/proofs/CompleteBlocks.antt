@@ -11,13 +11,14 @@ use Rattle.k_tree.specs.declared.tokens.word.Word.{Word}
 use Rattle.k_tree.specs.declared.tokens.word.Word.TheVariants as word
 use Rattle.k_tree.specs.declared.tree.declaration.Declarator.{Declarator}
 use Rattle.k_tree.specs.declared.tree.statement.Stmt.{Stmt}
+use Rattle.k_tree.specs.declared.tree.statement.Part.{Part}
 use Rattle.k_tree.specs.declared.tree.statement.Stmt.TheVariants as stmt
-use Rattle.k_tree.specs.Bare.{bare_stmt, bare_stmt_step, nowhere}
+use Rattle.k_tree.specs.Bare.{bare_stmt, bare_part_step, bare_stmt_step, nowhere}
 use Rattle.k_tree.specs.Begins.{begins_stmt}
-use Rattle.k_tree.specs.Folds.{stmt_Expr, stmt_Empty, stmt_Block, if_alone as if_alone_folds, if_else as if_else_folds, stmt_While, stmt_DoWhile, stmt_For, stmt_Break, stmt_Continue, stmt_Return, stmt_Declare}
-use Rattle.k_tree.specs.Nesting.{expr_depth, option_depth, first_depth, declarators_depth, stmt_depth, stmt_depth_step, deepest}
-use Rattle.k_tree.specs.Ranked.{RankedStmt, RankedParts, RankedDeclaration, value, empty, block, if_alone, if_else, while_loop, do_loop, for_loop, break_loop, continue_loop, return_value, no_parts, statement, declaration, is_spec}
-use Rattle.k_tree.specs.Spelling.{Spelled, spell_specs, spell_declarator, spell_declaration, with_commas, in_braces, spell_stmt, spell_stmts, spell_stmt_step, the_mark}
+use Rattle.k_tree.specs.Folds.{stmt_Expr, stmt_Empty, stmt_Block, if_alone as if_alone_folds, if_else as if_else_folds, stmt_While, stmt_DoWhile, stmt_For, stmt_Switch, stmt_Break, stmt_Continue, stmt_Return, stmt_Declare}
+use Rattle.k_tree.specs.Nesting.{expr_depth, option_depth, first_depth, declarators_depth, stmt_depth, part_depth, part_depth_step, stmt_depth_step, deepest}
+use Rattle.k_tree.specs.Ranked.{RankedStmt, RankedParts, RankedDeclaration, value, empty, block, if_alone, if_else, while_loop, do_loop, for_loop, switch_stmt, RankedSwitch, no_labels, case_label, default_label, does, break_loop, continue_loop, return_value, no_parts, statement, declaration, is_spec}
+use Rattle.k_tree.specs.Spelling.{Spelled, spell_specs, spell_declarator, spell_declaration, with_commas, in_braces, spell_stmt, spell_stmts, spell_part_step, spell_stmt_step, the_mark}
 use Rattle.k_tree.proofs.Begin.{stmt_begins, not_empty}
 use Rattle.k_reader.specs.Operators.{is_semicolon, is_right_brace, is_left_brace, is_spec_word}
 use Rattle.k_reader.specs.Declarations.{begin_declaration}
@@ -26,15 +27,15 @@ use Rattle.k_reader.specs.declared.declaration.Declaration.{Declaration}
 use Rattle.k_reader.specs.declared.statement.Frame.TheVariants as frame
 use Rattle.k_reader.specs.declared.statement.Step.TheVariants as step
 use Rattle.k_reader.specs.declared.statement.Body.{Body}
-use Rattle.k_reader.specs.declared.statement.Stepped.{Stepped}
 use Rattle.k_reader.specs.declared.statement.Stepped.TheVariants as stepped
-use Rattle.k_reader.proofs.CompleteLeads.{token_at, Step, Leads, leads-then, leads-more, leads-in}
+use Rattle.k_reader.proofs.CompleteLeads.{token_at, Leads, leads-then, leads-more, leads-in}
 use Rattle.k_reader.proofs.CompleteDepths.{depth_positive}
 use Rattle.k_reader.proofs.CompleteInitialisers.{Declares}
 use Rattle.k_reader.proofs.CompleteDeclarations.{DeclarationHolds, declaration_complete}
-use Rattle.k_reader.proofs.CompleteStatements.{Runs, body_at, begins_at, StmtHolds, StmtReads, stmt_by, holds_stmt, value_reads, empty_reads, break_reads, continue_reads, return_reads}
+use Rattle.k_reader.proofs.CompleteStatements.{Runs, body_at, begins_at, StmtHolds, StmtReads, stmt_by, holds_stmt, from_begin, value_reads, empty_reads, break_reads, continue_reads, return_reads}
 use Rattle.k_reader.proofs.CompleteTests.{while_reads, do_reads, if_alone_reads, if_else_reads}
 use Rattle.k_reader.proofs.CompleteLoops.{for_reads}
+use Rattle.k_reader.proofs.CompleteSwitches.{EachSwitched, case_reads, default_reads, does_reads, switch_reads}
 
 -- a part of a block is read where a block awaits one, as itself up to places
 abbrev pub PartReads : Stmt → Type 0
@@ -99,15 +100,15 @@ local_lead bound ps s q (w ∷ ws) list h inside low deep = λ p. record {
             (local_ends ps s p (w ∷ ws) list i.declaration i.read to);
         low = omega arith;
         there = holds_stmt ps s (stmt.Declare q (w ∷ ws) list) (stmt.Declare p (w ∷ ws) i.read.made)
-            (stmt_Declare Stmt bare_stmt_step p (w ∷ ws) i.read.made ∙ (ap (λ v. stmt.Declare nowhere (w ∷ ws) v) i.read.same ∙ sym (stmt_Declare Stmt bare_stmt_step q (w ∷ ws) list)));
+            (stmt_Declare Part Stmt bare_part_step bare_stmt_step p (w ∷ ws) i.read.made ∙ (ap (λ v. stmt.Declare nowhere (w ∷ ws) v) i.read.same ∙ sym (stmt_Declare Part Stmt bare_part_step bare_stmt_step q (w ∷ ws) list)));
       }));
 }
 
 declare_reads : (q : Place) (specs : List Word) (list : List Declarator) → RankedDeclaration specs list → PartReads (stmt.Declare q specs list)
 declare_reads q specs list h = λ ps s inside.
-    let deep : stmt_depth (stmt.Declare q specs list) ≡ 1 + declarators_depth list = stmt_Declare ℕ stmt_depth_step q specs list in
+    let deep : stmt_depth (stmt.Declare q specs list) ≡ 1 + declarators_depth list = stmt_Declare ℕ ℕ part_depth_step stmt_depth_step q specs list in
     subst (λ kinds. Leads Runs (1 + length s + stmt_depth (stmt.Declare q specs list)) kinds (begins_at ps s) (StmtHolds ps s (stmt.Declare q specs list)))
-    (sym (stmt_Declare Spelled spell_stmt_step q specs list))
+    (sym (stmt_Declare Spelled Spelled spell_part_step spell_stmt_step q specs list))
     (local_lead (1 + length s + stmt_depth (stmt.Declare q specs list)) ps s q specs list h inside (omega arith) (omega arith))
 
 cons_some : (x : TokenKind) (xs : Spelled) → ◌≡◌ {A = Spelled} (x ∷ xs) [] → ⊥
@@ -115,7 +116,7 @@ cons_some x xs e = cc
 
 declare_spelled : (q : Place) (specs : List Word) (list : List Declarator) → RankedDeclaration specs list → spell_stmt (stmt.Declare q specs list) ≢ []
 declare_spelled q [] list h = absurd (h.0.0 refl)
-declare_spelled q (w ∷ ws) list h = λ e. cons_some (token.Word w) (spell_specs ws ++ (with_commas (map spell_declarator list) ++ the_mark mark.Semicolon)) (sym (stmt_Declare Spelled spell_stmt_step q (w ∷ ws) list) ∙ e)
+declare_spelled q (w ∷ ws) list h = λ e. cons_some (token.Word w) (spell_specs ws ++ (with_commas (map spell_declarator list) ++ the_mark mark.Semicolon)) (sym (stmt_Declare Spelled Spelled spell_part_step spell_stmt_step q (w ∷ ws) list) ∙ e)
 
 -- parts in a row
 
@@ -130,31 +131,6 @@ pub record PartsHold (pf : List Stmt → Parts) (ff : List Stmt → Frames) (par
   pub made : List Stmt
   pub next : (t : Token) → is_else t.what ≡ false → feed_body z t ≡ feed_body (begins_at (pf made) (ff made)) t
   pub same : map bare_stmt made ≡ map bare_stmt parts
-
-else_refused : (ps : Parts) (s : Frames) (p : Place) → feed_body (begins_at ps s) (token_at p (token.Word word.Else)) ≡ stepped.Refused
-unfolding feed_body begins keyword declares is_spec_word mark_begins is_semicolon is_left_brace is_right_brace jump
-else_refused ps s p = refl
-
-refused_goes : (b : Body) (reach : ℕ) → ◌≡◌ {A = Stepped} stepped.Refused (stepped.Goes b reach) → ⊥
-refused_goes b reach e = cc
-
-no_else : (ps : Parts) (s : Frames) (p : Place) (kind : TokenKind) (next : Body) (reach : ℕ) → Runs (begins_at ps s) (token_at p kind) next reach → is_else kind ≡ false
-no_else ps s p (token.Word word.Else) next reach h = absurd (refused_goes next reach (sym (else_refused ps s p) ∙ h))
-no_else ps s p kind next reach h = refl
-
-from_begin : (bound : ℕ) (xs : Spelled) (ps : Parts) (s : Frames) (z : Body) (Q : Body → Type 0) → xs ≢ []
-    → ((t : Token) → is_else t.what ≡ false → feed_body z t ≡ feed_body (begins_at ps s) t)
-    → Leads Runs bound xs (begins_at ps s) Q → Leads Runs bound xs z Q
-from_begin bound [] ps s z Q some f l = absurd (some refl)
-from_begin bound (x ∷ xs) ps s z Q some f l = λ p.
-    let first : Step Runs bound (begins_at ps s) (token_at p x) (λ next. Leads Runs bound xs next Q) = l p in
-    record {
-      next = first.next;
-      reach = first.reach;
-      goes = f (token_at p x) (no_else ps s p x first.next first.reach first.goes) ∙ first.goes;
-      low = first.low;
-      there = first.there;
-    }
 
 one_more : (done seen : List Stmt) (b a : Stmt) → map bare_stmt done ≡ map bare_stmt seen → bare_stmt b ≡ bare_stmt a
     → map bare_stmt (done ++ b ∷ []) ≡ map bare_stmt (seen ++ a ∷ [])
@@ -210,7 +186,7 @@ blocks_in ps s p = record {
 
 block_reads : (p : Place) (parts : List Stmt) → EachPart parts → StmtReads (stmt.Block p parts)
 block_reads p parts r =
-    stmt_by (stmt.Block p parts) (in_braces (spell_stmts parts)) (1 + deepest (map stmt_depth parts)) (stmt_Block Spelled spell_stmt_step p parts) (stmt_Block ℕ stmt_depth_step p parts)
+    stmt_by (stmt.Block p parts) (in_braces (spell_stmts parts)) (1 + deepest (map stmt_depth parts)) (stmt_Block Spelled Spelled spell_part_step spell_stmt_step p parts) (stmt_Block ℕ ℕ part_depth_step stmt_depth_step p parts)
     (λ ps s at.
     let bound : ℕ = 1 + length s + (1 + deepest (map stmt_depth parts)) in
     record {
@@ -229,7 +205,7 @@ block_reads p parts r =
             goes = h.next (token_at to (token.Mark mark.RightBrace)) refl ∙ block_closes ps s at h.made to;
             low = omega arith;
             there = holds_stmt ps s (stmt.Block p parts) (stmt.Block at h.made)
-                (stmt_Block Stmt bare_stmt_step at h.made ∙ (ap (λ v. stmt.Block nowhere v) h.same ∙ sym (stmt_Block Stmt bare_stmt_step p parts)));
+                (stmt_Block Part Stmt bare_part_step bare_stmt_step at h.made ∙ (ap (λ v. stmt.Block nowhere v) h.same ∙ sym (stmt_Block Part Stmt bare_part_step bare_stmt_step p parts)));
           });
     })
 
@@ -239,18 +215,20 @@ above_zero : (d e : ℕ) → e ≡ 1 + d → 1 ≤ e
 above_zero d e h = omega arith
 
 stmt_positive : (x : Stmt) → RankedStmt x → 1 ≤ stmt_depth x
-stmt_positive _ (value p a x) = above_zero (expr_depth a) _ (stmt_Expr ℕ stmt_depth_step p a)
-stmt_positive _ (empty p) = above_zero 0 _ (stmt_Empty ℕ stmt_depth_step p)
-stmt_positive _ (block p parts x) = above_zero (deepest (map stmt_depth parts)) _ (stmt_Block ℕ stmt_depth_step p parts)
-stmt_positive _ (if_alone p a s x y) = above_zero (max (expr_depth a) (max (stmt_depth s) 0)) _ (if_alone_folds ℕ stmt_depth_step p a s)
-stmt_positive _ (if_else p a s t x y q z) = above_zero (max (expr_depth a) (max (stmt_depth s) (stmt_depth t))) _ (if_else_folds ℕ stmt_depth_step p a s t)
-stmt_positive _ (while_loop p a s x y) = above_zero (max (expr_depth a) (stmt_depth s)) _ (stmt_While ℕ stmt_depth_step p a s)
-stmt_positive _ (do_loop p s a x y) = above_zero (max (stmt_depth s) (expr_depth a)) _ (stmt_DoWhile ℕ stmt_depth_step p s a)
+stmt_positive _ (value p a x) = above_zero (expr_depth a) _ (stmt_Expr ℕ ℕ part_depth_step stmt_depth_step p a)
+stmt_positive _ (empty p) = above_zero 0 _ (stmt_Empty ℕ ℕ part_depth_step stmt_depth_step p)
+stmt_positive _ (block p parts x) = above_zero (deepest (map stmt_depth parts)) _ (stmt_Block ℕ ℕ part_depth_step stmt_depth_step p parts)
+stmt_positive _ (if_alone p a s x y) = above_zero (max (expr_depth a) (max (stmt_depth s) 0)) _ (if_alone_folds ℕ ℕ part_depth_step stmt_depth_step p a s)
+stmt_positive _ (if_else p a s t x y q z) = above_zero (max (expr_depth a) (max (stmt_depth s) (stmt_depth t))) _ (if_else_folds ℕ ℕ part_depth_step stmt_depth_step p a s t)
+stmt_positive _ (while_loop p a s x y) = above_zero (max (expr_depth a) (stmt_depth s)) _ (stmt_While ℕ ℕ part_depth_step stmt_depth_step p a s)
+stmt_positive _ (do_loop p s a x y) = above_zero (max (stmt_depth s) (expr_depth a)) _ (stmt_DoWhile ℕ ℕ part_depth_step stmt_depth_step p s a)
 stmt_positive _ (for_loop p start a b s x y z w) =
-    above_zero (max (first_depth start) (max (option_depth a) (max (option_depth b) (stmt_depth s)))) _ (stmt_For ℕ stmt_depth_step p start a b s)
-stmt_positive _ (break_loop p) = above_zero 0 _ (stmt_Break ℕ stmt_depth_step p)
-stmt_positive _ (continue_loop p) = above_zero 0 _ (stmt_Continue ℕ stmt_depth_step p)
-stmt_positive _ (return_value p a x) = above_zero (option_depth a) _ (stmt_Return ℕ stmt_depth_step p a)
+    above_zero (max (first_depth start) (max (option_depth a) (max (option_depth b) (stmt_depth s)))) _ (stmt_For ℕ ℕ part_depth_step stmt_depth_step p start a b s)
+stmt_positive _ (switch_stmt p a parts x y) =
+    above_zero (max (expr_depth a) (deepest (map part_depth parts))) _ (stmt_Switch ℕ ℕ part_depth_step stmt_depth_step p a parts)
+stmt_positive _ (break_loop p) = above_zero 0 _ (stmt_Break ℕ ℕ part_depth_step stmt_depth_step p)
+stmt_positive _ (continue_loop p) = above_zero 0 _ (stmt_Continue ℕ ℕ part_depth_step stmt_depth_step p)
+stmt_positive _ (return_value p a x) = above_zero (option_depth a) _ (stmt_Return ℕ ℕ part_depth_step stmt_depth_step p a)
 
 mutual
   -- a ranked statement is read where one begins, no deeper than it lies, as itself up to places
@@ -263,6 +241,7 @@ mutual
   stmt_complete _ (while_loop p a s x y) = while_reads p a s x (depth_positive 0 a x) (stmt_complete s y)
   stmt_complete _ (do_loop p s a x y) = do_reads p s a y (depth_positive 0 a y) (stmt_complete s x)
   stmt_complete _ (for_loop p start a b s x y z w) = for_reads p start a b s x y z (stmt_positive s w) (stmt_complete s w)
+  stmt_complete _ (switch_stmt p a parts x y) = switch_reads p a parts x (depth_positive 0 a x) (switched_complete parts y)
   stmt_complete _ (break_loop p) = break_reads p
   stmt_complete _ (continue_loop p) = continue_reads p
   stmt_complete _ (return_value p a x) = return_reads p a x
@@ -271,3 +250,10 @@ mutual
   parts_complete _ no_parts = tt
   parts_complete _ (statement s parts x y) = ((λ ps t inside. stmt_complete s x ps t), not_empty begins_stmt (spell_stmt s) (stmt_begins s x), parts_complete parts y)
   parts_complete _ (declaration p specs list parts x y) = (declare_reads p specs list x, declare_spelled p specs list x, parts_complete parts y)
+
+  pub switched_complete : (parts : List Part) → RankedSwitch parts → EachSwitched parts
+  switched_complete _ no_labels = tt
+  switched_complete _ (case_label p a parts x y) = (case_reads p a x (depth_positive 2 a x), switched_complete parts y)
+  switched_complete _ (default_label p parts y) = (default_reads p, switched_complete parts y)
+  switched_complete _ (does p s parts x y) =
+      (does_reads p s (not_empty begins_stmt (spell_stmt s) (stmt_begins s x)) (stmt_complete s x), switched_complete parts y)

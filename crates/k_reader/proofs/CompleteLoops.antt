@@ -14,12 +14,13 @@ use Rattle.k_tree.specs.declared.tree.declaration.Declarator.{Declarator}
 use Rattle.k_tree.specs.declared.tree.statement.First.{First}
 use Rattle.k_tree.specs.declared.tree.statement.First.TheVariants as first
 use Rattle.k_tree.specs.declared.tree.statement.Stmt.{Stmt}
+use Rattle.k_tree.specs.declared.tree.statement.Part.{Part}
 use Rattle.k_tree.specs.declared.tree.statement.Stmt.TheVariants as stmt
-use Rattle.k_tree.specs.Bare.{bare_expr, bare_first, bare_stmt, bare_stmt_step, where_given, nowhere}
+use Rattle.k_tree.specs.Bare.{bare_expr, bare_first, bare_stmt, bare_part_step, bare_stmt_step, where_given, nowhere}
 use Rattle.k_tree.specs.Folds.{stmt_For}
-use Rattle.k_tree.specs.Nesting.{option_depth, first_depth, declarators_depth, stmt_depth, stmt_depth_step}
-use Rattle.k_tree.specs.Ranked.{Ranked, IfGiven, RankedFirst, RankedDeclaration, ends_open_step, is_spec}
-use Rattle.k_tree.specs.Spelling.{Spelled, spell_specs, spell_declarator, spell_declaration, with_commas, spell_option, spell_first, spell_for, spell_stmt, spell_stmt_step, the_mark, the_word}
+use Rattle.k_tree.specs.Nesting.{option_depth, first_depth, declarators_depth, stmt_depth, part_depth_step, stmt_depth_step}
+use Rattle.k_tree.specs.Ranked.{Ranked, IfGiven, RankedFirst, RankedDeclaration, ends_open_part, ends_open_step, is_spec}
+use Rattle.k_tree.specs.Spelling.{Spelled, spell_specs, spell_declarator, spell_declaration, with_commas, spell_option, spell_first, spell_for, spell_stmt, spell_part_step, spell_stmt_step, the_mark, the_word}
 use Rattle.k_reader.specs.Operators.{is_semicolon, is_right_brace, is_left_brace, is_spec_word}
 use Rattle.k_reader.specs.Expressions.{feed, operand, word_operand, is_before_type, is_sizeof, type_begun, goes, level as expr_level, begin, Opens}
 use Rattle.k_reader.specs.Readings.{read_maybe, is_fresh, closes}
@@ -254,7 +255,7 @@ unfolding second_at third_at
 for_reads p x a b c hx ha hb positive f =
     stmt_by (stmt.For p x a b c) (the_word word.For ++ (spell_for x a b ++ spell_stmt c))
     (1 + max (first_depth x) (max (option_depth a) (max (option_depth b) (stmt_depth c))))
-    (stmt_For Spelled spell_stmt_step p x a b c) (stmt_For ℕ stmt_depth_step p x a b c)
+    (stmt_For Spelled Spelled spell_part_step spell_stmt_step p x a b c) (stmt_For ℕ ℕ part_depth_step stmt_depth_step p x a b c)
     (λ ps s at.
     let bound : ℕ = 1 + length s + (1 + max (first_depth x) (max (option_depth a) (max (option_depth b) (stmt_depth c)))) in
     record {
@@ -289,13 +290,13 @@ for_reads p x a b c hx ha hb positive f =
             (f ps (frame.For at h.made i.made j.made ∷ s))
             (λ v k. record {
               made = stmt.For at h.made i.made j.made k.made;
-              next = λ t u. k.next t (λ o. u (stmt_For Bool ends_open_step p x a b c ∙ o)) ∙ for_behind ps s at h.made i.made j.made k.made t;
-              same = stmt_For Stmt bare_stmt_step at h.made i.made j.made k.made
+              next = λ t u. k.next t (λ o. u (stmt_For (Unit {0}) Bool ends_open_part ends_open_step p x a b c ∙ o)) ∙ for_behind ps s at h.made i.made j.made k.made t;
+              same = stmt_For Part Stmt bare_part_step bare_stmt_step at h.made i.made j.made k.made
                   ∙ (ap (λ o. stmt.For nowhere o (where_given bare_expr i.made) (where_given bare_expr j.made) (bare_stmt k.made)) h.same
                   ∙ (ap (λ o. stmt.For nowhere (bare_first x) o (where_given bare_expr j.made) (bare_stmt k.made)) i.same
                   ∙ (ap (λ o. stmt.For nowhere (bare_first x) (where_given bare_expr a) o (bare_stmt k.made)) j.same
                   ∙ (ap (λ o. stmt.For nowhere (bare_first x) (where_given bare_expr a) (where_given bare_expr b) o) k.same
-                  ∙ sym (stmt_For Stmt bare_stmt_step p x a b c)))));
+                  ∙ sym (stmt_For Part Stmt bare_part_step bare_stmt_step p x a b c)))));
             }))))))));
       };
     })

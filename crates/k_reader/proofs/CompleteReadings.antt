@@ -39,6 +39,7 @@ unfolding feed operand mark_operand no_arguments is_prefix_mark is_open is_close
 mark_refused g p closer.Bracket mark.RightBracket e = refl
 mark_refused g p closer.Paren mark.RightParen e = refl
 mark_refused g p closer.Semicolon mark.Semicolon e = refl
+mark_refused g p closer.Colon mark.Colon e = refl
 mark_refused g p c m e = absurd cc
 
 kind_refused : (g : Site) (p : Place) (c : Closer) (kind : TokenKind) → kind_closes c kind ≡ true → feed (awaits g []) (token_at p kind) ≡ fed.Refused
@@ -92,3 +93,7 @@ paren_below rank = below_none rank mark.RightParen refl refl
 pub semicolon_below : (rank : ℕ) → Below rank (token.Mark mark.Semicolon)
 unfolding binding
 semicolon_below rank = below_none rank mark.Semicolon refl refl
+
+pub colon_below : (rank : ℕ) → Below rank (token.Mark mark.Colon)
+unfolding binding
+colon_below rank = below_none rank mark.Colon refl refl

@@ -1,5 +1,5 @@
 -- Statements: what one is read as, and those without statements in them.
-use Rattle.std.proofs.Common.{ℕ, ◌≡◌, ◌+◌, ◌<◌, ◌≤◌, true, false, [], ◌∷◌, ◌++◌, length, Option, Some, None, sym, ap, ◌∙◌, subst, refl, arith}
+use Rattle.std.proofs.Common.{ℕ, ◌≡◌, ◌≢◌, ◌+◌, ◌<◌, ◌≤◌, true, false, [], ◌∷◌, ◌++◌, length, Option, Some, None, sym, ap, ◌∙◌, subst, refl, arith}
 use Rattle.k_num.specs.declared.place.Place.{Place}
 use Rattle.k_tree.specs.declared.tokens.Token.{Token}
 use Rattle.k_tree.specs.declared.tokens.TokenKind.{TokenKind}
@@ -9,19 +9,20 @@ use Rattle.k_tree.specs.declared.tokens.mark.Mark.TheVariants as mark
 use Rattle.k_tree.specs.declared.tokens.word.Word.TheVariants as word
 use Rattle.k_tree.specs.declared.tree.expression.Expr.{Expr}
 use Rattle.k_tree.specs.declared.tree.statement.Stmt.{Stmt}
+use Rattle.k_tree.specs.declared.tree.statement.Part.{Part}
 use Rattle.k_tree.specs.declared.tree.statement.Stmt.TheVariants as stmt
-use Rattle.k_tree.specs.Bare.{bare_expr, bare_stmt, bare_stmt_step, where_given, nowhere}
+use Rattle.k_tree.specs.Bare.{bare_expr, bare_stmt, bare_part_step, bare_stmt_step, where_given, nowhere}
 use Rattle.k_tree.specs.Begins.{Begins, begins_expr}
 use Rattle.k_tree.specs.Folds.{stmt_Expr, stmt_Empty, stmt_Break, stmt_Continue, stmt_Return}
-use Rattle.k_tree.specs.Nesting.{expr_depth, option_depth, stmt_depth, stmt_depth_step}
+use Rattle.k_tree.specs.Nesting.{expr_depth, option_depth, stmt_depth, part_depth_step, stmt_depth_step}
 use Rattle.k_tree.specs.Ranked.{Ranked, IfGiven, ends_open}
-use Rattle.k_tree.specs.Spelling.{Spelled, spell_expr, spell_option, spell_stmt, spell_stmt_step, the_mark, the_word}
+use Rattle.k_tree.specs.Spelling.{Spelled, spell_expr, spell_option, spell_stmt, spell_part_step, spell_stmt_step, the_mark, the_word}
 use Rattle.k_tree.proofs.Begin.{expr_begins}
 use Rattle.k_reader.specs.Operators.{is_spec_word, is_semicolon, is_right_brace, is_left_brace}
 use Rattle.k_reader.specs.Expressions.{begin}
 use Rattle.k_reader.specs.Readings.{read_maybe, is_fresh, closes}
 use Rattle.k_reader.specs.declared.reading.Closer.TheVariants as closer
-use Rattle.k_reader.specs.Statements.{mark_begins, jump, Parts, Frames, feed_body, begins, begins_by, expression, expression_by, keyword, value, value_by, returned, returned_by, semicolon, behind, is_else, level, inner}
+use Rattle.k_reader.specs.Statements.{mark_begins, jump, Parts, Frames, feed_body, begins, begins_by, expression, expression_by, keyword, value, value_by, returned, returned_by, semicolon, behind, is_else, declares, level, inner}
 use Rattle.k_reader.specs.declared.expression.Reading.{Reading}
 use Rattle.k_reader.specs.declared.statement.Step.{Step as Stage}
 use Rattle.k_reader.specs.declared.statement.Step.TheVariants as step
@@ -122,7 +123,7 @@ first_leads ps s a bound more (x ∷ xs) b le l = λ p.
 
 pub value_reads : (p : Place) (a : Expr) → Ranked 0 a → StmtReads (stmt.Expr p a)
 value_reads p a x =
-    stmt_by (stmt.Expr p a) (spell_expr a ++ the_mark mark.Semicolon) (1 + expr_depth a) (stmt_Expr Spelled spell_stmt_step p a) (stmt_Expr ℕ stmt_depth_step p a)
+    stmt_by (stmt.Expr p a) (spell_expr a ++ the_mark mark.Semicolon) (1 + expr_depth a) (stmt_Expr Spelled Spelled spell_part_step spell_stmt_step p a) (stmt_Expr ℕ ℕ part_depth_step stmt_depth_step p a)
     (λ ps s.
     let bound : ℕ = 1 + length s + (1 + expr_depth a) in
     leads-then Runs bound bound (spell_expr a) (the_mark mark.Semicolon) (begins_at ps s) (InValue ps s a) (StmtHolds ps s (stmt.Expr p a)) (omega arith)
@@ -134,7 +135,7 @@ value_reads p a x =
           (value_ends ps s h.place a h.reading h.read to);
       low = omega arith;
       there = holds_stmt ps s (stmt.Expr p a) (stmt.Expr h.place h.read.made)
-          (stmt_Expr Stmt bare_stmt_step h.place h.read.made ∙ (ap (λ e. stmt.Expr nowhere e) h.read.same ∙ sym (stmt_Expr Stmt bare_stmt_step p a)));
+          (stmt_Expr Part Stmt bare_part_step bare_stmt_step h.place h.read.made ∙ (ap (λ e. stmt.Expr nowhere e) h.read.same ∙ sym (stmt_Expr Part Stmt bare_part_step bare_stmt_step p a)));
     }))
 
 -- a semicolon
@@ -146,13 +147,13 @@ empty_goes ps s p = refl
 
 pub empty_reads : (p : Place) → StmtReads (stmt.Empty p)
 empty_reads p =
-    stmt_by (stmt.Empty p) (the_mark mark.Semicolon) 1 (stmt_Empty Spelled spell_stmt_step p) (stmt_Empty ℕ stmt_depth_step p)
+    stmt_by (stmt.Empty p) (the_mark mark.Semicolon) 1 (stmt_Empty Spelled Spelled spell_part_step spell_stmt_step p) (stmt_Empty ℕ ℕ part_depth_step stmt_depth_step p)
     (λ ps s at. record {
       next = body_at ps s (step.Whole (stmt.Empty at));
       reach = level s;
       goes = empty_goes ps s at;
       low = omega arith;
-      there = holds_stmt ps s (stmt.Empty p) (stmt.Empty at) (stmt_Empty Stmt bare_stmt_step at ∙ sym (stmt_Empty Stmt bare_stmt_step p));
+      there = holds_stmt ps s (stmt.Empty p) (stmt.Empty at) (stmt_Empty Part Stmt bare_part_step bare_stmt_step at ∙ sym (stmt_Empty Part Stmt bare_part_step bare_stmt_step p));
     })
 
 pub semicolon_goes : (ps : Parts) (s : Frames) (x : Stmt) (p : Place)
@@ -172,7 +173,7 @@ continue_goes ps s p = refl
 
 pub break_reads : (p : Place) → StmtReads (stmt.Break p)
 break_reads p =
-    stmt_by (stmt.Break p) (the_word word.Break ++ the_mark mark.Semicolon) 1 (stmt_Break Spelled spell_stmt_step p) (stmt_Break ℕ stmt_depth_step p)
+    stmt_by (stmt.Break p) (the_word word.Break ++ the_mark mark.Semicolon) 1 (stmt_Break Spelled Spelled spell_part_step spell_stmt_step p) (stmt_Break ℕ ℕ part_depth_step stmt_depth_step p)
     (λ ps s at. record {
       next = body_at ps s (step.Semicolon (stmt.Break at));
       reach = level s;
@@ -183,13 +184,13 @@ break_reads p =
         reach = 0;
         goes = semicolon_goes ps s (stmt.Break at) to;
         low = omega arith;
-        there = holds_stmt ps s (stmt.Break p) (stmt.Break at) (stmt_Break Stmt bare_stmt_step at ∙ sym (stmt_Break Stmt bare_stmt_step p));
+        there = holds_stmt ps s (stmt.Break p) (stmt.Break at) (stmt_Break Part Stmt bare_part_step bare_stmt_step at ∙ sym (stmt_Break Part Stmt bare_part_step bare_stmt_step p));
       };
     })
 
 pub continue_reads : (p : Place) → StmtReads (stmt.Continue p)
 continue_reads p =
-    stmt_by (stmt.Continue p) (the_word word.Continue ++ the_mark mark.Semicolon) 1 (stmt_Continue Spelled spell_stmt_step p) (stmt_Continue ℕ stmt_depth_step p)
+    stmt_by (stmt.Continue p) (the_word word.Continue ++ the_mark mark.Semicolon) 1 (stmt_Continue Spelled Spelled spell_part_step spell_stmt_step p) (stmt_Continue ℕ ℕ part_depth_step stmt_depth_step p)
     (λ ps s at. record {
       next = body_at ps s (step.Semicolon (stmt.Continue at));
       reach = level s;
@@ -200,7 +201,7 @@ continue_reads p =
         reach = 0;
         goes = semicolon_goes ps s (stmt.Continue at) to;
         low = omega arith;
-        there = holds_stmt ps s (stmt.Continue p) (stmt.Continue at) (stmt_Continue Stmt bare_stmt_step at ∙ sym (stmt_Continue Stmt bare_stmt_step p));
+        there = holds_stmt ps s (stmt.Continue p) (stmt.Continue at) (stmt_Continue Part Stmt bare_part_step bare_stmt_step at ∙ sym (stmt_Continue Part Stmt bare_part_step bare_stmt_step p));
       };
     })
 
@@ -268,7 +269,7 @@ return_ends ps s p a r h at =
 pub return_reads : (p : Place) (a : Option Expr) → IfGiven (Ranked 0) a → StmtReads (stmt.Return p a)
 return_reads p a x =
     stmt_by (stmt.Return p a) (the_word word.Return ++ (spell_option a ++ the_mark mark.Semicolon)) (1 + option_depth a)
-    (stmt_Return Spelled spell_stmt_step p a) (stmt_Return ℕ stmt_depth_step p a)
+    (stmt_Return Spelled Spelled spell_part_step spell_stmt_step p a) (stmt_Return ℕ ℕ part_depth_step stmt_depth_step p a)
     (λ ps s at.
     let bound : ℕ = 1 + length s + (1 + option_depth a) in
     record {
@@ -282,5 +283,32 @@ return_reads p a x =
           (maybe_lead Runs (λ r. body_at ps s (step.Return at r)) (λ e. body_at ps s (step.Whole (stmt.Return at e))) mark.Semicolon (inner s) bound
           (return_moves ps s at) (return_empty ps s at) (λ e r h to. return_ends ps s at e r h to) a x (omega arith) (omega arith))
           (λ z h. subst (StmtHolds ps s (stmt.Return p a)) (sym h.at) (holds_stmt ps s (stmt.Return p a) (stmt.Return at h.made)
-          (stmt_Return Stmt bare_stmt_step at h.made ∙ (ap (λ e. stmt.Return nowhere e) h.same ∙ sym (stmt_Return Stmt bare_stmt_step p a)))));
+          (stmt_Return Part Stmt bare_part_step bare_stmt_step at h.made ∙ (ap (λ e. stmt.Return nowhere e) h.same ∙ sym (stmt_Return Part Stmt bare_part_step bare_stmt_step p a)))));
     })
+
+-- what stands behind a statement, where the next one begins
+
+else_refused : (ps : Parts) (s : Frames) (p : Place) → feed_body (begins_at ps s) (token_at p (token.Word word.Else)) ≡ stepped.Refused
+unfolding feed_body begins keyword declares is_spec_word mark_begins is_semicolon is_left_brace is_right_brace jump
+else_refused ps s p = refl
+
+refused_goes : (b : Body) (reach : ℕ) → ◌≡◌ {A = Stepped} stepped.Refused (stepped.Goes b reach) → ⊥
+refused_goes b reach e = cc
+
+no_else : (ps : Parts) (s : Frames) (p : Place) (kind : TokenKind) (next : Body) (reach : ℕ) → Runs (begins_at ps s) (token_at p kind) next reach → is_else kind ≡ false
+no_else ps s p (token.Word word.Else) next reach h = absurd (refused_goes next reach (sym (else_refused ps s p) ∙ h))
+no_else ps s p kind next reach h = refl
+
+pub from_begin : (bound : ℕ) (xs : Spelled) (ps : Parts) (s : Frames) (z : Body) (Q : Body → Type 0) → xs ≢ []
+    → ((t : Token) → is_else t.what ≡ false → feed_body z t ≡ feed_body (begins_at ps s) t)
+    → Leads Runs bound xs (begins_at ps s) Q → Leads Runs bound xs z Q
+from_begin bound [] ps s z Q some f l = absurd (some refl)
+from_begin bound (x ∷ xs) ps s z Q some f l = λ p.
+    let first : Step Runs bound (begins_at ps s) (token_at p x) (λ next. Leads Runs bound xs next Q) = l p in
+    record {
+      next = first.next;
+      reach = first.reach;
+      goes = f (token_at p x) (no_else ps s p x first.next first.reach first.goes) ∙ first.goes;
+      low = first.low;
+      there = first.there;
+    }

@@ -7,12 +7,13 @@ use Rattle.k_tree.specs.declared.tokens.mark.Mark.TheVariants as mark
 use Rattle.k_tree.specs.declared.tokens.word.Word.TheVariants as word
 use Rattle.k_tree.specs.declared.tree.expression.Expr.{Expr}
 use Rattle.k_tree.specs.declared.tree.statement.Stmt.{Stmt}
+use Rattle.k_tree.specs.declared.tree.statement.Part.{Part}
 use Rattle.k_tree.specs.declared.tree.statement.Stmt.TheVariants as stmt
-use Rattle.k_tree.specs.Bare.{bare_expr, bare_stmt, bare_stmt_step, nowhere}
+use Rattle.k_tree.specs.Bare.{bare_expr, bare_stmt, bare_part_step, bare_stmt_step, nowhere}
 use Rattle.k_tree.specs.Folds.{if_alone, if_else, stmt_While, stmt_DoWhile}
-use Rattle.k_tree.specs.Nesting.{expr_depth, stmt_depth, stmt_depth_step}
-use Rattle.k_tree.specs.Ranked.{Ranked, ends_open, ends_open_step}
-use Rattle.k_tree.specs.Spelling.{Spelled, spell_expr, spell_stmt, spell_stmt_step, the_mark, the_word, in_parens}
+use Rattle.k_tree.specs.Nesting.{expr_depth, stmt_depth, part_depth_step, stmt_depth_step}
+use Rattle.k_tree.specs.Ranked.{Ranked, ends_open, ends_open_part, ends_open_step}
+use Rattle.k_tree.specs.Spelling.{Spelled, spell_expr, spell_stmt, spell_part_step, spell_stmt_step, the_mark, the_word, in_parens}
 use Rattle.k_reader.specs.Operators.{is_spec_word, is_semicolon, is_right_brace, is_left_brace}
 use Rattle.k_reader.specs.Expressions.{begin}
 use Rattle.k_reader.specs.Readings.{closes}
@@ -88,7 +89,7 @@ test_lead bound ps s x a after done h positive low = λ p. record {
 }
 
 -- a keyword, a test, and what stands behind
-tested_lead : (bound : ℕ) (ps : Parts) (s : Frames) (x : Tested) (a : Expr) (after : Expr → Body) (rest : Spelled) (Q : Body → Type 0)
+pub tested_lead : (bound : ℕ) (ps : Parts) (s : Frames) (x : Tested) (a : Expr) (after : Expr → Body) (rest : Spelled) (Q : Body → Type 0)
     → ((e : Expr) → test_done ps s x e ≡ stepped.Goes (after e) 0) → Ranked 0 a → 1 ≤ bound → inner s + expr_depth a ≤ bound
     → ((e : Expr) → bare_expr e ≡ bare_expr a → Leads Runs bound rest (after e) Q)
     → Leads Runs bound (in_parens (spell_expr a) ++ rest) (body_at ps s (step.Keyword x)) Q
@@ -152,7 +153,7 @@ do_behind ps s p b at = refl
 pub while_reads : (p : Place) (a : Expr) (b : Stmt) → Ranked 0 a → 1 ≤ expr_depth a → StmtReads b → StmtReads (stmt.While p a b)
 while_reads p a b x positive f =
     stmt_by (stmt.While p a b) (the_word word.While ++ (in_parens (spell_expr a) ++ spell_stmt b)) (1 + max (expr_depth a) (stmt_depth b))
-    (stmt_While Spelled spell_stmt_step p a b) (stmt_While ℕ stmt_depth_step p a b)
+    (stmt_While Spelled Spelled spell_part_step spell_stmt_step p a b) (stmt_While ℕ ℕ part_depth_step stmt_depth_step p a b)
     (λ ps s at.
     let bound : ℕ = 1 + length s + (1 + max (expr_depth a) (stmt_depth b)) in
     record {
@@ -167,9 +168,9 @@ while_reads p a b x positive f =
           (f ps (frame.While at e ∷ s))
           (λ z h. record {
             made = stmt.While at e h.made;
-            next = λ t u. h.next t (λ v. u (stmt_While Bool ends_open_step p a b ∙ v)) ∙ while_behind ps s at e h.made t;
-            same = stmt_While Stmt bare_stmt_step at e h.made
-                ∙ (ap (λ v. stmt.While nowhere v (bare_stmt h.made)) same ∙ (ap (λ v. stmt.While nowhere (bare_expr a) v) h.same ∙ sym (stmt_While Stmt bare_stmt_step p a b)));
+            next = λ t u. h.next t (λ v. u (stmt_While (Unit {0}) Bool ends_open_part ends_open_step p a b ∙ v)) ∙ while_behind ps s at e h.made t;
+            same = stmt_While Part Stmt bare_part_step bare_stmt_step at e h.made
+                ∙ (ap (λ v. stmt.While nowhere v (bare_stmt h.made)) same ∙ (ap (λ v. stmt.While nowhere (bare_expr a) v) h.same ∙ sym (stmt_While Part Stmt bare_part_step bare_stmt_step p a b)));
           }));
     })
 
@@ -178,7 +179,7 @@ while_reads p a b x positive f =
 pub do_reads : (p : Place) (b : Stmt) (a : Expr) → Ranked 0 a → 1 ≤ expr_depth a → StmtReads b → StmtReads (stmt.DoWhile p b a)
 do_reads p b a x positive f =
     stmt_by (stmt.DoWhile p b a) (the_word word.Do ++ (spell_stmt b ++ (the_word word.While ++ (in_parens (spell_expr a) ++ the_mark mark.Semicolon))))
-    (1 + max (stmt_depth b) (expr_depth a)) (stmt_DoWhile Spelled spell_stmt_step p b a) (stmt_DoWhile ℕ stmt_depth_step p b a)
+    (1 + max (stmt_depth b) (expr_depth a)) (stmt_DoWhile Spelled Spelled spell_part_step spell_stmt_step p b a) (stmt_DoWhile ℕ ℕ part_depth_step stmt_depth_step p b a)
     (λ ps s at.
     let bound : ℕ = 1 + length s + (1 + max (stmt_depth b) (expr_depth a)) in
     record {
@@ -203,8 +204,8 @@ do_reads p b a x positive f =
                   goes = semicolon_goes ps s (stmt.DoWhile at h.made e) last;
                   low = omega arith;
                   there = holds_stmt ps s (stmt.DoWhile p b a) (stmt.DoWhile at h.made e)
-                      (stmt_DoWhile Stmt bare_stmt_step at h.made e
-                      ∙ (ap (λ v. stmt.DoWhile nowhere v (bare_expr e)) h.same ∙ (ap (λ v. stmt.DoWhile nowhere (bare_stmt b) v) same ∙ sym (stmt_DoWhile Stmt bare_stmt_step p b a))));
+                      (stmt_DoWhile Part Stmt bare_part_step bare_stmt_step at h.made e
+                      ∙ (ap (λ v. stmt.DoWhile nowhere v (bare_expr e)) h.same ∙ (ap (λ v. stmt.DoWhile nowhere (bare_stmt b) v) same ∙ sym (stmt_DoWhile Part Stmt bare_part_step bare_stmt_step p b a))));
                 });
           });
     })
@@ -214,7 +215,7 @@ do_reads p b a x positive f =
 pub if_alone_reads : (p : Place) (a : Expr) (b : Stmt) → Ranked 0 a → 1 ≤ expr_depth a → StmtReads b → StmtReads (stmt.If p a b None)
 if_alone_reads p a b x positive f =
     stmt_by (stmt.If p a b None) (the_word word.If ++ (in_parens (spell_expr a) ++ (spell_stmt b ++ []))) (1 + max (expr_depth a) (max (stmt_depth b) 0))
-    (if_alone Spelled spell_stmt_step p a b) (if_alone ℕ stmt_depth_step p a b)
+    (if_alone Spelled Spelled spell_part_step spell_stmt_step p a b) (if_alone ℕ ℕ part_depth_step stmt_depth_step p a b)
     (λ ps s at.
     let bound : ℕ = 1 + length s + (1 + max (expr_depth a) (max (stmt_depth b) 0)) in
     record {
@@ -229,10 +230,10 @@ if_alone_reads p a b x positive f =
           (f ps (frame.Then at e ∷ s))
           (λ z h. record {
             made = stmt.If at e h.made None;
-            next = λ t u. let other : is_else t.what ≡ false = u (if_alone Bool ends_open_step p a b) in
+            next = λ t u. let other : is_else t.what ≡ false = u (if_alone (Unit {0}) Bool ends_open_part ends_open_step p a b) in
                 h.next t (λ v. other) ∙ then_behind ps s at e h.made t other;
-            same = if_alone Stmt bare_stmt_step at e h.made
-                ∙ (ap (λ v. stmt.If nowhere v (bare_stmt h.made) None) same ∙ (ap (λ v. stmt.If nowhere (bare_expr a) v None) h.same ∙ sym (if_alone Stmt bare_stmt_step p a b)));
+            same = if_alone Part Stmt bare_part_step bare_stmt_step at e h.made
+                ∙ (ap (λ v. stmt.If nowhere v (bare_stmt h.made) None) same ∙ (ap (λ v. stmt.If nowhere (bare_expr a) v None) h.same ∙ sym (if_alone Part Stmt bare_part_step bare_stmt_step p a b)));
           }));
     })
 
@@ -242,7 +243,7 @@ shut b e f = sym e ∙ f
 pub if_else_reads : (p : Place) (a : Expr) (b c : Stmt) → Ranked 0 a → 1 ≤ expr_depth a → ends_open b ≡ false → StmtReads b → StmtReads c → StmtReads (stmt.If p a b (Some c))
 if_else_reads p a b c x positive q f n =
     stmt_by (stmt.If p a b (Some c)) (the_word word.If ++ (in_parens (spell_expr a) ++ (spell_stmt b ++ (the_word word.Else ++ spell_stmt c))))
-    (1 + max (expr_depth a) (max (stmt_depth b) (stmt_depth c))) (if_else Spelled spell_stmt_step p a b c) (if_else ℕ stmt_depth_step p a b c)
+    (1 + max (expr_depth a) (max (stmt_depth b) (stmt_depth c))) (if_else Spelled Spelled spell_part_step spell_stmt_step p a b c) (if_else ℕ ℕ part_depth_step stmt_depth_step p a b c)
     (λ ps s at.
     let bound : ℕ = 1 + length s + (1 + max (expr_depth a) (max (stmt_depth b) (stmt_depth c))) in
     record {
@@ -265,12 +266,12 @@ if_else_reads p a b c x positive q f n =
                 (n ps (frame.Else at e h.made ∷ s))
                 (λ y k. record {
                   made = stmt.If at e h.made (Some k.made);
-                  next = λ t u. k.next t (λ v. u (if_else Bool ends_open_step p a b c ∙ v)) ∙ else_behind ps s at e h.made k.made t;
-                  same = if_else Stmt bare_stmt_step at e h.made k.made
+                  next = λ t u. k.next t (λ v. u (if_else (Unit {0}) Bool ends_open_part ends_open_step p a b c ∙ v)) ∙ else_behind ps s at e h.made k.made t;
+                  same = if_else Part Stmt bare_part_step bare_stmt_step at e h.made k.made
                       ∙ (ap (λ v. stmt.If nowhere v (bare_stmt h.made) (Some (bare_stmt k.made))) same
                       ∙ (ap (λ v. stmt.If nowhere (bare_expr a) v (Some (bare_stmt k.made))) h.same
                       ∙ (ap (λ v. stmt.If nowhere (bare_expr a) (bare_stmt b) (Some v)) k.same
-                      ∙ sym (if_else Stmt bare_stmt_step p a b c))));
+                      ∙ sym (if_else Part Stmt bare_part_step bare_stmt_step p a b c))));
                 });
           }));
     })

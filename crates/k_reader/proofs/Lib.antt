@@ -19,6 +19,7 @@ pub mod CompleteRuns
 pub mod CompleteSources
 pub mod CompleteStatements
 pub mod CompleteSteps
+pub mod CompleteSwitches
 pub mod CompleteTests
 pub mod CompleteTypes
 pub mod DeclarationBound
@@ -56,5 +57,6 @@ pub mod StatementReach
 pub mod StatementSound
 pub mod StatementState
 pub mod StatementViable
+pub mod SwitchTerms
 pub mod TypeSound
 pub mod ValueSound

@@ -6,7 +6,8 @@ use Rattle.k_tree.specs.declared.tokens.mark.Mark.{Mark}
 use Rattle.k_tree.specs.declared.tokens.mark.Mark.TheVariants as mark
 use Rattle.k_tree.specs.Ranked.{binary_rank, is_assignment}
 use Rattle.k_reader.specs.Operators.{binding, binding_by, other_binding}
-use Rattle.k_reader.specs.Ranks.{operator_of, rank_of, ranked}
+use Rattle.k_tree.specs.Operators.{operator_of}
+use Rattle.k_reader.specs.Ranks.{rank_of, ranked}
 
 pub rank_small : (operator : Bin) → rank_of operator ≤ 12
 rank_small Add = omega arith

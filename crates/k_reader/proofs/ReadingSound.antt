@@ -48,6 +48,7 @@ abbrev pub closing : Closer → Mark
 closing closer.Bracket = mark.RightBracket
 closing closer.Paren = mark.RightParen
 closing closer.Semicolon = mark.Semicolon
+closing closer.Colon = mark.Colon
 
 false_true : false ≡ true → ⊥
 false_true z = cc
@@ -56,9 +57,11 @@ mark_is : (c : Closer) (m : Mark) → mark_closes c m ≡ true → m ≡ closing
 mark_is closer.Bracket mark.RightBracket h = refl
 mark_is closer.Paren mark.RightParen h = refl
 mark_is closer.Semicolon mark.Semicolon h = refl
+mark_is closer.Colon mark.Colon h = refl
 mark_is closer.Bracket _ h = absurd (false_true h)
 mark_is closer.Paren _ h = absurd (false_true h)
 mark_is closer.Semicolon _ h = absurd (false_true h)
+mark_is closer.Colon _ h = absurd (false_true h)
 
 kind_is : (c : Closer) (k : TokenKind) → kind_closes c k ≡ true → k ≡ token.Mark (closing c)
 kind_is c (token.Mark m) h = let e : m ≡ closing c = mark_is c m h in cc

@@ -32,12 +32,14 @@ unfolding binding
 closing_ends closer.Bracket = (refl, refl)
 closing_ends closer.Paren = (refl, refl)
 closing_ends closer.Semicolon = (refl, refl)
+closing_ends closer.Colon = (refl, refl)
 
 pub closing_closes : (c : Closer) → closes (mark_token (closing c)) c ≡ true
 unfolding closes
 closing_closes closer.Bracket = refl
 closing_closes closer.Paren = refl
 closing_closes closer.Semicolon = refl
+closing_closes closer.Colon = refl
 
 -- none of them begins an expression
 mark_refused : (g : Site) (p : Place) (c : Closer) (m : Mark) → mark_closes c m ≡ true → mark_operand g [] m p ≡ fed.Refused
@@ -45,9 +47,11 @@ unfolding mark_operand is_prefix_mark no_arguments is_open is_close
 mark_refused g p closer.Bracket mark.RightBracket e = refl
 mark_refused g p closer.Paren mark.RightParen e = refl
 mark_refused g p closer.Semicolon mark.Semicolon e = refl
+mark_refused g p closer.Colon mark.Colon e = refl
 mark_refused g p closer.Bracket _ e = absurd (false≢true e)
 mark_refused g p closer.Paren _ e = absurd (false≢true e)
 mark_refused g p closer.Semicolon _ e = absurd (false≢true e)
+mark_refused g p closer.Colon _ e = absurd (false≢true e)
 
 kind_refused : (g : Site) (p : Place) (c : Closer) (k : TokenKind) → kind_closes c k ≡ true → operand_at g [] p k ≡ fed.Refused
 kind_refused g p c (token.Mark m) e = mark_refused g p c m e

@@ -5,7 +5,7 @@ use Rattle.std.proofs.lemmas.Bool.{leb-true}
 use Rattle.k_tree.specs.declared.tokens.Token.{Token}
 use Rattle.k_tree.specs.declared.tokens.TokenKind.TheVariants as token
 use Rattle.k_tree.specs.declared.tree.unit.Unit as source
-use Rattle.k_reader.specs.Closed.{EndsOnce}
+use Rattle.k_tree.specs.Closed.{EndsOnce}
 use Rattle.k_reader.specs.Runs.{Outcome, next, runs}
 use Rattle.k_reader.specs.Sources.{begin_source, feed_source}
 use Rattle.k_reader.specs.declared.source.Source.{Source}

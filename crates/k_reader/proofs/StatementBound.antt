@@ -10,6 +10,9 @@ use Rattle.k_tree.specs.declared.tokens.word.Word.{Word}
 use Rattle.k_tree.specs.declared.tokens.word.Word.TheVariants as word
 use Rattle.k_tree.specs.declared.tree.expression.Expr.{Expr}
 use Rattle.k_tree.specs.declared.tree.statement.First.{First}
+use Rattle.k_tree.specs.declared.tree.statement.Part.{Part}
+use Rattle.k_tree.specs.declared.tree.statement.Part.TheVariants as part_
+use Rattle.k_tree.specs.Places.{stmt_place}
 use Rattle.k_tree.specs.declared.tree.statement.Stmt.{Stmt}
 use Rattle.k_reader.specs.Operators.{is_spec_word, is_semicolon, is_left_brace, is_right_brace}
 use Rattle.k_reader.specs.Expressions.{begin, feed, is_left_paren, is_sizeof}
@@ -65,9 +68,14 @@ module _ (lim : ℕ) where
   in_block_near : (s : Frames) (p : Place) (parts more : Parts) → OkFrame lim (1 + length s) (frame.Block p parts) → Near (frame.Block p more ∷ s)
   in_block_near s p parts more k = let le = k.1 in block_near (length s) (omega (arith, le))
 
+  in_switch_near : (s : Frames) (p : Place) (e : Expr) (parts more : List Part) → OkFrame lim (1 + length s) (frame.Switch p e parts)
+      → Near (frame.Switch p e more ∷ s)
+  in_switch_near s p e parts more k = let le = k.1.1 in block_near (length s) (omega (arith, le))
+
   near : (s : Frames) → OkFrames lim s → FramesReached lim s → Near s
   near [] k h = omega arith
   near (frame.Block p parts ∷ s) k h = in_block_near s p parts parts k.0
+  near (frame.Switch p e parts ∷ s) k h = in_switch_near s p e parts parts k.0
   near (frame.Then p e ∷ s) k h = part_near (length s) h.0
   near (frame.Else p e a ∷ s) k h = part_near (length s) h.0
   near (frame.While p e ∷ s) k h = part_near (length s) h.0
@@ -108,12 +116,26 @@ module _ (lim : ℕ) (ps : Parts) where
       (spec.steps ps s (step.Local p (begin_declaration w (spec.inner s))) (spec.level s)) stepped.Refused (SteppedBound lim)
       (λ e. level_near lim s h) (λ e. tt)
 
+  case_begins_bound : (s : Frames) (p : Place) → Near lim s → SteppedBound lim (spec.case_begins ps s p)
+  unfolding spec.case_begins
+  case_begins_bound s p h =
+      cond_both (spec.is_in_switch s) (spec.steps ps s (step.Case p (begin 2 (spec.level s))) (spec.level s)) stepped.Refused (SteppedBound lim)
+      (λ e. level_near lim s h) (λ e. tt)
+
+  default_begins_bound : (s : Frames) (p : Place) → SteppedBound lim (spec.default_begins ps s p)
+  unfolding spec.default_begins
+  default_begins_bound s p =
+      cond_both (spec.is_in_switch s) (spec.steps ps s (step.Default p) 0) stepped.Refused (SteppedBound lim) (λ e. no_level lim) (λ e. tt)
+
   jump_bound : (s : Frames) (w : Word) (p : Place) → Near lim s → SteppedBound lim (spec.jump ps s w p)
   unfolding spec.jump
   jump_bound s word.If p h = inner_far lim s h
   jump_bound s word.While p h = inner_far lim s h
   jump_bound s word.Do p h = inner_far lim s h
   jump_bound s word.For p h = inner_far lim s h
+  jump_bound s word.Switch p h = inner_far lim s h
+  jump_bound s word.Case p h = case_begins_bound s p h
+  jump_bound s word.Default p h = default_begins_bound s p
   jump_bound s word.Break p h = level_near lim s h
   jump_bound s word.Continue p h = level_near lim s h
   jump_bound s word.Return p h = level_near lim s h
@@ -128,6 +150,7 @@ module _ (lim : ℕ) (ps : Parts) where
   unfolding spec.block_ends
   block_ends_bound [] = tt
   block_ends_bound (frame.Block p parts ∷ s) = no_level lim
+  block_ends_bound (frame.Switch p e parts ∷ s) = no_level lim
   block_ends_bound (_ ∷ s) = tt
 
   mark_bound : (s : Frames) (t : Token) (m : Mark) → Near lim s → SteppedBound lim (spec.mark_begins ps s t m)
@@ -185,6 +208,7 @@ module _ (lim : ℕ) (ps : Parts) where
   test_bound s x (read.Goes r reach) k = k
   test_bound s (tested.If p) (read.Closed e) k = no_level lim
   test_bound s (tested.While p) (read.Closed e) k = no_level lim
+  test_bound s (tested.Switch p) (read.Closed e) k = no_level lim
   test_bound s (tested.Do p b) (read.Closed e) k = no_level lim
   test_bound s x read.Refused k = tt
 
@@ -198,7 +222,7 @@ module _ (lim : ℕ) (ps : Parts) where
 
   closed_bound : (s : Frames) (f : Frame) (x : Stmt) (other : Bool) (t : Token) (again : Stmt → Stepped) → OkFrame lim (1 + length s) f
       → ((y : Stmt) → SteppedBound lim (again y)) → SteppedBound lim (spec.closed_by ps s (spec.close f x other) t again)
-  unfolding spec.close spec.part spec.more
+  unfolding spec.close spec.part spec.more spec.more_switched
   closed_bound s (frame.Then p e) x true t again k next = no_level lim
   closed_bound s (frame.Then p e) x false t again k next = next _
   closed_bound s (frame.Else p e a) x other t again k next = next _
@@ -207,6 +231,9 @@ module _ (lim : ℕ) (ps : Parts) where
   closed_bound s (frame.Do p) x other t again k next = do_bound s p x t
   closed_bound s (frame.Block p parts) x other t again k next =
       begins_bound (frame.Block p (parts ++ x ∷ []) ∷ s) t (in_block_near lim s p parts (parts ++ x ∷ []) k)
+  closed_bound s (frame.Switch p e parts) x other t again k next =
+      begins_bound (frame.Switch p e (parts ++ part_.Does (stmt_place x) x ∷ []) ∷ s) t
+      (in_switch_near lim s p e parts (parts ++ part_.Does (stmt_place x) x ∷ []) k)
 
   -- the parts of a `for`
 
@@ -242,6 +269,30 @@ module _ (lim : ℕ) (ps : Parts) where
   third_bound s p start test (maybe.Closed e) k = no_level lim
   third_bound s p start test maybe.Refused k = tt
 
+  -- the braces of a `switch`
+
+  braces_bound : (s : Frames) (p : Place) (e : Expr) (t : Token) → SteppedBound lim (spec.braces ps s p e t)
+  unfolding spec.braces
+  braces_bound s p e t =
+      cond_both (spec.is_brace t.what) (spec.await_part ps s (frame.Switch p e []) 0) stepped.Refused (SteppedBound lim) (λ q. no_level lim) (λ q. tt)
+
+  labelled_bound : (s : Frames) (x : Part) → SteppedBound lim (spec.labelled ps s x)
+  unfolding spec.labelled
+  labelled_bound [] x = tt
+  labelled_bound (frame.Switch p e parts ∷ s) x = no_level lim
+  labelled_bound (_ ∷ s) x = tt
+
+  case_bound : (s : Frames) (p : Place) (x : Read) → ReadBound lim x → SteppedBound lim (spec.case_by ps s p x)
+  case_bound s p (read.Goes r reach) k = k
+  case_bound s p (read.Closed e) k = labelled_bound s (part_.Case p e)
+  case_bound s p read.Refused k = tt
+
+  default_bound : (s : Frames) (p : Place) (t : Token) → SteppedBound lim (spec.default_label ps s p t)
+  unfolding spec.default_label
+  default_bound s p t =
+      cond_both (closes t closer.Colon) (spec.labelled ps s (part_.Default p)) stepped.Refused (SteppedBound lim)
+      (λ e. labelled_bound s (part_.Default p)) (λ e. tt)
+
 behind_bound : (lim : ℕ) (ps : Parts) (s : Frames) (x : Stmt) (t : Token) → OkFrames lim s → SteppedBound lim (spec.behind ps s x t)
 unfolding spec.behind
 behind_bound lim ps [] x t k = begins_bound lim (ps ++ x ∷ []) [] t (near lim [] tt tt)
@@ -250,7 +301,7 @@ behind_bound lim ps (f ∷ s) x t k =
 
 step_bound : (lim : ℕ) (ps : Parts) (s : Frames) (n : Step) (ts : List Token) (t : Token) → OkFrames lim s → FramesReached lim s
     → OkStep lim ps s n ts → StepReached lim s n → SteppedBound lim (spec.step_fed ps s n t)
-unfolding spec.value spec.test spec.returned spec.local spec.in_for spec.start spec.for_declares spec.second spec.third
+unfolding spec.value spec.test spec.returned spec.local spec.in_for spec.start spec.for_declares spec.second spec.third spec.in_switch spec.case_value
 step_bound lim ps s step.Begins ts t f h k r = begins_bound lim ps s t (near lim s f h)
 step_bound lim ps s (step.Whole x) ts t f h k r = behind_bound lim ps s x t f
 step_bound lim ps s (step.Value p u) ts t f h k r =
@@ -278,6 +329,11 @@ step_bound lim ps s (step.Second p start u) ts t f h k r =
 step_bound lim ps s (step.Third p start test u) ts t f h k r =
     third_bound lim ps s p start test (read_maybe u t closer.Paren)
     (maybe_bound lim (site 0 (spec.inner s)) k.0.behind.back t u closer.Paren (inner_near lim s (near lim s f h)) k.0.behind.rest (λ e. r.1))
+step_bound lim ps s (step.Braces p e) ts t f h k r = braces_bound lim ps s p e t
+step_bound lim ps s (step.Case p u) ts t f h k r =
+    case_bound lim ps s p (read_needed u t closer.Colon)
+    (needed_bound lim (site 2 (spec.level s)) k.0.back t u closer.Colon (let le : Near lim s = near lim s f h in omega (arith, le)) k.0.rest (λ e. r))
+step_bound lim ps s (step.Default p) ts t f h k r = default_bound lim ps s p t
 
 -- no token of a block that is within the limit so far reaches further
 pub body_bound : (lim : ℕ) (ts : List Token) (t : Token) (b : Body) → OkBody lim b ts → BodyReached lim b → SteppedBound lim (spec.feed_body b t)

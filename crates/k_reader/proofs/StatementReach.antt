@@ -10,6 +10,9 @@ use Rattle.k_tree.specs.declared.tokens.word.Word.{Word}
 use Rattle.k_tree.specs.declared.tokens.word.Word.TheVariants as word
 use Rattle.k_tree.specs.declared.tree.expression.Expr.{Expr}
 use Rattle.k_tree.specs.declared.tree.statement.First.{First}
+use Rattle.k_tree.specs.declared.tree.statement.Part.{Part}
+use Rattle.k_tree.specs.declared.tree.statement.Part.TheVariants as part_
+use Rattle.k_tree.specs.Places.{stmt_place}
 use Rattle.k_tree.specs.declared.tree.statement.Stmt.{Stmt}
 use Rattle.k_reader.specs.Operators.{is_spec_word, is_semicolon, is_left_brace, is_right_brace}
 use Rattle.k_reader.specs.Expressions.{begin, feed, is_left_paren, is_sizeof}
@@ -41,9 +44,10 @@ use Rattle.k_reader.proofs.ExpressionState.{IsLimit}
 use Rattle.k_reader.proofs.ExpressionReach.{Reached}
 use Rattle.k_reader.proofs.ReadingReach.{Begun, feed_begun}
 
--- a statement whose part is awaited makes a level more sure; a block doesn't
+-- a statement whose part is awaited makes a level more sure; a block doesn't, nor do the braces of a `switch`
 abbrev pub FrameReached : ℕ → Frames → Frame → Type 0
 FrameReached lim s (frame.Block p parts) = Unit {0}
+FrameReached lim s (frame.Switch p e parts) = Unit {0}
 FrameReached lim s _ = spec.inner s ≤ lim
 
 abbrev pub FramesReached : ℕ → Frames → Type 0
@@ -62,6 +66,7 @@ StepReached lim s (step.Start p r) = (spec.inner s ≤ lim) × ReadingReached li
 StepReached lim s (step.Declares p d) = (spec.inner s ≤ lim) × StageReached lim d.front d.stage
 StepReached lim s (step.Second p start r) = (spec.inner s ≤ lim) × ReadingReached lim r
 StepReached lim s (step.Third p start test r) = (spec.inner s ≤ lim) × ReadingReached lim r
+StepReached lim s (step.Case p r) = ReadingReached lim r
 StepReached lim s (step.Return p r) = Begun lim r
 StepReached lim s (step.Local p d) = StageReached lim d.front d.stage
 StepReached lim s _ = Unit {0}
@@ -96,12 +101,26 @@ module _ (lim : ℕ) (is_limit : IsLimit lim) (ps : Parts) where
       (spec.steps ps s (step.Local p (begin_declaration w (spec.inner s))) (spec.level s)) stepped.Refused (BodyStays lim)
       (λ e reach. (h, tt)) (λ e. tt)
 
+  case_begins_stays : (s : Frames) (p : Place) → FramesReached lim s → BodyStays lim (spec.case_begins ps s p)
+  unfolding spec.case_begins
+  case_begins_stays s p h =
+      cond_both (spec.is_in_switch s) (spec.steps ps s (step.Case p (begin 2 (spec.level s))) (spec.level s)) stepped.Refused (BodyStays lim)
+      (λ e reach. (h, reach)) (λ e. tt)
+
+  default_begins_stays : (s : Frames) (p : Place) → FramesReached lim s → BodyStays lim (spec.default_begins ps s p)
+  unfolding spec.default_begins
+  default_begins_stays s p h =
+      cond_both (spec.is_in_switch s) (spec.steps ps s (step.Default p) 0) stepped.Refused (BodyStays lim) (λ e reach. (h, tt)) (λ e. tt)
+
   jump_stays : (s : Frames) (w : Word) (p : Place) → FramesReached lim s → BodyStays lim (spec.jump ps s w p)
   unfolding spec.jump
   jump_stays s word.If p h = λ reach. (h, reach)
   jump_stays s word.While p h = λ reach. (h, reach)
   jump_stays s word.Do p h = λ reach. ((reach, h), tt)
   jump_stays s word.For p h = λ reach. (h, reach)
+  jump_stays s word.Switch p h = λ reach. (h, reach)
+  jump_stays s word.Case p h = case_begins_stays s p h
+  jump_stays s word.Default p h = default_begins_stays s p h
   jump_stays s word.Break p h = λ reach. (h, tt)
   jump_stays s word.Continue p h = λ reach. (h, tt)
   jump_stays s word.Return p h = λ reach. (h, begin_begun lim 0 (spec.inner s))
@@ -116,6 +135,7 @@ module _ (lim : ℕ) (is_limit : IsLimit lim) (ps : Parts) where
   unfolding spec.block_ends
   block_ends_stays [] h = tt
   block_ends_stays (frame.Block p parts ∷ s) h = λ reach. (h.1, tt)
+  block_ends_stays (frame.Switch p e parts ∷ s) h = λ reach. (h.1, tt)
   block_ends_stays (_ ∷ s) h = tt
 
   mark_stays : (s : Frames) (t : Token) (m : Mark) → FramesReached lim s → BodyStays lim (spec.mark_begins ps s t m)
@@ -174,6 +194,7 @@ module _ (lim : ℕ) (is_limit : IsLimit lim) (ps : Parts) where
   test_stays s x (read.Goes r reach) h i k = λ le. (h, (i, k le))
   test_stays s (tested.If p) (read.Closed e) h i k = λ le. ((i, h), tt)
   test_stays s (tested.While p) (read.Closed e) h i k = λ le. ((i, h), tt)
+  test_stays s (tested.Switch p) (read.Closed e) h i k = λ le. (h, tt)
   test_stays s (tested.Do p b) (read.Closed e) h i k = λ le. (h, tt)
   test_stays s x read.Refused h i k = tt
 
@@ -188,7 +209,7 @@ module _ (lim : ℕ) (is_limit : IsLimit lim) (ps : Parts) where
 
   closed_stays : (s : Frames) (f : Frame) (x : Stmt) (other : Bool) (t : Token) (again : Stmt → Stepped) → FramesReached lim (f ∷ s)
       → ((y : Stmt) → BodyStays lim (again y)) → BodyStays lim (spec.closed_by ps s (spec.close f x other) t again)
-  unfolding spec.close spec.part spec.more
+  unfolding spec.close spec.part spec.more spec.more_switched
   closed_stays s (frame.Then p e) x true t again h k = λ le. (h, tt)
   closed_stays s (frame.Then p e) x false t again h k = k _
   closed_stays s (frame.Else p e a) x other t again h k = k _
@@ -196,6 +217,8 @@ module _ (lim : ℕ) (is_limit : IsLimit lim) (ps : Parts) where
   closed_stays s (frame.For p start test third) x other t again h k = k _
   closed_stays s (frame.Do p) x other t again h k = do_stays s p x t h.1 h.0
   closed_stays s (frame.Block p parts) x other t again h k = begins_stays (frame.Block p (parts ++ x ∷ []) ∷ s) t (tt, h.1)
+  closed_stays s (frame.Switch p e parts) x other t again h k =
+      begins_stays (frame.Switch p e (parts ++ part_.Does (stmt_place x) x ∷ []) ∷ s) t (tt, h.1)
 
   -- the parts of a `for`
 
@@ -233,6 +256,30 @@ module _ (lim : ℕ) (is_limit : IsLimit lim) (ps : Parts) where
   third_stays s p start test (maybe.Closed e) h i k = λ le. ((i, h), tt)
   third_stays s p start test maybe.Refused h i k = tt
 
+  -- the braces of a `switch`
+
+  braces_stays : (s : Frames) (p : Place) (e : Expr) (t : Token) → FramesReached lim s → BodyStays lim (spec.braces ps s p e t)
+  unfolding spec.braces
+  braces_stays s p e t h =
+      cond_both (spec.is_brace t.what) (spec.await_part ps s (frame.Switch p e []) 0) stepped.Refused (BodyStays lim) (λ q le. ((tt, h), tt)) (λ q. tt)
+
+  labelled_stays : (s : Frames) (x : Part) → FramesReached lim s → BodyStays lim (spec.labelled ps s x)
+  unfolding spec.labelled
+  labelled_stays [] x h = tt
+  labelled_stays (frame.Switch p e parts ∷ s) x h = λ le. (h, tt)
+  labelled_stays (_ ∷ s) x h = tt
+
+  case_stays : (s : Frames) (p : Place) (x : Read) → FramesReached lim s → ReadStays lim x → BodyStays lim (spec.case_by ps s p x)
+  case_stays s p (read.Goes r reach) h k = λ le. (h, k le)
+  case_stays s p (read.Closed e) h k = labelled_stays s (part_.Case p e) h
+  case_stays s p read.Refused h k = tt
+
+  default_stays : (s : Frames) (p : Place) (t : Token) → FramesReached lim s → BodyStays lim (spec.default_label ps s p t)
+  unfolding spec.default_label
+  default_stays s p t h =
+      cond_both (closes t closer.Colon) (spec.labelled ps s (part_.Default p)) stepped.Refused (BodyStays lim)
+      (λ e. labelled_stays s (part_.Default p) h) (λ e. tt)
+
 behind_stays : (lim : ℕ) → IsLimit lim → (ps : Parts) (s : Frames) (x : Stmt) (t : Token) → FramesReached lim s → BodyStays lim (spec.behind ps s x t)
 unfolding spec.behind
 behind_stays lim is_limit ps [] x t h = begins_stays lim is_limit (ps ++ x ∷ []) [] t h
@@ -241,7 +288,7 @@ behind_stays lim is_limit ps (f ∷ s) x t h =
 
 step_stays : (lim : ℕ) → IsLimit lim → (ps : Parts) (s : Frames) (n : Step) (t : Token) → FramesReached lim s → StepReached lim s n
     → BodyStays lim (spec.step_fed ps s n t)
-unfolding spec.value spec.test spec.returned spec.local spec.in_for spec.start spec.for_declares spec.second spec.third
+unfolding spec.value spec.test spec.returned spec.local spec.in_for spec.start spec.for_declares spec.second spec.third spec.in_switch spec.case_value
 step_stays lim l ps s step.Begins t h k = begins_stays lim l ps s t h
 step_stays lim l ps s (step.Whole x) t h k = behind_stays lim l ps s x t h
 step_stays lim l ps s (step.Value p r) t h k =
@@ -261,6 +308,10 @@ step_stays lim l ps s (step.Second p start r) t h k =
     second_stays lim l ps s p start (read_maybe r t closer.Semicolon) h k.0 (maybe_stays lim l r t closer.Semicolon (λ e. k.1))
 step_stays lim l ps s (step.Third p start test r) t h k =
     third_stays lim l ps s p start test (read_maybe r t closer.Paren) h k.0 (maybe_stays lim l r t closer.Paren (λ e. k.1))
+step_stays lim l ps s (step.Braces p e) t h k = braces_stays lim l ps s p e t h
+step_stays lim l ps s (step.Case p r) t h k =
+    case_stays lim l ps s p (read_needed r t closer.Colon) h (needed_stays lim l r t closer.Colon (λ e. k))
+step_stays lim l ps s (step.Default p) t h k = default_stays lim l ps s p t h
 
 -- a token within the limit keeps it so
 pub body_stays : (lim : ℕ) → IsLimit lim → (b : Body) (t : Token) → BodyReached lim b → BodyStays lim (spec.feed_body b t)

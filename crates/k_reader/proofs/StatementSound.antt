@@ -14,10 +14,12 @@ use Rattle.k_tree.specs.declared.tree.statement.First.{First}
 use Rattle.k_tree.specs.declared.tree.statement.First.TheVariants as first
 use Rattle.k_tree.specs.declared.tree.statement.Stmt.{Stmt}
 use Rattle.k_tree.specs.declared.tree.statement.Stmt.TheVariants as stmt
-use Rattle.k_tree.specs.Folds.{stmt_Expr, stmt_Empty, stmt_Block, if_alone as if_alone_folds, if_else as if_else_folds, stmt_While, stmt_DoWhile, stmt_For, stmt_Break, stmt_Continue, stmt_Return, stmt_Declare}
-use Rattle.k_tree.specs.Nesting.{expr_depth, option_depth, first_depth, declarators_depth, stmt_depth, stmt_depth_step}
-use Rattle.k_tree.specs.Places.{Pieces, plain, at, lay_expr, lay_option, lay_first, lay_for, lay_in_parens, lay_declaration, lay_stmt, lay_stmt_step, lay_stmts, Stand}
-use Rattle.k_tree.specs.Ranked.{Ranked, IfGiven, RankedFirst, RankedStmt, RankedParts, ends_open, ends_open_step, value, empty, block, if_alone, if_else, while_loop, do_loop, for_loop, break_loop, continue_loop, return_value, no_parts, statement, declaration}
+use Rattle.k_tree.specs.declared.tree.statement.Part.{Part}
+use Rattle.k_tree.specs.declared.tree.statement.Part.TheVariants as part_
+use Rattle.k_tree.specs.Folds.{stmt_Expr, stmt_Empty, stmt_Block, if_alone as if_alone_folds, if_else as if_else_folds, stmt_While, stmt_DoWhile, stmt_For, stmt_Switch, part_Case, part_Default, part_Does, stmt_Break, stmt_Continue, stmt_Return, stmt_Declare}
+use Rattle.k_tree.specs.Nesting.{expr_depth, option_depth, first_depth, declarators_depth, stmt_depth, part_depth, part_depth_step, stmt_depth_step}
+use Rattle.k_tree.specs.Places.{Pieces, plain, at, lay_expr, lay_option, lay_first, lay_for, lay_in_parens, lay_declaration, lay_stmt, lay_part, lay_switched, lay_part_step, lay_stmt_step, lay_stmts, stmt_place, Stand}
+use Rattle.k_tree.specs.Ranked.{Ranked, IfGiven, RankedFirst, RankedStmt, RankedParts, RankedSwitch, ends_open, ends_open_part, ends_open_step, value, empty, block, if_alone, if_else, while_loop, do_loop, for_loop, switch_stmt, no_labels, case_label, default_label, does, break_loop, continue_loop, return_value, no_parts, statement, declaration}
 use Rattle.k_tree.specs.Spelling.{the_mark, the_word}
 use Rattle.k_tree.proofs.Standing.{stand-append}
 use Rattle.k_reader.specs.Operators.{is_spec_word, is_semicolon, is_left_brace, is_right_brace}
@@ -37,7 +39,7 @@ use Rattle.k_reader.specs.declared.declaration.Declaration.{Declaration}
 use Rattle.k_reader.specs.declared.declaration.Declared.{Declared}
 use Rattle.k_reader.specs.declared.declaration.Declared.TheVariants as declared_
 use Rattle.k_reader.specs.Statements as spec
-use Rattle.k_reader.specs.Statements.{Parts, Frames, inner, level, is_in_block}
+use Rattle.k_reader.specs.Statements.{Parts, Frames, inner, level, is_in_block, is_in_switch}
 use Rattle.k_reader.specs.declared.statement.Frame.{Frame}
 use Rattle.k_reader.specs.declared.statement.Frame.TheVariants as frame
 use Rattle.k_reader.specs.declared.statement.Tested.{Tested}
@@ -53,7 +55,8 @@ use Rattle.k_reader.proofs.ExpressionTerms.{one_at, one, stand-more, regroup, th
 use Rattle.k_reader.proofs.ReadingSound.{At, site, begin_at, at_keeps, KeepsRead, read_keeps, KeepsMaybe, maybe_keeps, fresh_stands, closes_is, Behind}
 use Rattle.k_reader.proofs.DeclarationState.{OkDeclaration, KeepsDeclared}
 use Rattle.k_reader.proofs.DeclarationSound.{behind_all, behind_now, declaration_keeps, begin_declared}
-use Rattle.k_reader.proofs.StatementState.{word_at, left_paren, semicolon, lay_frame, lay_frames, lay_base, lay_tested, Below, OkFrame, OkFrames, OkTested, IsPart, a_stmt, a_declaration, OkSemicolon, OkBehind, For_at, OkStep, OkParts, OkBody, KeepsStepped}
+use Rattle.k_reader.proofs.SwitchTerms.{switch_split, switched_append, switch_push, does_stands}
+use Rattle.k_reader.proofs.StatementState.{word_at, left_paren, left_brace, semicolon, lay_frame, lay_frames, lay_base, lay_tested, Below, OkFrame, OkFrames, OkTested, IsPart, a_stmt, a_declaration, OkSemicolon, OkBehind, For_at, OkStep, OkParts, OkBody, KeepsStepped}
 
 false_true : false ≡ true → ⊥
 false_true z = cc
@@ -114,14 +117,14 @@ module _ (lim : ℕ) (is_limit : IsLimit lim) (ts : List Token) (t : Token) wher
       goes ps s (step.Value p q) reach o f (λ z. pushed (lay_base ps s) _ _ b (h z, starts-more p b.back (t ∷ []) b.rest.1))
   value_by_keeps ps s p r (read.Closed e) o f b h =
       goes ps s (step.Whole (stmt.Expr p e)) 0 o f (λ z. record {
-        stands = subst (λ x. Stand (lay_base ps s ++ x) (ts ++ t ∷ [])) (sym (stmt_Expr Pieces lay_stmt_step p e))
+        stands = subst (λ x. Stand (lay_base ps s ++ x) (ts ++ t ∷ [])) (sym (stmt_Expr Pieces Pieces lay_part_step lay_stmt_step p e))
             (behind_all (lay_base ps s) (at p (lay_expr e ++ semicolon)) _ (ts ++ t ∷ [])
             (pushed (lay_base ps s) _ (λ us. StartsAt p us) b (starts-more p b.back (t ∷ []) b.rest.1))
             (at_stands p (lay_expr e ++ semicolon) (b.back ++ t ∷ []) (starts-more p b.back (t ∷ []) b.rest.1)
             (stand-append (lay_expr e) semicolon b.back (t ∷ []) h.0.stands (one t (token.Mark mark.Semicolon) h.1))));
         part = inr (value p e h.0.ranked);
-        shut = stmt_Expr Bool ends_open_step p e;
-        within = omega (arith, stmt_Expr ℕ stmt_depth_step p e, true_inner s (expr_depth e) h.0.within);
+        shut = stmt_Expr (Unit {0}) Bool ends_open_part ends_open_step p e;
+        within = omega (arith, stmt_Expr ℕ ℕ part_depth_step stmt_depth_step p e, true_inner s (expr_depth e) h.0.within);
       })
   value_by_keeps ps s p r read.Refused o f b h = tt
 
@@ -139,13 +142,13 @@ module _ (lim : ℕ) (is_limit : IsLimit lim) (ts : List Token) (t : Token) wher
       goes ps s (step.Return p q) reach o f (λ z. record { behind = pushed (lay_base ps s ++ word_at p word.Return) _ _ b.behind (h z); room = b.room })
   returned_by_keeps ps s p r (maybe.Closed e) o f b h =
       goes ps s (step.Whole (stmt.Return p e)) 0 o f (λ z. record {
-        stands = subst (λ x. Stand (lay_base ps s ++ x) (ts ++ t ∷ [])) (sym (stmt_Return Pieces lay_stmt_step p e))
+        stands = subst (λ x. Stand (lay_base ps s ++ x) (ts ++ t ∷ [])) (sym (stmt_Return Pieces Pieces lay_part_step lay_stmt_step p e))
             (regroup (lay_base ps s) (word_at p word.Return) (lay_option e ++ semicolon) (ts ++ t ∷ [])
             (stand-more (lay_base ps s ++ word_at p word.Return) (lay_option e) semicolon ts (t ∷ [])
             (behind_all (lay_base ps s ++ word_at p word.Return) (lay_option e) _ ts b.behind h.0.stands) (one t (token.Mark mark.Semicolon) h.1)));
         part = inr (return_value p e h.0.ranked);
-        shut = stmt_Return Bool ends_open_step p e;
-        within = omega (arith, stmt_Return ℕ stmt_depth_step p e, true_inner s (option_depth e) h.0.within);
+        shut = stmt_Return (Unit {0}) Bool ends_open_part ends_open_step p e;
+        within = omega (arith, stmt_Return ℕ ℕ part_depth_step stmt_depth_step p e, true_inner s (option_depth e) h.0.within);
       })
   returned_by_keeps ps s p r maybe.Refused o f b h = tt
 
@@ -170,13 +173,13 @@ module _ (lim : ℕ) (is_limit : IsLimit lim) (ts : List Token) (t : Token) wher
       ))
   local_by_keeps ps s p d (declared_.Done specs list) o f i b h =
       goes ps s (step.Whole (stmt.Declare p specs list)) 0 o f (λ z. record {
-        stands = subst (λ x. Stand (lay_base ps s ++ x) (ts ++ t ∷ [])) (sym (stmt_Declare Pieces lay_stmt_step p specs list))
+        stands = subst (λ x. Stand (lay_base ps s ++ x) (ts ++ t ∷ [])) (sym (stmt_Declare Pieces Pieces lay_part_step lay_stmt_step p specs list))
             (behind_all (lay_base ps s) (at p (lay_declaration specs list)) _ (ts ++ t ∷ [])
             (pushed (lay_base ps s) _ (λ us. StartsAt p us) b.behind (starts-more p b.behind.back (t ∷ []) b.behind.rest.1))
             (at_stands p (lay_declaration specs list) (b.behind.back ++ t ∷ []) (starts-more p b.behind.back (t ∷ []) b.behind.rest.1) h.stands));
         part = inl (a_declaration p specs list h.ranked, i);
-        shut = stmt_Declare Bool ends_open_step p specs list;
-        within = omega (arith, stmt_Declare ℕ stmt_depth_step p specs list, true_inner s (declarators_depth list) h.within);
+        shut = stmt_Declare (Unit {0}) Bool ends_open_part ends_open_step p specs list;
+        within = omega (arith, stmt_Declare ℕ ℕ part_depth_step stmt_depth_step p specs list, true_inner s (declarators_depth list) h.within);
       })
   local_by_keeps ps s p d declared_.Refused o f i b h = tt
 
@@ -209,13 +212,23 @@ module _ (lim : ℕ) (is_limit : IsLimit lim) (ts : List Token) (t : Token) wher
   block_ends_keeps ps [] o f e st = (o, subst (λ x. Stand x ts) (append-nil (lay_stmts ps)) st, e)
   block_ends_keeps ps (frame.Block p parts ∷ s) o f e st =
       goes ps s (step.Whole (stmt.Block p parts)) 0 o f.1 (λ z. record {
-        stands = subst (λ x. Stand (lay_base ps s ++ x) (ts ++ t ∷ [])) (sym (stmt_Block Pieces lay_stmt_step p parts))
+        stands = subst (λ x. Stand (lay_base ps s ++ x) (ts ++ t ∷ [])) (sym (stmt_Block Pieces Pieces lay_part_step lay_stmt_step p parts))
             (three (lay_base ps s) (at p (plain (the_mark mark.LeftBrace))) (lay_stmts parts) (plain (the_mark mark.RightBrace)) (ts ++ t ∷ [])
             (stand-append (lay_base ps s ++ lay_frame (frame.Block p parts)) (plain (the_mark mark.RightBrace)) ts (t ∷ [])
             (base_open ps (frame.Block p parts) s ts st) (one t (token.Mark mark.RightBrace) e)));
         part = inr (block p parts f.0.0);
-        shut = stmt_Block Bool ends_open_step p parts;
-        within = omega (arith, stmt_Block ℕ stmt_depth_step p parts, f.0.1);
+        shut = stmt_Block (Unit {0}) Bool ends_open_part ends_open_step p parts;
+        within = omega (arith, stmt_Block ℕ ℕ part_depth_step stmt_depth_step p parts, f.0.1);
+      })
+  block_ends_keeps ps (frame.Switch p a parts ∷ s) o f e st =
+      goes ps s (step.Whole (stmt.Switch p a parts)) 0 o f.1 (λ z. record {
+        stands = subst (λ x. Stand (lay_base ps s ++ x) (ts ++ t ∷ [])) (sym (stmt_Switch Pieces Pieces lay_part_step lay_stmt_step p a parts))
+            (five (lay_base ps s) (word_at p word.Switch) (lay_in_parens (lay_expr a)) left_brace (lay_switched parts) (plain (the_mark mark.RightBrace)) (ts ++ t ∷ [])
+            (stand-append (lay_base ps s ++ lay_frame (frame.Switch p a parts)) (plain (the_mark mark.RightBrace)) ts (t ∷ [])
+            (base_open ps (frame.Switch p a parts) s ts st) (one t (token.Mark mark.RightBrace) e)));
+        part = inr (switch_stmt p a parts f.0.0.0 f.0.1.0);
+        shut = stmt_Switch (Unit {0}) Bool ends_open_part ends_open_step p a parts;
+        within = omega (arith, stmt_Switch ℕ ℕ part_depth_step stmt_depth_step p a parts, f.0.0.1, f.0.1.1);
       })
   block_ends_keeps ps (_ ∷ s) o f e st = tt
 
@@ -258,6 +271,24 @@ module _ (lim : ℕ) (is_limit : IsLimit lim) (ts : List Token) (t : Token) wher
     within = omega (arith, d, true_level s z);
   })
 
+  case_begins_keeps : (ps : Parts) (s : Frames) → OkParts lim ps → OkFrames lim s → t.what ≡ token.Word word.Case → Stand (lay_base ps s) ts
+      → KeepsStepped lim ts t (spec.case_begins ps s t.place)
+  unfolding spec.case_begins
+  case_begins_keeps ps s o f e st =
+      stepped_cond (is_in_switch s) _ stepped.Refused
+      (λ h. goes ps s (step.Case t.place (begin 2 (level s))) (level s) o f (λ z. (
+        behind_now (lay_base ps s ++ word_at t.place word.Case) _ (ts ++ t ∷ []) (at_word ps s word.Case e st) (begin_at lim 2 (level s) (omega arith)),
+        h,
+      )))
+      (λ h. tt)
+
+  default_begins_keeps : (ps : Parts) (s : Frames) → OkParts lim ps → OkFrames lim s → t.what ≡ token.Word word.Default → Stand (lay_base ps s) ts
+      → KeepsStepped lim ts t (spec.default_begins ps s t.place)
+  unfolding spec.default_begins
+  default_begins_keeps ps s o f e st =
+      stepped_cond (is_in_switch s) _ stepped.Refused
+      (λ h. goes ps s (step.Default t.place) 0 o f (λ z. (at_word ps s word.Default e st, h))) (λ h. tt)
+
   jump_word_keeps : (ps : Parts) (s : Frames) (w : Word) → OkParts lim ps → OkFrames lim s → t.what ≡ token.Word w → Stand (lay_base ps s) ts
       → KeepsStepped lim ts t (spec.jump ps s w t.place)
   unfolding spec.jump
@@ -265,12 +296,15 @@ module _ (lim : ℕ) (is_limit : IsLimit lim) (ts : List Token) (t : Token) wher
   jump_word_keeps ps s word.While o f e st = goes ps s (step.Keyword (tested.While t.place)) (inner s) o f (λ z. (at_word ps s word.While e st, tt))
   jump_word_keeps ps s word.Do o f e st = await_keeps ps s (frame.Do t.place) (inner s) o f (λ z. tt) (at_word ps s word.Do e st)
   jump_word_keeps ps s word.For o f e st = goes ps s (step.For t.place) (inner s) o f (λ z. (at_word ps s word.For e st, z))
+  jump_word_keeps ps s word.Switch o f e st = goes ps s (step.Keyword (tested.Switch t.place)) (inner s) o f (λ z. (at_word ps s word.Switch e st, tt))
+  jump_word_keeps ps s word.Case o f e st = case_begins_keeps ps s o f e st
+  jump_word_keeps ps s word.Default o f e st = default_begins_keeps ps s o f e st
   jump_word_keeps ps s word.Break o f e st =
-      jump_keeps ps s word.Break (stmt.Break t.place) o f e st (stmt_Break Pieces lay_stmt_step t.place) (break_loop t.place)
-      (stmt_Break Bool ends_open_step t.place) (stmt_Break ℕ stmt_depth_step t.place)
+      jump_keeps ps s word.Break (stmt.Break t.place) o f e st (stmt_Break Pieces Pieces lay_part_step lay_stmt_step t.place) (break_loop t.place)
+      (stmt_Break (Unit {0}) Bool ends_open_part ends_open_step t.place) (stmt_Break ℕ ℕ part_depth_step stmt_depth_step t.place)
   jump_word_keeps ps s word.Continue o f e st =
-      jump_keeps ps s word.Continue (stmt.Continue t.place) o f e st (stmt_Continue Pieces lay_stmt_step t.place) (continue_loop t.place)
-      (stmt_Continue Bool ends_open_step t.place) (stmt_Continue ℕ stmt_depth_step t.place)
+      jump_keeps ps s word.Continue (stmt.Continue t.place) o f e st (stmt_Continue Pieces Pieces lay_part_step lay_stmt_step t.place) (continue_loop t.place)
+      (stmt_Continue (Unit {0}) Bool ends_open_part ends_open_step t.place) (stmt_Continue ℕ ℕ part_depth_step stmt_depth_step t.place)
   jump_word_keeps ps s word.Return o f e st = goes ps s (step.Return t.place (begin 0 (inner s))) (level s) o f (λ z. record {
     behind = behind_now (lay_base ps s ++ word_at t.place word.Return) _ (ts ++ t ∷ []) (at_word ps s word.Return e st) (begin_at lim 0 (inner s) (omega arith));
     room = inner_room s z;
@@ -298,11 +332,11 @@ module _ (lim : ℕ) (is_limit : IsLimit lim) (ts : List Token) (t : Token) wher
   empty_keeps : (ps : Parts) (s : Frames) → OkParts lim ps → OkFrames lim s → t.what ≡ token.Mark mark.Semicolon → Stand (lay_base ps s) ts
       → KeepsStepped lim ts t (spec.empty ps s t.place)
   empty_keeps ps s o f e st = goes ps s (step.Whole (stmt.Empty t.place)) (level s) o f (λ z. record {
-    stands = subst (λ x. Stand (lay_base ps s ++ x) (ts ++ t ∷ [])) (sym (stmt_Empty Pieces lay_stmt_step t.place))
+    stands = subst (λ x. Stand (lay_base ps s ++ x) (ts ++ t ∷ [])) (sym (stmt_Empty Pieces Pieces lay_part_step lay_stmt_step t.place))
         (stand-append (lay_base ps s) _ ts (t ∷ []) st (one_at t (token.Mark mark.Semicolon) e));
     part = inr (empty t.place);
-    shut = stmt_Empty Bool ends_open_step t.place;
-    within = omega (arith, stmt_Empty ℕ stmt_depth_step t.place, true_level s z);
+    shut = stmt_Empty (Unit {0}) Bool ends_open_part ends_open_step t.place;
+    within = omega (arith, stmt_Empty ℕ ℕ part_depth_step stmt_depth_step t.place, true_level s z);
   })
 
   mark_begins_keeps : (ps : Parts) (s : Frames) (m : Mark) → OkParts lim ps → OkFrames lim s → t.what ≡ token.Mark m → Stand (lay_base ps s) ts
@@ -355,14 +389,15 @@ module _ (lim : ℕ) (is_limit : IsLimit lim) (ts : List Token) (t : Token) wher
   unfolding spec.test_done
   test_done_keeps ps s (tested.If p) e o f h b st = await_keeps ps s (frame.Then p e) 0 o f (λ z. b) st
   test_done_keeps ps s (tested.While p) e o f h b st = await_keeps ps s (frame.While p e) 0 o f (λ z. b) st
+  test_done_keeps ps s (tested.Switch p) e o f h b st = goes ps s (step.Braces p e) 0 o f (λ z. (st, b))
   test_done_keeps ps s (tested.Do p x) e o f h b st = goes ps s (step.Semicolon (stmt.DoWhile p x e)) 0 o f (λ z. record {
     most = (word_at p word.Do ++ (lay_stmt x ++ plain (the_word word.While))) ++ (left_paren ++ (lay_expr e ++ plain (the_mark mark.RightParen)));
-    laid = stmt_DoWhile Pieces lay_stmt_step p x e
+    laid = stmt_DoWhile Pieces Pieces lay_part_step lay_stmt_step p x e
         ∙ do_laid (word_at p word.Do) (lay_stmt x) (plain (the_word word.While)) (left_paren ++ (lay_expr e ++ plain (the_mark mark.RightParen))) semicolon;
     stands = st;
     ranked = do_loop p x e h.0 b.0;
-    shut = stmt_DoWhile Bool ends_open_step p x e;
-    within = omega (arith, stmt_DoWhile ℕ stmt_depth_step p x e, h.1, b.1);
+    shut = stmt_DoWhile (Unit {0}) Bool ends_open_part ends_open_step p x e;
+    within = omega (arith, stmt_DoWhile ℕ ℕ part_depth_step stmt_depth_step p x e, h.1, b.1);
   })
     where
       do_laid : (a b c d q : Pieces) → a ++ (b ++ (c ++ (d ++ q))) ≡ ((a ++ (b ++ c)) ++ d) ++ q
@@ -429,45 +464,45 @@ module _ (lim : ℕ) (is_limit : IsLimit lim) (ts : List Token) (t : Token) wher
       → Ended ps (frame.Then p e ∷ s) x → Ended ps s (stmt.If p e x None)
   unfolding is_in_block
   alone_ended ps s p e x f h k = record {
-    stands = subst (λ y. Stand (lay_base ps s ++ y) ts) (sym (if_alone_folds Pieces lay_stmt_step p e x))
+    stands = subst (λ y. Stand (lay_base ps s ++ y) ts) (sym (if_alone_folds Pieces Pieces lay_part_step lay_stmt_step p e x))
         (subst (λ y. Stand (lay_base ps s ++ (word_at p word.If ++ (lay_in_parens (lay_expr e) ++ y))) ts) (sym (append-nil (lay_stmt x)))
         (three (lay_base ps s) (word_at p word.If) (lay_in_parens (lay_expr e)) (lay_stmt x) ts (around ps (frame.Then p e) s x k.stands)));
     part = inr (if_alone p e x f.0.0 (stmt_in x k.part));
     shut = λ z. absurd (false_true (sym h ∙ z));
-    within = omega (arith, if_alone_folds ℕ stmt_depth_step p e x, f.0.1, k.within);
+    within = omega (arith, if_alone_folds ℕ ℕ part_depth_step stmt_depth_step p e x, f.0.1, k.within);
   }
 
   else_ended : (ps : Parts) (s : Frames) (p : Place) (e : Expr) (a x : Stmt) → OkFrames lim (frame.Else p e a ∷ s)
       → Ended ps (frame.Else p e a ∷ s) x → Ended ps s (stmt.If p e a (Some x))
   unfolding is_in_block
   else_ended ps s p e a x f k = record {
-    stands = subst (λ y. Stand (lay_base ps s ++ y) ts) (sym (if_else_folds Pieces lay_stmt_step p e a x))
+    stands = subst (λ y. Stand (lay_base ps s ++ y) ts) (sym (if_else_folds Pieces Pieces lay_part_step lay_stmt_step p e a x))
         (five (lay_base ps s) (word_at p word.If) (lay_in_parens (lay_expr e)) (lay_stmt a) (plain (the_word word.Else)) (lay_stmt x) ts (around ps (frame.Else p e a) s x k.stands));
     part = inr (if_else p e a x f.0.0.0 f.0.1.0 f.0.2 (stmt_in x k.part));
-    shut = λ z. if_else_folds Bool ends_open_step p e a x ∙ k.shut z;
-    within = omega (arith, if_else_folds ℕ stmt_depth_step p e a x, f.0.0.1, f.0.1.1, k.within);
+    shut = λ z. if_else_folds (Unit {0}) Bool ends_open_part ends_open_step p e a x ∙ k.shut z;
+    within = omega (arith, if_else_folds ℕ ℕ part_depth_step stmt_depth_step p e a x, f.0.0.1, f.0.1.1, k.within);
   }
 
   while_ended : (ps : Parts) (s : Frames) (p : Place) (e : Expr) (x : Stmt) → OkFrames lim (frame.While p e ∷ s)
       → Ended ps (frame.While p e ∷ s) x → Ended ps s (stmt.While p e x)
   unfolding is_in_block
   while_ended ps s p e x f k = record {
-    stands = subst (λ y. Stand (lay_base ps s ++ y) ts) (sym (stmt_While Pieces lay_stmt_step p e x))
+    stands = subst (λ y. Stand (lay_base ps s ++ y) ts) (sym (stmt_While Pieces Pieces lay_part_step lay_stmt_step p e x))
         (three (lay_base ps s) (word_at p word.While) (lay_in_parens (lay_expr e)) (lay_stmt x) ts (around ps (frame.While p e) s x k.stands));
     part = inr (while_loop p e x f.0.0 (stmt_in x k.part));
-    shut = λ z. stmt_While Bool ends_open_step p e x ∙ k.shut z;
-    within = omega (arith, stmt_While ℕ stmt_depth_step p e x, f.0.1, k.within);
+    shut = λ z. stmt_While (Unit {0}) Bool ends_open_part ends_open_step p e x ∙ k.shut z;
+    within = omega (arith, stmt_While ℕ ℕ part_depth_step stmt_depth_step p e x, f.0.1, k.within);
   }
 
   for_ended : (ps : Parts) (s : Frames) (p : Place) (start : First) (test third : Option Expr) (x : Stmt) → OkFrames lim (frame.For p start test third ∷ s)
       → Ended ps (frame.For p start test third ∷ s) x → Ended ps s (stmt.For p start test third x)
   unfolding is_in_block
   for_ended ps s p start test third x f k = record {
-    stands = subst (λ y. Stand (lay_base ps s ++ y) ts) (sym (stmt_For Pieces lay_stmt_step p start test third x))
+    stands = subst (λ y. Stand (lay_base ps s ++ y) ts) (sym (stmt_For Pieces Pieces lay_part_step lay_stmt_step p start test third x))
         (three (lay_base ps s) (word_at p word.For) (lay_for start test third) (lay_stmt x) ts (around ps (frame.For p start test third) s x k.stands));
     part = inr (for_loop p start test third x f.0.0.0 f.0.1.0 f.0.2.0 (stmt_in x k.part));
-    shut = λ z. stmt_For Bool ends_open_step p start test third x ∙ k.shut z;
-    within = omega (arith, stmt_For ℕ stmt_depth_step p start test third x, f.0.0.1, f.0.1.1, f.0.2.1, k.within);
+    shut = λ z. stmt_For (Unit {0}) Bool ends_open_part ends_open_step p start test third x ∙ k.shut z;
+    within = omega (arith, stmt_For ℕ ℕ part_depth_step stmt_depth_step p start test third x, f.0.0.1, f.0.1.1, f.0.2.1, k.within);
   }
 
   while_is : (k : TokenKind) → spec.is_while k ≡ true → k ≡ token.Word word.While
@@ -496,6 +531,24 @@ module _ (lim : ℕ) (is_limit : IsLimit lim) (ts : List Token) (t : Token) wher
       (subst (λ y. Stand (lay_base ps s ++ (at p (plain (the_mark mark.LeftBrace)) ++ y)) ts) (sym (row_push lay_stmt parts x))
       (three (lay_base ps s) (at p (plain (the_mark mark.LeftBrace))) (lay_stmts parts) (lay_stmt x) ts (around ps (frame.Block p parts) s x k.stands))))
 
+  more_switched_keeps : (ps : Parts) (s : Frames) (p : Place) (e : Expr) (parts : List Part) (x : Stmt) → OkParts lim ps
+      → OkFrames lim (frame.Switch p e parts ∷ s) → Ended ps (frame.Switch p e parts ∷ s) x → KeepsStepped lim ts t (spec.more_switched ps s p e parts x t)
+  unfolding is_in_block spec.more_switched
+  more_switched_keeps ps s p e parts x o f k =
+      let r : RankedStmt x = stmt_in x k.part in
+      let new : Part = part_.Does (stmt_place x) x in
+      begins_keeps ps (frame.Switch p e (parts ++ new ∷ []) ∷ s) o (
+        (
+          f.0.0,
+          (
+            switched_append parts (new ∷ []) f.0.1.0 (does (stmt_place x) x [] r no_labels),
+            omega (arith, f.0.1.1, k.within, deepest_more part_depth parts new, part_Does ℕ ℕ part_depth_step stmt_depth_step (stmt_place x) x),
+          ),
+        ),
+        f.1,
+      )
+      (switch_push ps p e parts s new ts (does_stands (lay_base ps (frame.Switch p e parts ∷ s)) x ts r k.stands))
+
   close_keeps : (ps : Parts) (f : Frame) (s : Frames) (x : Stmt) (b : Bool) → spec.is_else t.what ≡ b → OkParts lim ps → OkFrames lim (f ∷ s)
       → Ended ps (f ∷ s) x → ((y : Stmt) → Ended ps s y → KeepsStepped lim ts t (spec.behind ps s y t))
       → KeepsStepped lim ts t (spec.closed_by ps s (spec.close f x b) t (λ y. spec.behind ps s y t))
@@ -507,6 +560,7 @@ module _ (lim : ℕ) (is_limit : IsLimit lim) (ts : List Token) (t : Token) wher
   close_keeps ps (frame.Do p) s x b h o f k again = do_keeps ps s p x o f k
   close_keeps ps (frame.For p start test third) s x b h o f k again = again (stmt.For p start test third x) (for_ended ps s p start test third x f k)
   close_keeps ps (frame.Block p parts) s x b h o f k again = more_keeps ps s p parts x o f k
+  close_keeps ps (frame.Switch p e parts) s x b h o f k again = more_switched_keeps ps s p e parts x o f k
 
   behind_keeps : (ps : Parts) (s : Frames) (x : Stmt) → OkParts lim ps → OkFrames lim s → Ended ps s x → KeepsStepped lim ts t (spec.behind ps s x t)
   unfolding spec.behind
@@ -663,6 +717,79 @@ module _ (lim : ℕ) (is_limit : IsLimit lim) (ts : List Token) (t : Token) wher
       (behind_all ((lay_base ps s ++ For_at p) ++ (lay_first start ++ (lay_option test ++ semicolon))) (lay_option v) _ ts b.behind h.0.stands) (one t (token.Mark mark.RightParen) h.1)))
   third_by_keeps ps s p start test r maybe.Refused o f b k q2 h = tt
 
+  -- the braces of a `switch`
+
+  brace_is : (k : TokenKind) → spec.is_brace k ≡ true → k ≡ token.Mark mark.LeftBrace
+  brace_is (token.Mark mark.LeftBrace) h = refl
+  brace_is _ h = absurd (false_true h)
+
+  braces_keeps : (ps : Parts) (s : Frames) (p : Place) (e : Expr) → OkParts lim ps → OkFrames lim s → Below lim (1 + length s) 0 e
+      → Stand (lay_base ps s ++ (word_at p word.Switch ++ lay_in_parens (lay_expr e))) ts → KeepsStepped lim ts t (spec.braces ps s p e t)
+  unfolding spec.braces
+  braces_keeps ps s p e o f b st =
+      stepped_cond (spec.is_brace t.what) _ stepped.Refused
+      (λ h. await_keeps ps s (frame.Switch p e []) 0 o f (λ z. (b, (no_labels, omega (arith, b.1))))
+      (three (lay_base ps s) (word_at p word.Switch) (lay_in_parens (lay_expr e)) left_brace (ts ++ t ∷ [])
+      (stand-append (lay_base ps s ++ (word_at p word.Switch ++ lay_in_parens (lay_expr e))) left_brace ts (t ∷ []) st
+      (one t (token.Mark mark.LeftBrace) (brace_is t.what h)))))
+      (λ h. tt)
+
+  -- a label in the innermost braces
+  abbrev Labels : Part → Parts → Frames → Type 0
+  Labels x ps s =
+      OkFrames lim s → RankedSwitch (x ∷ []) → ((1 + length s) ≤ lim + 1 → (1 + length s) + part_depth x ≤ lim + 1)
+      → Stand (lay_base ps s ++ lay_part x) (ts ++ t ∷ []) → KeepsStepped lim ts t (spec.labelled ps s x)
+
+  labelled_keeps : (ps : Parts) (x : Part) → OkParts lim ps → (s : Frames) → is_in_switch s ≡ true → Labels x ps s
+  unfolding spec.labelled
+  labelled_keeps ps x o = switch_split (Labels x ps) (λ p e parts s f r d st.
+      let g : Frame = frame.Switch p e (parts ++ x ∷ []) in
+      goes ps (g ∷ s) step.Begins 0 o (
+        (
+          f.0.0,
+          (
+            switched_append parts (x ∷ []) f.0.1.0 r,
+            omega (arith, f.0.1.1, d (omega (arith, f.0.1.1)), deepest_more part_depth parts x),
+          ),
+        ),
+        f.1,
+      )
+      (λ z. switch_push ps p e parts s x (ts ++ t ∷ []) st))
+
+  case_by_keeps : (ps : Parts) (s : Frames) (p : Place) (m : Read) → OkParts lim ps → OkFrames lim s → is_in_switch s ≡ true
+      → (r : Reading) (b : Behind (lay_base ps s ++ word_at p word.Case) (At lim (site 2 (level s)) r) ts)
+      → KeepsRead lim (site 2 (level s)) b.back t mark.Colon m → KeepsStepped lim ts t (spec.case_by ps s p m)
+  case_by_keeps ps s p (read.Goes q reach) o f i r b h =
+      goes ps s (step.Case p q) reach o f (λ z. (pushed (lay_base ps s ++ word_at p word.Case) _ _ b (h z), i))
+  case_by_keeps ps s p (read.Closed e) o f i r b h =
+      labelled_keeps ps (part_.Case p e) o s i f (case_label p e [] h.0.ranked no_labels)
+      (λ z. omega (arith, is_limit, h.0.within, part_Case ℕ ℕ part_depth_step stmt_depth_step p e))
+      (subst (λ x. Stand (lay_base ps s ++ x) (ts ++ t ∷ [])) (sym (part_Case Pieces Pieces lay_part_step lay_stmt_step p e))
+      (regroup (lay_base ps s) (word_at p word.Case) (lay_expr e ++ plain (the_mark mark.Colon)) (ts ++ t ∷ [])
+      (stand-more (lay_base ps s ++ word_at p word.Case) (lay_expr e) (plain (the_mark mark.Colon)) ts (t ∷ [])
+      (behind_all (lay_base ps s ++ word_at p word.Case) (lay_expr e) _ ts b h.0.stands) (one t (token.Mark mark.Colon) h.1))))
+  case_by_keeps ps s p read.Refused o f i r b h = tt
+
+  default_label_keeps : (ps : Parts) (s : Frames) (p : Place) → OkParts lim ps → OkFrames lim s → is_in_switch s ≡ true
+      → Stand (lay_base ps s ++ word_at p word.Default) ts → KeepsStepped lim ts t (spec.default_label ps s p t)
+  unfolding spec.default_label
+  default_label_keeps ps s p o f i st =
+      stepped_cond (closes t closer.Colon) _ stepped.Refused
+      (λ e. labelled_keeps ps (part_.Default p) o s i f (default_label p [] no_labels)
+      (λ z. omega (arith, z, part_Default ℕ ℕ part_depth_step stmt_depth_step p))
+      (subst (λ x. Stand (lay_base ps s ++ x) (ts ++ t ∷ [])) (sym (part_Default Pieces Pieces lay_part_step lay_stmt_step p))
+      (stand-more (lay_base ps s) (word_at p word.Default) (plain (the_mark mark.Colon)) ts (t ∷ []) st
+      (one t (token.Mark mark.Colon) (closes_is closer.Colon t e)))))
+      (λ e. tt)
+
+  switch_keeps : (ps : Parts) (s : Frames) (x : Step) → OkParts lim ps → OkFrames lim s → OkStep lim ps s x ts → KeepsStepped lim ts t (spec.in_switch ps s x t)
+  unfolding spec.in_switch spec.case_value
+  switch_keeps ps s (step.Braces p e) o f k = braces_keeps ps s p e o f k.1 k.0
+  switch_keeps ps s (step.Case p r) o f k =
+      case_by_keeps ps s p _ o f k.1 r k.0 (read_keeps lim is_limit (site 2 (level s)) k.0.back t r closer.Colon k.0.rest)
+  switch_keeps ps s (step.Default p) o f k = default_label_keeps ps s p o f k.1 k.0
+  switch_keeps ps s _ o f k = tt
+
   for_keeps : (ps : Parts) (s : Frames) (x : Step) → OkParts lim ps → OkFrames lim s → OkStep lim ps s x ts → KeepsStepped lim ts t (spec.in_for ps s x t)
   unfolding spec.in_for spec.for_declares spec.second spec.third
   for_keeps ps s (step.For p) o f k = for_opened_keeps ps s p o f k.0 k.1
@@ -673,7 +800,7 @@ module _ (lim : ℕ) (is_limit : IsLimit lim) (ts : List Token) (t : Token) wher
       second_by_keeps ps s p start r _ o f k.0 k.1 (maybe_keeps lim is_limit (site 0 (inner s)) k.0.behind.back t r closer.Semicolon k.0.room k.0.behind.rest)
   for_keeps ps s (step.Third p start test r) o f k =
       third_by_keeps ps s p start test r _ o f k.0 k.1 k.2 (maybe_keeps lim is_limit (site 0 (inner s)) k.0.behind.back t r closer.Paren k.0.room k.0.behind.rest)
-  for_keeps ps s _ o f k = tt
+  for_keeps ps s x o f k = switch_keeps ps s x o f k
 
   step_keeps : (ps : Parts) (s : Frames) (x : Step) → OkParts lim ps → OkFrames lim s → OkStep lim ps s x ts → KeepsStepped lim ts t (spec.step_fed ps s x t)
   step_keeps ps s step.Begins o f k = begins_keeps ps s o f k

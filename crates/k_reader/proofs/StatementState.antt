@@ -10,11 +10,11 @@ use Rattle.k_tree.specs.declared.tree.expression.Expr.{Expr}
 use Rattle.k_tree.specs.declared.tree.declaration.Declarator.{Declarator}
 use Rattle.k_tree.specs.declared.tree.statement.Stmt.{Stmt}
 use Rattle.k_tree.specs.declared.tree.statement.Stmt.TheVariants as stmt
-use Rattle.k_tree.specs.Nesting.{deepest, expr_depth, option_depth, first_depth, stmt_depth}
-use Rattle.k_tree.specs.Places.{Pieces, plain, at, lay_expr, lay_option, lay_first, lay_for, lay_in_parens, lay_stmt, lay_stmts, Stand}
-use Rattle.k_tree.specs.Ranked.{Ranked, IfGiven, RankedFirst, RankedStmt, RankedParts, RankedDeclaration, ends_open}
+use Rattle.k_tree.specs.Nesting.{deepest, expr_depth, option_depth, first_depth, stmt_depth, part_depth}
+use Rattle.k_tree.specs.Places.{Pieces, plain, at, lay_expr, lay_option, lay_first, lay_for, lay_in_parens, lay_stmt, lay_stmts, lay_switched, Stand}
+use Rattle.k_tree.specs.Ranked.{Ranked, IfGiven, RankedFirst, RankedStmt, RankedParts, RankedSwitch, RankedDeclaration, ends_open}
 use Rattle.k_tree.specs.Spelling.{the_mark, the_word}
-use Rattle.k_reader.specs.Statements.{Parts, Frames, inner, is_in_block}
+use Rattle.k_reader.specs.Statements.{Parts, Frames, inner, level, is_in_block, is_in_switch}
 use Rattle.k_reader.specs.declared.statement.Frame.{Frame}
 use Rattle.k_reader.specs.declared.statement.Frame.TheVariants as frame
 use Rattle.k_reader.specs.declared.statement.Tested.{Tested}
@@ -34,6 +34,9 @@ word_at p w = at p (plain (the_word w))
 abbrev pub left_paren : Pieces
 left_paren = plain (the_mark mark.LeftParen)
 
+abbrev pub left_brace : Pieces
+left_brace = plain (the_mark mark.LeftBrace)
+
 abbrev pub semicolon : Pieces
 semicolon = plain (the_mark mark.Semicolon)
 
@@ -43,6 +46,7 @@ lay_frame (frame.Else p e a) = word_at p word.If ++ (lay_in_parens (lay_expr e) 
 lay_frame (frame.While p e) = word_at p word.While ++ lay_in_parens (lay_expr e)
 lay_frame (frame.Do p) = word_at p word.Do
 lay_frame (frame.For p start test step) = word_at p word.For ++ lay_for start test step
+lay_frame (frame.Switch p e parts) = word_at p word.Switch ++ (lay_in_parens (lay_expr e) ++ (left_brace ++ lay_switched parts))
 lay_frame (frame.Block p parts) = at p (plain (the_mark mark.LeftBrace)) ++ lay_stmts parts
 
 abbrev pub lay_frames : Frames → Pieces
@@ -55,6 +59,7 @@ lay_base ps s = lay_stmts ps ++ lay_frames s
 abbrev pub lay_tested : Tested → Pieces
 lay_tested (tested.If p) = word_at p word.If
 lay_tested (tested.While p) = word_at p word.While
+lay_tested (tested.Switch p) = word_at p word.Switch
 lay_tested (tested.Do p b) = word_at p word.Do ++ (lay_stmt b ++ plain (the_word word.While))
 
 -- an expression within the limit, below a node of a level
@@ -74,6 +79,7 @@ OkFrame lim l (frame.Do p) = Unit {0}
 OkFrame lim l (frame.For p start test step) =
     (RankedFirst start × ((l + 1) + first_depth start ≤ lim + 1)) × (IfGiven (Ranked 0) test × ((l + 1) + option_depth test ≤ lim + 1))
     × (IfGiven (Ranked 0) step × ((l + 1) + option_depth step ≤ lim + 1))
+OkFrame lim l (frame.Switch p e parts) = Below lim l 0 e × (RankedSwitch parts × ((l + 1) + deepest (map part_depth parts) ≤ lim + 1))
 OkFrame lim l (frame.Block p parts) = RankedParts parts × ((l + 1) + deepest (map stmt_depth parts) ≤ lim + 1)
 
 abbrev pub OkFrames : ℕ → Frames → Type 0
@@ -83,6 +89,7 @@ OkFrames lim (f ∷ s) = OkFrame lim (1 + length s) f × OkFrames lim s
 abbrev pub OkTested : ℕ → ℕ → Tested → Type 0
 OkTested lim l (tested.If p) = Unit {0}
 OkTested lim l (tested.While p) = Unit {0}
+OkTested lim l (tested.Switch p) = Unit {0}
 OkTested lim l (tested.Do p b) = IsStmt lim (l + 1) b
 
 -- a statement, or a declaration of a block
@@ -132,6 +139,11 @@ OkStep lim ps s (step.Third p start test r) ts =
     OkBehind lim s ((lay_base ps s ++ For_at p) ++ (lay_first start ++ (lay_option test ++ semicolon))) (At lim (site 0 (inner s)) r) ts
     × (RankedFirst start × (((1 + length s) + 1) + first_depth start ≤ lim + 1))
     × (IfGiven (Ranked 0) test × (((1 + length s) + 1) + option_depth test ≤ lim + 1))
+OkStep lim ps s (step.Braces p e) ts =
+    Stand (lay_base ps s ++ (word_at p word.Switch ++ lay_in_parens (lay_expr e))) ts × Below lim (1 + length s) 0 e
+OkStep lim ps s (step.Case p r) ts =
+    Behind (lay_base ps s ++ word_at p word.Case) (At lim (site 2 (level s)) r) ts × (is_in_switch s ≡ true)
+OkStep lim ps s (step.Default p) ts = Stand (lay_base ps s ++ word_at p word.Default) ts × (is_in_switch s ≡ true)
 OkStep lim ps s (step.Return p r) ts = OkBehind lim s (lay_base ps s ++ word_at p word.Return) (At lim (site 0 (inner s)) r) ts
 OkStep lim ps s (step.Local p d) ts =
     OkBehind lim s (lay_base ps s) (λ us. OkDeclaration lim (inner s) d us × StartsAt p us) ts × (is_in_block s ≡ true)

@@ -13,6 +13,8 @@ use Rattle.k_tree.specs.declared.tokens.word.Word.TheVariants as word
 use Rattle.k_tree.specs.declared.tree.expression.Expr.{Expr}
 use Rattle.k_tree.specs.declared.tree.statement.First.{First}
 use Rattle.k_tree.specs.declared.tree.statement.First.TheVariants as first
+use Rattle.k_tree.specs.declared.tree.statement.Part.TheVariants as part_
+use Rattle.k_tree.specs.Places.{stmt_place}
 use Rattle.k_tree.specs.declared.tree.statement.Stmt.{Stmt}
 use Rattle.k_tree.specs.declared.tree.statement.Stmt.TheVariants as stmt
 use Rattle.k_reader.specs.Level.{plus}
@@ -50,6 +52,7 @@ use Rattle.k_reader.proofs.ReadingViable.{needed_goes, needed_ends, closing_ends
 use Rattle.k_reader.proofs.Runs.{Runs, run_ends, CanEnd, goes_then, runs_keep, inside_can_end}
 use Rattle.k_reader.proofs.StatementReach.{FramesReached, ReadingReached, StepReached, BodyReached}
 use Rattle.k_reader.proofs.StatementSound.{body_keeps}
+use Rattle.k_reader.proofs.SwitchTerms.{switch_split}
 use Rattle.k_reader.proofs.StatementState.{OkStep, OkParts, OkBody, KeepsStepped}
 
 abbrev pub BodyGoes : Body → Token → Body → ℕ → Type 0
@@ -163,12 +166,14 @@ module _ (lim : ℕ) (is_limit : IsLimit lim) (ps : Parts) where
   tested_body : Frames → Tested → Expr → Body
   tested_body s (tested.If p) e = body (frame.Then p e ∷ s) step.Begins
   tested_body s (tested.While p) e = body (frame.While p e ∷ s) step.Begins
+  tested_body s (tested.Switch p) e = body s (step.Braces p e)
   tested_body s (tested.Do p b) e = body s (step.Semicolon (stmt.DoWhile p b e))
 
   tested_goes : (s : Frames) (x : Tested) (e : Expr) → spec.test_done ps s x e ≡ stepped.Goes (tested_body s x e) 0
   unfolding spec.test_done tested_body
   tested_goes s (tested.If p) e = refl
   tested_goes s (tested.While p) e = refl
+  tested_goes s (tested.Switch p) e = refl
   tested_goes s (tested.Do p b) e = refl
 
   test_ended : (s : Frames) (x : Tested) (r : Reading) (g : Site) (ts : List Token) → At lim g r ts → ReadingReached lim r
@@ -193,7 +198,7 @@ module _ (lim : ℕ) (is_limit : IsLimit lim) (ps : Parts) where
 
   -- behind a statement: what ends with it ends, `}` closes a block, and `while` goes on with a `do`
   behind_ends : (s : Frames) (x : Stmt) → FramesReached lim s → Behind s x
-  unfolding spec.behind spec.begins spec.mark_begins is_semicolon is_left_brace is_right_brace spec.block_ends spec.close spec.part spec.more spec.do_while while_token tested_body
+  unfolding spec.behind spec.begins spec.mark_begins is_semicolon is_left_brace is_right_brace spec.block_ends spec.close spec.part spec.more spec.more_switched spec.do_while while_token tested_body
   behind_ends [] x h = (mark_token mark.RightBrace, refl, tt)
   behind_ends (frame.Then p e ∷ s) x h =
       let n : Behind s (stmt.If p e x None) = behind_ends s (stmt.If p e x None) h.1 in
@@ -215,6 +220,12 @@ module _ (lim : ℕ) (is_limit : IsLimit lim) (ps : Parts) where
     refl,
     (omega arith, whole_ended s (stmt.Block p (parts ++ x ∷ [])) (behind_ends s (stmt.Block p (parts ++ x ∷ [])) h.1)),
   )
+  behind_ends (frame.Switch p e parts ∷ s) x h =
+      let y : Stmt = stmt.Switch p e (parts ++ part_.Does (stmt_place x) x ∷ []) in (
+        mark_token mark.RightBrace,
+        refl,
+        (omega arith, whole_ended s y (behind_ends s y h.1)),
+      )
 
   closes_whole : (s : Frames) (x : Stmt) → FramesReached lim s → Ended s (step.Whole x)
   closes_whole s x h = whole_ended s x (behind_ends s x h)
@@ -235,17 +246,54 @@ module _ (lim : ℕ) (is_limit : IsLimit lim) (ps : Parts) where
   begins_ended (frame.Block p parts ∷ s) h =
       ended_by (body (frame.Block p parts ∷ s) step.Begins) (mark_token mark.RightBrace) (spec.whole ps s (stmt.Block p parts)) refl
       (omega arith, closes_whole s (stmt.Block p parts) h.1)
+  begins_ended (frame.Switch p e parts ∷ s) h =
+      ended_by (body (frame.Switch p e parts ∷ s) step.Begins) (mark_token mark.RightBrace) (spec.whole ps s (stmt.Switch p e parts)) refl
+      (omega arith, closes_whole s (stmt.Switch p e parts) h.1)
   begins_ended (frame.Then p e ∷ s) h = part_ended s (frame.Then p e) h.0 h
   begins_ended (frame.Else p e a ∷ s) h = part_ended s (frame.Else p e a) h.0 h
   begins_ended (frame.While p e ∷ s) h = part_ended s (frame.While p e) h.0 h
   begins_ended (frame.For p start test third ∷ s) h = part_ended s (frame.For p start test third) h.0 h
   begins_ended (frame.Do p ∷ s) h = part_ended s (frame.Do p) h.0 h
 
+  -- `{` where the braces of a `switch` are awaited
+  braces_ended : (s : Frames) (p : Place) (e : Expr) → FramesReached lim s → Ended s (step.Braces p e)
+  unfolding spec.feed_body spec.in_for spec.in_switch spec.braces
+  braces_ended s p e h =
+      ended_by (body s (step.Braces p e)) (mark_token mark.LeftBrace) (spec.await_part ps s (frame.Switch p e []) 0) refl
+      (omega arith, begins_ended (frame.Switch p e [] ∷ s) (tt, h))
+
   tested_ended : (s : Frames) (x : Tested) (e : Expr) → FramesReached lim s → spec.inner s ≤ lim → BodyCanEnd lim (tested_body s x e)
   unfolding tested_body
   tested_ended s (tested.If p) e h i = begins_ended (frame.Then p e ∷ s) (i, h)
   tested_ended s (tested.While p) e h i = begins_ended (frame.While p e ∷ s) (i, h)
+  tested_ended s (tested.Switch p) e h i = braces_ended s p e h
   tested_ended s (tested.Do p b) e h i = semicolon_ended s (stmt.DoWhile p b e) (behind_ends s (stmt.DoWhile p b e) h)
+
+  -- labels
+
+  abbrev Case_ended : Frames → Type 0
+  Case_ended s = (p : Place) (r : Reading) (g : Site) (ts : List Token) → At lim g r ts → ReadingReached lim r → FramesReached lim s → Ended s (step.Case p r)
+
+  case_ended : (s : Frames) → spec.is_in_switch s ≡ true → Case_ended s
+  unfolding spec.feed_body spec.in_for spec.in_switch spec.case_value spec.labelled
+  case_ended = switch_split Case_ended (λ q e parts s p r g ts a k h.
+      let f : Frames = frame.Switch q e parts ∷ s in
+      inner_can_end Body Parts BodyGoes BodyEnds lim is_limit mark.Colon (closing_ends closer.Colon) g r ts a k
+      (λ u. body f (step.Case p u)) (λ v. body (frame.Switch q e (parts ++ part_.Case p v ∷ []) ∷ s) step.Begins)
+      (λ u t next reach i. ap (λ z. spec.case_by ps f p z) (needed_goes u t closer.Colon next reach i))
+      (λ u v i. ap (λ z. spec.case_by ps f p z) (needed_ends u (mark_token mark.Colon) closer.Colon v i (closing_closes closer.Colon)))
+      (λ v. begins_ended (frame.Switch q e (parts ++ part_.Case p v ∷ []) ∷ s) h))
+
+  abbrev Default_ended : Frames → Type 0
+  Default_ended s = (p : Place) → FramesReached lim s → Ended s (step.Default p)
+
+  default_ended : (s : Frames) → spec.is_in_switch s ≡ true → Default_ended s
+  unfolding spec.feed_body spec.in_for spec.in_switch spec.default_label spec.labelled closes
+  default_ended = switch_split Default_ended (λ q e parts s p h.
+      let f : Frames = frame.Switch q e parts ∷ s in
+      ended_by (body f (step.Default p)) (mark_token mark.Colon)
+      (spec.steps ps (frame.Switch q e (parts ++ part_.Default p ∷ []) ∷ s) step.Begins 0) refl
+      (omega arith, begins_ended (frame.Switch q e (parts ++ part_.Default p ∷ []) ∷ s) h))
 
   -- expressions and declarations that are statements
 
@@ -348,6 +396,9 @@ module _ (lim : ℕ) (is_limit : IsLimit lim) (ps : Parts) where
       second_ended s p start r (site 0 (spec.inner s)) ok.0.behind.back ok.0.behind.rest k.1 h k.0
   step_ended s (step.Third p start test r) ts ok h k =
       third_ended s p start test r (site 0 (spec.inner s)) ok.0.behind.back ok.0.behind.rest k.1 h k.0
+  step_ended s (step.Braces p e) ts ok h k = braces_ended s p e h
+  step_ended s (step.Case p r) ts ok h k = case_ended s ok.1 p r (site 2 (spec.level s)) ok.0.back ok.0.rest k h
+  step_ended s (step.Default p) ts ok h k = default_ended s ok.1 p h
   step_ended s (step.Return p r) ts ok h k = return_ended s p r (site 0 (spec.inner s)) ok.behind.back ok.behind.rest k h
   step_ended s (step.Local p d) ts ok h k = local_ended s p d (spec.inner s) ok.0.behind.back ok.0.behind.rest.0 k h
 

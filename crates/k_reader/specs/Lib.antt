@@ -1,4 +1,3 @@
-pub mod Closed
 pub mod Declarations
 pub mod Expressions
 pub mod Initialisers

@@ -2,30 +2,6 @@
 use Rattle.std.specs.Prelude.{ℕ, List, [], ◌∷◌, Option, Some, None, slice_index}
 use Rattle.k_num.specs.declared.numbers.Bin.{Bin}
 use Rattle.k_num.specs.declared.numbers.Bin.TheVariants.{Add, Sub, Mul, Div, Rem, And, Or, Xor, Shl, Shr, Lt, Le, Gt, Ge, Eq, Ne, LogAnd, LogOr}
-use Rattle.k_tree.specs.declared.tokens.mark.Mark.{Mark}
-use Rattle.k_tree.specs.declared.tokens.mark.Mark.TheVariants as mark
-
--- the binary operator that a mark is between two operands
-abbrev pub operator_of : Mark → Option Bin
-operator_of mark.Plus = Some Add
-operator_of mark.Minus = Some Sub
-operator_of mark.Star = Some Mul
-operator_of mark.Slash = Some Div
-operator_of mark.Percent = Some Rem
-operator_of mark.Ampersand = Some And
-operator_of mark.Bar = Some Or
-operator_of mark.Caret = Some Xor
-operator_of mark.ShiftLeft = Some Shl
-operator_of mark.ShiftRight = Some Shr
-operator_of mark.Less = Some Lt
-operator_of mark.LessEqual = Some Le
-operator_of mark.Greater = Some Gt
-operator_of mark.GreaterEqual = Some Ge
-operator_of mark.EqualEqual = Some Eq
-operator_of mark.ExclaimEqual = Some Ne
-operator_of mark.AmpersandAmpersand = Some LogAnd
-operator_of mark.BarBar = Some LogOr
-operator_of _ = None
 
 -- an operator's place in the table
 abbrev pub place : Bin → ℕ

@@ -23,6 +23,7 @@ abbrev pub mark_closes : Closer → Mark → Bool
 mark_closes closer.Bracket mark.RightBracket = true
 mark_closes closer.Paren mark.RightParen = true
 mark_closes closer.Semicolon mark.Semicolon = true
+mark_closes closer.Colon mark.Colon = true
 mark_closes _ _ = false
 
 -- is a token of this kind the mark that closes the expression?

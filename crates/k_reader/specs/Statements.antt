@@ -5,6 +5,7 @@ use Rattle.k_tree.specs.declared.tokens.Token.{Token}
 use Rattle.k_tree.specs.declared.tokens.TokenKind.{TokenKind}
 use Rattle.k_tree.specs.declared.tokens.TokenKind.TheVariants as token
 use Rattle.k_tree.specs.declared.tokens.mark.Mark.{Mark}
+use Rattle.k_tree.specs.declared.tokens.mark.Mark.TheVariants as mark
 use Rattle.k_tree.specs.declared.tokens.word.Word.{Word}
 use Rattle.k_tree.specs.declared.tokens.word.Word.TheVariants as word
 use Rattle.k_tree.specs.declared.tree.expression.Expr.{Expr}
@@ -12,6 +13,9 @@ use Rattle.k_tree.specs.declared.tree.statement.First.{First}
 use Rattle.k_tree.specs.declared.tree.statement.First.TheVariants as first
 use Rattle.k_tree.specs.declared.tree.statement.Stmt.{Stmt}
 use Rattle.k_tree.specs.declared.tree.statement.Stmt.TheVariants as stmt
+use Rattle.k_tree.specs.declared.tree.statement.Part.{Part}
+use Rattle.k_tree.specs.declared.tree.statement.Part.TheVariants as part_
+use Rattle.k_tree.specs.Places.{stmt_place}
 use Rattle.k_reader.specs.Operators.{is_spec_word, is_semicolon, is_left_brace, is_right_brace}
 use Rattle.k_reader.specs.Top.{top}
 use Rattle.k_reader.specs.Level.{plus}
@@ -119,10 +123,20 @@ in_block_by _ = false
 unfoldable pub is_in_block : Frames → Bool
 is_in_block s = in_block_by (top s)
 
--- `}` where a statement begins: the innermost block ends, or that of the function, or it can't stand there (C17 6.8.2)
+-- is the innermost open construct a `switch`?
+abbrev pub in_switch_by : Option Frame → Bool
+in_switch_by (Some (frame.Switch place on parts)) = true
+in_switch_by _ = false
+
+-- does a statement that begins stand right in the braces of a `switch`, so that a label may stand there as well?
+unfoldable pub is_in_switch : Frames → Bool
+is_in_switch s = in_switch_by (top s)
+
+-- `}` where a statement begins: the innermost block or `switch` ends, or the block of the function, or it can't stand there (C17 6.8.2)
 unfoldable pub block_ends : Parts → Frames → Stepped
 block_ends ps [] = stepped.Done ps
 block_ends ps (frame.Block p parts ∷ s) = whole ps s (stmt.Block p parts)
+block_ends ps (frame.Switch p e parts ∷ s) = whole ps s (stmt.Switch p e parts)
 block_ends ps (_ ∷ s) = stepped.Refused
 
 -- a specifier where a statement begins: the first one of a declaration, which only a block may have (C17 6.8.2)
@@ -130,12 +144,23 @@ unfoldable pub declares : Parts → Frames → Word → Place → Stepped
 declares ps s w p =
     cond (is_spec_word w && is_in_block s) (steps ps s (step.Local p (begin_declaration w (inner s))) (level s)) stepped.Refused
 
--- a word that begins a statement: `if`, a loop, `break`, `continue` or `return` (C17 6.8.4 to 6.8.6)
+-- `case` where a statement begins: its value begins, right in the braces of a `switch` alone (C17 6.8.1)
+unfoldable pub case_begins : Parts → Frames → Place → Stepped
+case_begins ps s p = cond (is_in_switch s) (steps ps s (step.Case p (begin 2 (level s))) (level s)) stepped.Refused
+
+-- `default` where a statement begins, right in the braces of a `switch` alone (C17 6.8.1)
+unfoldable pub default_begins : Parts → Frames → Place → Stepped
+default_begins ps s p = cond (is_in_switch s) (steps ps s (step.Default p) 0) stepped.Refused
+
+-- a word that begins a statement: `if`, `switch`, a loop, `break`, `continue` or `return`; or one that begins a label (C17 6.8.1 to 6.8.6)
 unfoldable pub jump : Parts → Frames → Word → Place → Stepped
 jump ps s word.If p = steps ps s (step.Keyword (tested.If p)) (inner s)
 jump ps s word.While p = steps ps s (step.Keyword (tested.While p)) (inner s)
 jump ps s word.Do p = await_part ps s (frame.Do p) (inner s)
 jump ps s word.For p = steps ps s (step.For p) (inner s)
+jump ps s word.Switch p = steps ps s (step.Keyword (tested.Switch p)) (inner s)
+jump ps s word.Case p = case_begins ps s p
+jump ps s word.Default p = default_begins ps s p
 jump ps s word.Break p = steps ps s (step.Semicolon (stmt.Break p)) (level s)
 jump ps s word.Continue p = steps ps s (step.Semicolon (stmt.Continue p)) (level s)
 jump ps s word.Return p = steps ps s (step.Return p (begin 0 (inner s))) (level s)
@@ -185,10 +210,11 @@ begins ps s t = begins_by ps s t t.what
 unfoldable pub opened : Parts → Frames → Tested → Token → Stepped
 opened ps s x t = cond (is_left_paren t.what) (steps ps s (step.Test x (begin 0 (inner s))) 0) stepped.Refused
 
--- the `)` of a test was read: its statement is awaited, or behind `do` the semicolon (C17 6.8.4.1, 6.8.5.1, 6.8.5.2)
+-- the `)` of a test was read: its statement is awaited, or behind `do` the semicolon, or the braces of a `switch` (C17 6.8.4, 6.8.5.1, 6.8.5.2)
 unfoldable pub test_done : Parts → Frames → Tested → Expr → Stepped
 test_done ps s (tested.If p) e = await_part ps s (frame.Then p e) 0
 test_done ps s (tested.While p) e = await_part ps s (frame.While p e) 0
+test_done ps s (tested.Switch p) e = steps ps s (step.Braces p e) 0
 test_done ps s (tested.Do p b) e = steps ps s (step.Semicolon (stmt.DoWhile p b e)) 0
 
 -- the test goes on, or its `)` was read, or the token can't stand there
@@ -197,7 +223,7 @@ test_by ps s x (read.Goes r reach) = steps ps s (step.Test x r) reach
 test_by ps s x (read.Closed e) = test_done ps s x e
 test_by ps s x read.Refused = stepped.Refused
 
--- a token in the test of `if`, `while` or `do` (C17 6.8.4.1, 6.8.5.1, 6.8.5.2)
+-- a token in the test of `if`, `while`, `do` or `switch` (C17 6.8.4, 6.8.5.1, 6.8.5.2)
 unfoldable pub test : Parts → Frames → Tested → Reading → Token → Stepped
 test ps s x r t = test_by ps s x (read_needed r t closer.Paren)
 
@@ -233,16 +259,21 @@ do_while ps s p b t = cond (is_while t.what) (steps ps s (step.Keyword (tested.D
 unfoldable pub more : Parts → Frames → Place → Parts → Stmt → Token → Stepped
 more ps s p parts x t = begins ps (frame.Block p (parts ++ x ∷ []) ∷ s) t
 
+-- the token behind a statement in the braces of a `switch`, where the next one or a label begins or the braces end (C17 6.8.4.2)
+unfoldable pub more_switched : Parts → Frames → Place → Expr → List Part → Stmt → Token → Stepped
+more_switched ps s p e parts x t = begins ps (frame.Switch p e (parts ++ part_.Does (stmt_place x) x ∷ []) ∷ s) t
+
 -- is it `else`?
 abbrev pub is_else : TokenKind → Bool
 is_else (token.Word word.Else) = true
 is_else _ = false
 
--- the token behind a statement in a construct that isn't whole yet: `else`, the `while` of a `do`, or what follows in a block
+-- the token behind a statement in a construct that isn't whole yet: `else`, the `while` of a `do`, or what follows in a block or `switch`
 unfoldable pub part : Parts → Frames → Frame → Stmt → Token → Stepped
 part ps s (frame.Then p e) a t = otherwise ps s p e a
 part ps s (frame.Do p) a t = do_while ps s p a t
 part ps s (frame.Block p parts) a t = more ps s p parts a t
+part ps s (frame.Switch p e parts) a t = more_switched ps s p e parts a t
 part ps s _ a t = stepped.Refused
 
 -- a construct that is whole is a statement before the same token; one that isn't gets the token
@@ -328,14 +359,51 @@ third_by ps s p start test maybe.Refused = stepped.Refused
 unfoldable pub third : Parts → Frames → Place → First → Option Expr → Reading → Token → Stepped
 third ps s p start test r t = third_by ps s p start test (read_maybe r t closer.Paren)
 
--- a token in the parentheses of a `for` or before them (C17 6.8.5.3)
+-- the braces of a `switch`
+
+-- is it `{`?
+abbrev pub is_brace : TokenKind → Bool
+is_brace (token.Mark mark.LeftBrace) = true
+is_brace _ = false
+
+-- the token behind the parentheses of a `switch`: only `{` can stand there (C17 6.8.4.2)
+unfoldable pub braces : Parts → Frames → Place → Expr → Token → Stepped
+braces ps s p e t = cond (is_brace t.what) (await_part ps s (frame.Switch p e []) 0) stepped.Refused
+
+-- a label was read in the braces of a `switch`, and the next part begins (C17 6.8.1)
+unfoldable pub labelled : Parts → Frames → Part → Stepped
+labelled ps (frame.Switch p e parts ∷ s) x = steps ps (frame.Switch p e (parts ++ x ∷ []) ∷ s) step.Begins 0
+labelled ps _ x = stepped.Refused
+
+-- the value of a `case` goes on, or its `:` was read, or the token can't stand there
+abbrev pub case_by : Parts → Frames → Place → Read → Stepped
+case_by ps s p (read.Goes r reach) = steps ps s (step.Case p r) reach
+case_by ps s p (read.Closed e) = labelled ps s (part_.Case p e)
+case_by ps s p read.Refused = stepped.Refused
+
+-- a token in the value of a `case`, a conditional expression (C17 6.8.1)
+unfoldable pub case_value : Parts → Frames → Place → Reading → Token → Stepped
+case_value ps s p r t = case_by ps s p (read_needed r t closer.Colon)
+
+-- the token behind `default`: only `:` can stand there (C17 6.8.1)
+unfoldable pub default_label : Parts → Frames → Place → Token → Stepped
+default_label ps s p t = cond (closes t closer.Colon) (labelled ps s (part_.Default p)) stepped.Refused
+
+-- a token in a label, or before the braces of a `switch` (C17 6.8.1, 6.8.4.2)
+unfoldable pub in_switch : Parts → Frames → Step → Token → Stepped
+in_switch ps s (step.Braces p e) t = braces ps s p e t
+in_switch ps s (step.Case p r) t = case_value ps s p r t
+in_switch ps s (step.Default p) t = default_label ps s p t
+in_switch ps s _ t = stepped.Refused
+
+-- a token in the parentheses of a `for` or before them, or one of a `switch` (C17 6.8.4.2, 6.8.5.3)
 unfoldable pub in_for : Parts → Frames → Step → Token → Stepped
 in_for ps s (step.For p) t = for_opened ps s p t
 in_for ps s (step.Start p r) t = start ps s p r t
 in_for ps s (step.Declares p d) t = for_declares ps s p d t
 in_for ps s (step.Second p start r) t = second ps s p start r t
 in_for ps s (step.Third p start test r) t = third ps s p start test r t
-in_for ps s _ t = stepped.Refused
+in_for ps s x t = in_switch ps s x t
 
 -- the next token of the block of a function, at each step of its reading
 abbrev pub step_fed : Parts → Frames → Step → Token → Stepped

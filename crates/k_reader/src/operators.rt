@@ -6,7 +6,7 @@ ghost use Rattle.k_reader.specs.Ranks as ranks;
 
 use k_num::Bin;
 use k_optab::Table;
-use k_tree::{Mark, Word};
+use k_tree::{Mark, Word, operator_of};
 
 /// An operator behind an operand: the least rank of that operand, the rank of what it makes, and the least rank of an
 /// operand behind it.
@@ -15,34 +15,6 @@ pub struct Binding {
     pub left: u8,
     pub own: u8,
     pub right: u8,
-}
-
-/// The binary operator that a mark is between two operands (C17 6.5.5 to 6.5.14).
-pub fn operator_of(mark: Mark) -> Option<Bin>
-    ensures { result ≡ ranks.operator_of mark }
-{
-    let operator = match mark {
-        Mark::Plus => Bin::Add,
-        Mark::Minus => Bin::Sub,
-        Mark::Star => Bin::Mul,
-        Mark::Slash => Bin::Div,
-        Mark::Percent => Bin::Rem,
-        Mark::Ampersand => Bin::And,
-        Mark::Bar => Bin::Or,
-        Mark::Caret => Bin::Xor,
-        Mark::ShiftLeft => Bin::Shl,
-        Mark::ShiftRight => Bin::Shr,
-        Mark::Less => Bin::Lt,
-        Mark::LessEqual => Bin::Le,
-        Mark::Greater => Bin::Gt,
-        Mark::GreaterEqual => Bin::Ge,
-        Mark::EqualEqual => Bin::Eq,
-        Mark::ExclaimEqual => Bin::Ne,
-        Mark::AmpersandAmpersand => Bin::LogAnd,
-        Mark::BarBar => Bin::LogOr,
-        _ => return None,
-    };
-    Some(operator)
 }
 
 /// The ranks of the binary operators, in the order of `Bin`.

@@ -34,4 +34,6 @@ pub enum Closer {
     Paren,
     /// `;`
     Semicolon,
+    /// `:`
+    Colon,
 }

@@ -5,7 +5,7 @@ use crate::declaration::Declaration;
 use crate::expression::Reading;
 use crate::stack::Stack;
 use k_num::{Box, Place, Seq};
-use k_tree::{Expr, First, Stmt};
+use k_tree::{Expr, First, Part, Stmt};
 
 /// A statement of which a part is awaited.
 #[derive(Drop)]
@@ -37,6 +37,12 @@ pub enum Frame {
         test: Option<Box<Expr>>,
         step: Option<Box<Expr>>,
     },
+    /// `switch ( on ) {`, and some labels and statements.
+    Switch {
+        place: Place,
+        on: Box<Expr>,
+        parts: Seq<Part>,
+    },
     /// `{` and some statements and declarations.
     Block {
         place: Place,
@@ -49,6 +55,7 @@ pub enum Frame {
 pub enum Tested {
     If { place: Place },
     While { place: Place },
+    Switch { place: Place },
     /// `do body while`
     Do { place: Place, body: Stmt },
 }
@@ -106,6 +113,20 @@ pub enum Step {
         start: First,
         test: Option<Expr>,
         reading: Reading,
+    },
+    /// Before the opening brace of a `switch`.
+    Braces {
+        place: Place,
+        on: Box<Expr>,
+    },
+    /// In the value of a `case`.
+    Case {
+        place: Place,
+        reading: Reading,
+    },
+    /// Behind `default`.
+    Default {
+        place: Place,
     },
     /// In the value of a `return`.
     Return {

@@ -2,6 +2,7 @@
 mod begin;
 mod clause;
 mod loops;
+mod switch;
 
 ghost use Rattle.std.specs.Prelude.{◌≡◌, IfOk};
 ghost use Rattle.k_reader.specs.Statements as spec;

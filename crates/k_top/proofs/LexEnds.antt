@@ -28,7 +28,7 @@ use Rattle.k_lex.specs.Lines
 use Rattle.k_lex.specs.Lines.{State, step_in}
 use Rattle.k_lex.specs.Outcome.{◌>>=◌, refused}
 use Rattle.k_lex.specs.Tokens.{piece_in, turn, run, join_kinds, join, joined, first_place, nothing_read, tokens_within, answer, limits, tokens}
-use Rattle.k_reader.specs.Closed.{EndsOnce}
+use Rattle.k_tree.specs.Closed.{EndsOnce}
 
 -- ---- kinds, and lists of them
 

@@ -8,7 +8,7 @@ use Rattle.k_tree.specs.declared.tree.declaration.Init.{Init, fold-Init}
 use Rattle.k_tree.specs.declared.tree.declaration.Init.TheOpen.{Init-F}
 use Rattle.k_tree.specs.declared.tree.declaration.Declarator.{Declarator}
 use Rattle.k_tree.specs.declared.tree.statement.Stmt.{Stmt, fold-Stmt}
-use Rattle.k_tree.specs.declared.tree.statement.Stmt.TheOpen.{Stmt-F}
+use Rattle.k_tree.specs.declared.tree.statement.Part.TheOpen.{Stmt-F}
 use Rattle.k_tree.specs.declared.tree.unit.Item.{Item}
 use Rattle.k_tree.specs.declared.tree.unit.Item.TheVariants as item
 use Rattle.k_tree.specs.declared.tree.unit.Unit as source
@@ -88,7 +88,7 @@ abbrev pub declarators_names : List Declarator → Namings
 declarators_names list = in_order (map declarator_names list)
 
 -- the names of a statement or a declaration; a statement of any other form is not read, since no first program has one
-abbrev pub stmt_step : Stmt-F Namings → Namings
+abbrev pub stmt_step : Stmt-F (Unit {0}) Namings → Namings
 stmt_step (Stmt-F.Expr place value) = expr_names value
 stmt_step (Stmt-F.Return place value) = option_names value
 stmt_step (Stmt-F.Declare place specs list) = declarators_names list
@@ -96,7 +96,7 @@ stmt_step _ = other ∷ []
 
 -- those of a statement or a declaration
 abbrev pub stmt_names : Stmt → Namings
-stmt_names = fold-Stmt Namings stmt_step
+stmt_names = fold-Stmt (Unit {0}) Namings (λ label. tt) stmt_step
 
 -- the names of a block, in order
 abbrev pub block_names : List Stmt → Namings

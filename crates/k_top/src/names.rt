@@ -131,6 +131,7 @@ fn note_stmt<'a>(stmt: &'a Stmt, namings: &mut Vec<Naming<'a>>) -> Result<(), No
         | Stmt::While { .. }
         | Stmt::DoWhile { .. }
         | Stmt::For { .. }
+        | Stmt::Switch { .. }
         | Stmt::Break { .. }
         | Stmt::Continue { .. } => Ok(namings.push(Naming::Other)?),
     }

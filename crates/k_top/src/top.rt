@@ -2,7 +2,7 @@
 ghost use Rattle.std.specs.Prelude.{◌≡◌, ◌<◌, ◌⊎◌, map, string_bytes};
 ghost use Rattle.k_edge.specs.Fault.{Rose};
 ghost use Rattle.k_form.specs.First.{IsFirst};
-ghost use Rattle.k_reader.specs.Closed.{EndsOnce};
+ghost use Rattle.k_tree.specs.Closed.{EndsOnce};
 ghost use Rattle.k_top.specs.Clauses.{Answered, HasRun, IsRefusal, IsUsage, NoFault, PartOfAnswer, SameFaults, ToldFault};
 ghost use Rattle.k_top.specs.Endings.{EndsProgram, EndsTree, EndsTokens, EndsSource, EndsFile, EndsWords, ending_without_tokens, ending_without_tree, PutsLine, Tells};
 

@@ -11,10 +11,10 @@ use Rattle.k_tree.specs.declared.tree.expression.Expr.{Expr}
 use Rattle.k_tree.specs.declared.tree.statement.Stmt.{Stmt}
 use Rattle.k_tree.specs.declared.tree.declaration.Declarator.{Declarator}
 use Rattle.k_tree.specs.Begins.{Begins, begins_expr, begins_stmt, begins_declaration, is_open_paren, is_sizeof, is_stmt_word}
-use Rattle.k_tree.specs.Folds.{expr_Assign, expr_Binary, expr_Call, expr_Cast, expr_Char, expr_Comma, expr_Cond, expr_Index, expr_Name, expr_Number, expr_Paren, expr_Post, expr_Pre, expr_SizeofExpr, expr_SizeofType, expr_Str, expr_Unary, stmt_Expr, stmt_Empty, stmt_Block, if_alone as if_alone_folds, if_else as if_else_folds, stmt_While, stmt_DoWhile, stmt_For, stmt_Break, stmt_Continue, stmt_Return}
-use Rattle.k_tree.specs.Spelling.{Spelled, spell_expr, spell_expr_step, spell_stmt, spell_stmt_step, spell_declaration, the_mark}
+use Rattle.k_tree.specs.Folds.{expr_Assign, expr_Binary, expr_Call, expr_Cast, expr_Char, expr_Comma, expr_Cond, expr_Index, expr_Name, expr_Number, expr_Paren, expr_Post, expr_Pre, expr_SizeofExpr, expr_SizeofType, expr_Str, expr_Unary, stmt_Expr, stmt_Empty, stmt_Block, if_alone as if_alone_folds, if_else as if_else_folds, stmt_While, stmt_DoWhile, stmt_For, stmt_Switch, stmt_Break, stmt_Continue, stmt_Return}
+use Rattle.k_tree.specs.Spelling.{Spelled, spell_expr, spell_expr_step, spell_stmt, spell_stmt_step, spell_part_step, spell_declaration, the_mark}
 use Rattle.k_tree.specs.Ranked.{Ranked, is_spec, is_step, is_unary, comma, assignment, conditional, binary, cast, unary, prefix, sizeof_expr, sizeof_type, index, postfix, call, name, number, character, string, paren}
-use Rattle.k_tree.specs.Ranked.{RankedStmt, RankedDeclaration, value, empty, block, if_alone, if_else, while_loop, do_loop, for_loop, break_loop, continue_loop, return_value}
+use Rattle.k_tree.specs.Ranked.{RankedStmt, RankedDeclaration, value, empty, block, if_alone, if_else, while_loop, do_loop, for_loop, switch_stmt, break_loop, continue_loop, return_value}
 
 -- what begins so is not empty
 pub not_empty : (test : TokenKind → Bool) (xs : Spelled) → Begins test xs → xs ≢ []
@@ -92,19 +92,20 @@ also_stmts (t ∷ xs) b = also_stmt t b
 
 pub stmt_begins : (s : Stmt) → RankedStmt s → Begins begins_stmt (spell_stmt s)
 stmt_begins _ (value p a x) =
-    subst (Begins begins_stmt) (sym (stmt_Expr Spelled spell_stmt_step p a))
+    subst (Begins begins_stmt) (sym (stmt_Expr Spelled Spelled spell_part_step spell_stmt_step p a))
     (also_stmts (spell_expr a ++ the_mark mark.Semicolon) (begins-append begins_expr (spell_expr a) _ (expr_begins 0 a x)))
-stmt_begins _ (empty p) = subst (Begins begins_stmt) (sym (stmt_Empty Spelled spell_stmt_step p)) refl
-stmt_begins _ (block p parts x) = subst (Begins begins_stmt) (sym (stmt_Block Spelled spell_stmt_step p parts)) refl
-stmt_begins _ (if_alone p a s x y) = subst (Begins begins_stmt) (sym (if_alone_folds Spelled spell_stmt_step p a s)) refl
-stmt_begins _ (if_else p a s t x y q z) = subst (Begins begins_stmt) (sym (if_else_folds Spelled spell_stmt_step p a s t)) refl
-stmt_begins _ (while_loop p a s x y) = subst (Begins begins_stmt) (sym (stmt_While Spelled spell_stmt_step p a s)) refl
-stmt_begins _ (do_loop p s a x y) = subst (Begins begins_stmt) (sym (stmt_DoWhile Spelled spell_stmt_step p s a)) refl
+stmt_begins _ (empty p) = subst (Begins begins_stmt) (sym (stmt_Empty Spelled Spelled spell_part_step spell_stmt_step p)) refl
+stmt_begins _ (block p parts x) = subst (Begins begins_stmt) (sym (stmt_Block Spelled Spelled spell_part_step spell_stmt_step p parts)) refl
+stmt_begins _ (if_alone p a s x y) = subst (Begins begins_stmt) (sym (if_alone_folds Spelled Spelled spell_part_step spell_stmt_step p a s)) refl
+stmt_begins _ (if_else p a s t x y q z) = subst (Begins begins_stmt) (sym (if_else_folds Spelled Spelled spell_part_step spell_stmt_step p a s t)) refl
+stmt_begins _ (while_loop p a s x y) = subst (Begins begins_stmt) (sym (stmt_While Spelled Spelled spell_part_step spell_stmt_step p a s)) refl
+stmt_begins _ (do_loop p s a x y) = subst (Begins begins_stmt) (sym (stmt_DoWhile Spelled Spelled spell_part_step spell_stmt_step p s a)) refl
 stmt_begins _ (for_loop p start a b s x y z w) =
-    subst (Begins begins_stmt) (sym (stmt_For Spelled spell_stmt_step p start a b s)) refl
-stmt_begins _ (break_loop p) = subst (Begins begins_stmt) (sym (stmt_Break Spelled spell_stmt_step p)) refl
-stmt_begins _ (continue_loop p) = subst (Begins begins_stmt) (sym (stmt_Continue Spelled spell_stmt_step p)) refl
-stmt_begins _ (return_value p a x) = subst (Begins begins_stmt) (sym (stmt_Return Spelled spell_stmt_step p a)) refl
+    subst (Begins begins_stmt) (sym (stmt_For Spelled Spelled spell_part_step spell_stmt_step p start a b s)) refl
+stmt_begins _ (switch_stmt p a parts x y) = subst (Begins begins_stmt) (sym (stmt_Switch Spelled Spelled spell_part_step spell_stmt_step p a parts)) refl
+stmt_begins _ (break_loop p) = subst (Begins begins_stmt) (sym (stmt_Break Spelled Spelled spell_part_step spell_stmt_step p)) refl
+stmt_begins _ (continue_loop p) = subst (Begins begins_stmt) (sym (stmt_Continue Spelled Spelled spell_part_step spell_stmt_step p)) refl
+stmt_begins _ (return_value p a x) = subst (Begins begins_stmt) (sym (stmt_Return Spelled Spelled spell_part_step spell_stmt_step p a)) refl
 
 -- a specifier begins no statement, so no expression either
 pub spec_begins_no_stmt : (w : Word) → IsTrue (is_spec w) → IsFalse (begins_stmt (token.Word w))
@@ -113,6 +114,7 @@ spec_begins_no_stmt word.If h = cc
 spec_begins_no_stmt word.While h = cc
 spec_begins_no_stmt word.Do h = cc
 spec_begins_no_stmt word.For h = cc
+spec_begins_no_stmt word.Switch h = cc
 spec_begins_no_stmt word.Break h = cc
 spec_begins_no_stmt word.Continue h = cc
 spec_begins_no_stmt word.Return h = cc

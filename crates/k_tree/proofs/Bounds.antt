@@ -16,14 +16,15 @@ use Rattle.k_tree.specs.declared.tree.declaration.Params.TheVariants as params
 use Rattle.k_tree.specs.declared.tree.statement.First.{First}
 use Rattle.k_tree.specs.declared.tree.statement.First.TheVariants as first
 use Rattle.k_tree.specs.declared.tree.statement.Stmt.{Stmt}
+use Rattle.k_tree.specs.declared.tree.statement.Part.{Part}
 use Rattle.k_tree.specs.declared.tree.statement.Stmt.TheVariants as stmt
 use Rattle.k_tree.specs.declared.tree.unit.Item.{Item}
 use Rattle.k_tree.specs.declared.tree.unit.Item.TheVariants as item
 use Rattle.k_tree.specs.declared.tree.unit.Unit as source
-use Rattle.k_tree.specs.Folds.{init_One, init_List, stmt_Expr, stmt_Empty, stmt_Block, if_alone as if_alone_folds, if_else as if_else_folds, stmt_While, stmt_DoWhile, stmt_For, stmt_Break, stmt_Continue, stmt_Return, stmt_Declare}
-use Rattle.k_tree.specs.Count.{init_count, initialised_count, declarator_count, declarators_count, param_count, params_count, first_count, stmt_count, item_count, unit_count}
-use Rattle.k_tree.specs.Spelling.{spell_init, spell_initialised, spell_declarator, spell_declaration, spell_param, spell_params, spell_specs, spell_first, spell_stmt, spell_stmts, spell_item, spelling}
-use Rattle.k_tree.specs.Ranked.{RankedInit, RankedInits, one, braces, no_inits, more_inits, RankedDeclarator, RankedDeclaration, RankedParam, RankedParams, RankedFirst, RankedStmt, RankedParts, value, empty, block, if_alone, if_else, while_loop, do_loop, for_loop, break_loop, continue_loop, return_value, no_parts, statement, declaration, RankedItem, RankedUnit, Specs}
+use Rattle.k_tree.specs.Folds.{init_One, init_List, stmt_Expr, stmt_Empty, stmt_Block, if_alone as if_alone_folds, if_else as if_else_folds, stmt_While, stmt_DoWhile, stmt_For, stmt_Switch, part_Case, part_Default, part_Does, stmt_Break, stmt_Continue, stmt_Return, stmt_Declare}
+use Rattle.k_tree.specs.Count.{init_count, initialised_count, declarator_count, declarators_count, param_count, params_count, first_count, stmt_count, part_count, item_count, unit_count}
+use Rattle.k_tree.specs.Spelling.{spell_init, spell_initialised, spell_declarator, spell_declaration, spell_param, spell_params, spell_specs, spell_first, spell_stmt, spell_stmts, spell_switched, spell_item, spelling}
+use Rattle.k_tree.specs.Ranked.{RankedInit, RankedInits, one, braces, no_inits, more_inits, RankedDeclarator, RankedDeclaration, RankedParam, RankedParams, RankedFirst, RankedStmt, RankedParts, value, empty, block, if_alone, if_else, while_loop, do_loop, for_loop, switch_stmt, RankedSwitch, no_labels, case_label, default_label, does, break_loop, continue_loop, return_value, no_parts, statement, declaration, RankedItem, RankedUnit, Specs}
 use Rattle.k_tree.specs.Count.{expr_count, option_count, dims_count}
 use Rattle.k_tree.specs.Folds.{expr_Assign, expr_Binary, expr_Call, expr_Cast, expr_Char, expr_Comma, expr_Cond, expr_Index, expr_Name, expr_Number, expr_Paren, expr_Post, expr_Pre, expr_SizeofExpr, expr_SizeofType, expr_Str, expr_Unary}
 use Rattle.k_tree.specs.Spelling.{Spelled, spell_expr, with_commas, behind_commas, spell_option, spell_dim, spell_dims, in_row}
@@ -149,7 +150,8 @@ declare_bound : (p : Place) (specs : List Word) (list : List Declarator) → Ran
 declare_bound p specs list h = simp stmt_Declare (omega (arith, declaration_bound specs list h))
 
 mutual
-  pub stmt_bound : (s : Stmt) → RankedStmt s → stmt_count s ≤ 2 * length (spell_stmt s)
+  -- the part of a `switch` that a statement may be has no token of its own
+  pub stmt_bound : (s : Stmt) → RankedStmt s → 1 + stmt_count s ≤ 2 * length (spell_stmt s)
   stmt_bound _ (value p a x) = simp (stmt_Expr, length-append) (omega (arith, expr_bound 0 a x))
   stmt_bound _ (empty p) = simp stmt_Empty (omega arith)
   stmt_bound _ (block p parts x) = simp (stmt_Block, length-append) (omega (arith, parts_bound parts x))
@@ -161,6 +163,7 @@ mutual
   stmt_bound _ (for_loop p start a b s x y z w) =
       simp (stmt_For, length-append)
       (omega (arith, first_bound start x, option_bound 0 a y, option_bound 0 b z, stmt_bound s w))
+  stmt_bound _ (switch_stmt p a parts x y) = simp (stmt_Switch, length-append) (omega (arith, expr_bound 0 a x, switched_bound parts y))
   stmt_bound _ (break_loop p) = simp stmt_Break (omega arith)
   stmt_bound _ (continue_loop p) = simp stmt_Continue (omega arith)
   stmt_bound _ (return_value p a x) = simp (stmt_Return, length-append) (omega (arith, option_bound 0 a x))
@@ -176,6 +179,17 @@ mutual
         declare_bound p specs list x,
         parts_bound parts y,
       ))
+
+  pub switched_bound : (parts : List Part) → RankedSwitch parts → sum (map part_count parts) ≤ 2 * length (spell_switched parts)
+  switched_bound _ no_labels = omega arith
+  switched_bound _ (case_label p a parts x y) =
+      simp (part_Case, length-append)
+      (omega (arith, sum-cons (1 + expr_count a) (map part_count parts), expr_bound 2 a x, switched_bound parts y))
+  switched_bound _ (default_label p parts y) =
+      simp (part_Default, length-append) (omega (arith, sum-cons 1 (map part_count parts), switched_bound parts y))
+  switched_bound _ (does p s parts x y) =
+      simp (part_Does, length-append)
+      (omega (arith, sum-cons (1 + stmt_count s) (map part_count parts), stmt_bound s x, switched_bound parts y))
 
 pub item_bound : (i : Item) → RankedItem i → item_count i ≤ 2 * length (spell_item i)
 item_bound (item.Function p h body close) r =

@@ -8,7 +8,7 @@ use Rattle.k_tree.specs.Count.{unit_count}
 use Rattle.k_tree.specs.Folds.{folds}
 use Rattle.k_tree.specs.Nesting.{nesting}
 use Rattle.k_tree.specs.Spelling.{spell_stmt}
-use Rattle.k_tree.specs.Ranked.{RankedStmt, ends_open, value, empty, block, if_alone, if_else, while_loop, do_loop, for_loop, break_loop, continue_loop, return_value}
+use Rattle.k_tree.specs.Ranked.{RankedStmt, ends_open, value, empty, block, if_alone, if_else, while_loop, do_loop, for_loop, switch_stmt, break_loop, continue_loop, return_value}
 use Rattle.k_num.specs.declared.place.Place.{Place}
 use Rattle.k_tree.specs.declared.tokens.mark.Mark.TheVariants as mark
 use Rattle.k_tree.specs.declared.tokens.word.Word.TheVariants as word
@@ -16,8 +16,10 @@ use Rattle.k_tree.specs.declared.tree.expression.Expr.{Expr}
 use Rattle.k_tree.specs.declared.tree.expression.Expr.TheVariants as expr
 use Rattle.k_tree.specs.declared.tree.statement.First.TheVariants as first
 use Rattle.k_tree.specs.declared.tree.statement.Stmt.{Stmt, out-Stmt, roll-Stmt, out-roll-Stmt}
-use Rattle.k_tree.specs.declared.tree.statement.Stmt.TheOpen.{Stmt-F}
+use Rattle.k_tree.specs.declared.tree.statement.Part.TheOpen.{Stmt-F}
 use Rattle.k_tree.specs.declared.tree.statement.Stmt.TheVariants as stmt
+use Rattle.k_tree.specs.declared.tree.statement.Part.{Part}
+use Rattle.k_tree.specs.declared.tree.statement.Part.TheVariants as part
 use Rattle.k_tree.specs.declared.tree.declaration.Declarator.{Declarator}
 use Rattle.k_tree.specs.declared.tree.declaration.Init.{Init}
 use Rattle.k_tree.specs.declared.tree.declaration.Init.TheVariants as init
@@ -109,6 +111,9 @@ pub statements :
     ∷ stmt.For nowhere first.Nothing None None (stmt.Empty nowhere)
     ∷ stmt.For nowhere (first.Value (expr.Assign nowhere mark.Equal a one)) (Some a) (Some (expr.Post nowhere mark.PlusPlus a)) (stmt.Empty nowhere)
     ∷ stmt.For nowhere (first.Declare (word.Int ∷ []) (declared [] is_one ∷ [])) None None (stmt.Empty nowhere)
+    ∷ stmt.Switch nowhere a []
+    ∷ stmt.Switch nowhere a (part.Case nowhere one ∷ part.Does nowhere (stmt.Expr nowhere a) ∷ part.Default nowhere ∷ [])
+    ∷ stmt.Switch nowhere a (part.Case nowhere (expr.Unary nowhere mark.Minus one) ∷ part.Does nowhere (stmt.Break nowhere) ∷ [])
     ∷ stmt.Break nowhere
     ∷ stmt.Continue nowhere
     ∷ stmt.Return nowhere None
@@ -126,6 +131,9 @@ pub statements :
     ∷ (3, 2)
     ∷ (9, 3)
     ∷ (6, 3)
+    ∷ (3, 2)
+    ∷ (9, 3)
+    ∷ (8, 3)
     ∷ (2, 1)
     ∷ (2, 1)
     ∷ (2, 1)
@@ -160,7 +168,7 @@ to_outer = stmt.If nowhere a (stmt.If nowhere a (stmt.Empty nowhere) None) (Some
 pub equal_spellings : spell_stmt to_nearest ≡ spell_stmt to_outer
 equal_spellings = simp folds
 
-roll_injective : (x y : Stmt-F Stmt) → roll-Stmt x ≡ roll-Stmt y → x ≡ y
+roll_injective : (x y : Stmt-F Part Stmt) → roll-Stmt x ≡ roll-Stmt y → x ≡ y
 roll_injective x y e = sym (out-roll-Stmt x) ∙ (ap out-Stmt e ∙ out-roll-Stmt y)
 
 -- the statement before an `else` doesn't end in an `if` without one
@@ -176,6 +184,7 @@ no_open_if _ (if_else p b s t x y closed z) q e w u eq =
 no_open_if _ (while_loop p b s x y) q e z t eq = cc
 no_open_if _ (do_loop p s b x y) q e z t eq = cc
 no_open_if _ (for_loop p start b c s x y z w) q e v t eq = cc
+no_open_if _ (switch_stmt p b parts x y) q e z t eq = cc
 no_open_if _ (break_loop p) q e x t eq = cc
 no_open_if _ (continue_loop p) q e x t eq = cc
 no_open_if _ (return_value p b x) q e y t eq = cc

@@ -13,15 +13,16 @@ use Rattle.k_tree.specs.declared.tree.declaration.Params.TheVariants as params
 use Rattle.k_tree.specs.declared.tree.statement.First.{First}
 use Rattle.k_tree.specs.declared.tree.statement.First.TheVariants as first
 use Rattle.k_tree.specs.declared.tree.statement.Stmt.{Stmt}
+use Rattle.k_tree.specs.declared.tree.statement.Part.{Part}
 use Rattle.k_tree.specs.declared.tree.statement.Stmt.TheVariants as stmt
 use Rattle.k_tree.specs.declared.tree.unit.Head.{Head}
 use Rattle.k_tree.specs.declared.tree.unit.Item.{Item}
 use Rattle.k_tree.specs.declared.tree.unit.Item.TheVariants as item
 use Rattle.k_tree.specs.declared.tree.unit.Unit as source
-use Rattle.k_tree.specs.Folds.{init_One, init_List, stmt_Expr, stmt_Empty, stmt_Block, if_alone as if_alone_folds, if_else as if_else_folds, stmt_While, stmt_DoWhile, stmt_For, stmt_Break, stmt_Continue, stmt_Return, stmt_Declare}
-use Rattle.k_tree.specs.Places.{lay_init, lay_initialised, lay_declarator, lay_declaration, lay_param, lay_params, lay_head, lay_first, lay_stmt, lay_stmt_step, lay_stmts, lay_item, lay_unit}
-use Rattle.k_tree.specs.Spelling.{spell_init, spell_initialised, spell_declarator, spell_declaration, spell_param, spell_params, spell_head, spell_first, spell_stmt, spell_stmt_step, the_mark, in_braces, spell_stmts, spell_item, spelling}
-use Rattle.k_tree.specs.Ranked.{RankedInit, RankedInits, one, braces, no_inits, more_inits, RankedDeclarator, RankedDeclaration, RankedParam, RankedParams, RankedHead, RankedFirst, RankedStmt, RankedParts, value, empty, block, if_alone, if_else, while_loop, do_loop, for_loop, break_loop, continue_loop, return_value, no_parts, statement, declaration, RankedItem, RankedUnit}
+use Rattle.k_tree.specs.Folds.{init_One, init_List, stmt_Expr, stmt_Empty, stmt_Block, if_alone as if_alone_folds, if_else as if_else_folds, stmt_While, stmt_DoWhile, stmt_For, stmt_Switch, part_Case, part_Default, part_Does, stmt_Break, stmt_Continue, stmt_Return, stmt_Declare}
+use Rattle.k_tree.specs.Places.{lay_init, lay_initialised, lay_declarator, lay_declaration, lay_param, lay_params, lay_head, lay_first, lay_stmt, lay_stmt_step, lay_part_step, lay_switched, lay_stmts, lay_item, lay_unit}
+use Rattle.k_tree.specs.Spelling.{spell_init, spell_initialised, spell_declarator, spell_declaration, spell_param, spell_params, spell_head, spell_first, spell_stmt, spell_stmt_step, spell_part_step, spell_switched, the_mark, in_braces, spell_stmts, spell_item, spelling}
+use Rattle.k_tree.specs.Ranked.{RankedInit, RankedInits, one, braces, no_inits, more_inits, RankedDeclarator, RankedDeclaration, RankedParam, RankedParams, RankedHead, RankedFirst, RankedStmt, RankedParts, value, empty, block, if_alone, if_else, while_loop, do_loop, for_loop, switch_stmt, RankedSwitch, no_labels, case_label, default_label, does, break_loop, continue_loop, return_value, no_parts, statement, declaration, RankedItem, RankedUnit}
 use Rattle.k_tree.specs.declared.tokens.mark.Mark.TheVariants as mark
 use Rattle.k_tree.specs.declared.tree.expression.Expr.{Expr}
 use Rattle.k_tree.specs.Folds.{expr_Assign, expr_Binary, expr_Call, expr_Cast, expr_Char, expr_Comma, expr_Cond, expr_Index, expr_Name, expr_Number, expr_Paren, expr_Post, expr_Pre, expr_SizeofExpr, expr_SizeofType, expr_Str, expr_Unary}
@@ -139,9 +140,9 @@ first_spelled (first.Declare specs list) h = declaration_spelled specs list h
 declare_spelled : (p : Place) (specs : List Word) (list : List Declarator) → RankedDeclaration specs list
     → kinds_of (lay_stmt (stmt.Declare p specs list)) ≡ spell_stmt (stmt.Declare p specs list)
 declare_spelled p specs list h =
-    ap (λ z. kinds_of z) (stmt_Declare Pieces lay_stmt_step p specs list)
+    ap (λ z. kinds_of z) (stmt_Declare Pieces Pieces lay_part_step lay_stmt_step p specs list)
     ∙ (kinds-at p (lay_declaration specs list)
-    ∙ (declaration_spelled specs list h ∙ sym (stmt_Declare Spelled spell_stmt_step p specs list)))
+    ∙ (declaration_spelled specs list h ∙ sym (stmt_Declare Spelled Spelled spell_part_step spell_stmt_step p specs list)))
 
 mutual
   pub stmt_spelled : (s : Stmt) → RankedStmt s → kinds_of (lay_stmt s) ≡ spell_stmt s
@@ -155,6 +156,8 @@ mutual
   stmt_spelled _ (do_loop p s a x y) = simp (stmt_DoWhile, map-append, expr_spelled 0 a y, stmt_spelled s x)
   stmt_spelled _ (for_loop p start a b s x y z w) =
       simp (stmt_For, map-append, first_spelled start x, option_spelled 0 a y, option_spelled 0 b z, stmt_spelled s w)
+  stmt_spelled _ (switch_stmt p a parts x y) =
+      simp (stmt_Switch, map-append, expr_spelled 0 a x, switched_spelled parts y)
   stmt_spelled _ (break_loop p) = simp (stmt_Break)
   stmt_spelled _ (continue_loop p) = simp (stmt_Continue)
   stmt_spelled _ (return_value p a x) = simp (stmt_Return, map-append, option_spelled 0 a x)
@@ -165,6 +168,12 @@ mutual
   parts_spelled _ (declaration p specs list parts x y) =
       both (lay_stmt (stmt.Declare p specs list)) (lay_stmts parts) (spell_stmt (stmt.Declare p specs list)) (spell_stmts parts)
       (declare_spelled p specs list x) (parts_spelled parts y)
+
+  pub switched_spelled : (parts : List Part) → RankedSwitch parts → kinds_of (lay_switched parts) ≡ spell_switched parts
+  switched_spelled _ no_labels = refl
+  switched_spelled _ (case_label p a parts x y) = simp (part_Case, map-append, expr_spelled 2 a x, switched_spelled parts y)
+  switched_spelled _ (default_label p parts y) = simp (part_Default, map-append, switched_spelled parts y)
+  switched_spelled _ (does p s parts x y) = simp (part_Does, map-append, kinds-at, stmt_spelled s x, switched_spelled parts y)
 
 function_spelled : (p close : Place) (head body : Pieces)
     → kinds_of (at p head ++ (plain (the_mark mark.LeftBrace) ++ (body ++ at close (plain (the_mark mark.RightBrace)))))

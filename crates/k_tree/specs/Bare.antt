@@ -14,7 +14,9 @@ use Rattle.k_tree.specs.declared.tree.declaration.Params.TheVariants as params
 use Rattle.k_tree.specs.declared.tree.statement.First.{First}
 use Rattle.k_tree.specs.declared.tree.statement.First.TheVariants as first
 use Rattle.k_tree.specs.declared.tree.statement.Stmt.{Stmt, fold-Stmt}
-use Rattle.k_tree.specs.declared.tree.statement.Stmt.TheOpen.{Stmt-F}
+use Rattle.k_tree.specs.declared.tree.statement.Part.TheOpen.{Part-F, Stmt-F}
+use Rattle.k_tree.specs.declared.tree.statement.Part.{Part, fold-Part}
+use Rattle.k_tree.specs.declared.tree.statement.Part.TheVariants as part
 use Rattle.k_tree.specs.declared.tree.statement.Stmt.TheVariants as stmt
 use Rattle.k_tree.specs.declared.tree.unit.Head.{Head}
 use Rattle.k_tree.specs.declared.tree.unit.Item.{Item}
@@ -92,7 +94,7 @@ bare_first (first.Value value) = first.Value (bare_expr value)
 bare_first (first.Declare specs list) = first.Declare specs (map bare_declarator list)
 
 -- C17 6.8: a statement without its own place, whose statements have none either
-abbrev pub bare_stmt_step : Stmt-F Stmt → Stmt
+abbrev pub bare_stmt_step : Stmt-F Part Stmt → Stmt
 bare_stmt_step (Stmt-F.Expr place value) = stmt.Expr nowhere (bare_expr value)
 bare_stmt_step (Stmt-F.Empty place) = stmt.Empty nowhere
 bare_stmt_step (Stmt-F.Block place parts) = stmt.Block nowhere parts
@@ -101,14 +103,25 @@ bare_stmt_step (Stmt-F.While place test body) = stmt.While nowhere (bare_expr te
 bare_stmt_step (Stmt-F.DoWhile place body test) = stmt.DoWhile nowhere body (bare_expr test)
 bare_stmt_step (Stmt-F.For place start test step body) =
     stmt.For nowhere (bare_first start) (where_given bare_expr test) (where_given bare_expr step) body
+bare_stmt_step (Stmt-F.Switch place on parts) = stmt.Switch nowhere (bare_expr on) parts
 bare_stmt_step (Stmt-F.Break place) = stmt.Break nowhere
 bare_stmt_step (Stmt-F.Continue place) = stmt.Continue nowhere
 bare_stmt_step (Stmt-F.Return place value) = stmt.Return nowhere (where_given bare_expr value)
 bare_stmt_step (Stmt-F.Declare place specs list) = stmt.Declare nowhere specs (map bare_declarator list)
 
+-- C17 6.8.1, 6.8.4.2: a part of a `switch` without its own place, whose statement has none either
+abbrev pub bare_part_step : Part-F Part Stmt → Part
+bare_part_step (Part-F.Case place value) = part.Case nowhere (bare_expr value)
+bare_part_step (Part-F.Default place) = part.Default nowhere
+bare_part_step (Part-F.Does place body) = part.Does nowhere body
+
 -- C17 6.8: a statement without the places in it
 abbrev pub bare_stmt : Stmt → Stmt
-bare_stmt = fold-Stmt Stmt bare_stmt_step
+bare_stmt = fold-Stmt Part Stmt bare_part_step bare_stmt_step
+
+-- C17 6.8.4.2: a part of a `switch` without the places in it
+abbrev pub bare_part : Part → Part
+bare_part = fold-Part Part Stmt bare_part_step bare_stmt_step
 
 -- C17 6.9: an item without the places in it
 abbrev pub bare_item : Item → Item

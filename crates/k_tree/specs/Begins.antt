@@ -34,6 +34,7 @@ is_stmt_word word.If = true
 is_stmt_word word.While = true
 is_stmt_word word.Do = true
 is_stmt_word word.For = true
+is_stmt_word word.Switch = true
 is_stmt_word word.Break = true
 is_stmt_word word.Continue = true
 is_stmt_word word.Return = true

@@ -1,4 +1,4 @@
--- Node counts: how many items, parameters, declarators, initialisers, statements and expressions a tree has.
+-- Node counts: how many items, parameters, declarators, initialisers, statements, parts of a `switch` and expressions a tree has.
 use Rattle.std.specs.Prelude.{ℕ, ◌+◌, List, map, sum, Option, Some, None}
 use Rattle.k_tree.specs.declared.tree.expression.Expr.{Expr, fold-Expr}
 use Rattle.k_tree.specs.declared.tree.expression.Expr.TheOpen.{Expr-F}
@@ -11,7 +11,8 @@ use Rattle.k_tree.specs.declared.tree.declaration.Params.TheVariants as params
 use Rattle.k_tree.specs.declared.tree.statement.First.{First}
 use Rattle.k_tree.specs.declared.tree.statement.First.TheVariants as first
 use Rattle.k_tree.specs.declared.tree.statement.Stmt.{Stmt, fold-Stmt}
-use Rattle.k_tree.specs.declared.tree.statement.Stmt.TheOpen.{Stmt-F}
+use Rattle.k_tree.specs.declared.tree.statement.Part.TheOpen.{Part-F, Stmt-F}
+use Rattle.k_tree.specs.declared.tree.statement.Part.{Part, fold-Part}
 use Rattle.k_tree.specs.declared.tree.unit.Item.{Item}
 use Rattle.k_tree.specs.declared.tree.unit.Item.TheVariants as item
 use Rattle.k_tree.specs.declared.tree.unit.Unit as source
@@ -93,7 +94,7 @@ first_count (first.Value value) = expr_count value
 first_count (first.Declare specs list) = declarators_count list
 
 -- C17 6.8: the count of a statement, whose statements are counted
-abbrev pub stmt_step : Stmt-F ℕ → ℕ
+abbrev pub stmt_step : Stmt-F ℕ ℕ → ℕ
 stmt_step (Stmt-F.Expr place value) = 1 + expr_count value
 stmt_step (Stmt-F.Empty place) = 1
 stmt_step (Stmt-F.Block place parts) = 1 + sum parts
@@ -101,14 +102,25 @@ stmt_step (Stmt-F.If place test chosen other) = 1 + expr_count test + chosen + o
 stmt_step (Stmt-F.While place test body) = 1 + expr_count test + body
 stmt_step (Stmt-F.DoWhile place body test) = 1 + body + expr_count test
 stmt_step (Stmt-F.For place start test step body) = 1 + first_count start + option_count test + option_count step + body
+stmt_step (Stmt-F.Switch place on parts) = 1 + expr_count on + sum parts
 stmt_step (Stmt-F.Break place) = 1
 stmt_step (Stmt-F.Continue place) = 1
 stmt_step (Stmt-F.Return place value) = 1 + option_count value
 stmt_step (Stmt-F.Declare place specs list) = 1 + declarators_count list
 
+-- C17 6.8.1, 6.8.4.2: the count of a part of a `switch`, a label or a statement that is counted; the part itself counts
+abbrev pub part_step : Part-F ℕ ℕ → ℕ
+part_step (Part-F.Case place value) = 1 + expr_count value
+part_step (Part-F.Default place) = 1
+part_step (Part-F.Does place body) = 1 + body
+
 -- C17 6.8: how many nodes there are in a statement, itself among them
 abbrev pub stmt_count : Stmt → ℕ
-stmt_count = fold-Stmt ℕ stmt_step
+stmt_count = fold-Stmt ℕ ℕ part_step stmt_step
+
+-- C17 6.8.4.2: how many nodes there are in a part of a `switch`, itself among them
+abbrev pub part_count : Part → ℕ
+part_count = fold-Part ℕ ℕ part_step stmt_step
 
 -- C17 6.9: an item and what is in it; the block of a function is no statement
 abbrev pub item_count : Item → ℕ

@@ -14,7 +14,9 @@ use Rattle.k_tree.specs.declared.tree.declaration.Init.TheVariants as init
 use Rattle.k_tree.specs.declared.tree.declaration.Declarator.{Declarator}
 use Rattle.k_tree.specs.declared.tree.statement.First.{First}
 use Rattle.k_tree.specs.declared.tree.statement.Stmt.{Stmt, fold-Stmt, fold-roll-Stmt}
-use Rattle.k_tree.specs.declared.tree.statement.Stmt.TheOpen.{Stmt-F}
+use Rattle.k_tree.specs.declared.tree.statement.Part.TheOpen.{Part-F, Stmt-F}
+use Rattle.k_tree.specs.declared.tree.statement.Part.{Part, fold-Part, fold-roll-Part}
+use Rattle.k_tree.specs.declared.tree.statement.Part.TheVariants as part
 use Rattle.k_tree.specs.declared.tree.statement.Stmt.TheVariants as stmt
 
 module _ (A : Type 0) (step : Expr-F A → A) where
@@ -95,54 +97,70 @@ module _ (A : Type 0) (step : Init-F A → A) where
   pub init_List : (p : Place) (xs : List Init) (last : Bool) → fold-Init A step (init.List p xs last) ≡ step (Init-F.List p (map (fold-Init A step) xs) last)
   init_List p xs last = ap (fold-Init A step) (sym (init.rolls-List p xs last)) ∙ fold-roll-Init A step (Init-F.List p xs last)
 
-module _ (A : Type 0) (step : Stmt-F A → A) where
+module _ (A B : Type 0) (part_step : Part-F A B → A) (step : Stmt-F A B → B) where
   -- C17 6.8.3: the result at an expression that is a statement
-  pub stmt_Expr : (p : Place) (a : Expr) → fold-Stmt A step (stmt.Expr p a) ≡ step (Stmt-F.Expr p a)
-  stmt_Expr p a = ap (fold-Stmt A step) (sym (stmt.rolls-Expr p a)) ∙ fold-roll-Stmt A step (Stmt-F.Expr p a)
+  pub stmt_Expr : (p : Place) (a : Expr) → fold-Stmt A B part_step step (stmt.Expr p a) ≡ step (Stmt-F.Expr p a)
+  stmt_Expr p a = ap (fold-Stmt A B part_step step) (sym (stmt.rolls-Expr p a)) ∙ fold-roll-Stmt A B part_step step (Stmt-F.Expr p a)
 
   -- C17 6.8.3: the result at the empty statement
-  pub stmt_Empty : (p : Place) → fold-Stmt A step (stmt.Empty p) ≡ step (Stmt-F.Empty p)
-  stmt_Empty p = ap (fold-Stmt A step) (sym (stmt.rolls-Empty p)) ∙ fold-roll-Stmt A step (Stmt-F.Empty p)
+  pub stmt_Empty : (p : Place) → fold-Stmt A B part_step step (stmt.Empty p) ≡ step (Stmt-F.Empty p)
+  stmt_Empty p = ap (fold-Stmt A B part_step step) (sym (stmt.rolls-Empty p)) ∙ fold-roll-Stmt A B part_step step (Stmt-F.Empty p)
 
   -- C17 6.8.2: the result at a block, from those at its parts
-  pub stmt_Block : (p : Place) (parts : List Stmt) → fold-Stmt A step (stmt.Block p parts) ≡ step (Stmt-F.Block p (map (fold-Stmt A step) parts))
-  stmt_Block p parts = ap (fold-Stmt A step) (sym (stmt.rolls-Block p parts)) ∙ fold-roll-Stmt A step (Stmt-F.Block p parts)
+  pub stmt_Block : (p : Place) (parts : List Stmt) → fold-Stmt A B part_step step (stmt.Block p parts) ≡ step (Stmt-F.Block p (map (fold-Stmt A B part_step step) parts))
+  stmt_Block p parts = ap (fold-Stmt A B part_step step) (sym (stmt.rolls-Block p parts)) ∙ fold-roll-Stmt A B part_step step (Stmt-F.Block p parts)
 
   -- C17 6.8.4.1: the result at an `if` without an `else`, from that at its statement
-  pub if_alone : (p : Place) (a : Expr) (s : Stmt) → fold-Stmt A step (stmt.If p a s None) ≡ step (Stmt-F.If p a (fold-Stmt A step s) None)
-  if_alone p a s = ap (fold-Stmt A step) (sym (stmt.rolls-If p a s None)) ∙ fold-roll-Stmt A step (Stmt-F.If p a s None)
+  pub if_alone : (p : Place) (a : Expr) (s : Stmt) → fold-Stmt A B part_step step (stmt.If p a s None) ≡ step (Stmt-F.If p a (fold-Stmt A B part_step step s) None)
+  if_alone p a s = ap (fold-Stmt A B part_step step) (sym (stmt.rolls-If p a s None)) ∙ fold-roll-Stmt A B part_step step (Stmt-F.If p a s None)
 
   -- C17 6.8.4.1: the result at an `if` with an `else`, from those at both statements
-  pub if_else : (p : Place) (a : Expr) (s t : Stmt) → fold-Stmt A step (stmt.If p a s (Some t)) ≡ step (Stmt-F.If p a (fold-Stmt A step s) (Some (fold-Stmt A step t)))
-  if_else p a s t = ap (fold-Stmt A step) (sym (stmt.rolls-If p a s (Some t))) ∙ fold-roll-Stmt A step (Stmt-F.If p a s (Some t))
+  pub if_else : (p : Place) (a : Expr) (s t : Stmt) → fold-Stmt A B part_step step (stmt.If p a s (Some t)) ≡ step (Stmt-F.If p a (fold-Stmt A B part_step step s) (Some (fold-Stmt A B part_step step t)))
+  if_else p a s t = ap (fold-Stmt A B part_step step) (sym (stmt.rolls-If p a s (Some t))) ∙ fold-roll-Stmt A B part_step step (Stmt-F.If p a s (Some t))
 
   -- C17 6.8.5.1: the result at a `while` loop, from that at its body
-  pub stmt_While : (p : Place) (a : Expr) (s : Stmt) → fold-Stmt A step (stmt.While p a s) ≡ step (Stmt-F.While p a (fold-Stmt A step s))
-  stmt_While p a s = ap (fold-Stmt A step) (sym (stmt.rolls-While p a s)) ∙ fold-roll-Stmt A step (Stmt-F.While p a s)
+  pub stmt_While : (p : Place) (a : Expr) (s : Stmt) → fold-Stmt A B part_step step (stmt.While p a s) ≡ step (Stmt-F.While p a (fold-Stmt A B part_step step s))
+  stmt_While p a s = ap (fold-Stmt A B part_step step) (sym (stmt.rolls-While p a s)) ∙ fold-roll-Stmt A B part_step step (Stmt-F.While p a s)
 
   -- C17 6.8.5.2: the result at a `do` loop, from that at its body
-  pub stmt_DoWhile : (p : Place) (s : Stmt) (a : Expr) → fold-Stmt A step (stmt.DoWhile p s a) ≡ step (Stmt-F.DoWhile p (fold-Stmt A step s) a)
-  stmt_DoWhile p s a = ap (fold-Stmt A step) (sym (stmt.rolls-DoWhile p s a)) ∙ fold-roll-Stmt A step (Stmt-F.DoWhile p s a)
+  pub stmt_DoWhile : (p : Place) (s : Stmt) (a : Expr) → fold-Stmt A B part_step step (stmt.DoWhile p s a) ≡ step (Stmt-F.DoWhile p (fold-Stmt A B part_step step s) a)
+  stmt_DoWhile p s a = ap (fold-Stmt A B part_step step) (sym (stmt.rolls-DoWhile p s a)) ∙ fold-roll-Stmt A B part_step step (Stmt-F.DoWhile p s a)
 
   -- C17 6.8.5.3: the result at a `for` loop, from that at its body
-  pub stmt_For : (p : Place) (start : First) (a b : Option Expr) (s : Stmt) → fold-Stmt A step (stmt.For p start a b s) ≡ step (Stmt-F.For p start a b (fold-Stmt A step s))
-  stmt_For p start a b s = ap (fold-Stmt A step) (sym (stmt.rolls-For p start a b s)) ∙ fold-roll-Stmt A step (Stmt-F.For p start a b s)
+  pub stmt_For : (p : Place) (start : First) (a b : Option Expr) (s : Stmt) → fold-Stmt A B part_step step (stmt.For p start a b s) ≡ step (Stmt-F.For p start a b (fold-Stmt A B part_step step s))
+  stmt_For p start a b s = ap (fold-Stmt A B part_step step) (sym (stmt.rolls-For p start a b s)) ∙ fold-roll-Stmt A B part_step step (Stmt-F.For p start a b s)
+
+  -- C17 6.8.4.2: the result at a `switch`, from those at its parts
+  pub stmt_Switch : (p : Place) (a : Expr) (parts : List Part) → fold-Stmt A B part_step step (stmt.Switch p a parts) ≡ step (Stmt-F.Switch p a (map (fold-Part A B part_step step) parts))
+  stmt_Switch p a parts = ap (fold-Stmt A B part_step step) (sym (stmt.rolls-Switch p a parts)) ∙ fold-roll-Stmt A B part_step step (Stmt-F.Switch p a parts)
+
+  -- C17 6.8.1: the result at a `case` label
+  pub part_Case : (p : Place) (a : Expr) → fold-Part A B part_step step (part.Case p a) ≡ part_step (Part-F.Case p a)
+  part_Case p a = ap (fold-Part A B part_step step) (sym (part.rolls-Case p a)) ∙ fold-roll-Part A B part_step step (Part-F.Case p a)
+
+  -- C17 6.8.1: the result at a `default` label
+  pub part_Default : (p : Place) → fold-Part A B part_step step (part.Default p) ≡ part_step (Part-F.Default p)
+  part_Default p = ap (fold-Part A B part_step step) (sym (part.rolls-Default p)) ∙ fold-roll-Part A B part_step step (Part-F.Default p)
+
+  -- C17 6.8.4.2: the result at a statement in the braces of a `switch`, from that at the statement
+  pub part_Does : (p : Place) (s : Stmt) → fold-Part A B part_step step (part.Does p s) ≡ part_step (Part-F.Does p (fold-Stmt A B part_step step s))
+  part_Does p s = ap (fold-Part A B part_step step) (sym (part.rolls-Does p s)) ∙ fold-roll-Part A B part_step step (Part-F.Does p s)
 
   -- C17 6.8.6.3: the result at a `break`
-  pub stmt_Break : (p : Place) → fold-Stmt A step (stmt.Break p) ≡ step (Stmt-F.Break p)
-  stmt_Break p = ap (fold-Stmt A step) (sym (stmt.rolls-Break p)) ∙ fold-roll-Stmt A step (Stmt-F.Break p)
+  pub stmt_Break : (p : Place) → fold-Stmt A B part_step step (stmt.Break p) ≡ step (Stmt-F.Break p)
+  stmt_Break p = ap (fold-Stmt A B part_step step) (sym (stmt.rolls-Break p)) ∙ fold-roll-Stmt A B part_step step (Stmt-F.Break p)
 
   -- C17 6.8.6.2: the result at a `continue`
-  pub stmt_Continue : (p : Place) → fold-Stmt A step (stmt.Continue p) ≡ step (Stmt-F.Continue p)
-  stmt_Continue p = ap (fold-Stmt A step) (sym (stmt.rolls-Continue p)) ∙ fold-roll-Stmt A step (Stmt-F.Continue p)
+  pub stmt_Continue : (p : Place) → fold-Stmt A B part_step step (stmt.Continue p) ≡ step (Stmt-F.Continue p)
+  stmt_Continue p = ap (fold-Stmt A B part_step step) (sym (stmt.rolls-Continue p)) ∙ fold-roll-Stmt A B part_step step (Stmt-F.Continue p)
 
   -- C17 6.8.6.4: the result at a `return`
-  pub stmt_Return : (p : Place) (a : Option Expr) → fold-Stmt A step (stmt.Return p a) ≡ step (Stmt-F.Return p a)
-  stmt_Return p a = ap (fold-Stmt A step) (sym (stmt.rolls-Return p a)) ∙ fold-roll-Stmt A step (Stmt-F.Return p a)
+  pub stmt_Return : (p : Place) (a : Option Expr) → fold-Stmt A B part_step step (stmt.Return p a) ≡ step (Stmt-F.Return p a)
+  stmt_Return p a = ap (fold-Stmt A B part_step step) (sym (stmt.rolls-Return p a)) ∙ fold-roll-Stmt A B part_step step (Stmt-F.Return p a)
 
   -- C17 6.7, 6.8.2: the result at a declaration in a block
-  pub stmt_Declare : (p : Place) (specs : List Word) (list : List Declarator) → fold-Stmt A step (stmt.Declare p specs list) ≡ step (Stmt-F.Declare p specs list)
-  stmt_Declare p specs list = ap (fold-Stmt A step) (sym (stmt.rolls-Declare p specs list)) ∙ fold-roll-Stmt A step (Stmt-F.Declare p specs list)
+  pub stmt_Declare : (p : Place) (specs : List Word) (list : List Declarator) → fold-Stmt A B part_step step (stmt.Declare p specs list) ≡ step (Stmt-F.Declare p specs list)
+  stmt_Declare p specs list = ap (fold-Stmt A B part_step step) (sym (stmt.rolls-Declare p specs list)) ∙ fold-roll-Stmt A B part_step step (Stmt-F.Declare p specs list)
 
 -- the equations for every form of an expression
 pub ruleset expr_folds = (expr_Name, expr_Number, expr_Char, expr_Str, expr_Paren, expr_Index, expr_Call, expr_Post, expr_Pre, expr_Unary, expr_SizeofExpr, expr_SizeofType, expr_Cast, expr_Binary, expr_Cond, expr_Assign, expr_Comma)
@@ -150,8 +168,8 @@ pub ruleset expr_folds = (expr_Name, expr_Number, expr_Char, expr_Str, expr_Pare
 -- the equations for both forms of an initialiser
 pub ruleset init_folds = (init_One, init_List)
 
--- the equations for every form of a statement
-pub ruleset stmt_folds = (stmt_Expr, stmt_Empty, stmt_Block, if_alone, if_else, stmt_While, stmt_DoWhile, stmt_For, stmt_Break, stmt_Continue, stmt_Return, stmt_Declare)
+-- the equations for every form of a statement and of a part of a `switch`
+pub ruleset stmt_folds = (stmt_Expr, stmt_Empty, stmt_Block, if_alone, if_else, stmt_While, stmt_DoWhile, stmt_For, stmt_Switch, part_Case, part_Default, part_Does, stmt_Break, stmt_Continue, stmt_Return, stmt_Declare)
 
 -- the equations for every form of a tree
 pub ruleset folds = (expr_folds, init_folds, stmt_folds)

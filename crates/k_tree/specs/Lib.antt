@@ -1,9 +1,12 @@
 pub mod Bare
 pub mod Begins
+pub mod Closed
 pub mod Count
 pub mod Folds
 pub mod Laws
+pub mod Literals
 pub mod Nesting
+pub mod Operators
 pub mod Places
 pub mod Rank
 pub mod Ranked

@@ -11,7 +11,8 @@ use Rattle.k_tree.specs.declared.tree.declaration.Params.TheVariants as params
 use Rattle.k_tree.specs.declared.tree.statement.First.{First}
 use Rattle.k_tree.specs.declared.tree.statement.First.TheVariants as first
 use Rattle.k_tree.specs.declared.tree.statement.Stmt.{Stmt, fold-Stmt}
-use Rattle.k_tree.specs.declared.tree.statement.Stmt.TheOpen.{Stmt-F}
+use Rattle.k_tree.specs.declared.tree.statement.Part.TheOpen.{Part-F, Stmt-F}
+use Rattle.k_tree.specs.declared.tree.statement.Part.{Part, fold-Part}
 use Rattle.k_tree.specs.declared.tree.unit.Item.{Item}
 use Rattle.k_tree.specs.declared.tree.unit.Item.TheVariants as item
 use Rattle.k_tree.specs.declared.tree.unit.Unit as source
@@ -98,7 +99,7 @@ first_depth (first.Value value) = expr_depth value
 first_depth (first.Declare specs list) = declarators_depth list
 
 -- C17 6.8: the depth of a statement, of whose statements the depths are known: one more than the deepest part
-abbrev pub stmt_depth_step : Stmt-F ℕ → ℕ
+abbrev pub stmt_depth_step : Stmt-F ℕ ℕ → ℕ
 stmt_depth_step (Stmt-F.Expr place value) = 1 + expr_depth value
 stmt_depth_step (Stmt-F.Empty place) = 1
 stmt_depth_step (Stmt-F.Block place parts) = 1 + deepest parts
@@ -107,14 +108,25 @@ stmt_depth_step (Stmt-F.While place test body) = 1 + max (expr_depth test) body
 stmt_depth_step (Stmt-F.DoWhile place body test) = 1 + max body (expr_depth test)
 stmt_depth_step (Stmt-F.For place start test step body) =
     1 + max (first_depth start) (max (option_depth test) (max (option_depth step) body))
+stmt_depth_step (Stmt-F.Switch place on parts) = 1 + max (expr_depth on) (deepest parts)
 stmt_depth_step (Stmt-F.Break place) = 1
 stmt_depth_step (Stmt-F.Continue place) = 1
 stmt_depth_step (Stmt-F.Return place value) = 1 + option_depth value
 stmt_depth_step (Stmt-F.Declare place specs list) = 1 + declarators_depth list
 
+-- C17 6.8.1, 6.8.4.2: the depth of a part of a `switch`, which adds nothing of its own
+abbrev pub part_depth_step : Part-F ℕ ℕ → ℕ
+part_depth_step (Part-F.Case place value) = expr_depth value
+part_depth_step (Part-F.Default place) = 0
+part_depth_step (Part-F.Does place body) = body
+
 -- C17 6.8: the most statements, initialisers and expressions that lie one in another in a statement, itself among them
 abbrev pub stmt_depth : Stmt → ℕ
-stmt_depth = fold-Stmt ℕ stmt_depth_step
+stmt_depth = fold-Stmt ℕ ℕ part_depth_step stmt_depth_step
+
+-- C17 6.8.4.2: the most statements, initialisers and expressions that lie one in another in a part of a `switch`
+abbrev pub part_depth : Part → ℕ
+part_depth = fold-Part ℕ ℕ part_depth_step stmt_depth_step
 
 -- C17 6.9: an item and the block of a function count as nothing
 abbrev pub item_depth : Item → ℕ

@@ -18,7 +18,8 @@ use Rattle.k_tree.specs.declared.tree.declaration.Params.TheVariants as params
 use Rattle.k_tree.specs.declared.tree.statement.First.{First}
 use Rattle.k_tree.specs.declared.tree.statement.First.TheVariants as first
 use Rattle.k_tree.specs.declared.tree.statement.Stmt.{Stmt, fold-Stmt}
-use Rattle.k_tree.specs.declared.tree.statement.Stmt.TheOpen.{Stmt-F}
+use Rattle.k_tree.specs.declared.tree.statement.Part.TheOpen.{Part-F, Stmt-F}
+use Rattle.k_tree.specs.declared.tree.statement.Part.{Part, fold-Part}
 use Rattle.k_tree.specs.declared.tree.unit.Head.{Head}
 use Rattle.k_tree.specs.declared.tree.unit.Item.{Item}
 use Rattle.k_tree.specs.declared.tree.unit.Item.TheVariants as item
@@ -163,7 +164,7 @@ lay_else None = []
 lay_else (Some other) = plain (the_word word.Else) ++ other
 
 -- C17 6.8: a statement stands at its first token
-abbrev pub lay_stmt_step : Stmt-F Pieces → Pieces
+abbrev pub lay_stmt_step : Stmt-F Pieces Pieces → Pieces
 lay_stmt_step (Stmt-F.Expr place value) = at place (lay_expr value ++ plain (the_mark mark.Semicolon))
 lay_stmt_step (Stmt-F.Empty place) = at place (plain (the_mark mark.Semicolon))
 lay_stmt_step (Stmt-F.Block place parts) = at place (lay_in_braces (lay_row parts))
@@ -176,19 +177,59 @@ lay_stmt_step (Stmt-F.DoWhile place body test) =
     ++ (body ++ (plain (the_word word.While) ++ (lay_in_parens (lay_expr test) ++ plain (the_mark mark.Semicolon))))
 lay_stmt_step (Stmt-F.For place start test step body) =
     at place (plain (the_word word.For)) ++ (lay_for start test step ++ body)
+lay_stmt_step (Stmt-F.Switch place on parts) =
+    at place (plain (the_word word.Switch)) ++ (lay_in_parens (lay_expr on) ++ lay_in_braces (lay_row parts))
 lay_stmt_step (Stmt-F.Break place) = at place (plain (the_word word.Break)) ++ plain (the_mark mark.Semicolon)
 lay_stmt_step (Stmt-F.Continue place) = at place (plain (the_word word.Continue)) ++ plain (the_mark mark.Semicolon)
 lay_stmt_step (Stmt-F.Return place value) =
     at place (plain (the_word word.Return)) ++ (lay_option value ++ plain (the_mark mark.Semicolon))
 lay_stmt_step (Stmt-F.Declare place specs list) = at place (lay_declaration specs list)
 
+-- C17 6.8.1, 6.8.4.2: a part of a `switch` stands at its first token
+abbrev pub lay_part_step : Part-F Pieces Pieces → Pieces
+lay_part_step (Part-F.Case place value) =
+    at place (plain (the_word word.Case)) ++ (lay_expr value ++ plain (the_mark mark.Colon))
+lay_part_step (Part-F.Default place) = at place (plain (the_word word.Default)) ++ plain (the_mark mark.Colon)
+lay_part_step (Part-F.Does place body) = at place body
+
 -- C17 6.8: the tokens of a statement, with the places of the nodes in it
 abbrev pub lay_stmt : Stmt → Pieces
-lay_stmt = fold-Stmt Pieces lay_stmt_step
+lay_stmt = fold-Stmt Pieces Pieces lay_part_step lay_stmt_step
+
+-- C17 6.8.4.2: the tokens of a part of a `switch`, with the places of the nodes in it
+abbrev pub lay_part : Part → Pieces
+lay_part = fold-Part Pieces Pieces lay_part_step lay_stmt_step
+
+-- C17 6.8.4.2: the pieces of the parts of a `switch`
+abbrev pub lay_switched : List Part → Pieces
+lay_switched parts = lay_row (map lay_part parts)
 
 -- C17 6.8.2: the pieces of the statements and declarations of a block
 abbrev pub lay_stmts : List Stmt → Pieces
 lay_stmts parts = lay_row (map lay_stmt parts)
+
+-- C17 6.8: the place that a statement keeps
+abbrev pub stmt_place_step : Stmt-F (Unit {0}) Place → Place
+stmt_place_step (Stmt-F.Expr place value) = place
+stmt_place_step (Stmt-F.Empty place) = place
+stmt_place_step (Stmt-F.Block place parts) = place
+stmt_place_step (Stmt-F.If place test chosen other) = place
+stmt_place_step (Stmt-F.While place test body) = place
+stmt_place_step (Stmt-F.DoWhile place body test) = place
+stmt_place_step (Stmt-F.For place start test step body) = place
+stmt_place_step (Stmt-F.Switch place on parts) = place
+stmt_place_step (Stmt-F.Break place) = place
+stmt_place_step (Stmt-F.Continue place) = place
+stmt_place_step (Stmt-F.Return place value) = place
+stmt_place_step (Stmt-F.Declare place specs list) = place
+
+-- C17 6.8.4.2: nothing is asked of a part of a `switch`
+abbrev pub part_place_step : Part-F (Unit {0}) Place → Unit {0}
+part_place_step _ = tt
+
+-- C17 6.8: the place of a statement, where its first token stands
+abbrev pub stmt_place : Stmt → Place
+stmt_place = fold-Stmt (Unit {0}) Place part_place_step stmt_place_step
 
 -- C17 6.9: an item stands at its first token, and a function keeps the place of its closing brace
 abbrev pub lay_item : Item → Pieces

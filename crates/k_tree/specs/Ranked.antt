@@ -19,8 +19,10 @@ use Rattle.k_tree.specs.declared.tree.declaration.Params.TheVariants as params
 use Rattle.k_tree.specs.declared.tree.statement.First.{First}
 use Rattle.k_tree.specs.declared.tree.statement.First.TheVariants as first
 use Rattle.k_tree.specs.declared.tree.statement.Stmt.{Stmt, fold-Stmt}
-use Rattle.k_tree.specs.declared.tree.statement.Stmt.TheOpen.{Stmt-F}
+use Rattle.k_tree.specs.declared.tree.statement.Part.TheOpen.{Part-F, Stmt-F}
 use Rattle.k_tree.specs.declared.tree.statement.Stmt.TheVariants as stmt
+use Rattle.k_tree.specs.declared.tree.statement.Part.{Part}
+use Rattle.k_tree.specs.declared.tree.statement.Part.TheVariants as part
 use Rattle.k_tree.specs.declared.tree.unit.Head.{Head}
 use Rattle.k_tree.specs.declared.tree.unit.Item.{Item}
 use Rattle.k_tree.specs.declared.tree.unit.Item.TheVariants as item
@@ -186,16 +188,20 @@ RankedFirst (first.Value value) = Ranked 0 value
 RankedFirst (first.Declare specs list) = RankedDeclaration specs list
 
 -- C17 6.8.4.1p3: does this form end in an `if` that takes an `else` behind it, where it is known of its statements?
-abbrev pub ends_open_step : Stmt-F Bool → Bool
+abbrev pub ends_open_step : Stmt-F (Unit {0}) Bool → Bool
 ends_open_step (Stmt-F.If place test chosen None) = true
 ends_open_step (Stmt-F.If place test chosen (Some other)) = other
 ends_open_step (Stmt-F.While place test body) = body
 ends_open_step (Stmt-F.For place start test step body) = body
 ends_open_step _ = false
 
+-- C17 6.8.4.2: a part of a `switch` stands in braces, behind which no `if` goes on
+abbrev pub ends_open_part : Part-F (Unit {0}) Bool → Unit {0}
+ends_open_part _ = tt
+
 -- C17 6.8.4.1p3: does a statement end in an `if` that an `else` behind it would belong to?
 abbrev pub ends_open : Stmt → Bool
-ends_open = fold-Stmt Bool ends_open_step
+ends_open = fold-Stmt (Unit {0}) Bool ends_open_part ends_open_step
 
 mutual
   -- C17 6.8: a statement that the grammar gives
@@ -210,6 +216,7 @@ mutual
     do_loop : (p : Place) (s : Stmt) (a : Expr) → RankedStmt s → Ranked 0 a → RankedStmt (stmt.DoWhile p s a)
     for_loop : (p : Place) (start : First) (a b : Option Expr) (s : Stmt) → RankedFirst start
         → IfGiven (Ranked 0) a → IfGiven (Ranked 0) b → RankedStmt s → RankedStmt (stmt.For p start a b s)
+    switch_stmt : (p : Place) (a : Expr) (parts : List Part) → Ranked 0 a → RankedSwitch parts → RankedStmt (stmt.Switch p a parts)
     break_loop : (p : Place) → RankedStmt (stmt.Break p)
     continue_loop : (p : Place) → RankedStmt (stmt.Continue p)
     return_value : (p : Place) (a : Option Expr) → IfGiven (Ranked 0) a → RankedStmt (stmt.Return p a)
@@ -220,6 +227,13 @@ mutual
     statement : (s : Stmt) (parts : List Stmt) → RankedStmt s → RankedParts parts → RankedParts (s ∷ parts)
     declaration : (p : Place) (specs : List Word) (list : List Declarator) (parts : List Stmt)
         → RankedDeclaration specs list → RankedParts parts → RankedParts (stmt.Declare p specs list ∷ parts)
+
+  -- C17 6.8.1, 6.8.4.2: what stands in the braces of a `switch`: labels, whose values are conditional expressions, and statements
+  pub data RankedSwitch : List Part → Type 0 where
+    no_labels : RankedSwitch []
+    case_label : (p : Place) (a : Expr) (parts : List Part) → Ranked 2 a → RankedSwitch parts → RankedSwitch (part.Case p a ∷ parts)
+    default_label : (p : Place) (parts : List Part) → RankedSwitch parts → RankedSwitch (part.Default p ∷ parts)
+    does : (p : Place) (s : Stmt) (parts : List Part) → RankedStmt s → RankedSwitch parts → RankedSwitch (part.Does p s ∷ parts)
 
 -- C17 6.9: a function, a prototype or a declaration that the grammar gives
 abbrev pub RankedItem : Item → Type 0

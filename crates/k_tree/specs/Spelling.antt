@@ -17,7 +17,8 @@ use Rattle.k_tree.specs.declared.tree.declaration.Params.TheVariants as params
 use Rattle.k_tree.specs.declared.tree.statement.First.{First}
 use Rattle.k_tree.specs.declared.tree.statement.First.TheVariants as first
 use Rattle.k_tree.specs.declared.tree.statement.Stmt.{Stmt, fold-Stmt}
-use Rattle.k_tree.specs.declared.tree.statement.Stmt.TheOpen.{Stmt-F}
+use Rattle.k_tree.specs.declared.tree.statement.Part.TheOpen.{Part-F, Stmt-F}
+use Rattle.k_tree.specs.declared.tree.statement.Part.{Part, fold-Part}
 use Rattle.k_tree.specs.declared.tree.unit.Head.{Head}
 use Rattle.k_tree.specs.declared.tree.unit.Item.{Item}
 use Rattle.k_tree.specs.declared.tree.unit.Item.TheVariants as item
@@ -189,7 +190,7 @@ spell_do body test =
     the_word word.Do ++ (body ++ (the_word word.While ++ (in_parens (spell_expr test) ++ the_mark mark.Semicolon)))
 
 -- C17 6.8: a statement, whose statements are spelled
-abbrev pub spell_stmt_step : Stmt-F Spelled → Spelled
+abbrev pub spell_stmt_step : Stmt-F Spelled Spelled → Spelled
 spell_stmt_step (Stmt-F.Expr place value) = spell_expr value ++ the_mark mark.Semicolon
 spell_stmt_step (Stmt-F.Empty place) = the_mark mark.Semicolon
 spell_stmt_step (Stmt-F.Block place parts) = in_braces (in_row parts)
@@ -200,14 +201,30 @@ spell_stmt_step (Stmt-F.DoWhile place body test) =
     spell_do body test
 spell_stmt_step (Stmt-F.For place start test step body) =
     the_word word.For ++ (spell_for start test step ++ body)
+spell_stmt_step (Stmt-F.Switch place on parts) =
+    the_word word.Switch ++ (in_parens (spell_expr on) ++ in_braces (in_row parts))
 spell_stmt_step (Stmt-F.Break place) = the_word word.Break ++ the_mark mark.Semicolon
 spell_stmt_step (Stmt-F.Continue place) = the_word word.Continue ++ the_mark mark.Semicolon
 spell_stmt_step (Stmt-F.Return place value) = the_word word.Return ++ (spell_option value ++ the_mark mark.Semicolon)
 spell_stmt_step (Stmt-F.Declare place specs list) = spell_declaration specs list
 
+-- C17 6.8.1, 6.8.4.2: a part of a `switch`: a label, or a statement that is spelled
+abbrev pub spell_part_step : Part-F Spelled Spelled → Spelled
+spell_part_step (Part-F.Case place value) = the_word word.Case ++ (spell_expr value ++ the_mark mark.Colon)
+spell_part_step (Part-F.Default place) = the_word word.Default ++ the_mark mark.Colon
+spell_part_step (Part-F.Does place body) = body
+
 -- C17 6.8: a statement
 abbrev pub spell_stmt : Stmt → Spelled
-spell_stmt = fold-Stmt Spelled spell_stmt_step
+spell_stmt = fold-Stmt Spelled Spelled spell_part_step spell_stmt_step
+
+-- C17 6.8.4.2: a part of a `switch`
+abbrev pub spell_part : Part → Spelled
+spell_part = fold-Part Spelled Spelled spell_part_step spell_stmt_step
+
+-- C17 6.8.4.2: the parts of a `switch` in a row
+abbrev pub spell_switched : List Part → Spelled
+spell_switched parts = in_row (map spell_part parts)
 
 -- C17 6.8.2: statements in a row
 abbrev pub spell_stmts : List Stmt → Spelled

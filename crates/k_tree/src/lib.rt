@@ -3,18 +3,20 @@
 
 mod count;
 pub mod laws;
+mod operators;
 mod spelling;
 mod tokens;
 mod tree;
 
 pub use count::unit::{item_nodes, nodes};
+pub use operators::{compound_operator_of, operator_of};
 pub use spelling::unit::spell;
 pub use tokens::mark::Mark;
 pub use tokens::word::Word;
 pub use tokens::{Token, TokenKind};
 pub use tree::declaration::{Declarator, Init, Param, Params};
 pub use tree::expression::Expr;
-pub use tree::statement::{First, Stmt};
+pub use tree::statement::{First, Part, Stmt};
 pub use tree::unit::{Head, Item, Unit};
 
 #[cfg(test)]

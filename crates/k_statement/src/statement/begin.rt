@@ -2,6 +2,7 @@
 ghost use Rattle.std.specs.Prelude.{◌≡◌, IfOk};
 ghost use Rattle.k_reader.specs.Statements as spec;
 
+use crate::statement::switch::{case_begins, default_begins};
 use crate::statement::{await_part, level, steps, whole};
 use k_declaration::declaration::begin_declaration;
 use k_expression::expression::{begin, feed};
@@ -22,7 +23,7 @@ fn is_in_block(frames: &Stack<Frame>) -> bool
     matches!(frames.top(), None | Some(Frame::Block { .. }))
 }
 
-/// The end of a block.
+/// The end of a block or of a `switch`.
 #[tactic(auto, unfolding(k_reader::specs::Statements::block_ends))]
 fn block_ends(parts: Seq<Stmt>, mut frames: Stack<Frame>) -> Stepped
     ensures { result ≡ spec.block_ends parts frames }
@@ -39,6 +40,21 @@ fn block_ends(parts: Seq<Stmt>, mut frames: Stack<Frame>) -> Stepped
             frames,
             Stmt::Block {
                 place,
+                parts: inner,
+            },
+        ),
+        Some(
+            Frame::Switch {
+                place,
+                on,
+                parts: inner,
+            },
+        ) => whole(
+            parts,
+            frames,
+            Stmt::Switch {
+                place,
+                on,
                 parts: inner,
             },
         ),
@@ -68,7 +84,7 @@ fn declares(
     Ok(steps(parts, frames, Step::Local { place, declaration }, reach))
 }
 
-/// A keyword that begins a declaration or a statement.
+/// A keyword that begins a declaration, a statement or a label.
 #[tactic(auto, unfolding(k_reader::specs::Statements::keyword))]
 fn keyword(
     alloc: Global,
@@ -86,7 +102,7 @@ fn keyword(
     }
 }
 
-/// A keyword that begins a statement.
+/// A keyword that begins a statement or a label.
 #[tactic(auto, unfolding(k_reader::specs::Statements::jump))]
 fn jump(
     alloc: Global,
@@ -110,6 +126,12 @@ fn jump(
         }
         Word::Do => return await_part(parts, frames, Frame::Do { place }, inner),
         Word::For => (Step::For { place }, inner),
+        Word::Switch => {
+            let tested = Tested::Switch { place };
+            (Step::Keyword { tested }, inner)
+        }
+        Word::Case => return Ok(case_begins(alloc, parts, frames, place)),
+        Word::Default => return Ok(default_begins(parts, frames, place)),
         Word::Break => {
             let stmt = Stmt::Break { place };
             (Step::Semicolon { stmt }, own)

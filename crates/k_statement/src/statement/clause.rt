@@ -3,6 +3,7 @@ ghost use Rattle.std.specs.Prelude.{◌≡◌, IfOk};
 ghost use Rattle.k_reader.specs.Statements as spec;
 
 use crate::statement::begin::begins;
+use crate::statement::switch::more_switched;
 use crate::statement::{await_part, level, steps};
 use k_expression::expression::begin;
 use k_expression::reading::{is_left_paren, read_needed};
@@ -56,6 +57,10 @@ fn test_done(
     match tested {
         Tested::If { place } => await_part(parts, frames, Frame::Then { place, test }, 0),
         Tested::While { place } => await_part(parts, frames, Frame::While { place, test }, 0),
+        Tested::Switch { place } => {
+            let step = Step::Braces { place, on: test };
+            Ok(steps(parts, frames, step, 0))
+        }
         Tested::Do { place, body } => {
             let body = Box::new(alloc, body)?;
             let stmt = Stmt::DoWhile { place, body, test };
@@ -245,6 +250,11 @@ fn part(
             place,
             parts: inner,
         } => more(alloc, parts, frames, place, inner, stmt, token),
+        Frame::Switch {
+            place,
+            on,
+            parts: inner,
+        } => more_switched(alloc, parts, frames, place, on, inner, stmt, token),
         frame => {
             drop(frame);
             drop(stmt);

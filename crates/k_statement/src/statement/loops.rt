@@ -2,6 +2,7 @@
 ghost use Rattle.std.specs.Prelude.{◌≡◌, IfOk};
 ghost use Rattle.k_reader.specs.Statements as spec;
 
+use crate::statement::switch::in_switch;
 use crate::statement::{await_part, boxed, level, steps};
 use k_declaration::declaration::{begin_declaration, feed_declaration};
 use k_expression::expression::begin;
@@ -254,7 +255,7 @@ fn third(
     }
 }
 
-/// A token in the parentheses of a `for`.
+/// A token in the parentheses of a `for`, or in a label or before the braces of a `switch`.
 #[tactic(auto, unfolding(k_reader::specs::Statements::in_for))]
 pub fn in_for(
     alloc: Global,
@@ -282,6 +283,6 @@ pub fn in_for(
             test,
             reading,
         } => third(alloc, parts, frames, place, start, test, reading, token),
-        _step => Ok(Stepped::Refused),
+        step => in_switch(alloc, parts, frames, step, token),
     }
 }

@@ -142,7 +142,7 @@ fn ends_of_runs(rt: HostRuntime) -> Result<(), Fail> {
 }
 
 /// `first`, then so many times `piece`, then `last`.
-fn repeated(
+pub fn repeated(
     alloc: Global,
     first: &str,
     piece: &str,

@@ -1,6 +1,7 @@
 //! What the parser reads and refuses, on the tokens that the lexer gives.
-ghost use Rattle.k_reader.specs.Closed.{EndsOnce};
+ghost use Rattle.k_tree.specs.Closed.{EndsOnce};
 
+use super::ends::repeated;
 use k_lex::lex;
 use k_num::{NoMemory, Place, Seq};
 use k_parse::{ParseFault, parse};
@@ -9,7 +10,7 @@ use std::alloc::Global;
 use std::test::Fail;
 
 /// Sources that are read.
-static READ: [&[u8]; 98] = [
+static READ: [&[u8]; 103] = [
     b"int main(void){int a=1,b=0,x=0; if(a) if(b) x=1; else x=2; return x;}",
     b"",
     b"int f(void){}",
@@ -108,10 +109,15 @@ static READ: [&[u8]; 98] = [
     b"int f(void){'a';}",
     b"int f(void){\"a\";}",
     b"int f(void){1;}",
+    b"int f(void){switch(x){case 1: case 2: x=1; break; default: ;}}",
+    b"int f(void){switch(x){}}",
+    b"int f(void){switch(x,y){case a?b:c:default:}}",
+    b"int f(void){switch(x){{int y;}switch(y){default:case 2:;}}}",
+    b"int f(void){if(x)switch(y){}else;}",
 ];
 
 /// Sources that are refused, and the column of the first wrong token.
-static REFUSED: [(&[u8], u32); 75] = [
+static REFUSED: [(&[u8], u32); 87] = [
     (b"x;", 1),
     (b"int f(void)", 12),
     (b"int f(void)}", 12),
@@ -158,7 +164,19 @@ static REFUSED: [(&[u8], u32); 75] = [
     (b"int f(void){continue}", 21),
     (b"int f(void){return 1 2;}", 22),
     (b"int f(void){return int;}", 20),
-    (b"int f(void){switch(x){}", 13),
+    (b"int f(void){switch(x){int y;}}", 23),
+    (b"int f(void){switch(x) x=1;}", 23),
+    (b"int f(void){case 1:;}", 13),
+    (b"int f(void){default:;}", 13),
+    (b"int f(void){switch(x){{case 1:;}}}", 24),
+    (b"int f(void){switch(x){case 1,2:;}}", 29),
+    (b"int f(void){switch(x){case a=1:;}}", 29),
+    (b"int f(void){switch(x){case:;}}", 27),
+    (b"int f(void){switch(x){default 1:;}}", 31),
+    (b"int f(void){switch(x){if(y)case 1:;}}", 28),
+    (b"int f(void){switch x{}}", 20),
+    (b"int f(void){switch(){}}", 20),
+    (b"int f(void){switch(x){else;}}", 23),
     (b"int f(void){int x}", 18),
     (b"int f(void){=x;}", 13),
     (b"int f(void){a,;;}", 15),
@@ -252,6 +270,40 @@ fn refused(rt: HostRuntime) -> Result<(), Fail> {
         };
         let wanted = Verdict::Refused(ParseFault::Syntax(place));
         assert_eq!(rt; source_verdict(rt.alloc(), source)?, wanted);
+    }
+    Ok(())
+}
+
+/// Switches one in another: the 200th lies at level 200, and what it switches on one deeper.
+#[test]
+fn switches_nest(rt: HostRuntime) -> Result<(), Fail> {
+    let place = Place {
+        line: 1,
+        column: 2006,
+    };
+    for (count, fault) in [
+        (199, ParseFault::Syntax(place)),
+        (200, ParseFault::TooDeep(place)),
+    ] {
+        let source = repeated(rt.alloc(), "int main(void){", "switch(x){", count, "")?;
+        let wanted = Verdict::Refused(fault);
+        assert_eq!(rt; source_verdict(rt.alloc(), source.as_slice())?, wanted);
+    }
+    Ok(())
+}
+
+/// A `switch` with 262,144 nodes, its parts among them, and one with a part more.
+#[test]
+fn parts_are_nodes(rt: HostRuntime) -> Result<(), Fail> {
+    for (head, wanted) in [
+        ("int main(void){switch(x){default:", Verdict::Read),
+        (
+            "int main(void){switch(x){default:default:",
+            Verdict::Refused(ParseFault::NodesMany),
+        ),
+    ] {
+        let source = repeated(rt.alloc(), head, ";", 131_070, "}}")?;
+        assert_eq!(rt; source_verdict(rt.alloc(), source.as_slice())?, wanted);
     }
     Ok(())
 }

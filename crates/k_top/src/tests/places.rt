@@ -79,22 +79,6 @@ fn place_of(expr: &Expr) -> Place {
     }
 }
 
-fn place_of_statement(stmt: &Stmt) -> Place {
-    match stmt {
-        Stmt::Expr { place, .. }
-        | Stmt::Empty { place }
-        | Stmt::Block { place, .. }
-        | Stmt::If { place, .. }
-        | Stmt::While { place, .. }
-        | Stmt::DoWhile { place, .. }
-        | Stmt::For { place, .. }
-        | Stmt::Break { place }
-        | Stmt::Continue { place }
-        | Stmt::Return { place, .. }
-        | Stmt::Declare { place, .. } => *place,
-    }
-}
-
 /// The first statement of the first item, if that is a function.
 fn first_statement(unit: &Unit) -> Option<&Stmt> {
     match unit.items.as_slice().first()? {
@@ -113,7 +97,7 @@ fn expression_at(unit: &Unit, column: u32) -> bool {
 
 fn statement_at(unit: &Unit, column: u32) -> bool {
     match first_statement(unit) {
-        Some(stmt) => at(place_of_statement(stmt), column),
+        Some(stmt) => at(stmt.place(), column),
         None => false,
     }
 }

@@ -1,10 +1,10 @@
 //! Node counts of statements.
 ghost use Rattle.std.specs.Prelude.{◌≡◌, ◌+◌, ◌^◌, ◌<◌, map, sum};
-ghost use Rattle.k_tree.specs.Count.{first_count, stmt_count};
+ghost use Rattle.k_tree.specs.Count.{first_count, part_count, stmt_count};
 
 use crate::count::declaration::declarators_nodes;
 use crate::count::expression::{expr_nodes, option_nodes};
-use crate::tree::statement::{First, Stmt};
+use crate::tree::statement::{First, Part, Stmt};
 use k_num::Seq;
 
 /// A statement and what is in it.
@@ -42,6 +42,7 @@ pub fn stmt_nodes(stmt: &Stmt) -> u64
             let parts = first_nodes(first) + option_nodes(test) + option_nodes(step);
             1 + parts + stmt_nodes(body.get())
         }
+        Stmt::Switch { on, parts, .. } => 1 + expr_nodes(on.get()) + parts_nodes(parts),
         Stmt::Return { value, .. } => 1 + option_nodes(value),
         Stmt::Declare { list, .. } => 1 + declarators_nodes(list),
     }
@@ -58,6 +59,32 @@ pub fn stmts_nodes(parts: &Seq<Stmt>) -> u64
         nodes += stmt_nodes(part);
     }
     nodes
+}
+
+/// The parts of a `switch`.
+#[cycle(statements)]
+fn parts_nodes(parts: &Seq<Part>) -> u64
+    requires { sum (map part_count parts.now) < 2 ^ 64 }
+    ensures { result ≡ sum (map part_count parts.now) }
+{
+    let mut nodes = 0;
+    for part in parts.as_slice() {
+        nodes += part_nodes(part);
+    }
+    nodes
+}
+
+/// A part of a `switch` and what is in it.
+#[cycle(statements)]
+fn part_nodes(part: &Part) -> u64
+    requires { part_count part.now < 2 ^ 64 }
+    ensures { result ≡ part_count part.now }
+{
+    match part {
+        Part::Case { value, .. } => 1 + expr_nodes(value.get()),
+        Part::Default { .. } => 1,
+        Part::Does { stmt, .. } => 1 + stmt_nodes(stmt.get()),
+    }
 }
 
 /// The first part of a `for`.

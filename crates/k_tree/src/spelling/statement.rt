@@ -1,6 +1,6 @@
 //! Statements as tokens.
 ghost use Rattle.std.specs.Prelude.{◌≡◌, ◌++◌, IfOk};
-ghost use Rattle.k_tree.specs.Spelling.{spell_stmt, spell_stmts, spell_first, spell_for, spell_do, spell_else, spell_option, spell_expr, in_braces, the_word, the_mark, in_parens};
+ghost use Rattle.k_tree.specs.Spelling.{spell_stmt, spell_stmts, spell_first, spell_for, spell_do, spell_else, spell_option, spell_part, spell_switched, spell_expr, in_braces, the_word, the_mark, in_parens};
 ghost use Rattle.k_tree.specs.Bare.{where_given};
 ghost use Rattle.k_tree.specs.declared.tokens.mark.Mark.TheVariants as mark;
 
@@ -8,7 +8,7 @@ use crate::spelling::printer::Printer;
 use crate::tokens::mark::Mark;
 use crate::tokens::word::Word;
 use crate::tree::expression::Expr;
-use crate::tree::statement::{First, Stmt};
+use crate::tree::statement::{First, Part, Stmt};
 use k_num::{Box, NoMemory, Seq};
 
 impl Printer {
@@ -49,6 +49,10 @@ impl Printer {
                 self.word(Word::For)?;
                 self.for_parts(first, test, step)?;
                 self.stmt(body.get())
+            }
+            Stmt::Switch { on, parts, .. } => {
+                self.guard(Word::Switch, on.get())?;
+                self.switched(parts)
             }
             Stmt::Break { .. } => self.jump(Word::Break),
             Stmt::Continue { .. } => self.jump(Word::Continue),
@@ -95,6 +99,37 @@ impl Printer {
             self.stmt(part)?;
         }
         self.mark(Mark::RightBrace)
+    }
+
+    /// Writes the parts of a `switch`, in braces.
+    #[cycle(statements)]
+    fn switched(&mut self, parts: &Seq<Part>) -> Result<(), NoMemory>
+        ensures { IfOk result (λ _. self.new.tokens ≡ self.old.tokens ++ in_braces (spell_switched parts.now)) }
+    {
+        self.mark(Mark::LeftBrace)?;
+        for part in parts.as_slice() {
+            self.part(part)?;
+        }
+        self.mark(Mark::RightBrace)
+    }
+
+    /// Writes a part of a `switch`.
+    #[cycle(statements)]
+    fn part(&mut self, part: &Part) -> Result<(), NoMemory>
+        ensures { IfOk result (λ _. self.new.tokens ≡ self.old.tokens ++ spell_part part.now) }
+    {
+        match part {
+            Part::Case { value, .. } => {
+                self.word(Word::Case)?;
+                self.expr(value.get())?;
+                self.mark(Mark::Colon)
+            }
+            Part::Default { .. } => {
+                self.word(Word::Default)?;
+                self.mark(Mark::Colon)
+            }
+            Part::Does { stmt, .. } => self.stmt(stmt.get()),
+        }
     }
 
     /// Writes a keyword and the condition behind it, in parentheses.

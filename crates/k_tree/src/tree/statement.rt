@@ -1,5 +1,7 @@
 //! Statements (C17 6.8).
 
+ghost use Rattle.std.specs.Prelude.{◌≡◌};
+
 use crate::tokens::word::Word;
 use crate::tree::declaration::Declarator;
 use crate::tree::expression::Expr;
@@ -17,6 +19,7 @@ pub enum First {
 }
 
 /// A statement, or a declaration in a block. It stands at its first token.
+#[cycle(statements)]
 #[derive(Debug, PartialEq, Eq, Drop)]
 pub enum Stmt {
     /// `value ;`
@@ -60,6 +63,12 @@ pub enum Stmt {
         step: Option<Box<Expr>>,
         body: Box<Stmt>,
     },
+    /// `switch ( on ) { parts }`
+    Switch {
+        place: Place,
+        on: Box<Expr>,
+        parts: Seq<Part>,
+    },
     /// `break ;`
     Break {
         place: Place,
@@ -79,4 +88,40 @@ pub enum Stmt {
         specs: Seq<Word>,
         list: Seq<Declarator>,
     },
+}
+
+/// A part of the braces of a `switch`: a label, or a statement. It stands at its first token.
+#[cycle(statements)]
+#[derive(Debug, PartialEq, Eq, Drop)]
+pub enum Part {
+    /// `case value :`
+    Case { place: Place, value: Box<Expr> },
+    /// `default :`
+    Default { place: Place },
+    /// A statement.
+    Does { place: Place, stmt: Box<Stmt> },
+}
+
+impl Stmt {
+    ghost use Rattle.k_tree.specs.Places.{stmt_place};
+
+    /// Where the statement stands: at its first token.
+    pub fn place(&self) -> Place
+        ensures { result ≡ stmt_place self.now }
+    {
+        match self {
+            Stmt::Expr { place, .. }
+            | Stmt::Empty { place }
+            | Stmt::Block { place, .. }
+            | Stmt::If { place, .. }
+            | Stmt::While { place, .. }
+            | Stmt::DoWhile { place, .. }
+            | Stmt::For { place, .. }
+            | Stmt::Switch { place, .. }
+            | Stmt::Break { place }
+            | Stmt::Continue { place }
+            | Stmt::Return { place, .. }
+            | Stmt::Declare { place, .. } => *place,
+        }
+    }
 }

@@ -1,5 +1,5 @@
 use Rattle.std.proofs.Common.{◌≡◌, drop}
-use Rattle.k_reader.specs.Closed.{EndsOnce}
+use Rattle.k_tree.specs.Closed.{EndsOnce}
 use Rattle.k_reader.specs.Runs.{runs}
 use Rattle.k_reader.specs.Sources.{begin_source}
 use Rattle.k_parse.proofs.parser.read.Given as goal
