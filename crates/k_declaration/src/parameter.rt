@@ -12,6 +12,7 @@ use k_reader::reading::{Closer, Maybe};
 use k_reader::stars::{Stars, all_stars, constant, no_stars, star};
 use k_tree::{Mark, Param, Params, Token, TokenKind, Word};
 use std::alloc::Global;
+use std::mem;
 
 /// The parameters go on.
 fn follows(list: Seq<Param>, part: Part, reach: usize) -> Parametric
@@ -171,15 +172,26 @@ fn word(
 {
     if stars.pending {
         if !matches!(word, Word::Const) {
+            drop(param);
             return Ok(Parametric::Refused);
         }
-        let stars = constant(stars)?;
+        let stars = match constant(stars) {
+            Ok(stars) => stars,
+            Err(NoMemory) => {
+                drop(param);
+                return Err(NoMemory);
+            }
+        };
         return Ok(follows(list, Part::Typed { param, stars }, 0));
     }
     if stars.done.len() > 0 || !is_spec(word) {
+        drop(param);
         return Ok(Parametric::Refused);
     }
-    param.specs.push(word)?;
+    if let Err(NoMemory) = param.specs.push(word) {
+        drop(param);
+        return Err(NoMemory);
+    }
     Ok(follows(list, Part::Typed { param, stars }, 0))
 }
 
@@ -187,8 +199,16 @@ fn word(
 fn starred(mut param: Param, stars: Stars) -> Result<Param, NoMemory>
     ensures { IfOk result (λ made. made ≡ spec.starred param stars) }
 {
-    param.stars = all_stars(stars)?;
-    Ok(param)
+    match all_stars(stars) {
+        Ok(stars) => {
+            param.stars = stars;
+            Ok(param)
+        }
+        Err(NoMemory) => {
+            drop(param);
+            Err(NoMemory)
+        }
+    }
 }
 
 /// The name of a parameter.
@@ -203,8 +223,16 @@ fn name(
     ensures { IfOk result (λ fed. fed ≡ spec.name list param stars name.now) }
 {
     let mut param = starred(param, stars)?;
-    param.name = Some(Text::copy_of(alloc, name.as_str())?);
-    Ok(follows(list, Part::Named { param }, 0))
+    match Text::copy_of(alloc, name.as_str()) {
+        Ok(name) => {
+            drop(mem::replace(&mut param.name, Some(name)));
+            Ok(follows(list, Part::Named { param }, 0))
+        }
+        Err(NoMemory) => {
+            drop(param);
+            Err(NoMemory)
+        }
+    }
 }
 
 /// A token in the type of a parameter, or behind it.
@@ -222,7 +250,10 @@ fn typed(
         TokenKind::Word(word_read) => word(list, param, stars, *word_read),
         TokenKind::Name(name_read) => name(alloc, list, param, stars, name_read),
         TokenKind::Mark(mark) => mark_typed(alloc, list, param, stars, *mark),
-        _ => Ok(Parametric::Refused),
+        _ => {
+            drop(param);
+            Ok(Parametric::Refused)
+        }
     }
 }
 
@@ -238,8 +269,13 @@ fn mark_typed(
     ensures { IfOk result (λ fed. fed ≡ spec.mark_typed list param stars mark) }
 {
     if is_star(mark) {
-        let stars = star(stars)?;
-        Ok(follows(list, Part::Typed { param, stars }, 0))
+        match star(stars) {
+            Ok(stars) => Ok(follows(list, Part::Typed { param, stars }, 0)),
+            Err(NoMemory) => {
+                drop(param);
+                Err(NoMemory)
+            }
+        }
     } else {
         let param = starred(param, stars)?;
         named(alloc, list, param, mark)
