@@ -1,28 +1,29 @@
 -- What is kept of each operation of an interval is what the definitions say, and the path that is read off is the chosen one.
-use Rattle.std.proofs.Common.{◌≡◌, ℕ, ◌+◌, ◌-◌, ◌<◌, ◌≤◌, ◌^◌, inl, inr, List, [], ◌∷◌, ◌++◌, length, Option, Some, None, true, false, refl, sym, ◌∙◌, subst, ap, arith, get_or, max, min, length-append, drop}
+use Rattle.std.proofs.Common.{◌≡◌, ℕ, zero, suc, ◌+◌, ◌-◌, ◌<◌, ◌≤◌, ◌^◌, inl, inr, List, [], ◌∷◌, ◌++◌, length, Option, Some, None, true, false, refl, sym, ◌∙◌, subst, ap, arith, get_or, max, min, length-append, drop, take}
 use Rattle.std.specs.Prelude.{nat_lt, ◌==◌}
 use Rattle.std.proofs.lemmas.Bool.{cases_lt, cases_eq, cases_Bool}
 use Rattle.std.proofs.lemmas.Option.{slice_get-get_or}
-use Rattle.std.proofs.Math.Seq.{drop-cons}
+use Rattle.std.proofs.Math.Seq.{drop-cons, take-length, take-suc}
 use Rattle.std.proofs.Math.Numerals.{add-one}
-use Rattle.std.proofs.lemmas.List.{drop_all, length-drop}
+use Rattle.std.proofs.lemmas.List.{drop_all, length-drop, take-append-drop}
 use Rattle.k_num.specs.declared.place.Place.{Place}
 use Rattle.k_optab.specs.declared.class.Class.{Class}
 use Rattle.k_optab.specs.declared.event.Event.{Event}
 use Rattle.k_optab.specs.declared.event.Event.TheVariants.{Op, Enter, Exit}
 use Rattle.k_graph.specs.declared.chain.Chains.{Chains}
 use Rattle.k_optab.specs.declared.event.Src.{Src}
-use Rattle.k_optab.specs.Events.{Operation, IsOperation, ListsUnbroken, AreBefore, SourcesAreEarlier, operations, total_latency}
+use Rattle.k_optab.specs.Events.{Operation, IsOperation, ListsUnbroken, AreBefore, SourcesAreEarlier, made_before, operations, total_latency}
 use Rattle.k_optab.specs.Graph.{IsNode, Path, alone, joined, Heaviest, HeaviestTo, IsTime, work}
-use Rattle.k_optab.specs.GraphLaws.{IsGreatestTime}
+use Rattle.k_optab.specs.GraphLaws.{IsGreatestTime, greatest_of}
 use Rattle.k_optab.proofs.Intervals.{work_at_most_total}
 use Rattle.k_optab.proofs.Paths.{source_before, last_node, widened, narrowed, weight_at_most_work}
-use Rattle.k_optab.proofs.Heaviest.{heaviest_to_unique, time_from_sources, time_exists}
-use Rattle.k_graph.specs.Times.{time_at, greatest_of}
+use Rattle.k_optab.proofs.Heaviest.{greatest_of_sources, heaviest_to_unique, time_from_sources, time_exists}
+use Rattle.k_optab.proofs.Trees.{operations-append}
+use Rattle.k_graph.specs.Times.{time_at}
 use Rattle.k_graph.specs.Chains.{Traces, starts, follows, AreEarlier, CanChain, chained, lesser, smallest_of, before_of}
 use Rattle.k_graph.specs.Chosen.{HasNoSource, IsChosenSource, ChosenTo, IsChosen, IsPathOf, IsBefore, AreChained}
 use Rattle.k_graph.specs.Chosen as chosen
-use Rattle.k_graph.proofs.Measures.{AreTimes, greatest_of_is, time_at_is, new_time_is, times_more}
+use Rattle.k_graph.proofs.Measures.{AreTimes, time_at_is, new_time_is, times_more}
 use Rattle.k_graph.proofs.Outwards.{slice_get-push}
 use Rattle.k_graph.proofs.Progress.{if_true, if_false, dropped_head}
 
@@ -128,7 +129,7 @@ module _ (ops : List Operation) (earlier : SourcesAreEarlier ops) where
 
   module _ (s made : ℕ) (op : Operation) (there : IsOperation ops made op) (times : List ℕ) (are : AreTimes ops s times) (count : s + length times ≡ made) where
     most : IsGreatestTime ops s op.sources (greatest_of (time_at s times) op.sources)
-    most = greatest_of_is ops s (time_at s times) op.sources (λ j listed.
+    most = greatest_of_sources ops s (time_at s times) op.sources (λ j listed.
         let before : j < made = source_before ops earlier made j op there listed in
         time_at_is ops s times j are (omega arith))
 
@@ -208,11 +209,6 @@ module _ (ops : List Operation) (earlier : SourcesAreEarlier ops) where
               (op, subst (λ n. IsOperation ops n op) place there, subst (λ o. IsBefore ops s op.sources o) new.1 (before_is s made op there times are.weights count)))
         ];
       }
-
-  -- an operation from before the interval
-  pub chained_skip : (s made : ℕ) → made < s → (times : List ℕ) (befores : List (Option ℕ)) → AreChained ops s made times befores → AreChained ops s (made + 1) times befores
-  chained_skip s made low times befores are =
-      record { count = (let counted : s + length times ≡ max s made = are.count in omega arith); same = are.same; weights = are.weights; earlier = are.earlier }
 
   -- what comes next can be added
   pub next_time_small : total_latency ops < 2 ^ 62 → (s made : ℕ) (op : Operation) → IsOperation ops made op → (times : List ℕ) → s + length times ≡ made → AreTimes ops s times
@@ -357,12 +353,11 @@ event_at events i event within is =
     let rest : drop i events ≡ get_or events i event ∷ drop (i + 1) events = rw add-one (drop-cons events i event within) in
     rest ∙ ap (λ x. x ∷ drop (i + 1) events) (sym is)
 
-pub operation_at : (events : List Event) (i made : ℕ) (event : Event) (class : Class) (latency : ℕ) (sources : List Src) (place : Place) → i < length events → event ≡ get_or events i event
-    → event ≡ Op class latency sources place → drop made (operations events) ≡ operations (drop i events)
-    → IsOperation (operations events) made (record { class = class; latency = latency; sources = sources; place = place })
-    × (drop (made + 1) (operations events) ≡ operations (drop (i + 1) events))
-operation_at events i made event class latency sources place within is op left =
-    dropped_head made (operations events) _ (operations (drop (i + 1) events))
+pub operation_at : (ops : List Operation) (events : List Event) (i made : ℕ) (event : Event) (class : Class) (latency : ℕ) (sources : List Src) (place : Place) → i < length events
+    → event ≡ get_or events i event → event ≡ Op class latency sources place → drop made ops ≡ operations (drop i events)
+    → IsOperation ops made (record { class = class; latency = latency; sources = sources; place = place }) × (drop (made + 1) ops ≡ operations (drop (i + 1) events))
+operation_at ops events i made event class latency sources place within is op left =
+    dropped_head made ops _ (operations (drop (i + 1) events))
     (left ∙ (ap operations (event_at events i event within is) ∙ ap (λ x. operations (x ∷ drop (i + 1) events)) op))
 
 pub no_operation : (event : Event) (rest : List Event)
@@ -371,30 +366,84 @@ no_operation (Op class latency sources place) rest other = absurd (other class l
 no_operation (Enter region) rest other = refl
 no_operation Exit rest other = refl
 
-pub other_at : (events : List Event) (i made : ℕ) (event : Event) → i < length events → event ≡ get_or events i event
+pub other_at : (ops : List Operation) (events : List Event) (i made : ℕ) (event : Event) → i < length events → event ≡ get_or events i event
     → ((class : Class) (latency : ℕ) (sources : List Src) (place : Place) → event ≡ Op class latency sources place → ⊥)
-    → drop made (operations events) ≡ operations (drop i events) → drop made (operations events) ≡ operations (drop (i + 1) events)
-other_at events i made event within is other left =
+    → drop made ops ≡ operations (drop i events) → drop made ops ≡ operations (drop (i + 1) events)
+other_at ops events i made event within is other left =
     left ∙ (ap operations (event_at events i event within is) ∙ no_operation event (drop (i + 1) events) other)
 
 -- behind the last event each operation is made
-pub all_made : (events : List Event) (i made : ℕ) → length events ≤ i → drop made (operations events) ≡ operations (drop i events) → length (operations events) ≤ made
-all_made events i made past left =
+pub all_made : (ops : List Operation) (events : List Event) (i made : ℕ) → length events ≤ i → drop made ops ≡ operations (drop i events) → length ops ≤ made
+all_made ops events i made past left =
     let none : drop i events ≡ [] = drop_all i events past in
-    let empty : drop made (operations events) ≡ [] = left ∙ ap operations none in
-    let size : length (operations events) - made ≡ 0 = sym (length-drop made (operations events)) ∙ ap length empty in
+    let empty : drop made ops ≡ [] = left ∙ ap operations none in
+    let size : length ops - made ≡ 0 = sym (length-drop made ops) ∙ ap length empty in
     omega arith
 
--- the loop over the events has come to a place
-pub record IsChainedTo (events : List Event) (s e i made : ℕ) (c : Chains) : Type 0 where
+-- the operations behind the first events are those of the events behind them
+pub left_behind : (events : List Event) (at made : ℕ) → made_before at events ≡ made → drop made (operations events) ≡ operations (drop at events)
+left_behind events at made count =
+    let first : List Operation = operations (take at events) in
+    let whole : operations events ≡ first ++ operations (drop at events) =
+    ap operations (sym (take-append-drop at events)) ∙ operations-append (take at events) (drop at events) in
+    ap (λ n. drop n (operations events)) (sym count) ∙ (ap (λ l. drop (length first) l) whole ∙ drop-length first (operations (drop at events)))
+  where
+    drop-length : {A : Type 0} (xs ys : List A) → drop (length xs) (xs ++ ys) ≡ ys
+    drop-length [] ys = refl
+    drop-length (x ∷ xs) ys = drop-length xs ys
+
+-- the loop over the events behind the first ones has come to a place
+pub record IsChainedTo (ops : List Operation) (events : List Event) (s e i made : ℕ) (c : Chains) : Type 0 where
   pub few : made ≤ e
-  pub left : drop made (operations events) ≡ operations (drop i events)
-  pub chained : AreChained (operations events) s made c.times c.befores
+  pub from : s ≤ made
+  pub left : drop made ops ≡ operations (drop i events)
+  pub chained : AreChained ops s made c.times c.befores
   pub start_is : c.start ≡ s
 
-pub chained_to : (events : List Event) (s e i made made' : ℕ) (c d : Chains) → made' ≡ made → c ≡ d → IsChainedTo events s e i made d → IsChainedTo events s e i made' c
-chained_to events s e i made made' c d p q is =
-    subst (λ n. IsChainedTo events s e i n c) (sym p) (subst (λ x. IsChainedTo events s e i made x) (sym q) is)
+pub chained_to : (ops : List Operation) (events : List Event) (s e i made made' : ℕ) (c d : Chains) → made' ≡ made → c ≡ d → IsChainedTo ops events s e i made d
+    → IsChainedTo ops events s e i made' c
+chained_to ops events s e i made made' c d p q is =
+    subst (λ n. IsChainedTo ops events s e i n c) (sym p) (subst (λ x. IsChainedTo ops events s e i made x) (sym q) is)
+
+-- before the interval's first operation nothing is kept
+pub chained_begin : (ops : List Operation) (s : ℕ) (times : List ℕ) (befores : List (Option ℕ)) → times ≡ [] → befores ≡ [] → AreChained ops s s times befores
+chained_begin ops s times befores p q =
+    subst (λ l. AreChained ops s s l befores) (sym p) (subst (λ l. AreChained ops s s [] l) (sym q) (record {
+      count = omega arith;
+      same = refl;
+      weights = λ k t at. (let impossible : ⊥ = cc in absurd impossible);
+      earlier = λ k b at. (let impossible : ⊥ = cc in absurd impossible);
+    }))
+
+-- the events behind the first ones, as they are read
+abbrev pub rest_of : List Event → ℕ → List Event
+rest_of events at = take (length events - at) (drop at events)
+
+pub read_rest : (events : List Event) (at : ℕ) → rest_of events at ≡ drop at events
+read_rest events at = ap (λ n. take n (drop at events)) (sym (length-drop at events)) ∙ take-length (drop at events)
+
+-- with one event more, as many operations more stand before
+pub made_more : (events : List Event) (i : ℕ) (event : Event) → i < length events → event ≡ get_or events i event
+    → made_before (i + 1) events ≡ made_before i events + length (operations (event ∷ []))
+made_more events i event within is =
+    let front : take (i + 1) events ≡ take i events ++ event ∷ [] = rw add-one (take-suc events i event within) ∙ ap (λ x. take i events ++ x ∷ []) (sym is) in
+    ap (λ es. length (operations es)) front
+    ∙ (ap length (operations-append (take i events) (event ∷ [])) ∙ length-append (operations (take i events)) (operations (event ∷ [])))
+
+-- an event stands at each place before which operations are missing
+pub event_there : (events : List Event) (i : ℕ) → made_before i events < length (operations events) → i < length events
+event_there events i few = elim (cases_lt i (length events)) [
+  | inl within ↦ within
+  | inr past ↦
+      (let all : made_before i events ≡ length (operations events) = ap (λ es. length (operations es)) (take_past i events past) in
+      absurd (omega arith))
+]
+  where
+    take_past : (n : ℕ) (es : List Event) → length es ≤ n → take n es ≡ es
+    take_past zero [] past = refl
+    take_past (suc n) [] past = refl
+    take_past zero (e ∷ es) past = absurd (omega arith)
+    take_past (suc n) (e ∷ es) past = ap (λ l. e ∷ l) (take_past n es (omega arith))
 
 -- the same lists under other names
 pub chained_shown : (events shown : List Event) (s e : ℕ) (times times' : List ℕ) (befores befores' : List (Option ℕ)) → shown ≡ events → times' ≡ times → befores' ≡ befores

@@ -2,8 +2,8 @@
 use Rattle.std.proofs.Common.{◌≡◌, ℕ, zero, suc, ◌<◌, ◌≤◌, Bool, true, false, cond, List, [], ◌∷◌, Some, refl, arith, slice_get, filter}
 use Rattle.std.proofs.lemmas.Bool.{cond_both}
 use Rattle.k_optab.specs.declared.closed.Closed.{Closed}
+use Rattle.k_optab.specs.Meaning.{AreInARow}
 use Rattle.k_optab.specs.Tree.{EachWith}
-use Rattle.k_optab.proofs.Rows.{AreInARow}
 use Rattle.k_graph.specs.declared.tree.Instance.{Instance}
 
 module _ (test : Instance → Bool) where

@@ -19,13 +19,13 @@ close_last place made done (level ∷ next ∷ levels) top d (suc n) is =
     (close_last place made level.inner (next ∷ levels) top d n (omega arith))
 
 pub closes_around : (s : State) (rest : List Level) (top below : Level) (inner : List Measured) (n : ℕ) → s.levels ≡ rest ++ top ∷ []
-    → n + 1 ≡ length rest → below ≡ get_or rest n below → inner ≡ below.inner ++ measured s.place s.made top ∷ top.inner
+    → n + 1 ≡ length rest → below ≡ get_or rest n below → inner ≡ below.inner ++ measured s.passed s.made top ∷ top.inner
     → record s { levels = set rest n (record below { inner = inner }) } ≡ closed s
 closes_around s rest top below inner n levels is there grown =
-    let whole : close_into s.place s.made s.done (rest ++ top ∷ []) ≡ close_into s.place s.made s.done s.levels =
-    ap (λ l. close_into s.place s.made s.done l) (sym levels) in
-    let last = close_last s.place s.made s.done rest top below n is in
-    let with : record below { inner = inner } ≡ record (get_or rest n below) { inner = (get_or rest n below).inner ++ measured s.place s.made top ∷ top.inner } =
-    ap (λ i. record below { inner = i }) grown ∙ ap (λ (l : Level). record l { inner = l.inner ++ measured s.place s.made top ∷ top.inner }) there in
+    let whole : close_into s.passed s.made s.done (rest ++ top ∷ []) ≡ close_into s.passed s.made s.done s.levels =
+    ap (λ l. close_into s.passed s.made s.done l) (sym levels) in
+    let last = close_last s.passed s.made s.done rest top below n is in
+    let with : record below { inner = inner } ≡ record (get_or rest n below) { inner = (get_or rest n below).inner ++ measured s.passed s.made top ∷ top.inner } =
+    ap (λ i. record below { inner = i }) grown ∙ ap (λ (l : Level). record l { inner = l.inner ++ measured s.passed s.made top ∷ top.inner }) there in
     ap (λ (l : Level). record s { levels = set rest n l }) with
     ∙ ap (λ (closing : Closing). record s { done = closing.done; levels = closing.levels }) (sym last ∙ whole)

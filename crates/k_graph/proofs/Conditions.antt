@@ -25,7 +25,7 @@ module _ (events : List Event) (i made total : ℕ) (is : AreFit events i made t
   pub fit_operation : (class : Class) (latency : ℕ) (sources : List Src) (place : Place) → event ≡ Op class latency sources place → AreBefore made sources
       → total + latency ≤ 2000 → AreFit events (i + 1) (made + 1) (total + latency)
   fit_operation class latency sources place op before small =
-      let at = operation_at events i made event class latency sources place within here op is.left in
+      let at = operation_at (operations events) events i made event class latency sources place within here op is.left in
       let few = is.few in
       let shown : operations (drop i events) ≡ record { class = class; latency = latency; sources = sources; place = place } ∷ operations (drop (i + 1) events) =
       ap operations (event_at events i event within here) ∙ ap (λ x. operations (x ∷ drop (i + 1) events)) op in
@@ -53,7 +53,7 @@ module _ (events : List Event) (i made total : ℕ) (is : AreFit events i made t
       let shown : operations (drop i events) ≡ operations (drop (i + 1) events) =
       ap operations (event_at events i event within here) ∙ no_operation event (drop (i + 1) events) other in
       record {
-        left = other_at events i made event within here other is.left;
+        left = other_at (operations events) events i made event within here other is.left;
         few = omega arith;
         in_range = is.in_range;
         sources = is.sources;
@@ -77,13 +77,13 @@ module _ (events : List Event) (i made total : ℕ) (is : AreFit events i made t
 
   pub fit_sources : SourcesAreEarlier (operations events)
   fit_sources k op there =
-      let all : length (operations events) ≤ made = all_made events i made past is.left in
+      let all : length (operations events) ≤ made = all_made (operations events) events i made past is.left in
       let within : k < length (operations events) = slice_get_within (operations events) k op there in
       is.sources k op there (omega arith)
 
   pub fit_count : made ≡ length (operations events)
   fit_count =
-      let all : length (operations events) ≤ made = all_made events i made past is.left in
+      let all : length (operations events) ≤ made = all_made (operations events) events i made past is.left in
       let in_range = is.in_range in
       omega arith
 

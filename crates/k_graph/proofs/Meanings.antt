@@ -6,10 +6,11 @@ use Rattle.k_optab.specs.Events.{operations, SourcesAreEarlier}
 use Rattle.k_optab.specs.declared.closed.Closed.{Closed}
 use Rattle.k_optab.specs.Instances.{Encloses, IsNearest, IsParent, tracked}
 use Rattle.k_optab.specs.InstanceLaws.{LieAsInstances, Precedes}
+use Rattle.k_optab.specs.Meaning.{AreInARow}
 use Rattle.k_optab.specs.Tree.{EachWith}
 use Rattle.k_optab.proofs.Crossing.{instances_are_left_later, instances_never_cross}
 use Rattle.k_optab.proofs.Nesting.{intervals_are_ordered, intervals_lie_as_instances}
-use Rattle.k_optab.proofs.Rows.{AreInARow, bounded_path}
+use Rattle.k_optab.proofs.Rows.{bounded_path}
 use Rattle.k_graph.specs.declared.tree.Instance.{Instance}
 use Rattle.k_graph.specs.Listings.{AreBounded, AreNested, IsListed, IsListing, children_of, is_at, node_of}
 use Rattle.k_graph.proofs.Children.{Passes, passing, passing_in_a_row, passing_with}
@@ -97,7 +98,7 @@ module _ (depth : ℕ) (events : List Event) (earlier : SourcesAreEarlier (opera
       let item = each_at (IsListed (operations events) (tracked depth events)) (tracked depth events) tree listing place n at in
       bounded_path (operations events) earlier item.0 (node_of n) (passing (λ m. is_at place m.parent) (tracked depth events) tree)
       (map node_of (children_of place tree))
-      (record { region = item.2.region; depth = item.2.depth; work = item.2.work; path = item.2.path })
+      item.2.node
       (tree_of_listing (operations events) (tracked depth events) _ _
       (passing_with (λ m. is_at place m.parent) (IsListed (operations events) (tracked depth events)) (tracked depth events) tree listing))
       (children_in_a_row place item.0 item.1)

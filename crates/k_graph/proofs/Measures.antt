@@ -1,21 +1,20 @@
 -- What a pass knows of the work and the paths of the instances.
-use Rattle.std.proofs.Common.{◌≡◌, ℕ, ◌+◌, ◌-◌, ◌<◌, ◌≤◌, inl, inr, List, [], ◌∷◌, ◌++◌, length, Some, true, false, refl, sym, ◌∙◌, subst, ap, arith, slice_get, get_or, max, map, length-append, ◌^◌}
-use Rattle.std.specs.Prelude.{All, nat_lt, if◌then◌else◌}
-use Rattle.std.proofs.lemmas.Bool.{cases_lt, cases_Bool}
+use Rattle.std.proofs.Common.{◌≡◌, ℕ, ◌+◌, ◌-◌, ◌<◌, ◌≤◌, inl, inr, List, [], ◌∷◌, ◌++◌, length, Some, true, false, refl, sym, ◌∙◌, subst, ap, arith, slice_get, get_or, map, length-append, ◌^◌}
+use Rattle.std.specs.Prelude.{All, nat_lt}
+use Rattle.std.proofs.lemmas.Bool.{cases_lt}
 use Rattle.std.proofs.lemmas.Option.{slice_get-get_or}
 use Rattle.std.proofs.lemmas.List.Elements.{All-cons}
-use Rattle.k_optab.specs.declared.event.Src.{Src}
-use Rattle.k_optab.specs.Events.{Operation, IsOperation, ListsUnbroken, AreBefore, SourcesAreEarlier, total_latency}
+use Rattle.k_optab.specs.Events.{Operation, IsOperation, AreBefore, SourcesAreEarlier, total_latency}
 use Rattle.k_optab.specs.Graph.{Heaviest, HeaviestTo, IsTime, work}
-use Rattle.k_optab.specs.GraphLaws.{IsGreatestTime}
+use Rattle.k_optab.specs.GraphLaws.{greatest_of}
 use Rattle.k_optab.proofs.Intervals.{work_more, work_empty, work_at_most_total}
 use Rattle.k_optab.proofs.Paths.{source_before, weight_to}
-use Rattle.k_optab.proofs.Heaviest.{greatest_none, greatest_broken, greatest_unbroken, time_from_sources, heaviest_of_one_more, heaviest_empty}
+use Rattle.k_optab.proofs.Heaviest.{greatest_of_sources, time_from_sources, heaviest_of_one_more, heaviest_empty}
 use Rattle.k_graph.specs.declared.level.Level.{Level}
 use Rattle.k_graph.specs.declared.level.Measured.{Measured}
 use Rattle.k_graph.specs.Levels.{CanAdd, new_time, added, measured}
 use Rattle.k_graph.specs.Passes.{close_into}
-use Rattle.k_graph.specs.Times.{time_at, greatest_of}
+use Rattle.k_graph.specs.Times.{time_at}
 use Rattle.k_graph.proofs.Outwards.{slice_get-push}
 
 -- P holds of each item
@@ -39,24 +38,6 @@ pub every_weaker : {A : Type 0} (P Q : A → Type 0) (xs : List A) → ((x : A) 
 every_weaker P Q [] step every = tt
 every_weaker P Q (x ∷ xs) step every = (step x every.0, every_weaker P Q xs step every.1)
 
--- the greatest time of sources whose times are these
-pub greatest_of_is : (ops : List Operation) (s : ℕ) (time : ℕ → ℕ) (sources : List Src)
-    → ((j : ℕ) → ListsUnbroken sources j → IsTime ops s (Some j) (time j)) → IsGreatestTime ops s sources (greatest_of time sources)
-greatest_of_is ops s time [] times = greatest_none ops s
-greatest_of_is ops s time (src ∷ sources) times =
-    let rest : IsGreatestTime ops s sources (greatest_of time sources) = greatest_of_is ops s time sources (λ j listed. times j (inr listed)) in
-    elim (cases_Bool src.broken) [
-      | inl broken ↦
-          (let is : greatest_of time (src ∷ sources) ≡ greatest_of time sources =
-          ap (λ b. if b then greatest_of time sources else max (time src.number) (greatest_of time sources)) broken in
-          subst (λ n. IsGreatestTime ops s (src ∷ sources) n) (sym is) (greatest_broken ops s (greatest_of time sources) src sources broken rest))
-      | inr whole ↦
-          (let is : greatest_of time (src ∷ sources) ≡ max (time src.number) (greatest_of time sources) =
-          ap (λ b. if b then greatest_of time sources else max (time src.number) (greatest_of time sources)) whole in
-          subst (λ n. IsGreatestTime ops s (src ∷ sources) n) (sym is)
-          (greatest_unbroken ops s (greatest_of time sources) (time src.number) src sources whole (times src.number (inl (refl, whole))) rest))
-    ]
-
 -- the times of the operations from s on
 abbrev pub AreTimes : List Operation → ℕ → List ℕ → Type 0
 AreTimes ops s times = (k t : ℕ) → slice_get times k ≡ Some t → HeaviestTo ops s (s + k) t
@@ -73,8 +54,8 @@ time_at_is ops s times j are within = elim (cases_lt j s) [
 
 -- what was measured of a closed instance is so
 pub record IsMeasured (ops : List Operation) (m : Measured) : Type 0 where
-  pub work : m.work ≡ work ops m.start m.end
-  pub path : Heaviest ops m.start m.end m.path
+  pub work : m.work ≡ work ops m.closed.start m.closed.end
+  pub path : Heaviest ops m.closed.start m.closed.end m.path
 
 -- what a level says of its operations so far is so
 pub record IsLevel (ops : List Operation) (made : ℕ) (level : Level) : Type 0 where
@@ -115,7 +96,7 @@ module _ (ops : List Operation) (earlier : SourcesAreEarlier ops) (made : ℕ) (
       → HeaviestTo ops s made (op.latency + greatest_of (time_at s times) op.sources)
   new_time_is s times count are =
       time_from_sources ops earlier s made (greatest_of (time_at s times) op.sources) op (omega arith) there
-      (greatest_of_is ops s (time_at s times) op.sources (λ j listed.
+      (greatest_of_sources ops s (time_at s times) op.sources (λ j listed.
       let before : j < made = source_before ops earlier made j op there listed in
       time_at_is ops s times j are (omega arith)))
 

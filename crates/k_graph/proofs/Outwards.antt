@@ -10,7 +10,7 @@ use Rattle.k_optab.specs.InstanceLaws.{Precedes}
 use Rattle.k_optab.specs.Tree.{EachWith}
 use Rattle.k_graph.specs.declared.level.Measured.{Measured}
 use Rattle.k_graph.specs.declared.tree.Instance.{Instance}
-use Rattle.k_graph.specs.Listings.{AreNested, EachHasParent, HasParent, closed_of}
+use Rattle.k_graph.specs.Listings.{AreNested, EachHasParent, HasParent, closed_of, item_of}
 
 -- o is the instance at this place or encloses it
 abbrev pub IsAt : List Closed → Closed → ℕ → ℕ → Type 0
@@ -150,18 +150,18 @@ module _ (list : List Measured) (nested : AreNested (map closed_of list)) where
     candidate_at : slice_get (map closed_of list) q ≡ Some (closed_of (get_or list q e))
     candidate_at = closed_at q (get_or list q e) (slice_get-get_or list q e (omega arith))
 
-    pub found : (get_or list place d).enter < (get_or list q e).exit → IsParent (map closed_of list) (closed_of m) (Some q)
+    pub found : (get_or list place d).closed.enter < (get_or list q e).closed.exit → IsParent (map closed_of list) (closed_of m) (Some q)
     found inside =
         let same : get_or list place d ≡ m = get_or_from_slice_get list place m d there in
-        let enters : (get_or list place d).enter ≡ m.enter = ap (λ (x : Measured). x.enter) same in
+        let enters : (get_or list place d).closed.enter ≡ m.closed.enter = ap (λ (x : Measured). x.closed.enter) same in
         parent_found (map closed_of list) nested q place (closed_of m) (closed_of (get_or list q e)) less (closed_at place m there) candidate_at
         (omega arith) (subst (λ o. IsAround (map closed_of list) (closed_of m) o) is around)
 
-    pub further : (parent : Option ℕ) → (get_or list q e).exit ≤ (get_or list place d).enter → IsParent (map closed_of list) (closed_of (get_or list q e)) parent
+    pub further : (parent : Option ℕ) → (get_or list q e).closed.exit ≤ (get_or list place d).closed.enter → IsParent (map closed_of list) (closed_of (get_or list q e)) parent
         → IsAround (map closed_of list) (closed_of m) parent
     further parent outside its =
         let same : get_or list place d ≡ m = get_or_from_slice_get list place m d there in
-        let enters : (get_or list place d).enter ≡ m.enter = ap (λ (x : Measured). x.enter) same in
+        let enters : (get_or list place d).closed.enter ≡ m.closed.enter = ap (λ (x : Measured). x.closed.enter) same in
         around_next (map closed_of list) nested q place (closed_of m) (closed_of (get_or list q e)) parent (closed_at place m there) candidate_at
         (omega arith) its (subst (λ o. IsAround (map closed_of list) (closed_of m) o) is around)
 
@@ -195,19 +195,8 @@ slice_get-push [] x y (suc k) h = cc
 slice_get-push (z ∷ xs) x y zero h = inl h
 slice_get-push (z ∷ xs) x y (suc k) h = elim (slice_get-push xs x y k h) [ inl old ↦ inl old | inr new ↦ inr (omega (arith, new.0), new.1) ]
 
--- the item that is made for what was measured
-abbrev pub item_of : Measured → Option ℕ → Instance
-item_of m parent = record { region = m.region; depth = m.depth; start = m.start; end = m.end; work = m.work; path = m.path; parent = parent }
-
+-- an item that is made for what was measured
 pub made_item : (all : List Closed) (m it : Measured) (parent : Option ℕ) (n : Instance) → it ≡ m → item_of it parent ≡ n → IsParent all (closed_of m) parent
     → HasParent all m n
 made_item all m it parent n same made is =
-    subst (λ x. HasParent all m x) made (record {
-      region = ap (λ (x : Measured). x.region) same;
-      depth = ap (λ (x : Measured). x.depth) same;
-      start = ap (λ (x : Measured). x.start) same;
-      end = ap (λ (x : Measured). x.end) same;
-      work = ap (λ (x : Measured). x.work) same;
-      path = ap (λ (x : Measured). x.path) same;
-      parent = is;
-    })
+    subst (λ x. HasParent all m x) made (record { is = ap (λ (x : Measured). item_of x parent) same; parent = is })

@@ -33,13 +33,13 @@ coming limit rest place made open_count = filter (λ i. nat_lt i.depth limit) (c
 -- the pass has taken all events but these
 pub record IsBefore (limit : ℕ) (events rest : List Event) (s : State) : Type 0 where
   pub limit_is : s.limit ≡ limit
-  pub listing : map closed_of s.done ++ (live rest s.place s.made (s.open_count - length s.levels) s.levels ++ coming limit rest s.place s.made s.open_count)
+  pub listing : map closed_of s.done ++ (live rest s.passed s.made (s.open_count - length s.levels) s.levels ++ coming limit rest s.passed s.made s.open_count)
       ≡ tracked limit events
   pub depth : length s.levels ≡ min s.open_count limit
   pub operations_left : drop s.made (operations events) ≡ operations rest
-  pub count : s.place + length rest ≡ length events
-  pub made_few : s.made ≤ s.place
-  pub open_few : s.open_count ≤ s.place
+  pub count : s.passed + length rest ≡ length events
+  pub made_few : s.made ≤ s.passed
+  pub open_few : s.open_count ≤ s.passed
   pub levels : Every (IsLevel (operations events) s.made) s.levels
   pub done : Every (IsMeasured (operations events)) s.done
 
@@ -75,16 +75,16 @@ if_false true x y h = cc
 if_false false x y h = refl
 
 -- what an Exit makes of the state, by cases
-exited_idle : (s : State) → s.open_count ≡ 0 → exited s ≡ record s { place = s.place + 1 }
+exited_idle : (s : State) → s.open_count ≡ 0 → exited s ≡ record s { passed = s.passed + 1 }
 exited_idle s none = let test : (s.open_count == 0) ≡ true = search (arith) in if_true (s.open_count == 0) _ _ test
 
-exited_deep : (s : State) → (s.open_count ≡ 0 → ⊥) → s.limit < s.open_count → exited s ≡ record s { place = s.place + 1; open_count = s.open_count - 1 }
+exited_deep : (s : State) → (s.open_count ≡ 0 → ⊥) → s.limit < s.open_count → exited s ≡ record s { passed = s.passed + 1; open_count = s.open_count - 1 }
 exited_deep s some deep =
     let test : (s.open_count == 0) ≡ false = search (arith) in
     let other : nat_lt s.limit s.open_count ≡ true = search (arith) in
     if_false (s.open_count == 0) _ _ test ∙ if_true (nat_lt s.limit s.open_count) _ _ other
 
-exited_tracked : (s : State) → (s.open_count ≡ 0 → ⊥) → s.open_count ≤ s.limit → exited s ≡ record (closed s) { place = s.place + 1; open_count = s.open_count - 1 }
+exited_tracked : (s : State) → (s.open_count ≡ 0 → ⊥) → s.open_count ≤ s.limit → exited s ≡ record (closed s) { passed = s.passed + 1; open_count = s.open_count - 1 }
 exited_tracked s some low =
     let test : (s.open_count == 0) ≡ false = search (arith) in
     let other : nat_lt s.limit s.open_count ≡ false = search (arith) in
@@ -101,10 +101,10 @@ module _ (limit : ℕ) (events rest : List Event) (earlier : SourcesAreEarlier (
       record {
         limit_is = is.limit_is;
         listing =
-            ap (λ n. map closed_of s.done ++ (live rest (s.place + 1) (s.made + 1) (s.open_count - n) (map (added latency sources) s.levels)
-            ++ coming limit rest (s.place + 1) (s.made + 1) s.open_count)) size
-            ∙ (ap (λ l. map closed_of s.done ++ (l ++ coming limit rest (s.place + 1) (s.made + 1) s.open_count))
-            (sym (live_operation rest s.place s.made class latency sources here (s.open_count - length s.levels) s.levels))
+            ap (λ n. map closed_of s.done ++ (live rest (s.passed + 1) (s.made + 1) (s.open_count - n) (map (added latency sources) s.levels)
+            ++ coming limit rest (s.passed + 1) (s.made + 1) s.open_count)) size
+            ∙ (ap (λ l. map closed_of s.done ++ (l ++ coming limit rest (s.passed + 1) (s.made + 1) s.open_count))
+            (sym (live_operation rest s.passed s.made class latency sources here (s.open_count - length s.levels) s.levels))
             ∙ is.listing);
         depth = size ∙ is.depth;
         operations_left = head.1;
@@ -128,27 +128,27 @@ module _ (limit : ℕ) (events rest : List Event) (earlier : SourcesAreEarlier (
   filter_no_instance region open_count place made (Some inside) test = rw test refl
 
   tracked_entered : (region : ℕ) (s : State) → s.open_count < limit → IsBefore limit events (Enter region ∷ rest) s
-      → IsBefore limit events rest (record s { place = s.place + 1; open_count = s.open_count + 1; levels = s.levels ++ new_level region s ∷ [] })
+      → IsBefore limit events rest (record s { passed = s.passed + 1; open_count = s.open_count + 1; levels = s.levels ++ new_level region s ∷ [] })
   tracked_entered region s low is =
       let test : nat_lt s.open_count limit ≡ true = search (arith) in
       let depth : length s.levels ≡ min s.open_count limit = is.depth in
       let size : length (s.levels ++ new_level region s ∷ []) ≡ length s.levels + 1 = length-append s.levels (new_level region s ∷ []) in
       let none : s.open_count - length s.levels ≡ 0 = omega arith in
       let still : (s.open_count + 1) - length (s.levels ++ new_level region s ∷ []) ≡ 0 = omega arith in
-      let after = coming limit rest (s.place + 1) s.made (s.open_count + 1) in
-      let inst = instance_of region s.open_count s.place s.made (until_exit rest 0) in
-      let come : coming limit (Enter region ∷ rest) s.place s.made s.open_count ≡ inst ++ after =
-      filter-append (λ i. nat_lt i.depth limit) inst (closed_from rest (s.place + 1) s.made (s.open_count + 1))
-      ∙ ap (λ l. l ++ after) (filter_instance region s.open_count s.place s.made (until_exit rest 0) test) in
+      let after = coming limit rest (s.passed + 1) s.made (s.open_count + 1) in
+      let inst = instance_of region s.open_count s.passed s.made (until_exit rest 0) in
+      let come : coming limit (Enter region ∷ rest) s.passed s.made s.open_count ≡ inst ++ after =
+      filter-append (λ i. nat_lt i.depth limit) inst (closed_from rest (s.passed + 1) s.made (s.open_count + 1))
+      ∙ ap (λ l. l ++ after) (filter_instance region s.open_count s.passed s.made (until_exit rest 0) test) in
       record {
         limit_is = is.limit_is;
         listing =
-            ap (λ n. map closed_of s.done ++ (live rest (s.place + 1) s.made n (s.levels ++ new_level region s ∷ []) ++ after)) still
+            ap (λ n. map closed_of s.done ++ (live rest (s.passed + 1) s.made n (s.levels ++ new_level region s ∷ []) ++ after)) still
             ∙ (ap (λ l. map closed_of s.done ++ (l ++ after))
-            (sym (live_enter_level rest s.place s.made region (new_level region s) refl refl refl refl s.levels))
-            ∙ (ap (λ l. map closed_of s.done ++ l) (append_assoc (live (Enter region ∷ rest) s.place s.made 0 s.levels) inst after)
-            ∙ (ap (λ l. map closed_of s.done ++ (live (Enter region ∷ rest) s.place s.made 0 s.levels ++ l)) (sym come)
-            ∙ (ap (λ n. map closed_of s.done ++ (live (Enter region ∷ rest) s.place s.made n s.levels ++ coming limit (Enter region ∷ rest) s.place s.made s.open_count)) (sym none)
+            (sym (live_enter_level rest s.passed s.made region (new_level region s) refl refl refl refl s.levels))
+            ∙ (ap (λ l. map closed_of s.done ++ l) (append_assoc (live (Enter region ∷ rest) s.passed s.made 0 s.levels) inst after)
+            ∙ (ap (λ l. map closed_of s.done ++ (live (Enter region ∷ rest) s.passed s.made 0 s.levels ++ l)) (sym come)
+            ∙ (ap (λ n. map closed_of s.done ++ (live (Enter region ∷ rest) s.passed s.made n s.levels ++ coming limit (Enter region ∷ rest) s.passed s.made s.open_count)) (sym none)
             ∙ is.listing))));
         depth = omega arith;
         operations_left = is.operations_left;
@@ -161,22 +161,22 @@ module _ (limit : ℕ) (events rest : List Event) (earlier : SourcesAreEarlier (
       }
 
   untracked_entered : (region : ℕ) (s : State) → limit ≤ s.open_count → IsBefore limit events (Enter region ∷ rest) s
-      → IsBefore limit events rest (record s { place = s.place + 1; open_count = s.open_count + 1 })
+      → IsBefore limit events rest (record s { passed = s.passed + 1; open_count = s.open_count + 1 })
   untracked_entered region s high is =
       let test : nat_lt s.open_count limit ≡ false = search (arith) in
       let depth : length s.levels ≡ min s.open_count limit = is.depth in
       let deeper : (s.open_count + 1) - length s.levels ≡ (s.open_count - length s.levels) + 1 = omega arith in
-      let after = coming limit rest (s.place + 1) s.made (s.open_count + 1) in
-      let inst = instance_of region s.open_count s.place s.made (until_exit rest 0) in
-      let come : coming limit (Enter region ∷ rest) s.place s.made s.open_count ≡ after =
-      filter-append (λ i. nat_lt i.depth limit) inst (closed_from rest (s.place + 1) s.made (s.open_count + 1))
-      ∙ ap (λ l. l ++ after) (filter_no_instance region s.open_count s.place s.made (until_exit rest 0) test) in
+      let after = coming limit rest (s.passed + 1) s.made (s.open_count + 1) in
+      let inst = instance_of region s.open_count s.passed s.made (until_exit rest 0) in
+      let come : coming limit (Enter region ∷ rest) s.passed s.made s.open_count ≡ after =
+      filter-append (λ i. nat_lt i.depth limit) inst (closed_from rest (s.passed + 1) s.made (s.open_count + 1))
+      ∙ ap (λ l. l ++ after) (filter_no_instance region s.open_count s.passed s.made (until_exit rest 0) test) in
       record {
         limit_is = is.limit_is;
         listing =
-            ap (λ n. map closed_of s.done ++ (live rest (s.place + 1) s.made n s.levels ++ after)) deeper
-            ∙ (ap (λ l. map closed_of s.done ++ (l ++ after)) (sym (live_enter rest s.place s.made region (s.open_count - length s.levels) s.levels))
-            ∙ (ap (λ l. map closed_of s.done ++ (live (Enter region ∷ rest) s.place s.made (s.open_count - length s.levels) s.levels ++ l)) (sym come)
+            ap (λ n. map closed_of s.done ++ (live rest (s.passed + 1) s.made n s.levels ++ after)) deeper
+            ∙ (ap (λ l. map closed_of s.done ++ (l ++ after)) (sym (live_enter rest s.passed s.made region (s.open_count - length s.levels) s.levels))
+            ∙ (ap (λ l. map closed_of s.done ++ (live (Enter region ∷ rest) s.passed s.made (s.open_count - length s.levels) s.levels ++ l)) (sym come)
             ∙ is.listing));
         depth = omega arith;
         operations_left = is.operations_left;
@@ -191,17 +191,17 @@ module _ (limit : ℕ) (events rest : List Event) (earlier : SourcesAreEarlier (
   enter_taken region s is = elim (cases_lt s.open_count limit) [
     | inl low ↦
         (let test : nat_lt s.open_count s.limit ≡ true = (let same = is.limit_is in let less : s.open_count < s.limit = omega arith in search (arith)) in
-        let next : entered region s ≡ record s { place = s.place + 1; open_count = s.open_count + 1; levels = s.levels ++ new_level region s ∷ [] } =
-        ap (λ b. record s { place = s.place + 1; open_count = s.open_count + 1; levels = if b then s.levels ++ new_level region s ∷ [] else s.levels }) test in
+        let next : entered region s ≡ record s { passed = s.passed + 1; open_count = s.open_count + 1; levels = s.levels ++ new_level region s ∷ [] } =
+        ap (λ b. record s { passed = s.passed + 1; open_count = s.open_count + 1; levels = if b then s.levels ++ new_level region s ∷ [] else s.levels }) test in
         subst (λ t. IsBefore limit events rest t) (sym next) (tracked_entered region s low is))
     | inr high ↦
         (let test : nat_lt s.open_count s.limit ≡ false = (let same = is.limit_is in let more : s.limit ≤ s.open_count = omega arith in search (arith)) in
-        let next : entered region s ≡ record s { place = s.place + 1; open_count = s.open_count + 1 } =
-        ap (λ b. record s { place = s.place + 1; open_count = s.open_count + 1; levels = if b then s.levels ++ new_level region s ∷ [] else s.levels }) test in
+        let next : entered region s ≡ record s { passed = s.passed + 1; open_count = s.open_count + 1 } =
+        ap (λ b. record s { passed = s.passed + 1; open_count = s.open_count + 1; levels = if b then s.levels ++ new_level region s ∷ [] else s.levels }) test in
         subst (λ t. IsBefore limit events rest t) (sym next) (untracked_entered region s high is))
   ]
 
-  idle_exit : (s : State) → s.open_count ≡ 0 → IsBefore limit events (Exit ∷ rest) s → IsBefore limit events rest (record s { place = s.place + 1 })
+  idle_exit : (s : State) → s.open_count ≡ 0 → IsBefore limit events (Exit ∷ rest) s → IsBefore limit events rest (record s { passed = s.passed + 1 })
   idle_exit s none is =
       let depth : length s.levels ≡ min s.open_count limit = is.depth in
       let same : s.open_count - 1 ≡ s.open_count = omega arith in
@@ -209,9 +209,9 @@ module _ (limit : ℕ) (events rest : List Event) (earlier : SourcesAreEarlier (
       record {
         limit_is = is.limit_is;
         listing =
-            ap (λ l. map closed_of s.done ++ (live rest (s.place + 1) s.made (s.open_count - length l) l ++ coming limit rest (s.place + 1) s.made s.open_count)) empty
-            ∙ (ap (λ n. map closed_of s.done ++ ([] ++ coming limit rest (s.place + 1) s.made n)) (sym same)
-            ∙ (ap (λ l. map closed_of s.done ++ (live (Exit ∷ rest) s.place s.made (s.open_count - length l) l ++ coming limit (Exit ∷ rest) s.place s.made s.open_count)) (sym empty)
+            ap (λ l. map closed_of s.done ++ (live rest (s.passed + 1) s.made (s.open_count - length l) l ++ coming limit rest (s.passed + 1) s.made s.open_count)) empty
+            ∙ (ap (λ n. map closed_of s.done ++ ([] ++ coming limit rest (s.passed + 1) s.made n)) (sym same)
+            ∙ (ap (λ l. map closed_of s.done ++ (live (Exit ∷ rest) s.passed s.made (s.open_count - length l) l ++ coming limit (Exit ∷ rest) s.passed s.made s.open_count)) (sym empty)
             ∙ is.listing));
         depth = is.depth;
         operations_left = is.operations_left;
@@ -227,16 +227,16 @@ module _ (limit : ℕ) (events rest : List Event) (earlier : SourcesAreEarlier (
       no_levels (level ∷ levels) h = absurd (omega arith)
 
   untracked_exit : (s : State) → limit < s.open_count → IsBefore limit events (Exit ∷ rest) s
-      → IsBefore limit events rest (record s { place = s.place + 1; open_count = s.open_count - 1 })
+      → IsBefore limit events rest (record s { passed = s.passed + 1; open_count = s.open_count - 1 })
   untracked_exit s deep is =
       let depth : length s.levels ≡ min s.open_count limit = is.depth in
       let deeper : s.open_count - length s.levels ≡ ((s.open_count - 1) - length s.levels) + 1 = omega arith in
       record {
         limit_is = is.limit_is;
         listing =
-            ap (λ l. map closed_of s.done ++ (l ++ coming limit rest (s.place + 1) s.made (s.open_count - 1)))
-            (sym (live_exit rest s.place s.made ((s.open_count - 1) - length s.levels) s.levels))
-            ∙ (ap (λ n. map closed_of s.done ++ (live (Exit ∷ rest) s.place s.made n s.levels ++ coming limit rest (s.place + 1) s.made (s.open_count - 1))) (sym deeper)
+            ap (λ l. map closed_of s.done ++ (l ++ coming limit rest (s.passed + 1) s.made (s.open_count - 1)))
+            (sym (live_exit rest s.passed s.made ((s.open_count - 1) - length s.levels) s.levels))
+            ∙ (ap (λ n. map closed_of s.done ++ (live (Exit ∷ rest) s.passed s.made n s.levels ++ coming limit rest (s.passed + 1) s.made (s.open_count - 1))) (sym deeper)
             ∙ is.listing);
         depth = omega arith;
         operations_left = is.operations_left;
@@ -248,31 +248,31 @@ module _ (limit : ℕ) (events rest : List Event) (earlier : SourcesAreEarlier (
       }
 
   closes : (s : State) (levels : List Level) → 0 < length levels
-      → (map closed_of s.done ++ live (Exit ∷ rest) s.place s.made 0 levels
-      ≡ map closed_of (close_into s.place s.made s.done levels).done ++ live rest (s.place + 1) s.made 0 (close_into s.place s.made s.done levels).levels)
-      × (length (close_into s.place s.made s.done levels).levels + 1 ≡ length levels)
+      → (map closed_of s.done ++ live (Exit ∷ rest) s.passed s.made 0 levels
+      ≡ map closed_of (close_into s.passed s.made s.done levels).done ++ live rest (s.passed + 1) s.made 0 (close_into s.passed s.made s.done levels).levels)
+      × (length (close_into s.passed s.made s.done levels).levels + 1 ≡ length levels)
   closes s [] some = absurd (omega arith)
   closes s (level ∷ levels) some =
-      (live_close rest s.place s.made s.done level levels, (let size = levels_close s.place s.made s.done level levels in omega arith))
+      (live_close rest s.passed s.made s.done level levels, (let size = levels_close s.passed s.made s.done level levels in omega arith))
 
   tracked_exit : (s : State) → 0 < s.open_count → s.open_count ≤ limit → IsBefore limit events (Exit ∷ rest) s
-      → IsBefore limit events rest (record (closed s) { place = s.place + 1; open_count = s.open_count - 1 })
+      → IsBefore limit events rest (record (closed s) { passed = s.passed + 1; open_count = s.open_count - 1 })
   tracked_exit s some low is =
       let depth : length s.levels ≡ min s.open_count limit = is.depth in
       let none : s.open_count - length s.levels ≡ 0 = omega arith in
       let close = closes s s.levels (omega arith) in
       let size : length (closed s).levels + 1 ≡ length s.levels = close.1 in
       let still : (s.open_count - 1) - length (closed s).levels ≡ 0 = omega arith in
-      let after = coming limit rest (s.place + 1) s.made (s.open_count - 1) in
-      let kept = closed_levels (operations events) s.made s.place s.done s.levels is.done is.levels in
+      let after = coming limit rest (s.passed + 1) s.made (s.open_count - 1) in
+      let kept = closed_levels (operations events) s.made s.passed s.done s.levels is.done is.levels in
       record {
         limit_is = is.limit_is;
         listing =
-            ap (λ n. map closed_of (closed s).done ++ (live rest (s.place + 1) s.made n (closed s).levels ++ after)) still
-            ∙ (sym (append_assoc (map closed_of (closed s).done) (live rest (s.place + 1) s.made 0 (closed s).levels) after)
+            ap (λ n. map closed_of (closed s).done ++ (live rest (s.passed + 1) s.made n (closed s).levels ++ after)) still
+            ∙ (sym (append_assoc (map closed_of (closed s).done) (live rest (s.passed + 1) s.made 0 (closed s).levels) after)
             ∙ (ap (λ l. l ++ after) (sym close.0)
-            ∙ (append_assoc (map closed_of s.done) (live (Exit ∷ rest) s.place s.made 0 s.levels) after
-            ∙ (ap (λ n. map closed_of s.done ++ (live (Exit ∷ rest) s.place s.made n s.levels ++ after)) (sym none)
+            ∙ (append_assoc (map closed_of s.done) (live (Exit ∷ rest) s.passed s.made 0 s.levels) after
+            ∙ (ap (λ n. map closed_of s.done ++ (live (Exit ∷ rest) s.passed s.made n s.levels ++ after)) (sym none)
             ∙ is.listing))));
         depth = omega arith;
         operations_left = is.operations_left;
@@ -330,8 +330,8 @@ every_listed ops made done (level ∷ levels) are is =
 module _ (limit : ℕ) (events : List Event) (s : State) (is : IsBefore limit events [] s) where
   pub at_end : map closed_of (listed s.done s.levels) ≡ tracked limit events
   at_end =
-      live_end s.place s.made (s.open_count - length s.levels) s.done s.levels
-      ∙ (ap (λ l. map closed_of s.done ++ l) (sym (append-nil (live [] s.place s.made (s.open_count - length s.levels) s.levels)))
+      live_end s.passed s.made (s.open_count - length s.levels) s.done s.levels
+      ∙ (ap (λ l. map closed_of s.done ++ l) (sym (append-nil (live [] s.passed s.made (s.open_count - length s.levels) s.levels)))
       ∙ is.listing)
 
   pub nested_at_end : AreNested (map closed_of (listed s.done s.levels))
@@ -352,12 +352,14 @@ module _ (limit : ℕ) (events : List Event) (s : State) (is : IsBefore limit ev
       each_listed ops all (m ∷ list) [] each measured = absurd each
       each_listed ops all (m ∷ list) (n ∷ tree) each measured = (
         record {
-          region = each.0.region;
-          depth = each.0.depth;
-          start = each.0.start;
-          end = each.0.end;
-          work = each.0.work ∙ measured.0.work;
-          path = subst (λ p. Heaviest ops m.start m.end p) (sym each.0.path) measured.0.path;
+          node = record {
+            region = ap (λ (x : Instance). x.region) each.0.is;
+            depth = ap (λ (x : Instance). x.depth) each.0.is;
+            work = ap (λ (x : Instance). x.work) each.0.is ∙ measured.0.work;
+            path = subst (λ p. Heaviest ops m.closed.start m.closed.end p) (sym (ap (λ (x : Instance). x.path) each.0.is)) measured.0.path;
+          };
+          start = ap (λ (x : Instance). x.start) each.0.is;
+          end = ap (λ (x : Instance). x.end) each.0.is;
           parent = each.0.parent;
         },
         each_listed ops all list tree each.1 measured.1,
@@ -370,7 +372,7 @@ tree_of_listing ops all [] [] each = tt
 tree_of_listing ops all [] (n ∷ tree) each = absurd each
 tree_of_listing ops all (i ∷ list) [] each = absurd each
 tree_of_listing ops all (i ∷ list) (n ∷ tree) each =
-    (record { region = each.0.region; depth = each.0.depth; work = each.0.work; path = each.0.path }, tree_of_listing ops all list tree each.1)
+    (each.0.node, tree_of_listing ops all list tree each.1)
 
 -- the events as a loop reads them: the one at a place, and those behind it
 pub before_event : (limit : ℕ) (events shown : List Event) (i : ℕ) (event : Event) (s : State) → shown ≡ events → i < length shown → event ≡ get_or shown i event

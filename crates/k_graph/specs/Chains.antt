@@ -2,8 +2,9 @@
 use Rattle.std.specs.Prelude.{ℕ, ◌≡◌, ◌+◌, ◌-◌, ◌^◌, ◌<◌, ◌≤◌, ◌==◌, min, List, [], ◌∷◌, ◌++◌, length, Option, Some, None, slice_get, slice_index, nat_lt, if◌then◌else◌}
 use Rattle.k_optab.specs.declared.event.Src.{Src}
 use Rattle.k_optab.specs.Events.{AreBefore}
+use Rattle.k_optab.specs.GraphLaws.{greatest_of}
 use Rattle.k_graph.specs.declared.chain.Chains.{Chains}
-use Rattle.k_graph.specs.Times.{time_at, greatest_of}
+use Rattle.k_graph.specs.Times.{time_at}
 
 -- the lesser of two numbers that may be missing
 abbrev pub lesser : Option ℕ → Option ℕ → Option ℕ

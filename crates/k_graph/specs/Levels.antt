@@ -2,9 +2,10 @@
 use Rattle.std.specs.Prelude.{ℕ, ◌+◌, ◌^◌, ◌<◌, max, List, [], ◌∷◌, ◌++◌, length}
 use Rattle.k_optab.specs.declared.event.Src.{Src}
 use Rattle.k_optab.specs.Events.{AreBefore}
+use Rattle.k_optab.specs.GraphLaws.{greatest_of}
 use Rattle.k_graph.specs.declared.level.Level.{Level}
 use Rattle.k_graph.specs.declared.level.Measured.{Measured}
-use Rattle.k_graph.specs.Times.{time_at, greatest_of}
+use Rattle.k_graph.specs.Times.{time_at}
 
 -- the time of an operation with this latency and these sources
 abbrev pub new_time : ℕ → List Src → Level → ℕ
@@ -24,15 +25,10 @@ pub record CanAdd (latency : ℕ) (sources : List Src) (level : Level) : Type 0 
   pub time : new_time latency sources level < 2 ^ 64
   pub work : level.work + latency < 2 ^ 64
 
--- the instance, once its Exit stands at this place behind so many operations
+-- the instance, once its Exit stands at this place among the events, behind so many operations
 abbrev pub measured : ℕ → ℕ → Level → Measured
 measured exit end level = record {
-  region = level.region;
-  depth = level.depth;
-  enter = level.enter;
-  exit = exit;
-  start = level.start;
-  end = end;
+  closed = record { region = level.region; depth = level.depth; enter = level.enter; exit = exit; start = level.start; end = end };
   work = level.work;
   path = level.path;
 }

@@ -2,47 +2,49 @@
 use Rattle.std.specs.Prelude.{ℕ, ◌≡◌, ◌<◌, ◌==◌, Bool, false, List, Option, None, Some, filter, map, slice_get, All, AllPairs}
 use Rattle.k_optab.specs.declared.event.Event.{Event}
 use Rattle.k_optab.specs.Events.{Operation, operations}
-use Rattle.k_optab.specs.Graph.{Heaviest, work}
 use Rattle.k_optab.specs.declared.closed.Closed.{Closed}
 use Rattle.k_optab.specs.Instances.{IsParent, tracked}
 use Rattle.k_optab.specs.InstanceLaws.{Precedes}
 use Rattle.k_optab.specs.Meaning.{HasBoundedPath}
 use Rattle.k_optab.specs.declared.node.Node.{Node}
-use Rattle.k_optab.specs.Tree.{EachWith}
+use Rattle.k_optab.specs.Tree.{EachWith, IsNodeOf}
 use Rattle.k_graph.specs.declared.level.Measured.{Measured}
 use Rattle.k_graph.specs.declared.tree.Instance.{Instance}
 
--- what the list says of a closed instance: its region, depth and interval, the work of the interval and the
--- weight of its heaviest path, and the place in the list of its parent
+-- what the tree says of an instance of the list
+abbrev pub node_of : Instance → Node
+node_of n = record { region = n.region; work = n.work; path = n.path; depth = n.depth }
+
+-- what the list says of a closed instance: its node in the tree, its interval, and which item of the list is its parent
 pub record IsListed (ops : List Operation) (all : List Closed) (i : Closed) (n : Instance) : Type 0 where
-  pub region : n.region ≡ i.region
-  pub depth : n.depth ≡ i.depth
+  pub node : IsNodeOf ops i (node_of n)
   pub start : n.start ≡ i.start
   pub end : n.end ≡ i.end
-  pub work : n.work ≡ work ops i.start i.end
-  pub path : Heaviest ops i.start i.end n.path
   pub parent : IsParent all i n.parent
 
 -- the list has the tracked instances, in order of entry, and nothing else
 abbrev pub IsListing : ℕ → List Event → List Instance → Type 0
 IsListing depth events list = EachWith (IsListed (operations events) (tracked depth events)) (tracked depth events) list
 
--- what the tree says of an instance of the list
-abbrev pub node_of : Instance → Node
-node_of n = record { region = n.region; work = n.work; path = n.path; depth = n.depth }
-
--- a measured instance as a closed one
+-- the closed instance that was measured
 abbrev pub closed_of : Measured → Closed
-closed_of m = record { region = m.region; depth = m.depth; enter = m.enter; exit = m.exit; start = m.start; end = m.end }
+closed_of m = m.closed
+
+-- the list's item for what was measured, with this parent
+abbrev pub item_of : Measured → Option ℕ → Instance
+item_of m parent = record {
+  region = m.closed.region;
+  depth = m.closed.depth;
+  start = m.closed.start;
+  end = m.closed.end;
+  work = m.work;
+  path = m.path;
+  parent = parent;
+}
 
 -- the list's item has what was measured, and its parent
 pub record HasParent (all : List Closed) (m : Measured) (n : Instance) : Type 0 where
-  pub region : n.region ≡ m.region
-  pub depth : n.depth ≡ m.depth
-  pub start : n.start ≡ m.start
-  pub end : n.end ≡ m.end
-  pub work : n.work ≡ m.work
-  pub path : n.path ≡ m.path
+  pub is : n ≡ item_of m n.parent
   pub parent : IsParent all (closed_of m) n.parent
 
 -- closed instances in order of entry, none of which crosses another
@@ -55,12 +57,12 @@ abbrev pub EachHasParent : List Measured → List Instance → Type 0
 EachHasParent list tree = (place : ℕ) (m : Measured) (n : Instance) → slice_get list place ≡ Some m → slice_get tree place ≡ Some n
     → HasParent (map closed_of list) m n
 
--- a place that may be missing is this one
+-- a place in the list that may be missing is this one
 abbrev pub is_at : ℕ → Option ℕ → Bool
 is_at place None = false
 is_at place (Some other) = other == place
 
--- the children of the instance at a place: the listed instances whose parent it is
+-- the children of the instance at a place in the list: the listed instances whose parent it is
 abbrev pub children_of : ℕ → List Instance → List Instance
 children_of place list = filter (λ n. is_at place n.parent) list
 

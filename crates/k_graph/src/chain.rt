@@ -1,6 +1,6 @@
 //! One heaviest path of an interval.
 ghost use Rattle.std.specs.Prelude.{◌≡◌, ◌+◌, ◌-◌, ◌^◌, ◌<◌, ◌≤◌, ◌∷◌, ◌++◌, [], length, OnOk, IfOk};
-ghost use Rattle.k_optab.specs.Events.{SourcesAreEarlier, operations, total_latency};
+ghost use Rattle.k_optab.specs.Events.{SourcesAreEarlier, made_before, operations, total_latency};
 ghost use Rattle.k_optab.specs.Graph.{Heaviest};
 ghost use Rattle.k_graph.specs.Chains.{AreEarlier, Traces, before_of};
 ghost use Rattle.k_graph.specs.Chosen.{AreChained, IsChosen, IsPathOf};
@@ -39,10 +39,18 @@ impl Chains {
     }
 }
 
-/// The operations of an interval.
-fn chains_of(alloc: Global, events: &[Event], start: u64, end: u64) -> Result<Chains, NoMemory>
+/// The operations of an interval. Of the events those from `at` on are read, where the interval's first operation comes next.
+fn chains_of(
+    alloc: Global,
+    events: &[Event],
+    at: usize,
+    start: u64,
+    end: u64,
+) -> Result<Chains, NoMemory>
     requires sources { SourcesAreEarlier (operations events.now) }
     requires latencies { total_latency (operations events.now) < 2 ^ 62 }
+    requires place { at ≤ length events.now }
+    requires begins { made_before at events.now ≡ start }
     requires interval { start ≤ end }
     requires within { end ≤ length (operations events.now) }
     ensures start { IfOk result (λ c. c.start ≡ start) }
@@ -53,8 +61,9 @@ fn chains_of(alloc: Global, events: &[Event], start: u64, end: u64) -> Result<Ch
         times: Seq::new(alloc),
         befores: Seq::new(alloc),
     };
-    let mut made = 0;
-    for event in events {
+    let mut made = start;
+    let rest = &events[at..];
+    for event in rest {
         if made >= end {
             break;
         }
@@ -64,24 +73,11 @@ fn chains_of(alloc: Global, events: &[Event], start: u64, end: u64) -> Result<Ch
             ..
         } = event
         {
-            if made >= start {
-                chains.add(*latency, sources.as_slice())?;
-            }
+            chains.add(*latency, sources.as_slice())?;
             made += 1;
         }
     }
     Ok(chains)
-}
-
-/// The same numbers.
-fn copied(alloc: Global, numbers: &[u64]) -> Result<Seq<u64>, NoMemory>
-    ensures { IfOk result (λ list. list ≡ numbers.now) }
-{
-    let mut list = Seq::new(alloc);
-    for number in numbers {
-        list.push(*number)?;
-    }
-    Ok(list)
 }
 
 /// The path that ends at `last`, by what stands before each operation.
@@ -104,10 +100,63 @@ fn path_to(
     }
     nodes.push(node)?;
     nodes.as_mut_slice().reverse();
-    copied(alloc, nodes.as_slice())
+    Ok(Seq::from_vec(nodes))
 }
 
-/// The greatest weight of a path of an interval, and one path that has it.
+/// The place among the events where `start` operations stand before, looked for from `at` on, where `made` stand before. The
+/// places of intervals, each of which begins where the one before it does or behind, are thus found in one pass.
+pub fn place_of(events: &Seq<Event>, at: usize, made: u64, start: u64) -> usize
+    requires place { at ≤ length events.now }
+    requires so_far { made_before at events.now ≡ made }
+    requires behind { made ≤ start }
+    requires within { start ≤ length (operations events.now) }
+    ensures from { at ≤ result }
+    ensures place { result ≤ length events.now }
+    ensures begins { made_before result events.now ≡ start }
+{
+    let list = events.as_slice();
+    let mut place = at;
+    let mut so_far = made;
+    while so_far < start {
+        if let Event::Op { .. } = &list[place] {
+            so_far += 1;
+        }
+        place += 1;
+    }
+    place
+}
+
+/// The greatest weight of a path of an interval, and one path that has it. The interval's first operation is the next one behind
+/// the first `at` events, and only the events of the interval are read.
+pub fn heaviest_from(
+    alloc: Global,
+    events: &Seq<Event>,
+    at: usize,
+    start: u64,
+    end: u64,
+) -> Result<(u64, Seq<u64>), NoMemory>
+    requires sources { SourcesAreEarlier (operations events.now) }
+    requires latencies { total_latency (operations events.now) < 2 ^ 62 }
+    requires place { at ≤ length events.now }
+    requires begins { made_before at events.now ≡ start }
+    requires interval { start ≤ end }
+    requires within { end ≤ length (operations events.now) }
+    ensures weight { IfOk result (λ r. Heaviest (operations events.now) start end r.0) }
+    ensures path { IfOk result (λ r. IsPathOf (operations events.now) start end r.0 r.1) }
+    ensures chosen { IfOk result (λ r. start < end → IsChosen (operations events.now) start end r.0 r.1) }
+{
+    if start == end {
+        return Ok((0, Seq::new(alloc)));
+    }
+    let chains = chains_of(alloc, events.as_slice(), at, start, end)?;
+    let times = chains.times.as_slice();
+    let last = first_greatest(times);
+    let nodes = path_to(alloc, start, chains.befores.as_slice(), start + last as u64)?;
+    Ok((times[last], nodes))
+}
+
+/// The greatest weight of a path of an interval, and one path that has it. The events before the interval are counted, unless it
+/// is empty.
 pub fn heaviest(
     alloc: Global,
     events: &Seq<Event>,
@@ -122,12 +171,9 @@ pub fn heaviest(
     ensures path { IfOk result (λ r. IsPathOf (operations events.now) start end r.0 r.1) }
     ensures chosen { IfOk result (λ r. start < end → IsChosen (operations events.now) start end r.0 r.1) }
 {
-    let chains = chains_of(alloc, events.as_slice(), start, end)?;
-    let times = chains.times.as_slice();
-    if times.is_empty() {
+    if start == end {
         return Ok((0, Seq::new(alloc)));
     }
-    let last = first_greatest(times);
-    let nodes = path_to(alloc, start, chains.befores.as_slice(), start + last as u64)?;
-    Ok((times[last], nodes))
+    let at = place_of(events, 0, 0, start);
+    heaviest_from(alloc, events, at, start, end)
 }

@@ -29,7 +29,7 @@ pub(crate) fn chosen_source(start: u64, times: &[u64], sources: &[Src], time: u6
     chosen
 }
 
-/// The place of the first of the greatest times.
+/// The index of the first of the greatest times.
 pub(crate) fn first_greatest(times: &[u64]) -> usize
     requires { 0 < length times.now }
     ensures within { result < length times.now }
@@ -37,9 +37,9 @@ pub(crate) fn first_greatest(times: &[u64]) -> usize
     ensures first { (k : ℕ) → k < result → slice_index times.now k < slice_index times.now result }
 {
     let mut best = 0;
-    for (place, time) in times.iter().enumerate() {
+    for (index, time) in times.iter().enumerate() {
         if times[best] < *time {
-            best = place;
+            best = index;
         }
     }
     best

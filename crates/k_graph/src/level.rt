@@ -5,19 +5,12 @@ ghost use Rattle.k_graph.specs.Levels.{CanAdd, added, measured};
 
 use crate::times::greatest_time;
 use k_num::{NoMemory, Seq};
-use k_optab::Src;
+use k_optab::{Closed, Src};
 
-/// A closed instance as it is first found: its parent is not known yet.
+/// A closed instance with its work and its critical path. Its parent is not known yet.
 #[derive(Clone, Copy, Debug)]
 pub(crate) struct Measured {
-    pub region: u32,
-    pub depth: u32,
-    /// The place of its Enter among the events.
-    pub enter: u64,
-    /// The place of its Exit among the events.
-    pub exit: u64,
-    pub start: u64,
-    pub end: u64,
+    pub closed: Closed,
     pub work: u64,
     pub path: u64,
 }
@@ -27,9 +20,9 @@ pub(crate) struct Measured {
 pub(crate) struct Level {
     pub region: u32,
     pub depth: u32,
-    /// The place of its Enter among the events.
+    /// Which of the events is its Enter.
     pub enter: u64,
-    /// The number of its first operation.
+    /// How many operations were made before that.
     pub start: u64,
     /// The latencies of its operations so far.
     pub work: u64,
@@ -54,17 +47,19 @@ impl Level {
         Ok(())
     }
 
-    /// The instance, once its Exit stands at this place behind so many operations.
+    /// The instance, once the event of this number is its Exit, behind so many operations.
     pub(crate) fn closed(&self, exit: u64, end: u64) -> Measured
         ensures { result ≡ measured exit end self.now }
     {
         Measured {
-            region: self.region,
-            depth: self.depth,
-            enter: self.enter,
-            exit,
-            start: self.start,
-            end,
+            closed: Closed {
+                region: self.region,
+                depth: self.depth,
+                enter: self.enter,
+                exit,
+                start: self.start,
+                end,
+            },
             work: self.work,
             path: self.path,
         }

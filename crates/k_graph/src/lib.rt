@@ -11,7 +11,7 @@ mod pass;
 mod times;
 mod tree;
 
-pub use chain::heaviest;
+pub use chain::{heaviest, heaviest_from, place_of};
 pub use listing::instances;
 pub use tree::{Instance, Tree};
 

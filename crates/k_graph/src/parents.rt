@@ -10,30 +10,30 @@ use crate::tree::{Instance, Tree};
 use k_num::{NoMemory, Seq};
 use std::alloc::Global;
 
-/// The place of the instance before this one.
-fn place_before(place: usize) -> Option<u64>
-    ensures { MatchOption result (place ≡ 0) (λ before. place ≡ before + 1) }
+/// The index before this one.
+fn index_before(index: usize) -> Option<u64>
+    ensures { MatchOption result (index ≡ 0) (λ before. index ≡ before + 1) }
 {
-    if place > 0 {
-        Some((place - 1) as u64)
+    if index > 0 {
+        Some((index - 1) as u64)
     } else {
         None
     }
 }
 
-/// The nearest instance of the list that encloses the one at this place, where those before it have their
+/// The index of the nearest instance of the list that encloses the one at this index, where those before it have their
 /// parents. It is looked for from the one before outwards, over those that are left by then.
-fn parent_of(list: &[Measured], tree: &[Instance], place: usize) -> Option<u64>
-    requires there { place < length list.now }
-    requires so_far { place ≡ length tree.now }
+fn parent_of(list: &[Measured], tree: &[Instance], index: usize) -> Option<u64>
+    requires there { index < length list.now }
+    requires so_far { index ≡ length tree.now }
     requires parents { EachHasParent list.now tree.now }
     requires nested { AreNested (map closed_of list.now) }
-    ensures { (m : Measured) → slice_get list.now place ≡ Some m → IsParent (map closed_of list.now) (closed_of m) result }
+    ensures { (m : Measured) → slice_get list.now index ≡ Some m → IsParent (map closed_of list.now) (closed_of m) result }
 {
-    let enter = list[place].enter;
-    let mut outer = place_before(place);
+    let enter = list[index].closed.enter;
+    let mut outer = index_before(index);
     while let Some(candidate) = outer {
-        if enter < list[candidate as usize].exit {
+        if enter < list[candidate as usize].closed.exit {
             return outer;
         }
         outer = tree[candidate as usize].parent;
@@ -47,13 +47,13 @@ pub(crate) fn with_parents(alloc: Global, list: &[Measured]) -> Result<Tree, NoM
     ensures { IfOk result (λ tree. EachWith (HasParent (map closed_of list.now)) list.now tree) }
 {
     let mut tree: Tree = Seq::new(alloc);
-    for (place, item) in list.iter().enumerate() {
-        let parent = parent_of(list, tree.as_slice(), place);
+    for (index, item) in list.iter().enumerate() {
+        let parent = parent_of(list, tree.as_slice(), index);
         tree.push(Instance {
-            region: item.region,
-            depth: item.depth,
-            start: item.start,
-            end: item.end,
+            region: item.closed.region,
+            depth: item.closed.depth,
+            start: item.closed.start,
+            end: item.closed.end,
             work: item.work,
             path: item.path,
             parent,

@@ -18,12 +18,12 @@ use k_num::{NoMemory, Seq};
 use k_optab::{Event, Src};
 use std::alloc::Global;
 
-/// Where the pass stands: behind `place` events with `made` operations, where so many instances are open. Of
+/// Where the pass stands: behind the first `passed` events, with `made` operations, where so many instances are open. Of
 /// these the outermost, whose depth is below `limit`, are tracked.
 #[derive(Debug, Drop)]
 pub(crate) struct Pass {
     limit: u64,
-    place: u64,
+    passed: u64,
     made: u64,
     open_count: u64,
     /// The closed instances that no open one encloses, in order of entry.
@@ -47,7 +47,7 @@ impl Pass {
     {
         Pass {
             limit: depth as u64,
-            place: 0,
+            passed: 0,
             made: 0,
             open_count: 0,
             done: Seq::new(alloc),
@@ -60,13 +60,13 @@ impl Pass {
         ensures { OnOk result (state self.new ≡ operated latency sources.now (state self.old)) }
     {
         add_to_each(self.levels.as_mut_slice(), latency, sources)?;
-        self.place += 1;
+        self.passed += 1;
         self.made += 1;
         Ok(())
     }
 
     fn enter(&mut self, alloc: Global, region: u32) -> Result<(), NoMemory>
-        requires place { self.old.place + 1 < 2 ^ 64 }
+        requires passed { self.old.passed + 1 < 2 ^ 64 }
         requires room { self.old.open_count + 1 < 2 ^ 64 }
         requires limit { self.old.limit < 2 ^ 32 }
         ensures { OnOk result (state self.new ≡ entered region (state self.old)) }
@@ -75,7 +75,7 @@ impl Pass {
             self.levels.push(Level {
                 region,
                 depth: self.open_count as u32,
-                enter: self.place,
+                enter: self.passed,
                 start: self.made,
                 work: 0,
                 path: 0,
@@ -83,13 +83,13 @@ impl Pass {
                 inner: Seq::new(alloc),
             })?;
         }
-        self.place += 1;
+        self.passed += 1;
         self.open_count += 1;
         Ok(())
     }
 
     fn exit(&mut self) -> Result<(), NoMemory>
-        requires { self.old.place + 1 < 2 ^ 64 }
+        requires { self.old.passed + 1 < 2 ^ 64 }
         ensures { OnOk result (state self.new ≡ exited (state self.old)) }
     {
         if self.open_count > 0 {
@@ -98,7 +98,7 @@ impl Pass {
             }
             self.open_count -= 1;
         }
-        self.place += 1;
+        self.passed += 1;
         Ok(())
     }
 
@@ -109,7 +109,7 @@ impl Pass {
         let Some(top) = self.levels.pop() else {
             return Ok(());
         };
-        let closed = top.closed(self.place, self.made);
+        let closed = top.closed(self.passed, self.made);
         match self.levels.last_mut() {
             Some(below) => take_in(&mut below.inner, closed, top.inner.as_slice()),
             None => take_in(&mut self.done, closed, top.inner.as_slice()),

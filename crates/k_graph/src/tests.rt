@@ -2,7 +2,7 @@
 ghost use Rattle.std.specs.Prelude.{◌≡◌, ◌<◌, ◌^◌, length, IsTrue, IsSome, IfSome};
 ghost use Rattle.k_optab.specs.Events.{AreBefore, SourcesAreEarlier, operations, total_latency};
 
-use crate::{Instance, Tree, heaviest, instances};
+use crate::{Instance, Tree, heaviest, heaviest_from, instances, place_of};
 use k_num::{NoMemory, Place, Seq};
 use k_optab::{Class, Event, Src};
 use std::alloc::Global;
@@ -98,7 +98,7 @@ fn tree_is(
     }
 }
 
-/// The heaviest path of an interval of these steps is this one.
+/// The heaviest path of an interval of these steps is this one, and is so too where only the interval's events are read.
 fn path_is(
     alloc: Global,
     steps: &[Step<'_>],
@@ -115,7 +115,14 @@ fn path_is(
                 return Ok(false);
             }
             let (found, list) = heaviest(alloc, &events, start, end)?;
-            Ok(found == weight && list.as_slice() == nodes)
+            let at = place_of(&events, 0, 0, start);
+            let (again, same) = heaviest_from(alloc, &events, at, start, end)?;
+            Ok(
+                found == weight
+                    && list.as_slice() == nodes
+                    && again == weight
+                    && same.as_slice() == nodes,
+            )
         }
     }
 }

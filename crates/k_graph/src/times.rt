@@ -1,7 +1,8 @@
 //! The times of the operations of an interval, and what they give for one more operation.
 ghost use Rattle.std.specs.Prelude.{◌≡◌, ◌+◌, length};
 ghost use Rattle.k_optab.specs.Events.{AreBefore};
-ghost use Rattle.k_graph.specs.Times.{time_at, greatest_of};
+ghost use Rattle.k_optab.specs.GraphLaws.{greatest_of};
+ghost use Rattle.k_graph.specs.Times.{time_at};
 
 use k_optab::Src;
 

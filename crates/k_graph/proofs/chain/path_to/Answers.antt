@@ -1,6 +1,5 @@
 use Rattle.std.proofs.Common.{◌≡◌, ◌-◌, ◌<◌, Some, None, length, arith, slice_get, reverse, ap, sym, ◌∙◌, subst}
 use Rattle.std.proofs.lemmas.List.{take_at}
-use Rattle.std.proofs.lemmas.Result.{IfOk-weaker}
 use Rattle.k_graph.specs.Chains.{Traces}
 use Rattle.k_graph.proofs.Tracing.{read_at, trace_starts, trace_goes_on, trace_ends}
 use Rattle.k_graph.proofs.chain.path_to.Goals as goal
@@ -34,12 +33,10 @@ pub returns : goal.returns
 returns c =
     let within : c.loop-node.node - c.args.start < length c.args.befores.now = omega arith in
     let at : slice_get c.args.befores.now (c.loop-node.node - c.args.start) ≡ Some None = read_at c.args.befores.now _ _ _ within c.in_default.is in
-    let turned : c.as_slice.result.now ≡ reverse c.push-2.new.self.items =
-    c.as_slice.ensures.value
+    let turned : c.from_vec.result ≡ reverse c.push-2.new.self.items =
+    c.from_vec.ensures
     ∙ (take_at c.reverse.new.self _ c.push-2.new.self.len (c.reverse.ensures.len ∙ c.as_mut_slice.ensures.len)
     ∙ (c.reverse.ensures.after ∙ ap reverse c.as_mut_slice.ensures.value)) in
-    IfOk-weaker c.copied.result (λ list. list ≡ c.as_slice.result.now) (Traces c.args.start c.args.befores.now c.args.last)
-    (λ list same. subst (λ l. Traces c.args.start c.args.befores.now c.args.last l) (sym (same ∙ turned))
+    subst (λ l. Traces c.args.start c.args.befores.now c.args.last l) (sym turned)
     (trace_ends c.args.start c.args.befores.now c.args.last c.loop-node.node c.loop-node.nodes.items c.push-2.new.self.items c.in_ok-push-2.ensures.items
-    c.loop-node.invariant.goes_on at))
-    c.copied.ensures
+    c.loop-node.invariant.goes_on at)

@@ -7,8 +7,8 @@ use Rattle.k_graph.proofs.parents.parent_of.Given as goal
 
 abbrev pub invariant-loop-outer : goal.invariant-loop-outer
 invariant-loop-outer l = record {
-  around : (m : Measured) → slice_get l.list l.place ≡ Some m → IsAround (map closed_of l.list) (closed_of m) l.outer;
-  below : ForSome l.outer (λ q. q < l.place);
+  around : (m : Measured) → slice_get l.list l.index ≡ Some m → IsAround (map closed_of l.list) (closed_of m) l.outer;
+  below : ForSome l.outer (λ q. q < l.index);
 }
 
 abbrev pub decreases-loop-outer : goal.decreases-loop-outer

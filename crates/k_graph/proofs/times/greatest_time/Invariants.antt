@@ -1,6 +1,7 @@
 use Rattle.std.proofs.Common.{◌≡◌, ◌+◌, length, drop, max}
 use Rattle.k_optab.specs.Events.{AreBefore}
-use Rattle.k_graph.specs.Times.{time_at, greatest_of}
+use Rattle.k_optab.specs.GraphLaws.{greatest_of}
+use Rattle.k_graph.specs.Times.{time_at}
 use Rattle.k_graph.proofs.times.greatest_time.Given as goal
 
 abbrev pub invariant-loop-src : goal.invariant-loop-src

@@ -1,7 +1,7 @@
 use Rattle.k_optab.specs.Events.{operations}
 use Rattle.k_graph.specs.Chosen.{AreChained}
 use Rattle.k_graph.proofs.Chaining.{befores_earlier, chained_shown, chosen_is, heaviest_is, path_is}
-use Rattle.k_graph.proofs.chain.heaviest.Goals as goal
+use Rattle.k_graph.proofs.chain.heaviest_from.Goals as goal
 
 pub path_to-requires-clause-earlier : goal.path_to-requires-clause-earlier
 path_to-requires-clause-earlier c =
