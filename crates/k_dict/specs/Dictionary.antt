@@ -1,0 +1,36 @@
+-- *Dictionary*: the entries of a tree of instances.
+use Rattle.std.specs.Prelude.{ℕ, ◌+◌, ◌≤◌, ◌≡◌, List, [], ◌∷◌, ◌++◌, length, All, Option, Some, None, nat_le, nat_lt, if◌then◌else◌}
+use Rattle.std.specs.List.{Any}
+use Rattle.k_optab.specs.Tree.{Node, EachWith}
+use Rattle.k_dict.specs.Trees.{Tree, SameShape, alone, list_of, post_order}
+use Rattle.k_dict.specs.Entries.{NameEarlier, trees_of}
+use Rattle.k_dict.specs.declared.entry.Entry.{Entry}
+use Rattle.k_dict.specs.declared.dict.Which.{Which}
+use Rattle.k_dict.specs.declared.dict.Which.TheVariants.{Entries, AllRuns}
+
+-- the shapes so far, then the trees of a list, and then all shapes: of the trees of one shape the first is kept
+pub data Firsts : List Tree → List Tree → List Tree → Type 0 where
+  ended : (kept : List Tree) → Firsts kept [] kept
+  again : (t : Tree) (kept trees all : List Tree) → Any (SameShape t) kept → Firsts kept trees all → Firsts kept (t ∷ trees) all
+  anew : (t : Tree) (kept trees all : List Tree) → All (λ k. ¬ SameShape t k) kept → Firsts (kept ++ t ∷ []) trees all
+      → Firsts kept (t ∷ trees) all
+
+-- the entries of a tree: one for each shape of its instances, in post-order, with the first of each shape kept; each stands
+-- for its shape, with its children as runs by rising place, each place once
+pub record IsDictionaryOf (t : Tree) (entries : List Entry) : Type 0 where
+  pub shapes : List Tree
+  pub firsts : Firsts [] (post_order (alone t)) shapes
+  pub stands : EachWith SameShape shapes (trees_of entries)
+  pub earlier : NameEarlier entries
+
+-- the entries of the tree that is listed so
+abbrev pub IsDictionary : List Node → List Entry → Type 0
+IsDictionary nodes entries = (t : Tree) × (nodes ≡ list_of t) × IsDictionaryOf t entries
+
+-- the limit that is passed first, where entries are added to so many entries with so many runs
+abbrev pub refusal : ℕ → ℕ → List Entry → Option Which
+refusal count runs [] = None
+refusal count runs (e ∷ entries) =
+    if nat_le 1048576 count then Some Entries
+    else (if nat_lt 16777216 (runs + length e.runs) then Some AllRuns
+    else refusal (count + 1) (runs + length e.runs) entries)

@@ -1,0 +1,4 @@
+pub mod Dictionary
+pub mod Entries
+pub mod Interning
+pub mod Trees
