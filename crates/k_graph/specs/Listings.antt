@@ -6,7 +6,8 @@ use Rattle.k_optab.specs.Graph.{Heaviest, work}
 use Rattle.k_optab.specs.Instances.{Closed, IsParent, tracked}
 use Rattle.k_optab.specs.InstanceLaws.{Precedes}
 use Rattle.k_optab.specs.Meaning.{HasBoundedPath}
-use Rattle.k_optab.specs.Tree.{Node, EachWith}
+use Rattle.k_optab.specs.declared.node.Node.{Node}
+use Rattle.k_optab.specs.Tree.{EachWith}
 use Rattle.k_graph.specs.declared.level.Measured.{Measured}
 use Rattle.k_graph.specs.declared.tree.Instance.{Instance}
 

@@ -8,7 +8,8 @@ use Rattle.k_optab.specs.Graph.{Heaviest, work}
 use Rattle.k_optab.specs.GraphLaws.{Part, AreParts}
 use Rattle.k_optab.specs.Instances.{Closed}
 use Rattle.k_optab.specs.Meaning.{HasBoundedPath, paths, works}
-use Rattle.k_optab.specs.Tree.{EachWith, IsNodeOf, Node}
+use Rattle.k_optab.specs.declared.node.Node.{Node}
+use Rattle.k_optab.specs.Tree.{EachWith, IsNodeOf}
 use Rattle.k_optab.proofs.Heaviest.{heaviest_at_most_work, heaviest_at_most_parts, inner_at_most_outer, parts_work}
 
 -- these instances' intervals lie in [s, e), one behind the other

@@ -9,7 +9,8 @@ use Rattle.k_optab.specs.Events.{Operation, SourcesAreEarlier, operations, total
 use Rattle.k_optab.specs.Graph.{Heaviest, work}
 use Rattle.k_optab.specs.Instances.{Balanced, nothing, operation, instance, Closed, closed_from, instance_of, tracked, until_exit}
 use Rattle.k_optab.specs.Single.{AreOperations, IsSingle, one_instance}
-use Rattle.k_optab.specs.Tree.{EachWith, IsNodeOf, IsTree, Node}
+use Rattle.k_optab.specs.declared.node.Node.{Node}
+use Rattle.k_optab.specs.Tree.{EachWith, IsNodeOf, IsTree}
 use Rattle.k_optab.proofs.Heaviest.{heaviest_at_most_work, heaviest_exists, heaviest_unique}
 use Rattle.k_optab.proofs.Matching.{balanced_to_exit}
 use Rattle.k_optab.proofs.Trees.{operations-append}

@@ -10,7 +10,8 @@ use Rattle.k_optab.specs.declared.event.Event.TheVariants.{Op, Enter, Exit}
 use Rattle.k_optab.specs.Events.{Operation, SourcesAreEarlier, operations}
 use Rattle.k_optab.specs.Instances.{Balanced, nothing, operation, instance, Closed, closed_from, instance_of, tracked, until_exit}
 use Rattle.k_optab.specs.Meaning.{HasBoundedPath, HaveBoundedPaths, children, paths, serial, serial_of}
-use Rattle.k_optab.specs.Tree.{EachWith, IsNodeOf, IsTree, Node}
+use Rattle.k_optab.specs.declared.node.Node.{Node}
+use Rattle.k_optab.specs.Tree.{EachWith, IsNodeOf, IsTree}
 use Rattle.k_optab.proofs.Matching.{balanced_to_exit}
 use Rattle.k_optab.proofs.Rows.{AreInARow, bounded_path}
 

@@ -1,11 +1,11 @@
 -- The classes of operations: their order, their names, and their latencies.
 use Rattle.std.specs.Prelude.{ℕ, List, [], ◌∷◌, map, codes, slice_index, slice_get, Some, ◌≡◌, refl}
 use Rattle.k_optab.specs.declared.class.Class.{Class}
-use Rattle.k_optab.specs.declared.class.Class.TheVariants.{Move, Conv, Simple, Mul, Div, Load, Store, Test, Call, Input, Output}
+use Rattle.k_optab.specs.declared.class.Class.TheVariants.{Move, Conv, Simple, Mul, Div, Load, Store, Test, Call, Input, Output, Select}
 
 -- the classes in order
 abbrev pub classes : List Class
-classes = Move ∷ Conv ∷ Simple ∷ Mul ∷ Div ∷ Load ∷ Store ∷ Test ∷ Call ∷ Input ∷ Output ∷ []
+classes = Move ∷ Conv ∷ Simple ∷ Mul ∷ Div ∷ Load ∷ Store ∷ Test ∷ Call ∷ Input ∷ Output ∷ Select ∷ []
 
 -- a class's place in that order
 abbrev pub place : Class → ℕ
@@ -20,6 +20,7 @@ place Test = 7
 place Call = 8
 place Input = 9
 place Output = 10
+place Select = 11
 
 -- a class's name in reports, listings and tables of latencies
 abbrev pub class_name : Class → List ℕ
@@ -34,6 +35,7 @@ class_name Test = codes "test"
 class_name Call = codes "call"
 class_name Input = codes "input"
 class_name Output = codes "output"
+class_name Select = codes "select"
 
 -- a class's latency where no table says another
 abbrev pub standard_latency : Class → ℕ
@@ -48,6 +50,7 @@ standard_latency Test = 1
 standard_latency Call = 1
 standard_latency Input = 10
 standard_latency Output = 10
+standard_latency Select = 1
 
 -- the table of these, in the order of the classes
 abbrev pub standard_latencies : List ℕ
@@ -70,6 +73,7 @@ slice_get-classes Test = refl
 slice_get-classes Call = refl
 slice_get-classes Input = refl
 slice_get-classes Output = refl
+slice_get-classes Select = refl
 
 -- the standard table has each class's standard latency
 pub latency-standard : (class : Class) → latency standard_latencies class ≡ standard_latency class
@@ -84,3 +88,4 @@ latency-standard Test = refl
 latency-standard Call = refl
 latency-standard Input = refl
 latency-standard Output = refl
+latency-standard Select = refl

@@ -3,7 +3,8 @@ use Rattle.std.specs.Prelude.{ℕ, ◌+◌, ◌-◌, ◌≤◌, ◌==◌, nat_lt
 use Rattle.k_optab.specs.declared.event.Event.{Event}
 use Rattle.k_optab.specs.Events.{SourcesAreEarlier, operations}
 use Rattle.k_optab.specs.Instances.{Balanced}
-use Rattle.k_optab.specs.Tree.{Node, IsTree}
+use Rattle.k_optab.specs.declared.node.Node.{Node}
+use Rattle.k_optab.specs.Tree.{IsTree}
 
 -- the critical paths of instances together
 abbrev pub paths : List Node → ℕ

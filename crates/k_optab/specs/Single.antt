@@ -5,7 +5,8 @@ use Rattle.k_optab.specs.declared.event.Event.TheVariants.{Op, Enter, Exit}
 use Rattle.k_optab.specs.Events.{SourcesAreEarlier, operations, total_latency}
 use Rattle.k_optab.specs.Graph.{Heaviest}
 use Rattle.k_optab.specs.Instances.{Balanced}
-use Rattle.k_optab.specs.Tree.{Node, IsTree}
+use Rattle.k_optab.specs.declared.node.Node.{Node}
+use Rattle.k_optab.specs.Tree.{IsTree}
 
 -- each of these events is an operation
 abbrev pub AreOperations : List Event → Type 0

@@ -1,16 +1,10 @@
 -- *Tree*: the tracked instances of a run in order of entry, each with its work and its critical path.
 use Rattle.std.specs.Prelude.{ℕ, ◌≡◌, List, [], ◌∷◌}
 use Rattle.k_optab.specs.declared.event.Event.{Event}
+use Rattle.k_optab.specs.declared.node.Node.{Node}
 use Rattle.k_optab.specs.Events.{Operation, operations}
 use Rattle.k_optab.specs.Graph.{Heaviest, work}
 use Rattle.k_optab.specs.Instances.{Closed, tracked}
-
--- what the tree says of an instance
-pub record Node : Type 0 where
-  pub region : ℕ
-  pub work : ℕ
-  pub path : ℕ
-  pub depth : ℕ
 
 -- two lists are of one length, and R holds of each item of the one and the item at its place in the other
 abbrev pub EachWith : {A B : Type 0} → (A → B → Type 0) → List A → List B → Type 0

@@ -25,4 +25,6 @@ pub enum Class {
     Input,
     /// `putchar`, `printf` or `puts`.
     Output,
+    /// A `switch` chooses a label by its value.
+    Select,
 }

@@ -5,7 +5,7 @@ ghost use Rattle.k_optab.specs.Latencies.{class_name, latency, standard_latencie
 use crate::{Class, Table};
 
 /// A latency for each class, in the order of `Class`.
-pub type Latencies = Table<11>;
+pub type Latencies = Table<12>;
 
 /// The latencies where no table says another.
 pub fn standard() -> Latencies
@@ -45,6 +45,7 @@ pub fn name(class: Class) -> &'static str
         Class::Call => "call",
         Class::Input => "input",
         Class::Output => "output",
+        Class::Select => "select",
     }
 }
 
@@ -53,7 +54,7 @@ mod tests {
     use super::*;
     use std::test::Fail;
 
-    static CLASSES: [(Class, &str, u64); 11] = [
+    static CLASSES: [(Class, &str, u64); 12] = [
         (Class::Move, "move", 0),
         (Class::Conv, "conv", 0),
         (Class::Simple, "simple", 1),
@@ -65,6 +66,7 @@ mod tests {
         (Class::Call, "call", 1),
         (Class::Input, "input", 10),
         (Class::Output, "output", 10),
+        (Class::Select, "select", 1),
     ];
 
     #[test]

@@ -6,11 +6,13 @@ mod class;
 mod event;
 mod latencies;
 pub mod laws;
+mod node;
 mod region;
 mod table;
 
 pub use class::Class;
 pub use event::{Event, Src};
 pub use latencies::{Latencies, name, of, standard};
+pub use node::Node;
 pub use region::{Region, RegionKind};
 pub use table::Table;

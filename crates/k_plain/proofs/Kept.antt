@@ -9,6 +9,7 @@ use Rattle.k_optab.specs.declared.class.Class.{Class}
 use Rattle.k_optab.specs.declared.event.Event.{Event}
 use Rattle.k_optab.specs.declared.event.Event.TheVariants.{Op, Enter, Exit}
 use Rattle.k_optab.specs.Latencies.{latency}
+use Rattle.k_optab.specs.Single.{AreOperations}
 use Rattle.k_code.specs.declared.ending.End.{End}
 use Rattle.k_code.specs.declared.held.Held.{Held}
 use Rattle.k_code.specs.World.{World, Made, Gives, Ends, operation}
@@ -19,7 +20,7 @@ use Rattle.k_plain.specs.declared.operand.Operand.TheVariants.{Constant, Given, 
 use Rattle.k_plain.specs.declared.work.Work.{Work}
 use Rattle.k_plain.specs.Works.{worked_on}
 use Rattle.k_plain.specs.State.{State, Outcome, Goes, Stops, Part, follow, slot, made, makes, holding}
-use Rattle.k_plain.specs.Laws.{AreAtMost, AreOperations, IsOpen}
+use Rattle.k_plain.specs.Laws.{AreAtMost, IsOpen}
 
 -- what an operand holds came from one of the first operations, or from none
 abbrev pub OperandComes : ℕ → Operand → Type 0

@@ -2,7 +2,7 @@
 use Rattle.std.proofs.Common.{◌≡◌, ℕ, ◌+◌, ◌*◌, ◌≤◌, ℤ, pos, List, [], ◌∷◌, ◌++◌, length, refl, sym, ◌∙◌, subst, ap, arith, lit≤}
 use Rattle.std.proofs.Math.Nat.{mul-le-mul_right}
 use Rattle.std.proofs.lemmas.List.{append-nil}
-use Rattle.k_optab.specs.declared.class.Class.TheVariants.{Move, Conv, Simple, Mul, Div, Load, Store, Test, Call, Input, Output}
+use Rattle.k_optab.specs.declared.class.Class.TheVariants.{Move, Conv, Simple, Mul, Div, Load, Store, Test, Call, Input, Output, Select}
 use Rattle.k_optab.specs.declared.event.Event.{Event}
 use Rattle.k_optab.specs.declared.event.Event.TheVariants.{Exit}
 use Rattle.k_optab.specs.Events.{operations, SourcesAreEarlier, total_latency}
@@ -103,7 +103,7 @@ run_sound latencies budget most unit short =
 -- all latencies together, which is at least each of them
 abbrev all_latencies : List ℕ → ℕ
 all_latencies l =
-    latency l Move + latency l Conv + latency l Simple + latency l Mul + latency l Div + latency l Load + latency l Store + latency l Test + latency l Call + latency l Input + latency l Output
+    latency l Move + latency l Conv + latency l Simple + latency l Mul + latency l Div + latency l Load + latency l Store + latency l Test + latency l Call + latency l Input + latency l Output + latency l Select
 
 at_most_all : (l : List ℕ) → AreAtMost (all_latencies l) l
 at_most_all l Move = omega arith
@@ -117,6 +117,7 @@ at_most_all l Test = omega arith
 at_most_all l Call = omega arith
 at_most_all l Input = omega arith
 at_most_all l Output = omega arith
+at_most_all l Select = omega arith
 
 any_run : (latencies : List ℕ) (budget : ℕ) (unit : source.Unit) → IsSoundRun budget (all_latencies latencies) (run_of latencies budget unit)
 any_run latencies budget unit = run_sound latencies budget (all_latencies latencies) unit (at_most_all latencies)
@@ -143,6 +144,7 @@ standard_at_most Test = lit≤ tt
 standard_at_most Call = lit≤ tt
 standard_at_most Input = lit≤ tt
 standard_at_most Output = lit≤ tt
+standard_at_most Select = lit≤ tt
 
 pub standard_short : StandardRunsAreShort
 standard_short budget unit few =

@@ -2,9 +2,10 @@
 use Rattle.std.specs.Prelude.{ℕ, ◌≡◌, ◌*◌, ◌^◌, ◌<◌, ◌≤◌, List, [], ◌∷◌, ◌++◌, length}
 use Rattle.k_optab.specs.declared.class.Class.{Class}
 use Rattle.k_optab.specs.declared.event.Event.{Event}
-use Rattle.k_optab.specs.declared.event.Event.TheVariants.{Op, Enter, Exit}
+use Rattle.k_optab.specs.declared.event.Event.TheVariants.{Enter, Exit}
 use Rattle.k_optab.specs.Events.{operations, SourcesAreEarlier, total_latency}
 use Rattle.k_optab.specs.Latencies.{latency, standard_latencies}
+use Rattle.k_optab.specs.Single.{AreOperations}
 use Rattle.k_code.specs.declared.ending.End.{End}
 use Rattle.k_code.specs.declared.ending.End.TheVariants.{Returned}
 use Rattle.k_code.specs.WorldLaws.{AreBytes}
@@ -14,12 +15,6 @@ use Rattle.k_plain.specs.Run.{run_of}
 -- each class takes at most so long
 abbrev pub AreAtMost : ℕ → List ℕ → Type 0
 AreAtMost most latencies = (class : Class) → latency latencies class ≤ most
-
--- each of these events is an operation
-abbrev pub AreOperations : List Event → Type 0
-AreOperations [] = Unit {0}
-AreOperations (Op class latency sources place ∷ events) = AreOperations events
-AreOperations (event ∷ events) = ⊥
 
 -- region 0 is entered, and operations are made in it
 pub record IsOpen (events : List Event) : Type 0 where

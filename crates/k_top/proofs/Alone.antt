@@ -1,11 +1,12 @@
 -- The run of a first program from which main returned: main's one instance, its bounds and its row.
 use Rattle.std.proofs.Common.{ℤ, ◌≡◌, ◌<◌, ◌≤◌, ◌^◌, ◌∙◌, ap, arith, refl, subst, sym, List, [], ◌∷◌, length, map, None, slice_index_or}
 use Rattle.k_optab.specs.declared.event.Event.{Event}
-use Rattle.k_optab.specs.declared.event.Event.TheVariants.{Op, Enter, Exit}
+use Rattle.k_optab.specs.declared.event.Event.TheVariants.{Enter, Exit}
 use Rattle.k_optab.specs.Events.{SourcesAreEarlier, operations, total_latency}
 use Rattle.k_optab.specs.Latencies.{standard_latencies}
 use Rattle.k_optab.specs.Single.{AreOperations, IsSingle, one_instance}
-use Rattle.k_optab.specs.Tree.{Node, IsTree}
+use Rattle.k_optab.specs.declared.node.Node.{Node}
+use Rattle.k_optab.specs.Tree.{IsTree}
 use Rattle.k_optab.proofs.Single.{operations_of_one, single_bounded, tree_of_one}
 use Rattle.k_tree.specs.declared.tree.unit.Unit as tree
 use Rattle.k_code.specs.declared.ending.End.{End}
@@ -39,12 +40,6 @@ pub run_short : (unit : tree.Unit) → total_latency (operations (listing_of uni
 unfolding listing_of
 run_short unit = standard_short step_budget unit (omega arith)
 
-as_operations : (events : List Event) → laws.AreOperations events → AreOperations events
-as_operations [] are = tt
-as_operations (Op class latency sources place ∷ events) are = as_operations events are
-as_operations (Enter region ∷ events) are = absurd are
-as_operations (Exit ∷ events) are = absurd are
-
 -- where main returned, the events are those of its one instance
 abbrev pub IsMainAlone : tree.Unit → Type 0
 IsMainAlone unit = (made : List Event) × AreOperations made × ((listing_of unit).events ≡ one_instance 0 made)
@@ -57,7 +52,7 @@ pub main_alone : (unit : tree.Unit) (value : ℤ) → (listing_of unit).end ≡ 
 main_alone unit value returned =
     let closed : laws.IsClosed (listing_of unit).events =
     subst (λ (end : End). HasShape end (listing_of unit).events) returned (shaped unit) in
-    (closed.made, as_operations closed.made closed.operations, closed.is)
+    (closed.made, closed.operations, closed.is)
 
 -- main's instance: region 0, and bounded work and path
 abbrev pub IsMain : Node → Type 0

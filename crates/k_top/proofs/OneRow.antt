@@ -3,7 +3,8 @@ use Rattle.std.proofs.Common.{ℕ, ◌≡◌, ◌<◌, ◌∙◌, ap, arith, ref
 use Rattle.k_optab.specs.declared.event.Event.{Event}
 use Rattle.k_optab.specs.Meaning.{paths, serial_of, works}
 use Rattle.k_optab.specs.Single.{AreOperations, IsSingle, one_instance}
-use Rattle.k_optab.specs.Tree.{Node, IsTree}
+use Rattle.k_optab.specs.declared.node.Node.{Node}
+use Rattle.k_optab.specs.Tree.{IsTree}
 use Rattle.k_optab.proofs.Single.{single_unique, tree_of_one}
 use Rattle.k_selfpar.specs.Ratio.{IsRatio, OneRatio}
 use Rattle.k_top.specs.declared.rows.Row.{Row}

@@ -1,7 +1,8 @@
 -- *Rows*: what the profile says of each region, by the tree of its instances.
 use Rattle.std.specs.Prelude.{ℕ, zero, suc, ◌≡◌, ◌==◌, nat_lt, List, [], ◌∷◌, ◌++◌, filter, length}
 use Rattle.k_optab.specs.Meaning.{paths, serial_of, works}
-use Rattle.k_optab.specs.Tree.{Node, EachWith}
+use Rattle.k_optab.specs.declared.node.Node.{Node}
+use Rattle.k_optab.specs.Tree.{EachWith}
 use Rattle.k_selfpar.specs.Ratio.{IsRatio}
 use Rattle.k_top.specs.declared.rows.Row.{Row}
 
