@@ -1,7 +1,8 @@
 -- *Dictionary*: the entries of a tree of instances.
 use Rattle.std.specs.Prelude.{ℕ, ◌+◌, ◌≤◌, ◌≡◌, List, [], ◌∷◌, ◌++◌, length, All, Option, Some, None, nat_le, nat_lt, if◌then◌else◌}
 use Rattle.std.specs.List.{Any}
-use Rattle.k_optab.specs.Tree.{Node, EachWith}
+use Rattle.k_optab.specs.declared.node.Node.{Node}
+use Rattle.k_optab.specs.Tree.{EachWith}
 use Rattle.k_dict.specs.Trees.{Tree, SameShape, alone, list_of, post_order}
 use Rattle.k_dict.specs.Entries.{NameEarlier, trees_of}
 use Rattle.k_dict.specs.declared.entry.Entry.{Entry}

@@ -1,6 +1,6 @@
 -- Entries of a dictionary, and the trees that they stand for.
 use Rattle.std.specs.Prelude.{ℕ, zero, suc, ◌+◌, ◌<◌, ◌≤◌, ◌≡◌, List, [], ◌∷◌, ◌++◌, length, sum_by, Some, slice_get, slice_index_or}
-use Rattle.k_optab.specs.Tree.{Node}
+use Rattle.k_optab.specs.declared.node.Node.{Node}
 use Rattle.k_dict.specs.Trees.{Label, Forest, Tree, bare, grown, list_of}
 use Rattle.k_dict.specs.declared.entry.Entry.{Entry}
 use Rattle.k_dict.specs.declared.entry.Run.{Run}

@@ -1,4 +1,5 @@
 pub mod Dictionary
 pub mod Entries
 pub mod Interning
+pub mod Tallies
 pub mod Trees

@@ -1,6 +1,6 @@
 -- Instances with those within them, the list of them in order of entry, and when two of them differ in the order of siblings alone.
 use Rattle.std.specs.Prelude.{ℕ, ◌+◌, ◌≡◌, List, [], ◌∷◌, ◌++◌}
-use Rattle.k_optab.specs.Tree.{Node}
+use Rattle.k_optab.specs.declared.node.Node.{Node}
 
 -- what is told of an instance, but for its depth
 pub record Label : Type 0 where

@@ -133,9 +133,9 @@ impl Dict {
         requires { keep ≤ length self.old }
         ensures { self.new ≡ take keep self.old }
     {
-        let keep = keep as usize;
-        let gone = count_runs(&self.entries.as_slice()[keep..]);
-        self.entries.truncate(keep);
+        let (_, newest) = self.entries.as_slice().split_at(keep as usize);
+        let gone = count_runs(newest);
+        self.entries.truncate(keep as usize);
         self.runs -= gone;
     }
 }
