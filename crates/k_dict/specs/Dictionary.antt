@@ -1,6 +1,5 @@
 -- *Dictionary*: the entries of a tree of instances.
-use Rattle.std.specs.Prelude.{ℕ, ◌+◌, ◌≤◌, ◌≡◌, List, [], ◌∷◌, ◌++◌, length, All, Option, Some, None, nat_le, nat_lt, if◌then◌else◌}
-use Rattle.std.specs.List.{Any}
+use Rattle.std.specs.Prelude.{ℕ, ◌+◌, ◌≤◌, ◌≡◌, List, [], ◌∷◌, ◌++◌, length, slice_get, Option, Some, None, nat_le, nat_lt, if◌then◌else◌}
 use Rattle.k_optab.specs.declared.node.Node.{Node}
 use Rattle.k_optab.specs.Tree.{EachWith}
 use Rattle.k_dict.specs.Trees.{Tree, SameShape, alone, list_of, post_order}
@@ -9,12 +8,13 @@ use Rattle.k_dict.specs.declared.entry.Entry.{Entry}
 use Rattle.k_dict.specs.declared.dict.Which.{Which}
 use Rattle.k_dict.specs.declared.dict.Which.TheVariants.{Entries, AllRuns}
 
--- the shapes so far, then the trees of a list, and then all shapes: of the trees of one shape the first is kept
+-- the trees kept so far, then the trees of a list, and then all that are kept: of the trees of one shape the first
 pub data Firsts : List Tree → List Tree → List Tree → Type 0 where
   ended : (kept : List Tree) → Firsts kept [] kept
-  again : (t : Tree) (kept trees all : List Tree) → Any (SameShape t) kept → Firsts kept trees all → Firsts kept (t ∷ trees) all
-  anew : (t : Tree) (kept trees all : List Tree) → All (λ k. ¬ SameShape t k) kept → Firsts (kept ++ t ∷ []) trees all
+  again : (t : Tree) (kept trees all : List Tree) → (n : ℕ) (k : Tree) → slice_get kept n ≡ Some k → SameShape t k → Firsts kept trees all
       → Firsts kept (t ∷ trees) all
+  anew : (t : Tree) (kept trees all : List Tree) → ((n : ℕ) (k : Tree) → slice_get kept n ≡ Some k → ¬ SameShape t k)
+      → Firsts (kept ++ t ∷ []) trees all → Firsts kept (t ∷ trees) all
 
 -- the entries of a tree: one for each shape of its instances, in post-order, with the first of each shape kept; each stands
 -- for its shape, with its children as runs by rising place, each place once

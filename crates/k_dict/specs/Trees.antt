@@ -1,5 +1,5 @@
 -- Instances with those within them, the list of them in order of entry, and when two of them differ in the order of siblings alone.
-use Rattle.std.specs.Prelude.{ℕ, ◌+◌, ◌≡◌, List, [], ◌∷◌, ◌++◌}
+use Rattle.std.specs.Prelude.{ℕ, ◌+◌, ◌≤◌, ◌≡◌, List, [], ◌∷◌, ◌++◌}
 use Rattle.k_optab.specs.declared.node.Node.{Node}
 
 -- what is told of an instance, but for its depth
@@ -34,6 +34,16 @@ nodes_of depth (grown label inner later) = node_at depth label ∷ (nodes_of (de
 -- the instances of a tree in order of entry
 abbrev pub list_of : Tree → List Node
 list_of t = nodes_of 0 (alone t)
+
+-- each depth is at least 1, and at most one more than that before it
+abbrev pub GoDeeper : ℕ → List Node → Type 0
+GoDeeper before [] = Unit {0}
+GoDeeper before (n ∷ nodes) = (1 ≤ n.depth) × (n.depth ≤ before + 1) × GoDeeper n.depth nodes
+
+-- these nodes are a tree in order of entry: the first and no other has depth 0, and each depth is at most one more than that before it
+abbrev pub IsInOrder : List Node → Type 0
+IsInOrder [] = ⊥
+IsInOrder (n ∷ nodes) = (n.depth ≡ 0) × GoDeeper 0 nodes
 
 -- the trees of a forest in post-order: each stands behind those within it
 abbrev pub post_order : Forest → List Tree

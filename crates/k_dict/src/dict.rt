@@ -93,7 +93,8 @@ impl Dict {
     /// The entry of a number.
     pub fn entry(&self, n: u32) -> &Entry
         requires { n < length self.now }
-        ensures { slice_get self.now n ≡ Some result.now }
+        ensures value { slice_get self.now n ≡ Some result.now }
+        ensures interned { AreInterned self.now }
     {
         &self.entries.as_slice()[n as usize]
     }
@@ -101,7 +102,8 @@ impl Dict {
     /// The number of an equal entry that is there, or else of this one, which is added last. A refusal drops the entry.
     pub fn intern(&mut self, entry: Entry) -> Result<u32, DictFault>
         requires { CanIntern self.old entry }
-        ensures { Interns self.old entry result self.new }
+        ensures answer { Interns self.old entry result self.new }
+        ensures interned { AreInterned self.new }
     {
         if let Some(number) = self.entries.get_index_of(&entry) {
             drop(entry);

@@ -4,6 +4,15 @@
 
 mod dict;
 mod entry;
+mod expansion;
+mod gathering;
+pub mod laws;
+mod stack;
+mod tally;
 
 pub use dict::{Dict, DictFault, Which};
 pub use entry::{Entry, Run};
+pub use expansion::{ExpandFault, expand};
+pub use gathering::gather;
+pub use k_optab::Node;
+pub use tally::Tally;
