@@ -1,5 +1,5 @@
 //! Three locations in two pages.
-ghost use Rattle.std.specs.Prelude.{◌≡◌, ◌<◌, [], ◌∷◌, IfOk};
+ghost use Rattle.std.specs.Prelude.{◌≡◌, ◌<◌, ◌+◌, ◌≤◌, [], ◌∷◌, IfOk, OnOk};
 ghost use Rattle.k_shadow.specs.Content.{depth};
 ghost use Rattle.k_spage.specs.ShadowPages.{pages_content};
 
@@ -21,17 +21,29 @@ fn one_time(alloc: Global, time: u64) -> Times
     times
 }
 
+/// Writes one location at depth 1.
+#[tactic(auto, using(k_shadow::proofs::Laws::depth_written))]
+fn write_one<S: Shadow>(alloc: Global, shadow: &mut S, loc: u32, time: u64) -> Result<(), NoMemory>
+    requires below { loc + 1 ≤ (S.content shadow.old).limit }
+    requires one { depth (S.content shadow.old) ≡ 1 }
+    ensures one { OnOk result (depth (S.content shadow.new) ≡ 1) }
+    ensures entries { (S.content shadow.new).entries ≡ (S.content shadow.old).entries }
+    ensures limit { (S.content shadow.new).limit ≡ (S.content shadow.old).limit }
+{
+    shadow.reserve(loc, 1)?;
+    shadow.write(loc, &one_time(alloc, time));
+    Ok(())
+}
+
 /// Three locations are written at depth 1: 0, 255 and 256.
 fn written(alloc: Global) -> Result<ShadowPages, NoMemory>
     ensures { IfOk result (λ shadow. (depth (pages_content shadow) ≡ 1) × ((pages_content shadow).entries ≡ 1) × ((pages_content shadow).limit ≡ 4194304)) }
 {
     let mut shadow = ShadowPages::new(alloc);
     shadow.enter();
-    shadow.reserve(0, 1)?;
-    shadow.write(0, &one_time(alloc, 5));
-    shadow.reserve(255, 2)?;
-    shadow.write(255, &one_time(alloc, 6));
-    shadow.write(256, &one_time(alloc, 7));
+    write_one(alloc, &mut shadow, 0, 5)?;
+    write_one(alloc, &mut shadow, 255, 6)?;
+    write_one(alloc, &mut shadow, 256, 7)?;
     Ok(shadow)
 }
 
@@ -69,8 +81,7 @@ fn pages(rt: HostRuntime) -> Result<(), Fail> {
 fn last_page(alloc: Global) -> Result<u64, NoMemory> {
     let mut shadow = ShadowPages::new(alloc);
     shadow.enter();
-    shadow.reserve(4_194_303, 1)?;
-    shadow.write(4_194_303, &one_time(alloc, 5));
+    write_one(alloc, &mut shadow, 4_194_303, 5)?;
     shadow.reserve(4_194_304, 0)?;
     shadow.reserve(300, 0)?;
     Ok(shadow.pages())

@@ -18,6 +18,6 @@ returns-in-Some-clause-content c =
     let row = row_at (rows_under new (Some key)) (loc % 256) in
     let stamp : row.stamp ≡ s.versions.given = c.write_row.ensures.stamp ∙ c.last_given-stamp.ensures.last in
     let each : (k : ℕ) → k < length times → slice_index row.times k ≡ slice_index times k =
-      λ k h. c.write_row.ensures.times k (rw c.as_slice.ensures.times h) ∙ ap (λ ts. slice_index ts k) c.as_slice.ensures.times in
+    λ k h. c.write_row.ensures.times k (rw c.as_slice.ensures.times h) ∙ ap (λ ts. slice_index ts k) c.as_slice.ensures.times in
     let w = IsWritten-paged s.pages.slots new table loc key s.versions.given times s.kept named c.write_row.ensures.one stamp each in
     content-written (paged_row s.pages.slots table) (paged_row new table) s.versions 4194304 loc times w c.last_given-stamp.ensures.given c.requires.each
