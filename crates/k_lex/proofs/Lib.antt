@@ -10,3 +10,4 @@ pub mod RunLaws
 pub mod IndexLaws
 pub mod PlanLaws
 pub mod CutLaws
+pub mod TokenLaws

@@ -1,10 +1,17 @@
--- The token list of a source ends once.
-use Rattle.std.proofs.Common.{◌≡◌, ◌≢◌, ℕ, zero, suc, ◌+◌, ◌-◌, Bool, true, false, ◌&&◌, ◌||◌, not, nat_lt, eqb, if◌then◌else◌, List, [], ◌∷◌, ◌++◌, Option, Some, None, Result, Ok, Err, length, map, take, drop, codes, rules, refl, subst, is_none, is_some}
-use Rattle.std.specs.Prelude.{IfOk}
+-- What is true of each token that a source gives: it is no end, its kind holds its number, and its string is no longer than its spelling.
+use Rattle.std.proofs.Common.{◌≡◌, ◌≢◌, ℕ, zero, suc, ◌+◌, ◌-◌, ◌≤◌, sum, Bool, true, false, ◌&&◌, ◌||◌, not, nat_lt, eqb, if◌then◌else◌, List, [], ◌∷◌, ◌++◌, Option, Some, None, Result, Ok, Err, length, map, take, drop, codes, rules, arith, refl, sym, ap, ◌∙◌, subst, is_none, is_some}
+use Rattle.std.specs.Prelude.{IfOk, IfSome, IsTrue, pos, nat_le}
 use Rattle.std.proofs.lemmas.Result.{IfOk-at_ok}
-use Rattle.std.specs.List.{flat_map}
+use Rattle.std.specs.List.{flat_map, All, AllByRecursion}
+use Rattle.std.proofs.lemmas.Bool.Decides.{nat_tests}
+use Rattle.std.proofs.lemmas.List.{length-append, length-take, length-drop}
+use Rattle.std.proofs.lemmas.Int.{ints}
+use Rattle.std.proofs.lemmas.List.Elements.{All-from_recursion}
+use Rattle.std.proofs.lemmas.List.Sums.{sum_by-cons}
 use Rattle.k_num.specs.declared.place.Place.{Place}
 use Rattle.k_num.specs.declared.numbers.Kind.{Kind}
+use Rattle.k_num.specs.declared.numbers.Kind.TheVariants.{I8, U8, I16, U16, I32, U32, I64, U64}
+use Rattle.k_num.specs.Kind.{is_held}
 use Rattle.k_tree.specs.declared.tokens.Token.{Token}
 use Rattle.k_tree.specs.declared.tokens.TokenKind.{TokenKind}
 use Rattle.k_tree.specs.declared.tokens.TokenKind.TheVariants as t
@@ -19,31 +26,48 @@ use Rattle.k_lex.specs.declared.lines.Limits.{Limits}
 use Rattle.k_lex.specs.declared.macros.Lexeme.{Lexeme}
 use Rattle.k_lex.specs.declared.headers.Header.{Header}
 use Rattle.k_lex.specs.declared.headers.Header.TheVariants as h
-use Rattle.k_lex.specs.Bytes.{same, begins, after}
+use Rattle.k_lex.specs.Bytes.{is_digit, is_octal, is_hexadecimal, span, look_up, same, begins, after}
 use Rattle.k_lex.specs.Words.{word_of}
+use Rattle.k_lex.specs.Numbers
 use Rattle.k_lex.specs.Numbers.{number_of}
-use Rattle.k_lex.specs.Literals.{content, inside, character_of}
+use Rattle.k_lex.specs.Pieces.{item_length}
+use Rattle.k_lex.specs.Literals.{content, item_at, inside, character_of}
 use Rattle.k_lex.specs.Macros.{Macro, lexeme, find, full_at, full_or, used, replaced_by, fulls_from, fulls, replaced, is_named, mentions, body_at, stands_at, header_macros, breaks_order, changes, included, sizes}
 use Rattle.k_lex.specs.Lines
 use Rattle.k_lex.specs.Lines.{State, step_in}
 use Rattle.k_lex.specs.Outcome.{◌>>=◌, refused}
 use Rattle.k_lex.specs.Tokens.{piece_in, turn, run, join_kinds, join, joined, first_place, nothing_read, tokens_within, answer, limits, tokens}
 use Rattle.k_tree.specs.Closed.{EndsOnce}
+use Rattle.k_tree.specs.Literals.{string_bytes, NumberIsHeld}
+use Rattle.k_lex.specs.Laws.{kinds_of, EachListEndsOnce, EachNumberIsHeld, StringsAreWithinLimit}
 
 -- ---- kinds, and lists of them
 
--- the kind is not the end
+-- the kind is not the end, and a number is held
 abbrev IsInner : TokenKind → Type 0
 IsInner t.End = ⊥
 IsInner (t.Name name) = Unit {0}
 IsInner (t.Word word) = Unit {0}
-IsInner (t.Number kind value) = Unit {0}
+IsInner (t.Number kind value) = IsTrue (is_held kind (pos value))
 IsInner (t.Char value) = Unit {0}
 IsInner (t.Str bytes) = Unit {0}
 IsInner (t.Mark mark) = Unit {0}
 
 inner_differs : (what : TokenKind) → IsInner what → what ≢ t.End
 inner_differs what inner e = subst IsInner e inner
+
+inner_held : (what : TokenKind) → IsInner what → NumberIsHeld what
+inner_held t.End inner = absurd inner
+inner_held (t.Name name) inner = tt
+inner_held (t.Word word) inner = tt
+inner_held (t.Number kind value) inner = inner
+inner_held (t.Char value) inner = tt
+inner_held (t.Str bytes) inner = tt
+inner_held (t.Mark mark) inner = tt
+
+-- a kind, and how many bytes spell it, which are no fewer than those of its string
+abbrev IsSpelled : ℕ → TokenKind → Type 0
+IsSpelled size what = IsInner what × (string_bytes what ≤ size)
 
 -- P holds of each item
 abbrev Each : {X : Type 0} → (X → Type 0) → List X → Type 0
@@ -63,7 +87,7 @@ either_way P false x y first second = second
 
 -- a token of a body
 abbrev IsInnerLexeme : Lexeme → Type 0
-IsInnerLexeme x = IsInner x.what
+IsInnerLexeme x = IsSpelled x.size x.what
 
 -- a token of a source
 abbrev IsInnerToken : Token → Type 0
@@ -129,6 +153,11 @@ included_inner table (macro ∷ macros) table_inner inner =
 cond_ok : {X : Type 0} (P : X → Type 0) (b : Bool) (x y : Result X Fault) → IfOk x P → IfOk y P → IfOk (if b then x else y) P
 cond_ok P b x y first second = either_way (λ z. IfOk z P) b x y first second
 
+-- P of the value of a result that a test lets through
+when_ok : {X : Type 0} (P : X → Type 0) (b : Bool) (x y : Result X Fault) → (b ≡ true → IfOk x P) → IfOk y P → IfOk (if b then x else y) P
+when_ok P true x y first second = first refl
+when_ok P false x y first second = second
+
 -- Q of what comes of a value with P
 bind_ok : {X Y : Type 0} (P : X → Type 0) (Q : Y → Type 0) (given : Result X Fault) (f : X → Result Y Fault) → IfOk given P → ((x : X) → P x → IfOk (f x) Q) → IfOk (given >>= f) Q
 bind_ok P Q (Ok x) f first next = next x first
@@ -141,20 +170,87 @@ bind_any Q (Err fault) f next = tt
 
 -- ---- the token that a piece is
 
-name_inner : (s : List ℕ) (word : Option Word) → IsInner (Lines.name_token s word)
-name_inner s None = tt
-name_inner s (Some word) = tt
+-- the kind holds the number
+abbrev IsHeldPair : Kind × ℕ → Type 0
+IsHeldPair n = IsTrue (is_held n.0 (pos n.1))
 
-number_inner : (place : Place) (number : Option (Kind × ℕ)) → IfOk (Lines.number_token place number) IsInner
-number_inner place None = tt
-number_inner place (Some number) = tt
+kind_holds : (kind : Kind) (v : ℕ) → nat_le v (Numbers.greatest kind) ≡ true → IsTrue (is_held kind (pos v))
+kind_holds I8 v e = grind (arith, ints, nat_tests)
+kind_holds U8 v e = grind (arith, ints, nat_tests)
+kind_holds I16 v e = grind (arith, ints, nat_tests)
+kind_holds U16 v e = grind (arith, ints, nat_tests)
+kind_holds I32 v e = grind (arith, ints, nat_tests)
+kind_holds U32 v e = grind (arith, ints, nat_tests)
+kind_holds I64 v e = grind (arith, ints, nat_tests)
+kind_holds U64 v e = grind (arith, ints, nat_tests)
 
-token_inner : (place : Place) (s : List ℕ) (piece : Piece) → IfOk (Lines.token_of place s piece) IsInner
-token_inner place s p.Name = name_inner s (word_of s)
-token_inner place s p.Number = number_inner place (number_of s)
-token_inner place s p.Character = bind_any IsInner (character_of (after place 39) (inside s)) (λ c. Ok (t.Char c)) (λ c. tt)
-token_inner place s p.Str = bind_any IsInner (content (after place 34) 0 (inside s)) (λ bytes. Ok (t.Str bytes)) (λ bytes. tt)
-token_inner place s (p.Mark mark) = tt
+some_if : {X : Type 0} (P : X → Type 0) (b : Bool) (x y : Option X) → (b ≡ true → IfSome x P) → IfSome y P → IfSome (if b then x else y) P
+some_if P true x y first second = first refl
+some_if P false x y first second = second
+
+first_kind_held : (kinds : List Kind) (v : ℕ) → IfSome (Numbers.first_kind kinds v) IsHeldPair
+first_kind_held [] v = tt
+first_kind_held (kind ∷ kinds) v = some_if IsHeldPair (nat_le v (Numbers.greatest kind)) (Some (kind, v)) (Numbers.first_kind kinds v) (kind_holds kind v) (first_kind_held kinds v)
+
+with_suffix_held : (decimal : Bool) (v : ℕ) (suffix : Option (Bool × Bool)) → IfSome (Numbers.with_suffix decimal v suffix) IsHeldPair
+with_suffix_held decimal v None = tt
+with_suffix_held decimal v (Some suffix) = first_kind_held (Numbers.kinds decimal suffix) v
+
+constant_held : (base n : ℕ) (text : List ℕ) → IfSome (Numbers.constant base n text) IsHeldPair
+constant_held base n text =
+    let decimal = eqb base 10 in
+    let v = Numbers.value base 0 (take n text) in
+    some_if IsHeldPair (eqb n 0) None (Numbers.with_suffix decimal v (look_up Numbers.suffixes (drop n text))) (λ e. tt)
+    (with_suffix_held decimal v (look_up Numbers.suffixes (drop n text)))
+
+number_held : (s : List ℕ) → IfSome (number_of s) IsHeldPair
+number_held s =
+    let hexadecimal = Numbers.constant 16 (span is_hexadecimal (drop 2 s)) (drop 2 s) in
+    let octal = Numbers.constant 8 (span is_octal s) s in
+    let decimal = Numbers.constant 10 (span is_digit s) s in
+    some_if IsHeldPair (begins (codes "0x") s || begins (codes "0X") s) hexadecimal (if begins (codes "0") s then octal else decimal)
+    (λ e. constant_held 16 (span is_hexadecimal (drop 2 s)) (drop 2 s))
+    (some_if IsHeldPair (begins (codes "0") s) octal decimal (λ e. constant_held 8 (span is_octal s) s) (constant_held 10 (span is_digit s) s))
+
+-- the bytes of a text's characters and escapes are no more than the text's
+abbrev IsNoLonger : List ℕ → List ℕ → Type 0
+IsNoLonger text bytes = length bytes ≤ length text
+
+item_before : (b : ℕ) (bs : List ℕ) (first : Result ℕ Fault) (rest : Result (List ℕ) Fault) → IfOk rest (IsNoLonger bs) → IfOk (first >>= λ v. rest >>= λ vs. Ok (v ∷ vs)) (IsNoLonger (b ∷ bs))
+item_before b bs (Err fault) rest le = tt
+item_before b bs (Ok v) (Err fault) le = tt
+item_before b bs (Ok v) (Ok vs) le = omega arith
+
+content_no_longer : (place : Place) (skip : ℕ) (text : List ℕ) → IfOk (content place skip text) (IsNoLonger text)
+content_no_longer place zero [] = omega arith
+content_no_longer place (suc skip) [] = omega arith
+content_no_longer place (suc skip) (b ∷ bs) = weaker (content (after place b) skip bs) (content_no_longer (after place b) skip bs)
+  where
+    weaker : (given : Result (List ℕ) Fault) → IfOk given (IsNoLonger bs) → IfOk given (IsNoLonger (b ∷ bs))
+    weaker (Ok bytes) le = omega arith
+    weaker (Err fault) le = tt
+content_no_longer place zero (b ∷ bs) =
+    item_before b bs (item_at place (b ∷ bs)) (content (after place b) (item_length (b ∷ bs) - 1) bs) (content_no_longer (after place b) (item_length (b ∷ bs) - 1) bs)
+
+inside_no_longer : (s : List ℕ) → length (inside s) ≤ length s
+inside_no_longer s = omega (arith, length-take (length s - 2) (drop 1 s), length-drop 1 s)
+
+name_inner : (size : ℕ) (s : List ℕ) (word : Option Word) → IsSpelled size (Lines.name_token s word)
+name_inner size s None = (tt, omega arith)
+name_inner size s (Some word) = (tt, omega arith)
+
+number_inner : (size : ℕ) (place : Place) (number : Option (Kind × ℕ)) → IfSome number IsHeldPair → IfOk (Lines.number_token place number) (IsSpelled size)
+number_inner size place None held = tt
+number_inner size place (Some number) held = (held, omega arith)
+
+token_inner : (place : Place) (s : List ℕ) (piece : Piece) → IfOk (Lines.token_of place s piece) (IsSpelled (length s))
+token_inner place s p.Name = name_inner (length s) s (word_of s)
+token_inner place s p.Number = number_inner (length s) place (number_of s) (number_held s)
+token_inner place s p.Character = bind_any (IsSpelled (length s)) (character_of (after place 39) (inside s)) (λ c. Ok (t.Char c)) (λ c. (tt, omega arith))
+token_inner place s p.Str =
+    bind_ok (IsNoLonger (inside s)) (IsSpelled (length s)) (content (after place 34) 0 (inside s)) (λ bytes. Ok (t.Str bytes)) (content_no_longer (after place 34) 0 (inside s))
+    (λ bytes le. (tt, omega (arith, inside_no_longer s)))
+token_inner place s (p.Mark mark) = (tt, omega arith)
 token_inner place s p.Blank = tt
 token_inner place s p.Newline = tt
 token_inner place s p.Comment = tt
@@ -163,27 +259,58 @@ token_inner place s p.OpenComment = tt
 token_inner place s p.OpenLiteral = tt
 token_inner place s p.Unknown = tt
 
+-- ---- the strings of tokens
+
+-- how many bytes the tokens have as strings
+abbrev strings : List Token → ℕ
+strings [] = 0
+strings (x ∷ xs) = string_bytes x.what + strings xs
+
+strings-append : (xs ys : List Token) → strings (xs ++ ys) ≡ strings xs + strings ys
+strings-append [] ys = omega arith
+strings-append (x ∷ xs) ys = omega (arith, strings-append xs ys)
+
+strings_summed : (xs : List Token) → sum (map string_bytes (kinds_of xs)) ≡ strings xs
+strings_summed [] = refl
+strings_summed (x ∷ xs) = sum_by-cons (λ n. n) (string_bytes x.what) (map string_bytes (kinds_of xs)) ∙ ap (λ n. string_bytes x.what + n) (strings_summed xs)
+
+strings_placed : (place : Place) (xs : List Lexeme) → AreInner xs → strings (map (Lines.placed place) xs) ≤ sizes xs
+strings_placed place [] inner = omega arith
+strings_placed place (x ∷ xs) inner = omega (arith, inner.0.1, strings_placed place xs inner.1)
+
 -- ---- what has been read
 
--- no token that has been read, nor one of the new body or of a macro, is the end
+-- the strings are no more than what spells the tokens, which is within the limit
+abbrev AreWithin : State → Type 0
+AreWithin s = (strings s.tokens ≤ s.spelled) × (s.spelled ≤ s.limits.spelling) × (s.limits.spelling ≤ limits.spelling)
+
+-- each token that has been read, and each of the new body and of a macro, is as it should be
 abbrev HasInner : State → Type 0
-HasInner s = Each IsInnerToken s.tokens × AreInner s.body × Each HasInnerBody s.macros
+HasInner s = Each IsInnerToken s.tokens × AreInner s.body × Each HasInnerBody s.macros × AreWithin s
 
 placed_inner : (place : Place) (xs : List Lexeme) → AreInner xs → Each IsInnerToken (map (Lines.placed place) xs)
 placed_inner place [] inner = tt
-placed_inner place (x ∷ xs) inner = (inner.0, placed_inner place xs inner.1)
+placed_inner place (x ∷ xs) inner = (inner.0.0, placed_inner place xs inner.1)
+
+within_added : (place : Place) (xs : List Lexeme) (s : State) → AreInner xs → AreWithin s → Lines.has_room s (length xs) (sizes xs) ≡ true
+    → (strings (s.tokens ++ map (Lines.placed place) xs) ≤ s.spelled + sizes xs) × (s.spelled + sizes xs ≤ s.limits.spelling)
+within_added place xs s inner within room =
+    let fits : s.spelled + sizes xs ≤ s.limits.spelling = grind (arith, nat_tests, room) in
+    (omega (arith, within.0, strings-append s.tokens (map (Lines.placed place) xs), strings_placed place xs inner), fits)
 
 add_inner : (place : Place) (xs : List Lexeme) (s : State) → AreInner xs → HasInner s → IfOk (Lines.add place xs s) HasInner
 add_inner place xs s inner read =
     let added = record s { mode = m.Middle; tokens = s.tokens ++ map (Lines.placed place) xs; spelled = s.spelled + sizes xs } in
-    cond_ok HasInner (Lines.has_room s (length xs) (sizes xs)) (Ok added) (refused r.TokensMany place)
-    (each_append IsInnerToken s.tokens (map (Lines.placed place) xs) read.0 (placed_inner place xs inner), read.1, read.2) tt
+    when_ok HasInner (Lines.has_room s (length xs) (sizes xs)) (Ok added) (refused r.TokensMany place)
+    (λ room.
+    let within = within_added place xs s inner read.3 room in
+    (each_append IsInnerToken s.tokens (map (Lines.placed place) xs) read.0 (placed_inner place xs inner), read.1, read.2, (within.0, within.1, read.3.2))) tt
 
 token_in_text_inner : (place : Place) (s : List ℕ) (piece : Piece) (old : State) → HasInner old → IfOk (Lines.token_in_text place s piece old) HasInner
 token_in_text_inner place s piece old read =
     let put = λ (what : TokenKind). Lines.add place (replaced old.macros (lexeme what (length s))) old in
     cond_ok HasInner (Lines.is_literal piece && not (Lines.has_room old 1 (length s))) (refused r.TokensMany place) (Lines.token_of place s piece >>= put) tt
-    (bind_ok IsInner HasInner (Lines.token_of place s piece) put (token_inner place s piece)
+    (bind_ok (IsSpelled (length s)) HasInner (Lines.token_of place s piece) put (token_inner place s piece)
     (λ what inner. add_inner place (replaced old.macros (lexeme what (length s))) old (replaced_inner old.macros (lexeme what (length s)) read.2 inner) read))
 
 in_text_inner : (place : Place) (s : List ℕ) (piece : Piece) (old : State) → HasInner old → IfOk (Lines.in_text place s piece old) HasInner
@@ -224,7 +351,7 @@ named_inner : (place : Place) (s : List ℕ) (number : Option ℕ) (old : State)
 named_inner place s (Some number) old read = read
 named_inner place s None old read =
     let begun = record old { mode = m.Body place; name = s; body = [] } in
-    cond_ok HasInner (mentions old.macros s) (refused r.MacroOrder place) (Ok begun) tt (read.0, tt, read.2)
+    cond_ok HasInner (mentions old.macros s) (refused r.MacroOrder place) (Ok begun) tt (read.0, tt, read.2, read.3)
 
 in_define_inner : (hash place : Place) (s rest : List ℕ) (piece : Piece) (old : State) → HasInner old → IfOk (Lines.in_define hash place s rest piece old) HasInner
 in_define_inner hash place s rest p.Blank old read = read
@@ -245,14 +372,14 @@ in_define_inner hash place s rest p.Unknown old read = tt
 body_token_inner : (at place : Place) (s : List ℕ) (piece : Piece) (old : State) → HasInner old → IfOk (Lines.body_token at place s piece old) HasInner
 body_token_inner at place s piece old read =
     let grown = λ (what : TokenKind). record old { body = old.body ++ lexeme what (length s) ∷ [] } in
-    bind_ok IsInner HasInner (Lines.token_of place s piece) (λ what. if is_named old.name what then refused r.MacroOrder at else Ok (grown what)) (token_inner place s piece)
+    bind_ok (IsSpelled (length s)) HasInner (Lines.token_of place s piece) (λ what. if is_named old.name what then refused r.MacroOrder at else Ok (grown what)) (token_inner place s piece)
     (λ what inner. cond_ok HasInner (is_named old.name what) (refused r.MacroOrder at) (Ok (grown what)) tt
-    (read.0, each_one_more IsInnerLexeme old.body (lexeme what (length s)) read.1 inner, read.2))
+    (read.0, each_one_more IsInnerLexeme old.body (lexeme what (length s)) read.1 inner, read.2, read.3))
 
 in_body_inner : (at place : Place) (s : List ℕ) (piece : Piece) (old : State) → HasInner old → IfOk (Lines.in_body at place s piece old) HasInner
 in_body_inner at place s p.Blank old read = read
 in_body_inner at place s p.Comment old read = read
-in_body_inner at place s p.Newline old read = (read.0, tt, each_one_more HasInnerBody old.macros (old.name, old.body) read.2 read.1)
+in_body_inner at place s p.Newline old read = (read.0, tt, each_one_more HasInnerBody old.macros (old.name, old.body) read.2 read.1, read.3)
 in_body_inner at place s p.Name old read = body_token_inner at place s p.Name old read
 in_body_inner at place s p.Number old read = body_token_inner at place s p.Number old read
 in_body_inner at place s p.Character old read = body_token_inner at place s p.Character old read
@@ -308,7 +435,7 @@ include_inner at (Some header) old read =
     let new = record old { macros = included old.macros macros } in
     cond_ok HasInner (breaks_order old.macros macros) (refused r.MacroOrder at) (if changes old.macros macros then refused r.MacroAgain at else Ok new) tt
     (cond_ok HasInner (changes old.macros macros) (refused r.MacroAgain at) (Ok new) tt
-    (read.0, read.1, included_inner old.macros macros read.2 (header_macros_inner header)))
+    (read.0, read.1, included_inner old.macros macros read.2 (header_macros_inner header), read.3))
 
 in_header_inner : (hash at : Place) (header : Option Header) (place : Place) (piece : Piece) (old : State) → HasInner old → IfOk (Lines.in_header hash at header place piece old) HasInner
 in_header_inner hash at header place p.Blank old read = read
@@ -399,23 +526,79 @@ joined_inner : (ts : List Token) → Each IsInnerToken ts → Each IsInnerToken 
 joined_inner [] inner = tt
 joined_inner (a ∷ ts) inner = join_inner a (joined ts) inner.0 (joined_inner ts inner.1)
 
+-- ---- how many bytes the joined strings have
+
+-- a token and a joined list have as many bytes as strings as the two joined
+join_kinds_strings : (a : Token) (ts : List Token) (b : Token) (x y : TokenKind) → a.what ≡ x → b.what ≡ y → strings (join_kinds a ts b x y) ≡ strings (a ∷ b ∷ ts)
+join_kinds_strings a ts b (t.Str x) (t.Str y) xe ye = omega (arith, length-append x y, ap string_bytes xe, ap string_bytes ye)
+join_kinds_strings a ts b (t.Str x) (t.Name y) xe ye = refl
+join_kinds_strings a ts b (t.Str x) (t.Word y) xe ye = refl
+join_kinds_strings a ts b (t.Str x) (t.Number kind y) xe ye = refl
+join_kinds_strings a ts b (t.Str x) (t.Char y) xe ye = refl
+join_kinds_strings a ts b (t.Str x) (t.Mark y) xe ye = refl
+join_kinds_strings a ts b (t.Str x) t.End xe ye = refl
+join_kinds_strings a ts b (t.Name x) y xe ye = refl
+join_kinds_strings a ts b (t.Word x) y xe ye = refl
+join_kinds_strings a ts b (t.Number kind x) y xe ye = refl
+join_kinds_strings a ts b (t.Char x) y xe ye = refl
+join_kinds_strings a ts b (t.Mark x) y xe ye = refl
+join_kinds_strings a ts b t.End y xe ye = refl
+
+join_strings : (a : Token) (ts : List Token) → strings (join a ts) ≡ strings (a ∷ ts)
+join_strings a [] = refl
+join_strings a (b ∷ ts) = join_kinds_strings a ts b a.what b.what refl refl
+
+joined_strings : (ts : List Token) → strings (joined ts) ≡ strings ts
+joined_strings [] = refl
+joined_strings (a ∷ ts) = omega (arith, join_strings a (joined ts), joined_strings ts)
+
+-- ---- the whole list
+
 end_once : (ts : List Token) (last : Token) → Each IsInnerToken ts → last.what ≡ t.End → EndsOnce (ts ++ last ∷ [])
 end_once [] last inner e = e
 end_once (a ∷ []) last inner e = (inner_differs a.what inner.0, e)
 end_once (a ∷ b ∷ ts) last inner e = (inner_differs a.what inner.0, end_once (b ∷ ts) last inner.1 e)
 
-within_ends_once : (limits : Limits) (bytes : List ℕ) → IfOk (tokens_within limits bytes) EndsOnce
-within_ends_once limits bytes =
+each_held : (ts : List Token) (last : Token) → Each IsInnerToken ts → NumberIsHeld last.what → AllByRecursion NumberIsHeld (kinds_of (ts ++ last ∷ []))
+each_held [] last inner held = (held, tt)
+each_held (a ∷ ts) last inner held = (inner_held a.what inner.0, each_held ts last inner.1 held)
+
+-- the list ends once, its numbers are held, and its strings are within the limit
+abbrev IsClosed : List Token → Type 0
+IsClosed list = EndsOnce list × All NumberIsHeld (kinds_of list) × (sum (map string_bytes (kinds_of list)) ≤ limits.spelling)
+
+closed : (end : State × Place) → EndsInner end → IsClosed (joined end.0.tokens ++ record { what = t.End; place = end.1 } ∷ [])
+closed end inner =
+    let last : Token = record { what = t.End; place = end.1 } in
+    let list = joined end.0.tokens in
+    let each = joined_inner end.0.tokens inner.0 in (
+      end_once list last each refl,
+      All-from_recursion NumberIsHeld (kinds_of (list ++ last ∷ [])) (each_held list last each tt),
+      omega (arith, strings_summed (list ++ last ∷ []), strings-append list (last ∷ []), joined_strings end.0.tokens, inner.3.0, inner.3.1, inner.3.2),
+    )
+
+whole_closed : (bytes : List ℕ) → IfOk (tokens_within limits bytes) IsClosed
+whole_closed bytes =
     let start = nothing_read limits in
     let whole = λ (end : State × Place). joined end.0.tokens ++ record { what = t.End; place = end.1 } ∷ [] in
-    cond_ok EndsOnce (nat_lt limits.source (length bytes)) (refused r.SourceLong first_place) (run 0 first_place start bytes >>= λ end. Ok (whole end)) tt
-    (bind_ok EndsInner EndsOnce (run 0 first_place start bytes) (λ end. Ok (whole end)) (run_inner 0 first_place start bytes (tt, tt, tt))
-    (λ end inner. end_once (joined end.0.tokens) (record { what = t.End; place = end.1 }) (joined_inner end.0.tokens inner.0) refl))
+    cond_ok IsClosed (nat_lt limits.source (length bytes)) (refused r.SourceLong first_place) (run 0 first_place start bytes >>= λ end. Ok (whole end)) tt
+    (bind_ok EndsInner IsClosed (run 0 first_place start bytes) (λ end. Ok (whole end)) (run_inner 0 first_place start bytes (tt, tt, tt, (omega arith, omega arith, omega arith))) closed)
 
 answered : (P : List Token → Type 0) (given : Result (List Token) Fault) → IfOk given P → IfOk (answer given) P
 answered P (Ok list) holds = holds
 answered P (Err fault) holds = tt
 
+list_closed : (source : List ℕ) (list : List Token) → tokens source ≡ Ok list → IsClosed list
+list_closed source list e = IfOk-at_ok IsClosed e (answered IsClosed (tokens_within limits source) (whole_closed source))
+
 -- the last token of what a source gives is the end, and no other token is
-pub ends_once : (source : List ℕ) (list : List Token) → tokens source ≡ Ok list → EndsOnce list
-ends_once source list e = IfOk-at_ok EndsOnce e (answered EndsOnce (tokens_within limits source) (within_ends_once limits source))
+pub ends_once : EachListEndsOnce
+ends_once source list e = (list_closed source list e).0
+
+-- each number of what a source gives is held by its kind
+pub numbers_held : EachNumberIsHeld
+numbers_held source list e = (list_closed source list e).1
+
+-- the strings of what a source gives are within the limit
+pub strings_fit : StringsAreWithinLimit
+strings_fit source list e = (list_closed source list e).2
