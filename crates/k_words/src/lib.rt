@@ -1,13 +1,13 @@
-// A library with one function.
+//! The words of the command line: what they ask for, or the first of them that is wrong.
 #![tactic(auto)]
 
-ghost use Rattle.std.specs.Prelude.{◌≡◌};
-ghost use Rattle.k_words.specs.Echo.{echo_of};
+mod about;
+mod job;
+mod number;
+mod option;
+mod settings;
+mod usage;
 
-// The `ensures` clause is the contract: what `echo` returns is `echo_of` of its argument, a definition
-// in `specs/Echo.antt`, which a caller's clause can cite too.
-pub fn echo(x: usize) -> usize
-    ensures { result ≡ echo_of x }
-{
-    x
-}
+pub use about::{Asked, asked_for, help, version};
+pub use job::{Job, words};
+pub use usage::Usage;
