@@ -1,6 +1,5 @@
 -- Sources without directives: their tokens are their pieces.
-use Rattle.std.proofs.Common.{◌≡◌, ℕ, zero, suc, ◌+◌, ◌-◌, ◌<◌, ◌≤◌, Bool, true, false, ◌&&◌, ◌||◌, not, nat_lt, leb, eqb, ◌==◌, if◌then◌else◌, List, [], ◌∷◌, ◌++◌, Option, Some, None, Result, Ok, Err, length, map, take, drop, codes, refl, sym, ap, subst, ◌∙◌, ◌⊎◌, inl, inr, append_assoc, add-zero, arith}
-use Rattle.std.proofs.lemmas.Bool.{cases_Bool}
+use Rattle.std.proofs.Common.{◌≡◌, ℕ, zero, suc, ◌+◌, ◌-◌, ◌<◌, ◌≤◌, Bool, true, false, ◌&&◌, not, nat_lt, leb, ◌==◌, if◌then◌else◌, List, [], ◌∷◌, ◌++◌, None, Result, Ok, Err, length, take, drop, codes, refl, sym, ap, subst, ◌∙◌, ◌⊎◌, inl, inr, append_assoc, add-zero, arith}
 use Rattle.std.proofs.lemmas.Bool.Decides.{nat_tests}
 use Rattle.std.proofs.lemmas.List.{length-take, length-append, append-nil}
 use Rattle.k_num.specs.declared.place.Place.{Place}
@@ -16,15 +15,15 @@ use Rattle.k_lex.specs.declared.lines.Mode.{Mode}
 use Rattle.k_lex.specs.declared.lines.Mode.TheVariants as m
 use Rattle.k_lex.specs.declared.lines.Limits.{Limits}
 use Rattle.k_lex.specs.declared.macros.Lexeme.{Lexeme}
-use Rattle.k_lex.specs.Bytes.{same, every, after, behind}
+use Rattle.k_lex.specs.Bytes.{same, after, behind}
 use Rattle.k_lex.specs.Pieces.{class_of, piece_by}
 use Rattle.k_lex.specs.Macros.{Macro, lexeme, full_or, fulls, used, replaced}
 use Rattle.k_lex.specs.Lines
 use Rattle.k_lex.specs.Lines.{State, token_of, token_in_text, in_text, add, has_room, is_literal, step, step_in}
 use Rattle.k_lex.specs.Outcome.{◌>>=◌, refused}
-use Rattle.k_lex.specs.Tokens.{piece_in, turn, run, joined, first_place, nothing_read, tokens_within, answer, fault_of, limits, tokens}
+use Rattle.k_lex.specs.Tokens.{piece_in, turn, run, joined, first_place, nothing_read, answer, fault_of, limits}
 use Rattle.k_lex.specs.Cuts.{Cut}
-use Rattle.k_lex.specs.Laws.{is_space, tokens_of, pieces_from, with_end, IsLimit, has_no_hash, SourceIsItsPieces}
+use Rattle.k_lex.specs.Laws.{tokens_of, pieces_from, with_end, IsLimit, has_no_hash, SourceIsItsPieces}
 use Rattle.k_lex.proofs.PieceLaws.{piece_length}
 
 -- ---- what a run gives, and what it should

@@ -24,15 +24,15 @@ use Rattle.k_lex.specs.Bytes.{same, begins, after, behind}
 use Rattle.k_lex.specs.Words.{word_of}
 use Rattle.k_lex.specs.Numbers.{number_of}
 use Rattle.k_lex.specs.Literals.{content, inside, character_of}
-use Rattle.k_lex.specs.Macros.{Macro, lexeme, find, find_from, full_or, fulls, used, replaced, is_named, mentions, body_at, stands_at, header_of, header_macros, breaks_order, changes, included, sizes}
+use Rattle.k_lex.specs.Macros.{Macro, lexeme, find, find_from, full_or, fulls, used, replaced, is_named, mentions, body_at, stands_at, header_macros, breaks_order, changes, included, sizes}
 use Rattle.k_lex.specs.Lines
 use Rattle.k_lex.specs.Lines.{State, token_of, step_in}
 use Rattle.k_lex.specs.Outcome.{◌>>=◌, refused}
-use Rattle.k_lex.specs.Tokens.{piece_in, turn, run, joined, first_place, nothing_read, tokens_within, answer, limits, tokens}
+use Rattle.k_lex.specs.Tokens.{piece_in, turn, run, joined, first_place, nothing_read, tokens_within, limits}
 use Rattle.k_lex.specs.Cuts.{Cut, cut, cuts}
 use Rattle.k_lex.specs.Laws.{Line, Fresh, Text, Directive, begun, line_behind, is_text, is_directive, pieces_of, header_names, names_in, names_of, is_among, is_in_directive, IsToken, Gives, Come, with_end, TokensComeOfText}
 use Rattle.k_lex.proofs.Tables.{same_true, same_refl}
-use Rattle.k_lex.proofs.Outcomes.{Each, each_append, each_one_more, either_way, cond_ok, bind_ok, bind_any, bind_equal, answered}
+use Rattle.k_lex.proofs.Outcomes.{Each, each_one_more, either_way, cond_ok, bind_ok, bind_any, bind_equal, answered}
 
 -- ---- names that may be macros
 

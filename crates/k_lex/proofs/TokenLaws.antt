@@ -1,5 +1,5 @@
 -- What is true of each token that a source gives: it is no end, its kind holds its number, and its string is no longer than its spelling.
-use Rattle.std.proofs.Common.{◌≡◌, ◌≢◌, ℕ, zero, suc, ◌+◌, ◌-◌, ◌≤◌, sum, Bool, true, false, ◌&&◌, ◌||◌, not, nat_lt, eqb, if◌then◌else◌, List, [], ◌∷◌, ◌++◌, Option, Some, None, Result, Ok, Err, length, map, take, drop, codes, rules, arith, refl, sym, ap, ◌∙◌, subst, is_none, is_some}
+use Rattle.std.proofs.Common.{◌≡◌, ◌≢◌, ℕ, zero, suc, ◌+◌, ◌-◌, ◌≤◌, sum, Bool, true, false, ◌&&◌, ◌||◌, not, nat_lt, eqb, if◌then◌else◌, List, [], ◌∷◌, ◌++◌, Option, Some, None, Result, Ok, Err, length, map, take, drop, codes, rules, arith, refl, ap, ◌∙◌, subst, is_none, is_some}
 use Rattle.std.specs.Prelude.{IfOk, IfSome, IsTrue, pos, nat_le}
 use Rattle.std.proofs.lemmas.Result.{IfOk-at_ok}
 use Rattle.std.specs.List.{flat_map, All, AllByRecursion}
@@ -22,7 +22,6 @@ use Rattle.k_lex.specs.declared.pieces.Piece.{Piece}
 use Rattle.k_lex.specs.declared.pieces.Piece.TheVariants as p
 use Rattle.k_lex.specs.declared.lines.Mode.{Mode}
 use Rattle.k_lex.specs.declared.lines.Mode.TheVariants as m
-use Rattle.k_lex.specs.declared.lines.Limits.{Limits}
 use Rattle.k_lex.specs.declared.macros.Lexeme.{Lexeme}
 use Rattle.k_lex.specs.declared.headers.Header.{Header}
 use Rattle.k_lex.specs.declared.headers.Header.TheVariants as h
@@ -36,7 +35,7 @@ use Rattle.k_lex.specs.Macros.{Macro, lexeme, find, full_at, full_or, used, repl
 use Rattle.k_lex.specs.Lines
 use Rattle.k_lex.specs.Lines.{State, step_in}
 use Rattle.k_lex.specs.Outcome.{◌>>=◌, refused}
-use Rattle.k_lex.specs.Tokens.{piece_in, turn, run, join_kinds, join, joined, first_place, nothing_read, tokens_within, answer, limits, tokens}
+use Rattle.k_lex.specs.Tokens.{piece_in, turn, run, join_kinds, join, joined, first_place, nothing_read, tokens_within, limits, tokens}
 use Rattle.k_tree.specs.Closed.{EndsOnce}
 use Rattle.k_tree.specs.Literals.{string_bytes, NumberIsHeld}
 use Rattle.k_lex.proofs.Outcomes.{Each, each_append, each_one_more, either_way, cond_ok, when_ok, bind_ok, bind_any, answered}
