@@ -1,6 +1,6 @@
 -- Forests that are equal up to the order of siblings.
 use Rattle.std.proofs.Common.{◌≡◌, ℕ, zero, suc, ◌+◌, refl, ap, ◌∙◌, sym, subst, arith}
-use Rattle.k_dict.specs.Trees.{Label, Forest, Tree, bare, grown, Alike, neither, both, exchanged, further, SameShape, alone}
+use Rattle.k_dict.specs.Trees.{Label, Forest, Tree, bare, grown, Alike, neither, both, exchanged, further, SameShape, alone, size}
 use Rattle.k_dict.specs.Entries.{copies}
 
 pub Alike-refl : (f : Forest) → Alike f f
@@ -38,11 +38,6 @@ beside_left _ _ h neither = Alike-refl h
 beside_left _ _ h (both x i i' l l' inner later) = both x i i' (beside l h) (beside l' h) inner (beside_left l l' h later)
 beside_left _ _ h (exchanged x y i j l) = exchanged x y i j (beside l h)
 beside_left _ _ h (further f g k one other) = further (beside f h) (beside g h) (beside k h) (beside_left f g h one) (beside_left g k h other)
-
--- how many instances a forest has
-abbrev pub size : Forest → ℕ
-size bare = 0
-size (grown label inner later) = 1 + size inner + size later
 
 pub Alike-size : (f g : Forest) → Alike f g → size f ≡ size g
 Alike-size _ _ neither = let P : size bare ≡ size bare = refl in P

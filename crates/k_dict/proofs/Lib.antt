@@ -1,7 +1,9 @@
+pub mod Again
 pub mod Coding
 pub mod Counting
 pub mod EntryTrees
 pub mod Equal
+mod Examples
 pub mod Forests
 pub mod Gathered
 pub mod Lists

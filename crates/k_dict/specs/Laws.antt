@@ -1,5 +1,5 @@
 -- What holds of dictionaries and their trees: the statements of the laws.
-use Rattle.std.specs.Prelude.{ℕ, ◌+◌, ◌≡◌, List, length}
+use Rattle.std.specs.Prelude.{ℕ, ◌+◌, ◌<◌, ◌≡◌, List, length}
 use Rattle.k_optab.specs.declared.node.Node.{Node}
 use Rattle.k_dict.specs.Trees.{IsInOrder, Tree, SameShape, list_of}
 use Rattle.k_dict.specs.Dictionary.{IsDictionary}
@@ -30,3 +30,13 @@ AlikeBothWays = (one other : List Node) → AreAlike one other → AreAlike othe
 -- and on
 abbrev pub AlikeGoesOn : Type 0
 AlikeGoesOn = (one other third : List Node) → AreAlike one other → AreAlike other third → AreAlike one third
+
+-- each entry of the one list stands for the same tree as one of the other, up to the order of siblings
+abbrev pub HaveLikes : List Entry → List Entry → Type 0
+HaveLikes one other = (n : ℕ) → n < length one → (m : ℕ) × (m < length other) × AreAlike (expansion one n) (expansion other m)
+
+-- what a dictionary expands to has a dictionary of the same entries, up to their numbers: those may change, since the expansion
+-- has its children in another order
+abbrev pub GatheredAgain : Type 0
+GatheredAgain = (nodes : List Node) (entries : List Entry) (root : ℕ) (list : List Entry) → IsDictionary nodes entries → length entries ≡ root + 1
+    → IsDictionary (expansion entries root) list → HaveLikes entries list × HaveLikes list entries

@@ -4,5 +4,7 @@ pub mod Expanding
 pub mod Gathering
 pub mod Interning
 pub mod Laws
+pub mod Rules
+pub mod SavedText
 pub mod Tallies
 pub mod Trees

@@ -1,5 +1,5 @@
 -- Instances with those within them, the list of them in order of entry, and when two of them differ in the order of siblings alone.
-use Rattle.std.specs.Prelude.{ℕ, ◌+◌, ◌≤◌, ◌≡◌, List, [], ◌∷◌, ◌++◌}
+use Rattle.std.specs.Prelude.{ℕ, ◌+◌, ◌≤◌, ◌≡◌, max, List, [], ◌∷◌, ◌++◌}
 use Rattle.k_optab.specs.declared.node.Node.{Node}
 
 -- what is told of an instance, but for its depth
@@ -21,6 +21,16 @@ pub record Tree : Type 0 where
 -- a tree alone
 abbrev pub alone : Tree → Forest
 alone t = grown t.label t.inner bare
+
+-- how many instances a forest has
+abbrev pub size : Forest → ℕ
+size bare = 0
+size (grown label inner later) = 1 + size inner + size later
+
+-- how many levels of instances a forest has
+abbrev pub height : Forest → ℕ
+height bare = 0
+height (grown label inner later) = max (1 + height inner) (height later)
 
 -- the node of an instance of this depth
 abbrev pub node_at : ℕ → Label → Node

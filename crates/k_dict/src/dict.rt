@@ -99,6 +99,13 @@ impl Dict {
         &self.entries.as_slice()[n as usize]
     }
 
+    /// All entries, by their numbers.
+    pub(crate) fn entries(&self) -> &[Entry]
+        ensures { result.now ≡ self.now }
+    {
+        self.entries.as_slice()
+    }
+
     /// The number of an equal entry that is there, or else of this one, which is added last. A refusal drops the entry.
     pub fn intern(&mut self, entry: Entry) -> Result<u32, DictFault>
         requires { CanIntern self.old entry }

@@ -1,5 +1,5 @@
 //! What holds of dictionaries and the trees that they stand for: each function's contract is a law, and its body does nothing.
-ghost use Rattle.k_dict.specs.Laws.{AlikeBothWays, AlikeGoesOn, DictionaryExists, DictionaryExpands, DictionaryIsUnique};
+ghost use Rattle.k_dict.specs.Laws.{AlikeBothWays, AlikeGoesOn, DictionaryExists, DictionaryExpands, DictionaryIsUnique, GatheredAgain};
 
 /// Each tree of instances has one dictionary.
 pub fn one_dictionary()
@@ -16,4 +16,9 @@ pub fn dictionary_expands()
 pub fn order_of_siblings()
     ensures both_ways { AlikeBothWays }
     ensures goes_on { AlikeGoesOn }
+{}
+
+/// The dictionary of what a dictionary expands to has the same entries, though maybe other numbers for them.
+pub fn gathered_again()
+    ensures { GatheredAgain }
 {}

@@ -7,6 +7,8 @@ mod entry;
 mod expansion;
 mod gathering;
 pub mod laws;
+mod saved;
+mod saving;
 mod stack;
 mod tally;
 
@@ -15,4 +17,9 @@ pub use entry::{Entry, Run};
 pub use expansion::{ExpandFault, expand};
 pub use gathering::gather;
 pub use k_optab::Node;
+pub use saved::Saved;
+pub use saving::write;
 pub use tally::Tally;
+
+#[cfg(test)]
+mod tests;

@@ -8,4 +8,5 @@ pub mod Meaning
 pub mod Open
 pub mod OpenLaws
 pub mod Single
+pub mod TomlTable
 pub mod Tree

@@ -10,6 +10,7 @@ pub mod laws;
 mod node;
 mod region;
 mod table;
+mod toml_table;
 
 pub use class::Class;
 pub use closed::Closed;
@@ -18,3 +19,4 @@ pub use latencies::{Latencies, name, of, standard};
 pub use node::Node;
 pub use region::{Region, RegionKind};
 pub use table::Table;
+pub use toml_table::{TableFault, from_toml};

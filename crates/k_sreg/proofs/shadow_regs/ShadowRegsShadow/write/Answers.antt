@@ -14,7 +14,7 @@ returns-clause-content c =
     let times = c.args.times.now in
     let stamp : row.stamp ≡ s.versions.given = c.write.ensures.stamp ∙ c.last_given-stamp.ensures.last in
     let each : (k : ℕ) → k < length times → slice_index row.times k ≡ slice_index times k =
-      λ k h. c.write.ensures.times k (rw c.as_slice.ensures.times h) ∙ ap (λ ts. slice_index ts k) c.as_slice.ensures.times in
+    λ k h. c.write.ensures.times k (rw c.as_slice.ensures.times h) ∙ ap (λ ts. slice_index ts k) c.as_slice.ensures.times in
     let counted : vec_len s.rows ≡ length rows = search rules in
     let within : loc < length rows = omega (arith, c.requires.room) in
     let w = one_row_written rows (set rows loc row) loc s.versions.given times row within refl stamp each in

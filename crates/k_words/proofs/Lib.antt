@@ -1,0 +1,6 @@
+pub mod Answering
+pub mod Demos
+pub mod Fronts
+pub mod Given
+pub mod Numbers
+pub mod Reading

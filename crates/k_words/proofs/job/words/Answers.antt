@@ -1,0 +1,30 @@
+use Rattle.std.proofs.Common.{◌∙◌, Some, ap, string_bytes, sym}
+use Rattle.k_words.specs.declared.option.Command.TheVariants.{Run, Graph, Show, Demo}
+use Rattle.k_words.specs.Settings.{seen_words}
+use Rattle.k_words.specs.Words.{command_of}
+use Rattle.k_words.proofs.Answering.{of_arguments}
+use Rattle.k_words.proofs.job.words.Goals as goal
+
+pub returns-in-Some-Run : goal.returns-in-Some-Run
+returns-in-Some-Run c =
+    of_arguments (seen_words c.args.list.now) (string_bytes c.in-Some.command.now) (seen_words c.in-Some.arguments.now) Run c.run_job.result
+    (ap seen_words c.in-Some.ensures.cases.0)
+    (ap command_of (sym c.as_str.ensures.value) ∙ sym c.command_of.ensures ∙ c.in-Some-Run.is ∙ ap Some c.in-Some-Run.field-0-is) c.run_job.ensures
+
+pub returns-in-Some-Graph : goal.returns-in-Some-Graph
+returns-in-Some-Graph c =
+    of_arguments (seen_words c.args.list.now) (string_bytes c.in-Some.command.now) (seen_words c.in-Some.arguments.now) Graph c.graph_job.result
+    (ap seen_words c.in-Some.ensures.cases.0)
+    (ap command_of (sym c.as_str.ensures.value) ∙ sym c.command_of.ensures ∙ c.in-Some-Graph.is ∙ ap Some c.in-Some-Graph.field-0-is) c.graph_job.ensures
+
+pub returns-in-Some-Show : goal.returns-in-Some-Show
+returns-in-Some-Show c =
+    of_arguments (seen_words c.args.list.now) (string_bytes c.in-Some.command.now) (seen_words c.in-Some.arguments.now) Show c.show_job.result
+    (ap seen_words c.in-Some.ensures.cases.0)
+    (ap command_of (sym c.as_str.ensures.value) ∙ sym c.command_of.ensures ∙ c.in-Some-Show.is ∙ ap Some c.in-Some-Show.field-0-is) c.show_job.ensures
+
+pub returns-in-Some-Demo : goal.returns-in-Some-Demo
+returns-in-Some-Demo c =
+    of_arguments (seen_words c.args.list.now) (string_bytes c.in-Some.command.now) (seen_words c.in-Some.arguments.now) Demo c.demo_job.result
+    (ap seen_words c.in-Some.ensures.cases.0)
+    (ap command_of (sym c.as_str.ensures.value) ∙ sym c.command_of.ensures ∙ c.in-Some-Demo.is ∙ ap Some c.in-Some-Demo.field-0-is) c.demo_job.ensures

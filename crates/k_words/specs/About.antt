@@ -1,0 +1,64 @@
+-- *Texts on the program itself*, and the words that ask for them.
+use Rattle.std.specs.Prelude.{ℕ, Bool, ◌||◌, ◌++◌, if◌then◌else◌, List, [], ◌∷◌, codes, nat_eq, Option, Some, None}
+use Rattle.std.specs.List.{concat}
+use Rattle.std.specs.Cmp.Lexicographic.{pointwise}
+use Rattle.k_words.specs.declared.about.Asked.{Asked}
+use Rattle.k_words.specs.declared.about.Asked.TheVariants.{Help, Version}
+
+-- the word is this text
+abbrev pub is : List ℕ → List ℕ → Bool
+is word text = pointwise nat_eq word text
+
+-- which text a word asks for
+abbrev pub asked_by : List ℕ → Option Asked
+asked_by word =
+    if is word (codes "--help") || is word (codes "-h") then Some Help
+    else if is word (codes "--version") || is word (codes "-V") then Some Version else None
+
+-- which text the words ask for: there is one word
+abbrev pub asked_for : List (List ℕ) → Option Asked
+asked_for [] = None
+asked_for (word ∷ []) = asked_by word
+asked_for (word ∷ more ∷ words) = None
+
+-- the product and its number
+abbrev pub version_text : List ℕ
+version_text = codes "kremlin 1.0.0\n"
+
+-- what each command does, each option, each exit status, and two examples
+abbrev pub help_text : List ℕ
+help_text = concat (
+    codes "kremlin: which loops of a serial C program are worth making parallel\n" ∷
+    codes "\n" ∷
+    codes "kremlin run FILE [OPTION ..]    runs a C program and writes its output, its profile and a plan\n" ∷
+    codes "kremlin graph FILE [OPTION ..]  lists the events of the run and a heaviest path for each region instance\n" ∷
+    codes "kremlin show FILE [--dict]      writes the report of a saved profile\n" ∷
+    codes "kremlin demo NUMBER LOOPS       makes a program of LOOPS loops (1 to 2000) from NUMBER and sums up its run\n" ∷
+    codes "kremlin --help, -h              writes this text\n" ∷
+    codes "kremlin --version, -V           writes the product and its number\n" ∷
+    codes "\n" ∷
+    codes "--steps=N       at most N operations; run: 1 to 1000000000, default 100000000; graph: 1 to 200000, default 200000\n" ∷
+    codes "--depth=N       levels of regions that are tracked; run, graph: 1 to 32, default 24\n" ∷
+    codes "--latency=FILE  a table of latencies in TOML; run, graph; default the standard latencies\n" ∷
+    codes "--dict          lists the dictionary of summaries; run, show; default no list\n" ∷
+    codes "--save=FILE     saves the profile; run; default not saved\n" ∷
+    codes "\n" ∷
+    codes "exit status:\n" ∷
+    codes " 0  done\n" ∷
+    codes " 1  the program came to a trap\n" ∷
+    codes " 2  out of steps\n" ∷
+    codes " 3  the source was refused\n" ∷
+    codes " 4  wrong words\n" ∷
+    codes " 5  a file is absent\n" ∷
+    codes " 6  a read failed\n" ∷
+    codes " 7  a write failed\n" ∷
+    codes " 8  no memory\n" ∷
+    codes " 9  the input is too long\n" ∷
+    codes "10  the latency table was refused\n" ∷
+    codes "11  the saved file was refused\n" ∷
+    codes "12  a file is too long\n" ∷
+    codes "\n" ∷
+    codes "examples:\n" ∷
+    codes "kremlin run matrix.c --save=matrix.profile\n" ∷
+    codes "kremlin show matrix.profile --dict\n" ∷
+    [])

@@ -1,0 +1,110 @@
+//! The words that ask for a text on the program itself, and these texts.
+ghost use Rattle.std.specs.Prelude.{◌≡◌, None, Some};
+ghost use Rattle.k_words.specs.About.{asked_for, help_text, version_text};
+ghost use Rattle.k_words.specs.Settings.{seen_words};
+
+/// A text on the program itself.
+#[derive(Clone, Copy, Debug, PartialEq, Eq)]
+pub enum Asked {
+    Help,
+    Version,
+}
+
+/// Which text on the program itself the words ask for, if they do: `--help` or `-h`, and `--version` or `-V`, as the only word.
+pub fn asked_for(list: &[String]) -> Option<Asked>
+    ensures { result ≡ asked_for (seen_words list.now) }
+{
+    let (word, rest) = list.split_first()?;
+    if !rest.is_empty() {
+        return None;
+    }
+    let word = word.as_str();
+    if word == "--help" || word == "-h" {
+        Some(Asked::Help)
+    } else if word == "--version" || word == "-V" {
+        Some(Asked::Version)
+    } else {
+        None
+    }
+}
+
+/// The product and its number, in a line.
+pub fn version() -> &'static str
+    ensures { result.now ≡ version_text }
+{
+    "kremlin 1.0.0\n"
+}
+
+/// What each command does, each option with its range and default, each exit status, and two examples.
+pub fn help() -> &'static str
+    ensures { result.now ≡ help_text }
+{
+    HELP
+}
+
+const HELP: &str = "\
+kremlin: which loops of a serial C program are worth making parallel
+
+kremlin run FILE [OPTION ..]    runs a C program and writes its output, its profile and a plan
+kremlin graph FILE [OPTION ..]  lists the events of the run and a heaviest path for each region instance
+kremlin show FILE [--dict]      writes the report of a saved profile
+kremlin demo NUMBER LOOPS       makes a program of LOOPS loops (1 to 2000) from NUMBER and sums up its run
+kremlin --help, -h              writes this text
+kremlin --version, -V           writes the product and its number
+
+--steps=N       at most N operations; run: 1 to 1000000000, default 100000000; graph: 1 to 200000, default 200000
+--depth=N       levels of regions that are tracked; run, graph: 1 to 32, default 24
+--latency=FILE  a table of latencies in TOML; run, graph; default the standard latencies
+--dict          lists the dictionary of summaries; run, show; default no list
+--save=FILE     saves the profile; run; default not saved
+
+exit status:
+ 0  done
+ 1  the program came to a trap
+ 2  out of steps
+ 3  the source was refused
+ 4  wrong words
+ 5  a file is absent
+ 6  a read failed
+ 7  a write failed
+ 8  no memory
+ 9  the input is too long
+10  the latency table was refused
+11  the saved file was refused
+12  a file is too long
+
+examples:
+kremlin run matrix.c --save=matrix.profile
+kremlin show matrix.profile --dict
+";
+
+#[cfg(test)]
+mod tests {
+    use super::*;
+    use std::test::Fail;
+
+    #[test]
+    fn texts_are_asked_for_by_one_word(rt: HostRuntime) -> Result<(), Fail> {
+        let rows = [
+            ("--help", Some(Asked::Help)),
+            ("-h", Some(Asked::Help)),
+            ("--version", Some(Asked::Version)),
+            ("-V", Some(Asked::Version)),
+            ("-v", None),
+            ("", None),
+            ("help", None),
+        ];
+        for row in rows {
+            let (word, wanted) = row;
+            let mut list = Vec::new(rt.alloc());
+            assert_eq!(rt; asked_for(list.as_slice()), None);
+            list.push(String::from_str(rt.alloc(), word)?)?;
+            assert_eq!(rt; asked_for(list.as_slice()), wanted);
+            list.push(String::from_str(rt.alloc(), word)?)?;
+            assert_eq!(rt; asked_for(list.as_slice()), None);
+        }
+        assert_eq!(rt; version(), "kremlin 1.0.0\n");
+        assert!(rt; help().starts_with("kremlin: "));
+        Ok(())
+    }
+}

@@ -1,0 +1,186 @@
+//! What the words of the command line ask for.
+ghost use Rattle.std.specs.Prelude.{◌≡◌, MatchResult, IfOk, option_map};
+ghost use Rattle.k_words.specs.Settings.{IsFirst, seen, seen_words};
+ghost use Rattle.k_words.specs.Words.{Answers, IsAnswer, ReadsFile, command_of, demo_fault, demo_job, file_fault, graph_job, is_no_file, run_job, show_job};
+
+use crate::number::number_within;
+use crate::option::Command;
+use crate::settings::{Settings, read_settings};
+use crate::usage::Usage;
+use k_num::{NoMemory, Text};
+use std::alloc::Global;
+
+/// What is asked for.
+#[derive(Debug, PartialEq, Eq, Drop)]
+pub enum Job {
+    /// A program is run, of at most so many operations, and profiled to so many levels, by the latencies of the standard
+    /// or of a file. The dictionary is listed with the report, and the profile is saved, where this is asked for.
+    Run {
+        file: Text,
+        steps: u64,
+        depth: u32,
+        latency: Option<Text>,
+        dict: bool,
+        save: Option<Text>,
+    },
+    /// The events of a program's run are listed, and a heaviest path for each instance.
+    Graph {
+        file: Text,
+        steps: u64,
+        depth: u32,
+        latency: Option<Text>,
+    },
+    /// The report of a saved profile is written.
+    Show {
+        file: Text,
+        dict: bool,
+    },
+    /// A program of so many loops is made from a number, run and summed up.
+    Demo {
+        number: u64,
+        loops: u32,
+    },
+}
+
+/// What the words behind the program's own name ask for. The fault of the first wrong word is answered.
+pub fn words(alloc: Global, list: &[String]) -> Result<Job, Usage>
+    ensures { IsAnswer (seen_words list.now) result }
+{
+    let Some((command, arguments)) = list.split_first() else {
+        return Err(Usage::NoCommand);
+    };
+    match command_of(command.as_str()) {
+        Some(Command::Run) => run_job(alloc, arguments),
+        Some(Command::Graph) => graph_job(alloc, arguments),
+        Some(Command::Show) => show_job(alloc, arguments),
+        Some(Command::Demo) => demo_job(arguments),
+        None => Err(Usage::UnknownWord(0)),
+    }
+}
+
+/// The command of this name.
+#[tactic(auto, unfolding(crate::specs::Words::command_of))]
+fn command_of(word: &str) -> Option<Command>
+    ensures { result ≡ command_of word.now }
+{
+    if word == "run" {
+        Some(Command::Run)
+    } else if word == "graph" {
+        Some(Command::Graph)
+    } else if word == "show" {
+        Some(Command::Show)
+    } else if word == "demo" {
+        Some(Command::Demo)
+    } else {
+        None
+    }
+}
+
+/// What `run` with these arguments asks for.
+fn run_job(alloc: Global, arguments: &[String]) -> Result<Job, Usage>
+    ensures { Answers (file_fault Command.Run (seen_words arguments.now)) (run_job (seen_words arguments.now)) result }
+{
+    let (file, settings) = match file_and_settings(Command::Run, arguments) {
+        Ok(read) => read,
+        Err(fault) => return Err(fault),
+    };
+    Ok(Job::Run {
+        file: Text::copy_of(alloc, file)?,
+        steps: settings.steps.unwrap_or(100_000_000),
+        depth: settings.depth.unwrap_or(24),
+        latency: copy_of_name(alloc, settings.latency)?,
+        dict: settings.dict,
+        save: copy_of_name(alloc, settings.save)?,
+    })
+}
+
+/// What `graph` with these arguments asks for.
+fn graph_job(alloc: Global, arguments: &[String]) -> Result<Job, Usage>
+    ensures { Answers (file_fault Command.Graph (seen_words arguments.now)) (graph_job (seen_words arguments.now)) result }
+{
+    let (file, settings) = match file_and_settings(Command::Graph, arguments) {
+        Ok(read) => read,
+        Err(fault) => return Err(fault),
+    };
+    Ok(Job::Graph {
+        file: Text::copy_of(alloc, file)?,
+        steps: settings.steps.unwrap_or(200_000),
+        depth: settings.depth.unwrap_or(24),
+        latency: copy_of_name(alloc, settings.latency)?,
+    })
+}
+
+/// What `show` with these arguments asks for.
+fn show_job(alloc: Global, arguments: &[String]) -> Result<Job, Usage>
+    ensures { Answers (file_fault Command.Show (seen_words arguments.now)) (show_job (seen_words arguments.now)) result }
+{
+    let (file, settings) = match file_and_settings(Command::Show, arguments) {
+        Ok(read) => read,
+        Err(fault) => return Err(fault),
+    };
+    Ok(Job::Show {
+        file: Text::copy_of(alloc, file)?,
+        dict: settings.dict,
+    })
+}
+
+/// What `demo` with these arguments asks for.
+fn demo_job(arguments: &[String]) -> Result<Job, Usage>
+    ensures { Answers (demo_fault (seen_words arguments.now)) (demo_job (seen_words arguments.now)) result }
+{
+    let Some((number, rest)) = arguments.split_first() else {
+        return Err(Usage::NoFile);
+    };
+    let Some(number) = number_within(number.as_str(), 0, u64::MAX) else {
+        return Err(Usage::BadNumber(1));
+    };
+    let Some((loops, rest)) = rest.split_first() else {
+        return Err(Usage::NoFile);
+    };
+    let Some(loops) = number_within(loops.as_str(), 1, 2_000) else {
+        return Err(Usage::BadNumber(2));
+    };
+    match rest.split_first() {
+        None => Ok(Job::Demo {
+            number,
+            loops: loops as u32,
+        }),
+        Some(_) => Err(Usage::UnknownWord(3)),
+    }
+}
+
+/// The file and the options of a command, from its arguments.
+fn file_and_settings(command: Command, arguments: &[String]) -> Result<(&str, Settings<'_>), Usage>
+    ensures { MatchResult result (λ read. ReadsFile command (seen_words arguments.now) read.0.now (seen read.1)) (IsFirst (file_fault command (seen_words arguments.now))) }
+{
+    let Some((file, rest)) = arguments.split_first() else {
+        return Err(Usage::NoFile);
+    };
+    if is_no_file(file.as_str()) {
+        return Err(Usage::NoFile);
+    }
+    match read_settings(command, rest) {
+        Ok(settings) => Ok((file.as_str(), settings)),
+        Err(fault) => Err(fault),
+    }
+}
+
+/// Whether a word can't name a file.
+fn is_no_file(word: &str) -> bool
+    ensures { result ≡ is_no_file word.now }
+{
+    word.is_empty() || word.starts_with("--")
+}
+
+/// A file's name as a text of its own.
+fn copy_of_name(alloc: Global, name: Option<&str>) -> Result<Option<Text>, NoMemory>
+    ensures { IfOk result (λ text. text ≡ option_map (λ file. file.now) name.entry) }
+{
+    match name {
+        None => Ok(None),
+        Some(name) => Ok(Some(Text::copy_of(alloc, name)?)),
+    }
+}
+
+#[cfg(test)]
+mod tests;

@@ -1,0 +1,13 @@
+//! The words of the command line: what they ask for, or the first of them that is wrong.
+#![tactic(auto)]
+
+mod about;
+mod job;
+mod number;
+mod option;
+mod settings;
+mod usage;
+
+pub use about::{Asked, asked_for, help, version};
+pub use job::{Job, words};
+pub use usage::Usage;

@@ -1,0 +1,112 @@
+//! The options of a command, read from its words.
+ghost use Rattle.std.specs.Prelude.{◌≡◌, MatchResult, Some, option_map};
+ghost use Rattle.k_words.specs.Settings.{IsFirst, ReadsAll, TakesWord, has, seen, seen_words, set, settings_fault, word_fault};
+
+use crate::number::number_within;
+use crate::option::{Command, Setting, most_steps, option_of};
+use crate::usage::Usage;
+
+/// The options that were given, each with its value.
+#[derive(Clone, Copy)]
+pub(crate) struct Settings<'a> {
+    pub(crate) steps: Option<u64>,
+    pub(crate) depth: Option<u32>,
+    pub(crate) latency: Option<&'a str>,
+    pub(crate) dict: bool,
+    pub(crate) save: Option<&'a str>,
+}
+
+/// The options of a command, from the words behind its file, of which the first has index 2.
+pub(crate) fn read_settings(command: Command, words: &[String]) -> Result<Settings<'_>, Usage>
+    ensures { MatchResult result (λ settings. ReadsAll command (seen_words words.now) (seen settings)) (IsFirst (settings_fault command (seen_words words.now))) }
+{
+    let mut settings = Settings {
+        steps: None,
+        depth: None,
+        latency: None,
+        dict: false,
+        save: None,
+    };
+    let mut index = 2;
+    'words: for word in words {
+        settings = match with_word(settings, command, word.as_str(), index) {
+            Ok(settings) => settings,
+            Err(fault) => return Err(fault),
+        };
+        index += 1;
+    }
+    Ok(settings)
+}
+
+/// The options with that of one word more.
+fn with_word<'a>(
+    settings: Settings<'a>,
+    command: Command,
+    word: &'a str,
+    index: u32,
+) -> Result<Settings<'a>, Usage>
+    ensures { MatchResult result (λ new. TakesWord command (seen settings.entry) word.now index (seen new)) (λ fault. word_fault command (has (seen settings.entry)) word.now index ≡ Some fault) }
+{
+    let Some((setting, value)) = option_of(command, word) else {
+        return Err(Usage::UnknownWord(index));
+    };
+    if has(&settings, setting) {
+        return Err(Usage::Twice(index));
+    }
+    match with(settings, command, setting, value) {
+        Some(settings) => Ok(settings),
+        None => Err(Usage::BadNumber(index)),
+    }
+}
+
+/// Whether an option was given.
+fn has(settings: &Settings<'_>, setting: Setting) -> bool
+    ensures { result ≡ has (seen settings.now) setting }
+{
+    match setting {
+        Setting::Steps => settings.steps.is_some(),
+        Setting::Depth => settings.depth.is_some(),
+        Setting::Latency => settings.latency.is_some(),
+        Setting::Dict => settings.dict,
+        Setting::Save => settings.save.is_some(),
+    }
+}
+
+/// The options with one more, where its value is one that it may have.
+fn with<'a>(
+    settings: Settings<'a>,
+    command: Command,
+    setting: Setting,
+    value: &'a str,
+) -> Option<Settings<'a>>
+    ensures { option_map seen result ≡ set command (seen settings.entry) setting value.now }
+{
+    match setting {
+        Setting::Steps => match number_within(value, 1, most_steps(command)) {
+            Some(steps) => Some(Settings {
+                steps: Some(steps),
+                ..settings
+            }),
+            None => None,
+        },
+        Setting::Depth => match number_within(value, 1, 32) {
+            Some(depth) => Some(Settings {
+                depth: Some(depth as u32),
+                ..settings
+            }),
+            None => None,
+        },
+        Setting::Latency => Some(Settings {
+            latency: Some(value),
+            ..settings
+        }),
+        Setting::Dict => Some(Settings {
+            dict: true,
+            ..settings
+        }),
+        Setting::Save => Some(Settings {
+            save: Some(value),
+            ..settings
+        }),
+    }
+}
