@@ -1,5 +1,5 @@
 -- What is true of each token that a source gives: it is no end, its kind holds its number, and its string is no longer than its spelling.
-use Rattle.std.proofs.Common.{◌≡◌, ◌≢◌, ℕ, zero, suc, ◌+◌, ◌-◌, ◌≤◌, sum, Bool, true, false, ◌&&◌, ◌||◌, not, nat_lt, eqb, if◌then◌else◌, List, [], ◌∷◌, ◌++◌, Option, Some, None, Result, Ok, Err, length, map, take, drop, codes, rules, arith, refl, sym, ap, ◌∙◌, subst, is_none, is_some}
+use Rattle.std.proofs.Common.{◌≡◌, ◌≢◌, ℕ, zero, suc, ◌+◌, ◌-◌, ◌≤◌, sum, Bool, true, false, ◌&&◌, ◌||◌, not, nat_lt, eqb, if◌then◌else◌, List, [], ◌∷◌, ◌++◌, Option, Some, None, Result, Ok, Err, length, map, take, drop, codes, rules, arith, refl, ap, ◌∙◌, subst, is_none, is_some}
 use Rattle.std.specs.Prelude.{IfOk, IfSome, IsTrue, pos, nat_le}
 use Rattle.std.proofs.lemmas.Result.{IfOk-at_ok}
 use Rattle.std.specs.List.{flat_map, All, AllByRecursion}
@@ -22,7 +22,6 @@ use Rattle.k_lex.specs.declared.pieces.Piece.{Piece}
 use Rattle.k_lex.specs.declared.pieces.Piece.TheVariants as p
 use Rattle.k_lex.specs.declared.lines.Mode.{Mode}
 use Rattle.k_lex.specs.declared.lines.Mode.TheVariants as m
-use Rattle.k_lex.specs.declared.lines.Limits.{Limits}
 use Rattle.k_lex.specs.declared.macros.Lexeme.{Lexeme}
 use Rattle.k_lex.specs.declared.headers.Header.{Header}
 use Rattle.k_lex.specs.declared.headers.Header.TheVariants as h
@@ -36,9 +35,10 @@ use Rattle.k_lex.specs.Macros.{Macro, lexeme, find, full_at, full_or, used, repl
 use Rattle.k_lex.specs.Lines
 use Rattle.k_lex.specs.Lines.{State, step_in}
 use Rattle.k_lex.specs.Outcome.{◌>>=◌, refused}
-use Rattle.k_lex.specs.Tokens.{piece_in, turn, run, join_kinds, join, joined, first_place, nothing_read, tokens_within, answer, limits, tokens}
+use Rattle.k_lex.specs.Tokens.{piece_in, turn, run, join_kinds, join, joined, first_place, nothing_read, tokens_within, limits, tokens}
 use Rattle.k_tree.specs.Closed.{EndsOnce}
 use Rattle.k_tree.specs.Literals.{string_bytes, NumberIsHeld}
+use Rattle.k_lex.proofs.Outcomes.{Each, each_append, each_one_more, either_way, cond_ok, when_ok, bind_ok, bind_any, answered}
 use Rattle.k_lex.specs.Laws.{kinds_of, EachListEndsOnce, EachNumberIsHeld, StringsAreWithinLimit}
 
 -- ---- kinds, and lists of them
@@ -68,22 +68,6 @@ inner_held (t.Mark mark) inner = tt
 -- a kind, and how many bytes spell it, which are no fewer than those of its string
 abbrev IsSpelled : ℕ → TokenKind → Type 0
 IsSpelled size what = IsInner what × (string_bytes what ≤ size)
-
--- P holds of each item
-abbrev Each : {X : Type 0} → (X → Type 0) → List X → Type 0
-Each P [] = Unit {0}
-Each P (x ∷ xs) = P x × Each P xs
-
-each_append : {X : Type 0} (P : X → Type 0) (xs ys : List X) → Each P xs → Each P ys → Each P (xs ++ ys)
-each_append P [] ys front back = back
-each_append P (x ∷ xs) ys front back = (front.0, each_append P xs ys front.1 back)
-
-each_one_more : {X : Type 0} (P : X → Type 0) (xs : List X) (x : X) → Each P xs → P x → Each P (xs ++ x ∷ [])
-each_one_more P xs x front last = each_append P xs (x ∷ []) front (last, tt)
-
-either_way : {X : Type 0} (P : X → Type 0) (b : Bool) (x y : X) → P x → P y → P (if b then x else y)
-either_way P true x y first second = first
-either_way P false x y first second = second
 
 -- a token of a body
 abbrev IsInnerLexeme : Lexeme → Type 0
@@ -146,27 +130,6 @@ included_inner table (macro ∷ macros) table_inner inner =
     either_way (Each HasInnerBody) (is_none (find table macro.0)) (included more macros) (included table macros)
     (included_inner more macros (each_one_more HasInnerBody table (macro.0, macro.1) table_inner inner.0) inner.1)
     (included_inner table macros table_inner inner.1)
-
--- ---- results
-
--- P of the value of either outcome of a test, where there is one
-cond_ok : {X : Type 0} (P : X → Type 0) (b : Bool) (x y : Result X Fault) → IfOk x P → IfOk y P → IfOk (if b then x else y) P
-cond_ok P b x y first second = either_way (λ z. IfOk z P) b x y first second
-
--- P of the value of a result that a test lets through
-when_ok : {X : Type 0} (P : X → Type 0) (b : Bool) (x y : Result X Fault) → (b ≡ true → IfOk x P) → IfOk y P → IfOk (if b then x else y) P
-when_ok P true x y first second = first refl
-when_ok P false x y first second = second
-
--- Q of what comes of a value with P
-bind_ok : {X Y : Type 0} (P : X → Type 0) (Q : Y → Type 0) (given : Result X Fault) (f : X → Result Y Fault) → IfOk given P → ((x : X) → P x → IfOk (f x) Q) → IfOk (given >>= f) Q
-bind_ok P Q (Ok x) f first next = next x first
-bind_ok P Q (Err fault) f first next = tt
-
--- Q of what comes of any value
-bind_any : {X Y : Type 0} (Q : Y → Type 0) (given : Result X Fault) (f : X → Result Y Fault) → ((x : X) → IfOk (f x) Q) → IfOk (given >>= f) Q
-bind_any Q (Ok x) f next = next x
-bind_any Q (Err fault) f next = tt
 
 -- ---- the token that a piece is
 
@@ -583,10 +546,6 @@ whole_closed bytes =
     let whole = λ (end : State × Place). joined end.0.tokens ++ record { what = t.End; place = end.1 } ∷ [] in
     cond_ok IsClosed (nat_lt limits.source (length bytes)) (refused r.SourceLong first_place) (run 0 first_place start bytes >>= λ end. Ok (whole end)) tt
     (bind_ok EndsInner IsClosed (run 0 first_place start bytes) (λ end. Ok (whole end)) (run_inner 0 first_place start bytes (tt, tt, tt, (omega arith, omega arith, omega arith))) closed)
-
-answered : (P : List Token → Type 0) (given : Result (List Token) Fault) → IfOk given P → IfOk (answer given) P
-answered P (Ok list) holds = holds
-answered P (Err fault) holds = tt
 
 list_closed : (source : List ℕ) (list : List Token) → tokens source ≡ Ok list → IsClosed list
 list_closed source list e = IfOk-at_ok IsClosed e (answered IsClosed (tokens_within limits source) (whole_closed source))
