@@ -1,6 +1,6 @@
 -- The row of a number, and the lines of loops, a step at a time.
-use Rattle.std.proofs.Common.{◌≡◌, ◌+◌, ◌*◌, ◌/◌, ◌%◌, ◌^◌, ◌++◌, ◌∙◌, ℕ, zero, suc, List, [], add-one, ap, append-nil, append_assoc, arith, refl, sym}
-use Rattle.k_gen.specs.Draw.{draw, next, state}
+use Rattle.std.proofs.Common.{◌≡◌, ◌+◌, ◌*◌, ◌/◌, ◌%◌, ◌^◌, ◌++◌, ◌∙◌, ℕ, List, add-one, ap, append-nil, append_assoc, arith, refl, sym}
+use Rattle.k_gen.specs.Draw.{next, state}
 use Rattle.k_gen.specs.Text.{head, line_of, loop_line, loop_lines}
 
 -- the row begins with the number's remainder

@@ -56,7 +56,7 @@ close_into place made done (level ∷ next ∷ levels) = record {
   levels = record level { inner = (close_into place made level.inner (next ∷ levels)).done } ∷ (close_into place made level.inner (next ∷ levels)).levels;
 }
 
--- the same place, with the innermost level closed
+-- the same state, with the innermost level closed
 abbrev pub closed : State → State
 closed s = record s {
   done = (close_into s.passed s.made s.done s.levels).done;

@@ -8,7 +8,7 @@ use Rattle.k_lex.specs.declared.fault.Fault.{Fault}
 use Rattle.k_lex.specs.Bytes.{after}
 use Rattle.k_lex.specs.Lines.{State}
 use Rattle.k_lex.specs.Tokens.{piece_in, turn, run}
-use Rattle.k_lex.specs.Cuts.{cut, cuts, joined_pieces}
+use Rattle.k_lex.specs.Cuts.{Cut, cut, cuts, joined_pieces}
 use Rattle.k_lex.specs.Outcome.{◌>>=◌}
 use Rattle.k_lex.proofs.RunLaws.{piece_in_within}
 
@@ -18,8 +18,8 @@ behind_first (suc n) b bs le =
     let e : suc n - 1 ≡ n = omega arith in
     ap (λ k. b ∷ (take n bs ++ drop k bs)) e ∙ ap (λ t. b ∷ t) (take-append-drop n bs)
 
-after_turn : (piece rest : List ℕ) (r : Result State Fault) (go : State → Result (State × Place) Fault) (more : State → List (List ℕ)) → ((new : State) → IsOk (go new) → joined_pieces (more new) ≡ rest) → IsOk (r >>= go) → joined_pieces (cut piece r more) ≡ piece ++ rest
-after_turn piece rest (Ok new) go more h ok = ap (λ t. piece ++ t) (h new ok)
+after_turn : (piece : Cut) (rest : List ℕ) (r : Result State Fault) (go : State → Result (State × Place) Fault) (more : State → List Cut) → ((new : State) → IsOk (go new) → joined_pieces (more new) ≡ rest) → IsOk (r >>= go) → joined_pieces (cut piece r more) ≡ piece.spelling ++ rest
+after_turn piece rest (Ok new) go more h ok = ap (λ t. piece.spelling ++ t) (h new ok)
 after_turn piece rest (Err f) go more h ok = absurd (false≢true ok)
 
 pub cuts_whole : (skip : ℕ) (place : Place) (old : State) (text : List ℕ) → skip ≤ length text → IsOk (run skip place old text) → joined_pieces (cuts skip place old text) ≡ drop skip text
@@ -29,18 +29,19 @@ cuts_whole (suc skip) place old (b ∷ bs) le ok = cuts_whole skip (after place 
 cuts_whole zero place old (b ∷ bs) le ok =
     let piece = piece_in old.mode (b ∷ bs) in
     let within = piece_in_within old.mode (b ∷ bs) (omega arith) in
-    after_turn (take piece.1 (b ∷ bs)) (drop (piece.1 - 1) bs) (turn place old (b ∷ bs) piece) (λ new. run (piece.1 - 1) (after place b) new bs) (λ new. cuts (piece.1 - 1) (after place b) new bs)
+    let first : Cut = record { place = place; what = piece.0; spelling = take piece.1 (b ∷ bs) } in
+    after_turn first (drop (piece.1 - 1) bs) (turn place old (b ∷ bs) piece) (λ new. run (piece.1 - 1) (after place b) new bs) (λ new. cuts (piece.1 - 1) (after place b) new bs)
     (λ new ok. cuts_whole (piece.1 - 1) (after place b) new bs (omega (arith, within.1)) ok) ok
     ∙ behind_first piece.1 b bs within.0
 
 -- ---- up to a fault
 
-abbrev Front : List (List ℕ) → List ℕ → Type 0
+abbrev Front : List Cut → List ℕ → Type 0
 Front pieces text = (rest : List ℕ) × (joined_pieces pieces ++ rest ≡ text)
 
-front_of_turn : (piece rest : List ℕ) (r : Result State Fault) (more : State → List (List ℕ)) → ((new : State) → Front (more new) rest) → Front (cut piece r more) (piece ++ rest)
-front_of_turn piece rest (Ok new) more h = ((h new).0, append_assoc piece (joined_pieces (more new)) (h new).0 ∙ ap (λ t. piece ++ t) (h new).1)
-front_of_turn piece rest (Err f) more h = (rest, ap (λ t. t ++ rest) (append-nil piece))
+front_of_turn : (piece : Cut) (rest : List ℕ) (r : Result State Fault) (more : State → List Cut) → ((new : State) → Front (more new) rest) → Front (cut piece r more) (piece.spelling ++ rest)
+front_of_turn piece rest (Ok new) more h = ((h new).0, append_assoc piece.spelling (joined_pieces (more new)) (h new).0 ∙ ap (λ t. piece.spelling ++ t) (h new).1)
+front_of_turn piece rest (Err f) more h = (rest, ap (λ t. t ++ rest) (append-nil piece.spelling))
 
 pub cuts_front : (skip : ℕ) (place : Place) (old : State) (text : List ℕ) → skip ≤ length text → Front (cuts skip place old text) (drop skip text)
 cuts_front zero place old [] le = ([], refl)
@@ -49,6 +50,7 @@ cuts_front (suc skip) place old (b ∷ bs) le = cuts_front skip (after place b) 
 cuts_front zero place old (b ∷ bs) le =
     let piece = piece_in old.mode (b ∷ bs) in
     let within = piece_in_within old.mode (b ∷ bs) (omega arith) in
-    let h = front_of_turn (take piece.1 (b ∷ bs)) (drop (piece.1 - 1) bs) (turn place old (b ∷ bs) piece) (λ new. cuts (piece.1 - 1) (after place b) new bs)
+    let first : Cut = record { place = place; what = piece.0; spelling = take piece.1 (b ∷ bs) } in
+    let h = front_of_turn first (drop (piece.1 - 1) bs) (turn place old (b ∷ bs) piece) (λ new. cuts (piece.1 - 1) (after place b) new bs)
     (λ new. cuts_front (piece.1 - 1) (after place b) new bs (omega (arith, within.1))) in
     (h.0, h.1 ∙ behind_first piece.1 b bs within.0)

@@ -10,3 +10,7 @@ pub mod RunLaws
 pub mod IndexLaws
 pub mod PlanLaws
 pub mod CutLaws
+pub mod Outcomes
+pub mod TokenLaws
+pub mod PlainLaws
+pub mod TextLaws

@@ -15,3 +15,4 @@ pub mod Shown
 pub mod Headers
 pub mod Held
 pub mod Cuts
+pub mod Laws

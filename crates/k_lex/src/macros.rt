@@ -286,10 +286,25 @@ impl Macros {
         ensures indexed { OnOk result (IsIndexed self.new) }
         ensures planned { OnOk result (ArePlanned self.new) }
     {
-        let plan = self.plan_of(alloc, body.as_slice())?;
-        add_number(alloc, &mut self.numbers, name.as_slice(), self.list.len())?;
-        add_names(alloc, &mut self.mentioned, body.as_slice())?;
-        self.list.push(Definition { name, body, plan })?;
+        let plan = match self.plan_of(alloc, body.as_slice()) {
+            Ok(plan) => plan,
+            Err(NoMemory) => {
+                drop(body);
+                drop(name);
+                return Err(NoMemory);
+            }
+        };
+        let new = Definition { name, body, plan };
+        let number = self.list.len();
+        if let Err(NoMemory) = add_number(alloc, &mut self.numbers, new.name.as_slice(), number) {
+            drop(new);
+            return Err(NoMemory);
+        }
+        if let Err(NoMemory) = add_names(alloc, &mut self.mentioned, new.body.as_slice()) {
+            drop(new);
+            return Err(NoMemory);
+        }
+        self.list.push(new)?;
         Ok(())
     }
 }

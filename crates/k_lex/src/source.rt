@@ -1,6 +1,9 @@
 //! A whole source.
 ghost use Rattle.std.specs.Prelude.{◌≡◌, ◌^◌, ◌<◌, ◌≤◌, ◌⊎◌, length, Ok, Err, IfOk, IfErr};
+ghost use Rattle.k_tree.specs.Closed.{EndsOnce};
+ghost use Rattle.k_tree.specs.Literals.{NumbersAreHeld, StringsFit};
 ghost use Rattle.k_lex.specs.Tokens as spec;
+ghost use Rattle.k_lex.specs.Laws.{kinds_of};
 ghost use Rattle.k_lex.specs.Shown.{shown, IsSmall};
 ghost use Rattle.k_lex.specs.Outcome.{Gives};
 
@@ -83,6 +86,12 @@ fn fault_of(fault: Fault) -> LexFault
 pub fn lex(alloc: Global, bytes: &[u8]) -> Result<Seq<Token>, LexFault>
     // The list is that of the definition.
     ensures tokens { IfOk result (λ list. spec.tokens bytes.now ≡ Ok list) }
+    // The last token is the end, and no other is.
+    ensures ends { IfOk result EndsOnce }
+    // Each integer constant is held by its kind.
+    ensures held { IfOk result (λ list. NumbersAreHeld (kinds_of list)) }
+    // The strings have together at most 4,194,304 bytes.
+    ensures strings { IfOk result (λ list. StringsFit (kinds_of list)) }
     // Every refusal but want of memory is the first fault of the definition.
     ensures refused { IfErr result (λ fault. (fault ≡ LexFault.Memory) ⊎ (spec.tokens bytes.now ≡ Err fault)) }
 {

@@ -1,5 +1,5 @@
 -- What the calls answer is what they answer by the extents alone.
-use Rattle.std.proofs.Common.{◌≡◌, ℕ, suc, ◌+◌, ◌<◌, ◌≤◌, true, false, cond, eqb, ltb, List, [], ◌∷◌, length, take, drop, Option, Some, None, Result, Ok, Err, ℤ, pos, ◌+ℤ◌, slice_get, arith, refl, ap, inl, inr, ◌∙◌}
+use Rattle.std.proofs.Common.{◌≡◌, ℕ, suc, ◌+◌, ◌<◌, ◌≤◌, Bool, true, false, cond, eqb, ltb, List, [], ◌∷◌, length, take, drop, Option, Some, None, Result, Ok, Err, ℤ, pos, ◌+ℤ◌, slice_get, arith, refl, ap, inl, inr, ◌∙◌}
 use Rattle.std.proofs.lemmas.Bool.Decides.{leb_tells}
 use Rattle.std.proofs.lemmas.Option.{slice_get_past}
 use Rattle.k_mem.specs.declared.extent.Extent.{Extent}
@@ -7,7 +7,7 @@ use Rattle.k_mem.specs.declared.fault.MemTrap.{MemTrap}
 use Rattle.k_mem.specs.declared.fault.MemTrap.TheVariants.{ReadOnly}
 use Rattle.k_mem.specs.declared.pointer.Pointer.{Pointer}
 use Rattle.k_mem.specs.Memory.{Object, object_of}
-use Rattle.k_mem.specs.Calls.{where_live, where_within, where_both_live, element_of, store_of, shift_of, load_of, value_read, pointer_to, offset_within}
+use Rattle.k_mem.specs.Calls.{where_live, where_within, where_both_live, element_of, store_of, fill_of, first_of, length_of, shift_of, load_of, value_read, pointer_to, offset_within}
 use Rattle.k_mem.specs.Layout.{object_in, memory_in, Fill, extent_with, element_among, store_among, shift_among}
 use Rattle.k_mem.proofs.Extents.{fill_le}
 use Rattle.k_mem.proofs.Views.{length_kept, element_kept}
@@ -35,6 +35,16 @@ module _ (extents : List Extent) (cells : List (Option ℤ)) (made : ℕ) (fill 
   pub store_answer : (at : Pointer) → store_of (memory_in extents cells made) at ≡ store_among extents at
   store_answer at = where_kept extents cells 0 made at.object _ _ fill (λ e within.
       ap (λ (n : ℕ). where_within n at.offset (cond e.writable (Ok (e.first + at.offset)) (Err ReadOnly))) (length_kept cells e within))
+
+  pub fill_answer : (number : ℕ) → fill_of (memory_in extents cells made) number
+      ≡ where_live (extent_with extents number) (λ e. cond e.writable (Ok tt) (Err ReadOnly))
+  fill_answer number = where_kept extents cells 0 made number _ _ fill (λ e within. refl)
+
+  pub first_answer : (number : ℕ) → first_of (memory_in extents cells made) number ≡ where_live (extent_with extents number) (λ e. Ok e.first)
+  first_answer number = where_kept extents cells 0 made number _ _ fill (λ e within. refl)
+
+  pub length_answer : (number : ℕ) → length_of (memory_in extents cells made) number ≡ where_live (extent_with extents number) (λ e. Ok e.length)
+  length_answer number = where_kept extents cells 0 made number _ _ fill (λ e within. ap (λ (n : ℕ). Ok n) (length_kept cells e within))
 
   pub shift_answer : (at : Pointer) (by : ℤ) → shift_of (memory_in extents cells made) at by ≡ shift_among extents at by
   shift_answer at by = where_kept extents cells 0 made at.object _ _ fill (λ e within.
@@ -109,3 +119,23 @@ module _ (extents : List Extent) (cells : List (Option ℤ)) (made : ℕ) (fill 
   -- an element that is answered is one of the cells
   pub element_within : (element : ℕ) → element_among extents at ≡ Ok element → element < length cells
   element_within element answer = element_below extents 0 (length cells) at.object at.offset element fill answer
+
+-- an extent that may be written is the one of the number
+pub fill_found : (found : Option Extent) (e : Extent) → where_live found (λ e. cond e.writable (Ok e) (Err ReadOnly)) ≡ Ok e
+    → (found ≡ Some e) × (where_live {A = Unit {0}} found (λ e. cond e.writable (Ok tt) (Err ReadOnly)) ≡ Ok tt)
+fill_found None e answer = absurd (cc)
+fill_found (Some x) e answer = go x.writable answer
+  where
+    go : (b : Bool) → cond b (Ok x) (Err ReadOnly) ≡ Ok e → (Some x ≡ Some e) × (cond b (Ok tt) (Err ReadOnly) ≡ (let done : Result (Unit {0}) MemTrap = Ok tt in done))
+    go true answer = (cc, refl)
+    go false answer = absurd (cc)
+
+-- where there is none, setting elements is refused
+pub fill_refused : (found : Option Extent) (trap : MemTrap) → where_live found (λ e. cond e.writable (Ok e) (Err ReadOnly)) ≡ Err trap
+    → where_live {A = Unit {0}} found (λ e. cond e.writable (Ok tt) (Err ReadOnly)) ≡ Err trap
+fill_refused None trap answer = cc
+fill_refused (Some x) trap answer = go x.writable answer
+  where
+    go : (b : Bool) → cond b (Ok x) (Err ReadOnly) ≡ Err trap → cond b (Ok tt) (Err ReadOnly) ≡ (let refused : Result (Unit {0}) MemTrap = Err trap in refused)
+    go true answer = absurd (cc)
+    go false answer = cc

@@ -14,10 +14,11 @@ use Rattle.k_mem.proofs.Extents.{fill_le}
 use Rattle.k_mem.proofs.Views.{live_kept}
 
 -- an object with these elements
-with_elements : Extent → List (Option ℤ) → Object
+unfoldable pub with_elements : Extent → List (Option ℤ) → Object
 with_elements e elements = record { number = e.number; first = e.first; writable = e.writable; elements = elements }
 
-cons_eq : (x y : Object) (xs ys : List Object) → x ≡ y → xs ≡ ys → x ∷ xs ≡ y ∷ ys
+-- lists of equal heads and tails
+pub cons_eq : (x y : Object) (xs ys : List Object) → x ≡ y → xs ≡ ys → x ∷ xs ≡ y ∷ ys
 cons_eq x y xs ys p q = cc
 
 -- extents that have the same elements in two lists of cells are the same objects there
@@ -31,7 +32,7 @@ same_objects (e ∷ extents) cells cells' start end fill same =
     cons_eq _ _ _ _ (ap (with_elements e) (same e (omega (arith, fill.0, le)))) (same_objects extents cells cells' (start + e.length) end fill.1 same)
 
 -- the elements before k are those of the first k cells
-elements_cut : (cells : List (Option ℤ)) (k : ℕ) (e : Extent) → e.first + e.length ≤ k
+pub elements_cut : (cells : List (Option ℤ)) (k : ℕ) (e : Extent) → e.first + e.length ≤ k
     → take e.length (drop e.first (take k cells)) ≡ take e.length (drop e.first cells)
 elements_cut cells k e within =
     let split : e.first + (k - e.first) ≡ k = omega arith in
@@ -39,7 +40,7 @@ elements_cut cells k e within =
     ∙ take-take e.length (k - e.first) (drop e.first cells) (omega arith)
 
 -- more cells change no elements
-elements_grown : (cells more : List (Option ℤ)) (e : Extent) → e.first + e.length ≤ length cells
+pub elements_grown : (cells more : List (Option ℤ)) (e : Extent) → e.first + e.length ≤ length cells
     → take e.length (drop e.first (cells ++ more)) ≡ take e.length (drop e.first cells)
 elements_grown cells more e within =
     ap (take e.length) (drop-append-le e.first cells more (omega arith))
@@ -95,7 +96,8 @@ ascend_more : (extents : List Extent) (low made : ℕ) (e : Extent) → Ascend l
 ascend_more [] low made e ascend number = (omega (arith, ascend, number), omega (arith, number))
 ascend_more (x ∷ extents) low made e ascend number = (ascend.0, ascend_more extents (x.number + 1) made e ascend.1 number)
 
-within_limits : (live n made : ℕ) → is_over_limit live n made ≡ false → (live + n ≤ 4194304) × (made < 2 ^ 62)
+-- what isn't over the limits is within them
+pub within_limits : (live n made : ℕ) → is_over_limit live n made ≡ false → (live + n ≤ 4194304) × (made < 2 ^ 62)
 within_limits live n made within = elim (leb_tells (suc 4194304) (live + n)) [
   | inl over ↦ absurd (true≢false (sym (rw over.0 refl) ∙ within))
   | inr few ↦ elim (leb_tells (2 ^ 62) made) [

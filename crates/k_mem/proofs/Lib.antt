@@ -1,5 +1,11 @@
 pub mod Answers
 pub mod Extents
+pub mod Found
 pub mod Grown
+pub mod Histories
+pub mod LaidOut
+pub mod Made
+pub mod Numbers
+pub mod Values
 pub mod Views
 pub mod Written

@@ -1,5 +1,5 @@
 -- What the calls on a program's objects answer, and the memory that they leave.
-use Rattle.std.specs.Prelude.{ℕ, ◌≡◌, ◌+◌, ◌^◌, ◌==◌, ◌&&◌, ◌||◌, nat_lt, nat_le, Bool, true, false, if◌then◌else◌, List, [], ◌∷◌, ◌++◌, length, take, map, replicate, slice_get, slice_set, Option, Some, None, Result, Ok, Err, ℤ, pos, negsuc, ◌+ℤ◌, ◌-ℤ◌}
+use Rattle.std.specs.Prelude.{ℕ, ⊤, ◌≡◌, ◌+◌, ◌^◌, ◌==◌, ◌&&◌, ◌||◌, nat_lt, nat_le, Bool, true, false, if◌then◌else◌, List, [], ◌∷◌, ◌++◌, length, take, map, replicate, slice_get, slice_set, Option, Some, None, Result, Ok, Err, ℤ, pos, negsuc, ◌+ℤ◌, ◌-ℤ◌}
 use Rattle.std.specs.Int.{w8, cast_signed}
 use Rattle.k_mem.specs.declared.pointer.Pointer.{Pointer}
 use Rattle.k_mem.specs.declared.fault.MemTrap.{MemTrap}
@@ -38,13 +38,41 @@ abbrev pub store_of : Memory → Pointer → Result ℕ MemTrap
 store_of m at = where_live (object_of m at.object) (λ o. where_within (length o.elements) at.offset
     (if o.writable then Ok (o.first + at.offset) else Err ReadOnly))
 
--- the object with that value in its element at that offset
-abbrev pub with_value : Object → ℕ → ℤ → Object
-with_value o offset v = record o { elements = slice_set o.elements offset (Some v) }
+-- the object, with the elements that f makes of its own where it has that number
+abbrev pub rewritten : (List (Option ℤ) → List (Option ℤ)) → ℕ → Object → Object
+rewritten f number o = if o.number == number then record o { elements = f o.elements } else o
+
+-- the memory with that object rewritten, in which nothing else has changed
+abbrev pub with_rewritten : (List (Option ℤ) → List (Option ℤ)) → ℕ → Memory → Memory
+with_rewritten f number m = record m { live = map (rewritten f number) m.live }
+
+-- the elements with that value at that offset
+abbrev pub with_value : ℕ → ℤ → List (Option ℤ) → List (Option ℤ)
+with_value offset v elements = slice_set elements offset (Some v)
 
 -- the memory after a write: the element pointed to has that value, and nothing else has changed
 abbrev pub stored : Memory → Pointer → ℤ → Memory
-stored m at v = record m { live = map (λ o. if o.number == at.object then with_value o at.offset v else o) m.live }
+stored m at v = with_rewritten (with_value at.offset v) at.object m
+
+-- as many elements, set to the values and to 0 beyond them (C17 6.7.9p21); values past the last element are left out
+abbrev pub with_values : List ℤ → List (Option ℤ) → List (Option ℤ)
+with_values values elements = take (length elements) (map (λ v. Some v) values ++ replicate (length elements) (Some (pos 0)))
+
+-- the elements of an object may be set, where it isn't a literal's
+abbrev pub fill_of : Memory → ℕ → Result ⊤ MemTrap
+fill_of m number = where_live (object_of m number) (λ o. if o.writable then Ok tt else Err ReadOnly)
+
+-- the memory after that: the object's elements are set, and nothing else has changed
+abbrev pub filled : Memory → ℕ → List ℤ → Memory
+filled m number values = with_rewritten (with_values values) number m
+
+-- the number of an object's first element, or that which it would have
+abbrev pub first_of : Memory → ℕ → Result ℕ MemTrap
+first_of m number = where_live (object_of m number) (λ o. Ok o.first)
+
+-- how many elements an object has
+abbrev pub length_of : Memory → ℕ → Result ℕ MemTrap
+length_of m number = where_live (object_of m number) (λ o. Ok (length o.elements))
 
 -- an offset of 0 to `len`, one past the last element
 abbrev pub offset_within : ℕ → ℤ → Option ℕ

@@ -1,13 +1,13 @@
 -- How the objects are kept: the elements of all live objects in one list of cells, and for each object where
 -- its own begin and how many they are.
-use Rattle.std.specs.Prelude.{ℕ, ◌≡◌, ◌+◌, ◌^◌, ◌≤◌, ◌==◌, if◌then◌else◌, List, [], ◌∷◌, take, drop, map, find, Option, Result, Ok, Err, ℤ, pos, ◌+ℤ◌}
+use Rattle.std.specs.Prelude.{ℕ, ◌≡◌, ◌+◌, ◌^◌, ◌≤◌, ◌==◌, if◌then◌else◌, List, [], ◌∷◌, ◌++◌, take, drop, map, find, Option, Result, Ok, Err, ℤ, pos, ◌+ℤ◌}
 use Rattle.k_mem.specs.declared.extent.Extent.{Extent}
 use Rattle.k_mem.specs.declared.fault.MemTrap.{MemTrap}
 use Rattle.k_mem.specs.declared.fault.MemTrap.TheVariants.{ReadOnly}
 use Rattle.k_mem.specs.declared.pointer.Pointer.{Pointer}
 use Rattle.k_mem.specs.declared.start.Start.{Start}
 use Rattle.k_mem.specs.Memory.{Object, Memory}
-use Rattle.k_mem.specs.Calls.{is_writable, where_live, where_within, pointer_to, offset_within}
+use Rattle.k_mem.specs.Calls.{is_writable, with_values, where_live, where_within, pointer_to, offset_within}
 
 -- the object whose elements are those cells
 abbrev pub object_in : List (Option ℤ) → Extent → Object
@@ -20,6 +20,11 @@ objects_in extents cells = map (object_in cells) extents
 -- the extent of an object of that number whose n elements are the cells from `first` on
 abbrev pub extent_made : Start → ℕ → ℕ → ℕ → Extent
 extent_made start n number first = record { number = number; first = first; length = n; writable = is_writable start }
+
+-- the cells with the values in those from `first` on that are an object's, and with 0 beyond the values
+abbrev pub cells_set : List ℤ → List (Option ℤ) → ℕ → ℕ → List (Option ℤ)
+cells_set values cells first len =
+    take first cells ++ (with_values values (take len (drop first cells)) ++ drop (first + len) cells)
 
 -- the memory that they are seen as
 abbrev pub memory_in : List Extent → List (Option ℤ) → ℕ → Memory
@@ -62,6 +67,10 @@ element_among extents at = where_live (extent_with extents at.object) (λ e. whe
 abbrev pub store_among : List Extent → Pointer → Result ℕ MemTrap
 store_among extents at =
     where_live (extent_with extents at.object) (λ e. where_within e.length at.offset (if e.writable then Ok (e.first + at.offset) else Err ReadOnly))
+
+-- the extent of an object that may be written
+abbrev pub fill_among : List Extent → ℕ → Result Extent MemTrap
+fill_among extents number = where_live (extent_with extents number) (λ e. if e.writable then Ok e else Err ReadOnly)
 
 -- the pointer moved, by the extents alone
 abbrev pub shift_among : List Extent → Pointer → ℤ → Result Pointer MemTrap

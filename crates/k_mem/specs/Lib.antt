@@ -1,5 +1,5 @@
 pub mod Calls
+pub mod Changes
 pub mod Laws
 pub mod Layout
-pub mod Lemmas
 pub mod Memory

@@ -1,7 +1,7 @@
 //! Where the elements of a live object stand among the cells.
 ghost use Rattle.std.specs.Prelude.{◌≡◌, ◌+◌, ◌<◌, ◌≤◌, ◌^◌, ◌+ℤ◌, pos, length, slice_get, IfOk};
 ghost use Rattle.k_mem.specs.Calls.{where_live, where_within, where_both_live, offset_within, difference, is_same};
-ghost use Rattle.k_mem.specs.Layout.{AreExtents, extent_with, element_among, store_among, shift_among};
+ghost use Rattle.k_mem.specs.Layout.{AreExtents, extent_with, element_among, store_among, fill_among, shift_among};
 
 use crate::{MemTrap, Pointer};
 
@@ -80,6 +80,35 @@ pub fn writable_at(extents: &[Extent], at: Pointer) -> Result<u32, MemTrap>
     } else {
         Err(MemTrap::ReadOnly)
     }
+}
+
+/// The extent of a live object that may be written.
+pub fn writable_of(extents: &[Extent], number: u64) -> Result<Extent, MemTrap>
+    requires { AreExtents extents.now }
+    ensures { result ≡ fill_among extents.now number }
+{
+    let extent = extent_of(extents, number)?;
+    if extent.writable {
+        Ok(extent)
+    } else {
+        Err(MemTrap::ReadOnly)
+    }
+}
+
+/// The number of a live object's first element.
+pub fn first_of(extents: &[Extent], number: u64) -> Result<u32, MemTrap>
+    requires { AreExtents extents.now }
+    ensures { result ≡ where_live (extent_with extents.now number) (λ e. Ok e.first) }
+{
+    Ok(extent_of(extents, number)?.first)
+}
+
+/// How many elements a live object has.
+pub fn length_of(extents: &[Extent], number: u64) -> Result<u32, MemTrap>
+    requires { AreExtents extents.now }
+    ensures { result ≡ where_live (extent_with extents.now number) (λ e. Ok e.length) }
+{
+    Ok(extent_of(extents, number)?.length)
 }
 
 /// The pointer that lies `by` elements further on.

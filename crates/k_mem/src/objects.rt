@@ -2,10 +2,12 @@
 ghost use Rattle.std.specs.Prelude.{◌≡◌, ◌+◌, ◌^◌, ◌<◌, ◌≤◌, [], ◌∷◌, ◌++◌, length, vec_len, IfOk, OnOk, OnErr, ◌↔◌, None, Some};
 ghost use Rattle.k_mem.specs.Memory.{IsLaidOut, live_elements};
 ghost use Rattle.k_mem.specs.Layout.{extent_made};
-ghost use Rattle.k_mem.specs.Calls.{HasLength, elements_at, is_over_limit, push_of, popped, load_of, store_of, stored, element_of, shift_of, order_of, same_of};
+ghost use Rattle.k_mem.specs.Calls.{HasLength, elements_at, is_over_limit, push_of, popped, load_of, store_of, stored, fill_of, filled, first_of, length_of, element_of, shift_of, order_of, same_of};
 
-use crate::cells::{append_elements, cell_at};
-use crate::extent::{Extent, element_at, extent_at, order_among, same_among, shifted, writable_at};
+use crate::cells::{append_elements, cell_at, set_part};
+use crate::extent::{
+    self, Extent, element_at, extent_at, order_among, same_among, shifted, writable_at, writable_of,
+};
 use crate::{MemTrap, Pointer, PushFault, Start};
 use k_num::NoMemory;
 use std::alloc::Global;
@@ -125,6 +127,40 @@ impl Objects {
         let element = writable_at(&self.extents, at)?;
         self.cells[element as usize] = Some(v);
         Ok(element)
+    }
+
+    /// Sets all elements of an object: to the values from the first on, and to 0 beyond them. Values past the last
+    /// element are left out. A dead object is refused, and then a literal's.
+    pub fn fill(&mut self, object: u64, values: &[i128]) -> Result<(), MemTrap>
+        ensures answer { result ≡ fill_of self.old object }
+        ensures ok { OnOk result (self.new ≡ filled self.old object values.now) }
+        ensures err { OnErr result (self.new ≡ self.old) }
+        ensures laid_out { IsLaidOut self.new }
+    {
+        let extent = writable_of(&self.extents, object)?;
+        set_part(
+            &mut self.cells,
+            extent.first as usize,
+            extent.length as usize,
+            values,
+        );
+        Ok(())
+    }
+
+    /// The number of an object's first element, or the one that it would have. The others follow it.
+    pub fn first_element(&self, object: u64) -> Result<u32, MemTrap>
+        ensures element { result ≡ first_of self.now object }
+        ensures laid_out { IsLaidOut self.now }
+    {
+        extent::first_of(&self.extents, object)
+    }
+
+    /// How many elements an object has.
+    pub fn length(&self, object: u64) -> Result<u32, MemTrap>
+        ensures count { result ≡ length_of self.now object }
+        ensures laid_out { IsLaidOut self.now }
+    {
+        extent::length_of(&self.extents, object)
     }
 
     /// The number of the element pointed to, also of an unset one.

@@ -68,6 +68,41 @@ fn loads_and_stores(rt: HostRuntime) -> Result<(), Fail> {
 }
 
 #[test]
+fn elements_set_together(rt: HostRuntime) -> Result<(), Fail> {
+    let mut objects = Objects::new(rt.alloc());
+    four_objects(&rt, &mut objects)?;
+    let values = [7, -8, 9];
+    for (object, want) in [
+        (1, Ok(())),
+        (3, Ok(())),
+        (0, Err(MemTrap::ReadOnly)),
+        (2, Err(MemTrap::Dangling)),
+    ] {
+        assert_eq!(rt; objects.fill(object, &values), want, "object {object}");
+    }
+    for (pointer, want) in [
+        (at(0, 0), Ok((65, 0))),
+        (at(1, 0), Ok((7, 3))),
+        (at(1, 1), Ok((-8, 4))),
+        (at(1, 2), Ok((9, 5))),
+        (at(1, 3), Ok((0, 6))),
+        (at(3, 0), Ok((7, 7))),
+    ] {
+        assert_eq!(rt; objects.load(pointer), want, "at {pointer:?}");
+    }
+    for (object, first, length) in [
+        (0, Ok(0), Ok(3)),
+        (1, Ok(3), Ok(4)),
+        (2, Err(MemTrap::Dangling), Err(MemTrap::Dangling)),
+        (3, Ok(7), Ok(1)),
+    ] {
+        assert_eq!(rt; objects.first_element(object), first, "object {object}");
+        assert_eq!(rt; objects.length(object), length, "object {object}");
+    }
+    Ok(())
+}
+
+#[test]
 fn pointers(rt: HostRuntime) -> Result<(), Fail> {
     let mut objects = Objects::new(rt.alloc());
     four_objects(&rt, &mut objects)?;

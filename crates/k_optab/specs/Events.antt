@@ -6,7 +6,7 @@ use Rattle.k_optab.specs.declared.event.Event.{Event}
 use Rattle.k_optab.specs.declared.event.Event.TheVariants.{Op, Enter, Exit}
 use Rattle.k_optab.specs.declared.event.Src.{Src}
 
--- an operation of a run
+-- an operation of a run; its place is where in the source the construct stands that makes it
 pub record Operation : Type 0 where
   pub class : Class
   pub latency : ℕ

@@ -42,7 +42,7 @@ pub record Encloses (outer inner : Closed) : Type 0 where
   pub entered : outer.enter < inner.enter
   pub left : inner.exit < outer.exit
 
--- of the instances of the list that enclose this one, the nearest, which is entered last, stands at this place
+-- of the instances of the list that enclose this one, the nearest, which is entered last, stands at this place in the list
 pub record IsNearest (list : List Closed) (inner : Closed) (place : ℕ) : Type 0 where
   pub outer : Closed
   pub there : slice_get list place ≡ Some outer

@@ -7,20 +7,20 @@ use Rattle.k_optab.specs.declared.class.Class.TheVariants.{Move, Conv, Simple, M
 abbrev pub classes : List Class
 classes = Move ∷ Conv ∷ Simple ∷ Mul ∷ Div ∷ Load ∷ Store ∷ Test ∷ Call ∷ Input ∷ Output ∷ Select ∷ []
 
--- a class's place in that order
-abbrev pub place : Class → ℕ
-place Move = 0
-place Conv = 1
-place Simple = 2
-place Mul = 3
-place Div = 4
-place Load = 5
-place Store = 6
-place Test = 7
-place Call = 8
-place Input = 9
-place Output = 10
-place Select = 11
+-- a class's index in that order, and in a table of latencies
+abbrev pub index_of : Class → ℕ
+index_of Move = 0
+index_of Conv = 1
+index_of Simple = 2
+index_of Mul = 3
+index_of Div = 4
+index_of Load = 5
+index_of Store = 6
+index_of Test = 7
+index_of Call = 8
+index_of Input = 9
+index_of Output = 10
+index_of Select = 11
 
 -- a class's name in reports, listings and tables of latencies
 abbrev pub class_name : Class → List ℕ
@@ -58,10 +58,10 @@ standard_latencies = map standard_latency classes
 
 -- a class's latency in a table
 abbrev pub latency : List ℕ → Class → ℕ
-latency table class = slice_index table (place class)
+latency table class = slice_index table (index_of class)
 
--- each class stands at its place
-pub slice_get-classes : (class : Class) → slice_get classes (place class) ≡ Some class
+-- each class stands at its index
+pub slice_get-classes : (class : Class) → slice_get classes (index_of class) ≡ Some class
 slice_get-classes Move = refl
 slice_get-classes Conv = refl
 slice_get-classes Simple = refl

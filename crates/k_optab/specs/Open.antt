@@ -31,6 +31,6 @@ open_from (Exit ∷ events) before made depth = open_from events (before + 1) ma
 abbrev pub open_after : List Event → List Open
 open_after events = open_from events 0 0 0
 
--- the closed instance that an open one becomes where its Exit stands at this place, behind so many operations
+-- the closed instance that an open one becomes where its Exit stands at this place among the events, behind so many operations
 abbrev pub left_at : ℕ → ℕ → Open → Closed
 left_at exit end o = record { region = o.region; depth = o.depth; enter = o.enter; exit = exit; start = o.start; end = end }

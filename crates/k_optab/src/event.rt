@@ -16,7 +16,8 @@ pub struct Src {
 #[derive(Debug, Drop)]
 pub enum Event {
     /// An operation was made. Its sources stand in operand order, the control source last; an operand
-    /// whose value came from no operation has none. The latency is in units of the table of latencies.
+    /// whose value came from no operation has none. The latency is in units of the table of latencies, and the place is where in
+    /// the source the construct stands that makes the operation.
     Op {
         class: Class,
         latency: u64,

@@ -27,7 +27,7 @@ impl<const N: usize> Table<N> {
         Table { numbers: [v; N] }
     }
 
-    /// The number at a place.
+    /// The number at an index.
     pub fn get(&self, at: usize) -> u64
         requires { at < N }
         ensures { result ≡ slice_index self.now at }
@@ -35,7 +35,7 @@ impl<const N: usize> Table<N> {
         self.numbers[at]
     }
 
-    /// Puts `v` at a place.
+    /// Puts `v` at an index.
     pub fn set(&mut self, at: usize, v: u64)
         requires { at < N }
         ensures { self.new ≡ slice_set self.old at v }

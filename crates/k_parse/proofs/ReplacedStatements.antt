@@ -1,5 +1,5 @@
 -- Statements are given back by themselves without places and the places of their pieces.
-use Rattle.std.proofs.Common.{◌≡◌, ◌≢◌, List, [], ◌++◌, map, append_assoc, refl, sym, ap, ◌∙◌}
+use Rattle.std.proofs.Common.{◌≡◌, ◌≢◌, List, [], ◌∷◌, ◌++◌, map, append_assoc, refl, sym, ap, ◌∙◌}
 use Rattle.std.proofs.lemmas.List.{map-append}
 use Rattle.k_num.specs.declared.place.Place.{Place}
 use Rattle.k_tree.specs.declared.tokens.mark.Mark.TheVariants as mark
@@ -8,17 +8,19 @@ use Rattle.k_tree.specs.declared.tree.declaration.Declarator.{Declarator}
 use Rattle.k_tree.specs.declared.tree.statement.First.{First}
 use Rattle.k_tree.specs.declared.tree.statement.First.TheVariants as first
 use Rattle.k_tree.specs.declared.tree.statement.Stmt.{Stmt}
+use Rattle.k_tree.specs.declared.tree.expression.Expr.{Expr}
 use Rattle.k_tree.specs.declared.tree.statement.Part.{Part}
+use Rattle.k_tree.specs.declared.tree.statement.Part.TheVariants as part
 use Rattle.k_tree.specs.declared.tree.statement.Stmt.TheVariants as stmt
 use Rattle.k_tree.specs.Bare.{bare_first, bare_stmt, bare_part}
 use Rattle.k_tree.specs.Folds.{stmt_Expr, stmt_Empty, stmt_Block, if_alone as if_alone_folds, if_else as if_else_folds, stmt_While, stmt_DoWhile, stmt_For, stmt_Switch, part_Case, part_Default, part_Does, stmt_Break, stmt_Continue, stmt_Return, stmt_Declare}
-use Rattle.k_tree.specs.Places.{plain, kinds_of, lay_expr, lay_declaration, lay_first, lay_stmt, lay_stmts, lay_switched}
-use Rattle.k_tree.specs.Ranked.{RankedDeclaration, RankedFirst, RankedStmt, RankedParts, value, empty, block, if_alone, if_else, while_loop, do_loop, for_loop, switch_stmt, RankedSwitch, no_labels, case_label, default_label, does, break_loop, continue_loop, return_value, no_parts, statement, declaration}
+use Rattle.k_tree.specs.Places.{plain, kinds_of, lay_expr, lay_declaration, lay_first, lay_part, lay_stmt, lay_stmts, lay_switched}
+use Rattle.k_tree.specs.Ranked.{Ranked, RankedDeclaration, RankedFirst, RankedStmt, RankedParts, value, empty, block, if_alone, if_else, while_loop, do_loop, for_loop, switch_stmt, RankedSwitch, no_labels, case_label, default_label, does, break_loop, continue_loop, return_value, no_parts, statement, declaration}
 use Rattle.k_tree.specs.Begins.{begins_stmt}
 use Rattle.k_tree.specs.Spelling.{the_mark, spell_stmt}
 use Rattle.k_tree.proofs.Begin.{stmt_begins, not_empty}
 use Rattle.k_tree.proofs.Laid.{stmt_spelled}
-use Rattle.k_parse.proofs.ReplacedFilling.{fill_first, fill_stmt, fill_stmts, fill_switched}
+use Rattle.k_parse.proofs.ReplacedFilling.{fill_first, fill_part, fill_stmt, fill_stmts, fill_switched}
 use Rattle.k_parse.proofs.ReplacedPieces.{blank, Fills, blank-at, places-append, places-at, append_laid}
 use Rattle.k_parse.proofs.ReplacedExpressions.{expr_blank, expr_filled, expr_laid, option_blank, option_filled}
 use Rattle.k_parse.proofs.ReplacedDeclarations.{declaration_blank, declaration_filled, declaration_laid}
@@ -73,6 +75,22 @@ mutual
 stmt_laid : (s : Stmt) → RankedStmt s → lay_stmt s ≢ []
 stmt_laid s x q = not_empty begins_stmt (spell_stmt s) (stmt_begins s x) (sym (stmt_spelled s x) ∙ ap kinds_of q)
 
+case_filled : (p : Place) (a : Expr) → Ranked 2 a → Fills (lay_part (part.Case p a)) (fill_part (bare_part (part.Case p a))).from (part.Case p a)
+case_filled p a x ps = simp (part_Case, places-append, append_assoc, expr_filled 2 a x)
+
+default_filled : (p : Place) → Fills (lay_part (part.Default p)) (fill_part (bare_part (part.Default p))).from (part.Default p)
+default_filled p ps = simp (part_Default)
+
+does_filled : (p : Place) (s : Stmt) → RankedStmt s → Fills (lay_stmt s) (fill_stmt (bare_stmt s)).from s
+    → Fills (lay_part (part.Does p s)) (fill_part (bare_part (part.Does p s))).from (part.Does p s)
+does_filled p s x filled ps = simp (part_Does, places-at p (lay_stmt s) (stmt_laid s x), filled)
+
+-- a part of a `switch` before others
+part_before : (q : Part) (parts : List Part) → Fills (lay_part q) (fill_part (bare_part q)).from q
+    → Fills (lay_switched parts) (fill_switched (map bare_part parts)) parts
+    → Fills (lay_switched (q ∷ parts)) (fill_switched (map bare_part (q ∷ parts))) (q ∷ parts)
+part_before q parts one others ps = simp (places-append, append_assoc, one, others)
+
 mutual
   stmt_filled : (s : Stmt) → RankedStmt s → Fills (lay_stmt s) (fill_stmt (bare_stmt s)).from s
   stmt_filled _ (value p a x) ps =
@@ -101,9 +119,7 @@ mutual
 
   switched_filled : (parts : List Part) → RankedSwitch parts → Fills (lay_switched parts) (fill_switched (map bare_part parts)) parts
   switched_filled _ no_labels ps = refl
-  switched_filled _ (case_label p a parts x y) ps =
-      simp (part_Case, places-append, append_assoc, expr_filled 2 a x, switched_filled parts y)
-  switched_filled _ (default_label p parts y) ps = simp (part_Default, places-append, append_assoc, switched_filled parts y)
+  switched_filled _ (case_label p a parts x y) ps = part_before (part.Case p a) parts (case_filled p a x) (switched_filled parts y) ps
+  switched_filled _ (default_label p parts y) ps = part_before (part.Default p) parts (default_filled p) (switched_filled parts y) ps
   switched_filled _ (does p s parts x y) ps =
-      let laid : lay_stmt s ≢ [] = stmt_laid s x in
-      simp (part_Does, places-append, places-at p (lay_stmt s) laid, append_assoc, stmt_filled s x, switched_filled parts y)
+      part_before (part.Does p s) parts (does_filled p s x (stmt_filled s x)) (switched_filled parts y) ps

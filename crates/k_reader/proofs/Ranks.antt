@@ -1,4 +1,4 @@
--- The table of ranks has the rank of each binary operator.
+-- The ranks of the binary operators are those of their marks.
 use Rattle.std.proofs.Common.{ℕ, ◌≡◌, ◌≤◌, ◌+◌, refl, arith, Some, None, ◌∙◌, sym, ap, subst}
 use Rattle.k_num.specs.declared.numbers.Bin.{Bin}
 use Rattle.k_num.specs.declared.numbers.Bin.TheVariants.{Add, Sub, Mul, Div, Rem, And, Or, Xor, Shl, Shr, Lt, Le, Gt, Ge, Eq, Ne, LogAnd, LogOr}
@@ -29,7 +29,7 @@ rank_small Ne = omega arith
 rank_small LogAnd = omega arith
 rank_small LogOr = omega arith
 
--- what the table says of a mark is its rank as a binary operator
+-- the rank of the operator that a mark is, is its rank as a binary operator
 pub table_ranks : (m : Mark) → ranked (operator_of m) ≡ binary_rank m
 table_ranks mark.LeftBracket = refl
 table_ranks mark.RightBracket = refl

@@ -1,36 +1,28 @@
--- The ranks of the binary operators, as a table in the order of the operators (C17 6.5.5 to 6.5.14).
-use Rattle.std.specs.Prelude.{ℕ, List, [], ◌∷◌, Option, Some, None, slice_index}
+-- The ranks of the binary operators (C17 6.5.5 to 6.5.14).
+use Rattle.std.specs.Prelude.{ℕ, Option, Some, None}
 use Rattle.k_num.specs.declared.numbers.Bin.{Bin}
 use Rattle.k_num.specs.declared.numbers.Bin.TheVariants.{Add, Sub, Mul, Div, Rem, And, Or, Xor, Shl, Shr, Lt, Le, Gt, Ge, Eq, Ne, LogAnd, LogOr}
 
--- an operator's place in the table
-abbrev pub place : Bin → ℕ
-place Add = 0
-place Sub = 1
-place Mul = 2
-place Div = 3
-place Rem = 4
-place And = 5
-place Or = 6
-place Xor = 7
-place Shl = 8
-place Shr = 9
-place Lt = 10
-place Le = 11
-place Gt = 12
-place Ge = 13
-place Eq = 14
-place Ne = 15
-place LogAnd = 16
-place LogOr = 17
-
--- the table
-abbrev pub ranks : List ℕ
-ranks = 11 ∷ 11 ∷ 12 ∷ 12 ∷ 12 ∷ 7 ∷ 5 ∷ 6 ∷ 10 ∷ 10 ∷ 9 ∷ 9 ∷ 9 ∷ 9 ∷ 8 ∷ 8 ∷ 4 ∷ 3 ∷ []
-
--- the rank of an operator
+-- the rank of an operator: the higher it is, the tighter the operator binds
 abbrev pub rank_of : Bin → ℕ
-rank_of operator = slice_index ranks (place operator)
+rank_of Mul = 12
+rank_of Div = 12
+rank_of Rem = 12
+rank_of Add = 11
+rank_of Sub = 11
+rank_of Shl = 10
+rank_of Shr = 10
+rank_of Lt = 9
+rank_of Le = 9
+rank_of Gt = 9
+rank_of Ge = 9
+rank_of Eq = 8
+rank_of Ne = 8
+rank_of And = 7
+rank_of Xor = 6
+rank_of Or = 5
+rank_of LogAnd = 4
+rank_of LogOr = 3
 
 -- the rank of an operator, if a mark is one
 abbrev pub ranked : Option Bin → Option ℕ

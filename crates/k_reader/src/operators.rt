@@ -5,7 +5,6 @@ ghost use Rattle.k_reader.specs.Operators as spec;
 ghost use Rattle.k_reader.specs.Ranks as ranks;
 
 use k_num::Bin;
-use k_optab::Table;
 use k_tree::{Mark, Word, operator_of};
 
 /// An operator behind an operand: the least rank of that operand, the rank of what it makes, and the least rank of an
@@ -17,34 +16,23 @@ pub struct Binding {
     pub right: u8,
 }
 
-/// The ranks of the binary operators, in the order of `Bin`.
-fn ranks() -> Table<18>
-    ensures { result ≡ ranks.ranks }
-{
-    let mut table = Table::filled(9);
-    table.set(Bin::Add as usize, 11);
-    table.set(Bin::Sub as usize, 11);
-    table.set(Bin::Mul as usize, 12);
-    table.set(Bin::Div as usize, 12);
-    table.set(Bin::Rem as usize, 12);
-    table.set(Bin::And as usize, 7);
-    table.set(Bin::Or as usize, 5);
-    table.set(Bin::Xor as usize, 6);
-    table.set(Bin::Shl as usize, 10);
-    table.set(Bin::Shr as usize, 10);
-    table.set(Bin::Eq as usize, 8);
-    table.set(Bin::Ne as usize, 8);
-    table.set(Bin::LogAnd as usize, 4);
-    table.set(Bin::LogOr as usize, 3);
-    table
-}
-
 /// The rank of a binary operator.
 fn rank_of(operator: Bin) -> u8
     ensures rank { result ≡ ranks.rank_of operator }
     ensures small { result ≤ 12 }
 {
-    ranks().get(operator as usize) as u8
+    match operator {
+        Bin::Mul | Bin::Div | Bin::Rem => 12,
+        Bin::Add | Bin::Sub => 11,
+        Bin::Shl | Bin::Shr => 10,
+        Bin::Lt | Bin::Le | Bin::Gt | Bin::Ge => 9,
+        Bin::Eq | Bin::Ne => 8,
+        Bin::And => 7,
+        Bin::Xor => 6,
+        Bin::Or => 5,
+        Bin::LogAnd => 4,
+        Bin::LogOr => 3,
+    }
 }
 
 /// Is it an operator of assignment (C17 6.5.16)?

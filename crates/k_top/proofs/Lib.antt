@@ -1,4 +1,3 @@
-mod LexEnds
 mod Growing
 mod ReportLemmas
 mod EndingLemmas

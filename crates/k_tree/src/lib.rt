@@ -18,6 +18,3 @@ pub use tree::declaration::{Declarator, Init, Param, Params};
 pub use tree::expression::Expr;
 pub use tree::statement::{First, Part, Stmt};
 pub use tree::unit::{Head, Item, Unit};
-
-#[cfg(test)]
-mod tests;

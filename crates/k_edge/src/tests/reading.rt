@@ -30,20 +30,22 @@ where
 
 #[test]
 fn sources_to_their_end(rt: HostRuntime) -> Result<(), Fail> {
-    for (count, failing, limit, want) in [
-        (7, 9, 7, Ok(7)),
-        (7, 9, u64::MAX, Ok(7)),
-        (7, 9, 6, Err(ReadAllFault::TooLong)),
-        (7, 9, 0, Err(ReadAllFault::TooLong)),
-        (0, 9, 0, Ok(0)),
-        (7, 0, 7, Err(ReadAllFault::ReadFault)),
-        (7, 1, 7, Err(ReadAllFault::ReadFault)),
-        (7, 1, 6, Err(ReadAllFault::TooLong)),
-        (5_000, 9, 5_000, Ok(5_000)),
-        (5_000, 9, 4_999, Err(ReadAllFault::TooLong)),
-        (5_000, 1, 5_000, Err(ReadAllFault::ReadFault)),
+    let few = b"aaaaaaa".as_slice();
+    let many = MANY.as_slice();
+    for (bytes, failing, limit, want) in [
+        (few, 9, 7, Ok(7)),
+        (few, 9, u64::MAX, Ok(7)),
+        (few, 9, 6, Err(ReadAllFault::TooLong)),
+        (few, 9, 0, Err(ReadAllFault::TooLong)),
+        (b"".as_slice(), 9, 0, Ok(0)),
+        (few, 0, 7, Err(ReadAllFault::ReadFault)),
+        (few, 1, 7, Err(ReadAllFault::ReadFault)),
+        (few, 1, 6, Err(ReadAllFault::TooLong)),
+        (many, 9, 5_000, Ok(5_000)),
+        (many, 9, 4_999, Err(ReadAllFault::TooLong)),
+        (many, 1, 5_000, Err(ReadAllFault::ReadFault)),
     ] {
-        let source = MemSource::new(rt.alloc(), &MANY[..count], &[failing])?;
+        let source = MemSource::new(rt.alloc(), bytes, &[failing])?;
         expect_all(&rt, rt.alloc(), source, limit, want);
     }
     expect_all(

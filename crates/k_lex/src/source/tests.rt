@@ -43,7 +43,7 @@ fn show(alloc: Global, source: &[u8]) -> Result<String, AllocError> {
 
 #[test]
 fn refusals(rt: HostRuntime) -> Result<(), Fail> {
-    let cases: [(&str, &str); 16] = [
+    let cases: [(&str, &str); 19] = [
         ("a @", "BadByte(Place { line: 1, column: 3 })"),
         ("a # b", "BadByte(Place { line: 1, column: 3 })"),
         ("a /* b", "OpenComment(Place { line: 1, column: 3 })"),
@@ -63,6 +63,9 @@ fn refusals(rt: HostRuntime) -> Result<(), Fail> {
             "#define f(x) x",
             "BadDirective(Place { line: 1, column: 1 })",
         ),
+        ("# /* open", "BadDirective(Place { line: 1, column: 1 })"),
+        ("x\n # $", "BadDirective(Place { line: 2, column: 2 })"),
+        ("# 'ab'", "BadDirective(Place { line: 1, column: 1 })"),
         (
             "#include <stdio.h> x",
             "BadDirective(Place { line: 1, column: 1 })",

@@ -64,7 +64,7 @@ impl Sink for Cramped {
 }
 
 /// The status of the call on these words, where `a.c` holds a program.
-fn cramped<K: Sink, E: Sink>(
+fn status_over<K: Sink, E: Sink>(
     alloc: Global,
     words: &[&str],
     out: &mut K,
@@ -79,11 +79,17 @@ fn cramped<K: Sink, E: Sink>(
 #[test]
 fn sinks_without_memory(rt: HostRuntime) -> Result<(), Fail> {
     let mut sink = SureSink::new(rt.alloc())?;
-    assert_eq!(rt; cramped(rt.alloc(), RUN, &mut Cramped, &mut sink)?, 8);
+    assert_eq!(rt; status_over(rt.alloc(), RUN, &mut Cramped, &mut sink)?, 8);
     assert!(rt; sink.bytes() == b"kremlin: no memory\n".as_slice());
-    assert_eq!(rt; cramped(rt.alloc(), RUN, &mut Cramped, &mut Cramped)?, 8);
+    assert_eq!(rt;
+        status_over(rt.alloc(), RUN, &mut Cramped, &mut Cramped)?,
+        8
+    );
     let mut out = SureSink::new(rt.alloc())?;
-    assert_eq!(rt; cramped(rt.alloc(), &["go"], &mut out, &mut Cramped)?, 8);
+    assert_eq!(rt;
+        status_over(rt.alloc(), &["go"], &mut out, &mut Cramped)?,
+        8
+    );
     assert!(rt; out.bytes().is_empty());
     Ok(())
 }

@@ -30,7 +30,7 @@ static EXPRESSIONS: [(&[u8], u32); 19] = [
 ];
 
 /// The block of a function with one statement, which stands in column 14.
-static STATEMENTS: [&[u8]; 12] = [
+static STATEMENTS: [&[u8]; 13] = [
     b"int f(void){ x + y;}",
     b"int f(void){ ;}",
     b"int f(void){ { ;}}",
@@ -38,6 +38,7 @@ static STATEMENTS: [&[u8]; 12] = [
     b"int f(void){ while(x);}",
     b"int f(void){ do;while(x);}",
     b"int f(void){ for(;;);}",
+    b"int f(void){ switch(x){}}",
     b"int f(void){ break;}",
     b"int f(void){ continue;}",
     b"int f(void){ return x;}",

@@ -107,7 +107,8 @@ static SYNTAX: [(&[u8], &str); 10] = [
 ];
 
 /// Sources whose trees are not of the form.
-static OTHER_FORMS: [&[u8]; 32] = [
+static OTHER_FORMS: [&[u8]; 33] = [
+    b"int main(void){switch(0){case 1:;}return 0;}",
     b"int main(void){return 2147483648;}",
     b"int main(void){return 4294967296;}",
     b"int main(void){return 0xffffffff;}",

@@ -1,4 +1,4 @@
-use Rattle.std.proofs.Common.{◌≡◌, ◌+◌, ◌*◌, ◌<◌, ◌^◌, ◌++◌, ◌≤◌}
+use Rattle.std.proofs.Common.{◌≡◌, ◌*◌, ◌<◌, ◌^◌, ◌++◌}
 use Rattle.k_gen.specs.Draw.{state}
 use Rattle.k_gen.specs.Text.{head, loop_lines}
 use Rattle.k_gen.proofs.text.generate.Given as goal

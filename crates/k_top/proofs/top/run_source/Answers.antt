@@ -1,9 +1,5 @@
 use Rattle.k_top.proofs.EndingLemmas.{source_ended}
-use Rattle.k_top.proofs.LexEnds.{ends_once}
 use Rattle.k_top.proofs.top.run_source.Goals as goal
-
-pub run_tokens-requires : goal.run_tokens-requires
-run_tokens-requires g c = ends_once c.args.source.now c.in-Ok.tokens c.in-Ok.ensures.tokens
 
 pub returns-in-Ok : goal.returns-in-Ok
 returns-in-Ok g c = source_ended c.args.source.now c.in-Ok.tokens c.run_tokens.result _ _ c.in-Ok.ensures.tokens c.run_tokens.ensures

@@ -11,13 +11,13 @@ pub returns-clause-indexed : goal.returns-clause-indexed
 returns-clause-indexed c =
     let m = c.args.self.now in
     let n : vec_len m.list ≡ length m.list.items = search rules in
-    let d : Definition = record { name = c.args.name; body = c.args.body; plan = c.in_ok-plan.plan } in
-    IndexLaws.indexed_push m _ d c.as_slice-2.result.now c.as_slice-3.result.now c.len.result c.requires.indexed c.in_ok-push.ensures.items c.as_slice-2.ensures c.as_slice-3.ensures (c.len.ensures ∙ n)
-    c.in_ok-add_number.ensures c.in_ok-add_names.ensures
+    let d : Definition = record { name = c.args.name; body = c.args.body; plan = c.in-Ok.plan } in
+    IndexLaws.indexed_push m _ d c.as_slice-2.result.now c.as_slice-3.result.now c.len-number.result c.requires.indexed c.in_ok-push.ensures.items c.as_slice-2.ensures c.as_slice-3.ensures (c.len-number.ensures ∙ n)
+    c.in_default.ensures c.in_default-add_names.ensures
 
 pub returns-clause-planned : goal.returns-clause-planned
 returns-clause-planned c =
     let m = c.args.self.now in
-    let d : Definition = record { name = c.args.name; body = c.args.body; plan = c.in_ok-plan.plan } in
-    let P : List Lexeme → Type 0 = λ body. IsNewPlan m body c.in_ok-plan.plan body in
-    PlanLaws.planned_push m.list.items d c.push.new.self.items c.in_ok-push.ensures.items c.requires.planned (subst P c.as_slice.ensures c.in_ok-plan.ensures)
+    let d : Definition = record { name = c.args.name; body = c.args.body; plan = c.in-Ok.plan } in
+    let P : List Lexeme → Type 0 = λ body. IsNewPlan m body c.in-Ok.plan body in
+    PlanLaws.planned_push m.list.items d c.push.new.self.items c.in_ok-push.ensures.items c.requires.planned (subst P c.as_slice.ensures c.in-Ok.ensures)

@@ -1,0 +1,20 @@
+pub mod Again
+pub mod Coding
+pub mod Counting
+pub mod EntryTrees
+pub mod Equal
+mod Examples
+pub mod Forests
+pub mod Gathered
+pub mod Lists
+pub mod Machine
+pub mod Numbers
+pub mod Ordered
+pub mod Owed
+pub mod Places
+pub mod Pushes
+pub mod Refusals
+pub mod Sound
+pub mod Tallying
+pub mod Unique
+pub mod Walking

@@ -1,0 +1,7 @@
+pub mod Changed
+pub mod Contents
+pub mod Entries
+pub mod Laws
+pub mod Places
+pub mod Plain
+pub mod Rows

@@ -1,0 +1,254 @@
+-- What the calls make of rows, and what that is of the maps that they stand for.
+use Rattle.std.proofs.Common.{◌≡◌, ℕ, ◌+◌, ◌-◌, ◌<◌, ◌≤◌, ◌≢◌, ◌⊎◌, ⊎_elim, subst, zero, suc, List, [], ◌∷◌, ◌++◌, length, take, map, replicate, max, get_or, set, get_or-set_same, get_or-set_other, cond, Bool, true, false, ◌&&◌, nat_le, nat_lt, ◌==◌, refl, ap, sym, ◌∙◌, arith, Option, Some, None}
+use Rattle.std.specs.Prelude.{slice_index}
+use Rattle.std.proofs.lemmas.Bool.Decides.{nat_tests}
+use Rattle.std.proofs.lemmas.Bool.{cases_eq, cases_lt}
+use Rattle.std.proofs.lemmas.List.{ext_get_or, get_or-replicate, get_or_past, length-replicate}
+use Rattle.k_shadow.specs.declared.row.Row.{Row}
+use Rattle.k_shadow.specs.Content.{with_time, set_times, without}
+use Rattle.k_shadow.specs.Numbers.{WereGiven}
+use Rattle.k_shadow.specs.Rows.{row_time, blank_row, with_places, times_of, levels_of, row_at, WereStamped}
+use Rattle.k_shadow.proofs.Places.{length-with_places, with_places-append, with_places-take, get_or-with_places, map-with_places, with_places_same}
+
+-- a number that was given later is above every stamp
+pub WereGiven-later : (given later : ℕ) (ns : List ℕ) → given ≤ later → WereGiven given ns → WereGiven later ns
+WereGiven-later given later [] le h = tt
+WereGiven-later given later (n ∷ ns) le h = (h.0, omega arith, WereGiven-later given later ns le h.2)
+
+pub WereGiven-append : (given : ℕ) (ns : List ℕ) (n : ℕ) → WereGiven given ns → 0 < n → n ≤ given → WereGiven given (ns ++ n ∷ [])
+WereGiven-append given [] n h low high = (low, high, tt)
+WereGiven-append given (m ∷ ns) n h low high = (h.0, h.1, WereGiven-append given ns n h.2 low high)
+
+pub WereGiven-take : (given k : ℕ) (ns : List ℕ) → WereGiven given ns → WereGiven given (take k ns)
+WereGiven-take given zero ns h = tt
+WereGiven-take given (suc k) [] h = tt
+WereGiven-take given (suc k) (n ∷ ns) h = (h.0, h.1, WereGiven-take given k ns h.2)
+
+-- the number of the next instance after those that were given
+pub WereGiven-next : (given : ℕ) (ns : List ℕ) → WereGiven given ns → WereGiven (given + 1) (ns ++ (given + 1) ∷ [])
+WereGiven-next given ns h = WereGiven-append (given + 1) ns (given + 1) (WereGiven-later given (given + 1) ns (omega arith) h) (omega arith) (omega arith)
+
+pub WereStamped-later : (given later : ℕ) (rows : List Row) → given ≤ later → WereStamped given rows → WereStamped later rows
+WereStamped-later given later [] le h = tt
+WereStamped-later given later (row ∷ rows) le h = (omega arith, WereStamped-later given later rows le h.1)
+
+pub WereStamped-append : (given : ℕ) (rows more : List Row) → WereStamped given rows → WereStamped given more → WereStamped given (rows ++ more)
+WereStamped-append given [] more h m = m
+WereStamped-append given (row ∷ rows) more h m = (h.0, WereStamped-append given rows more h.1 m)
+
+pub WereStamped-take : (given k : ℕ) (rows : List Row) → WereStamped given rows → WereStamped given (take k rows)
+WereStamped-take given zero rows h = tt
+WereStamped-take given (suc k) [] h = tt
+WereStamped-take given (suc k) (row ∷ rows) h = (h.0, WereStamped-take given k rows h.1)
+
+pub WereStamped-front : (given : ℕ) (rows : List Row) (row : Row) → WereStamped given (rows ++ row ∷ []) → WereStamped given rows
+WereStamped-front given [] row h = tt
+WereStamped-front given (r ∷ rows) row h = (h.0, WereStamped-front given rows row h.1)
+
+pub WereStamped-last : (given : ℕ) (rows : List Row) (row : Row) → WereStamped given (rows ++ row ∷ []) → row.stamp ≤ given
+WereStamped-last given [] row h = h.0
+WereStamped-last given (r ∷ rows) row h = WereStamped-last given rows row h.1
+
+-- a row that was written before an instance began has no time at its level
+pub row_time_later : (row : Row) (n level : ℕ) → row.stamp < n → row_time row n level ≡ 0
+row_time_later row n level h = grind (arith, nat_tests)
+
+-- a row that was written since has the time that was written
+pub row_time_since : (row : Row) (n level : ℕ) → n ≤ row.stamp → row_time row n level ≡ slice_index row.times level
+row_time_since row n level h = grind (arith, nat_tests)
+
+-- the time at a level that is live, by the maps
+pub time_from_rows : (rows : ℕ → Row) (live : List ℕ) (level loc : ℕ) → level < length live → get_or (levels_of rows live) level (λ _. 0) loc ≡ row_time (rows loc) (get_or live level 0) level
+time_from_rows rows live level loc h =
+    ap (λ (m : ℕ → ℕ). m loc) (get_or-with_places (λ n j at. row_time (rows at) n j) 0 live level (λ _. 0) h ∙ ap (λ j at. row_time (rows at) (get_or live level 0) j) (omega arith))
+
+-- a level is entered: no row has a time there
+pub levels-entered : (rows : ℕ → Row) (live : List ℕ) (given : ℕ) → ((loc : ℕ) → (rows loc).stamp ≤ given) → levels_of rows (live ++ (given + 1) ∷ []) ≡ levels_of rows live ++ (λ _. 0) ∷ []
+levels-entered rows live given h =
+    let apart : (at : ℕ) → (rows at).stamp < given + 1 = λ at. omega (arith, h at) in
+    with_places-append (λ n j at. row_time (rows at) n j) 0 live (given + 1)
+    ∙ ap (λ (m : ℕ → ℕ). levels_of rows live ++ m ∷ []) (λ i at. row_time_later (rows at) (given + 1) (0 + length live) (apart at) i)
+
+-- the innermost level is left
+pub levels-left : (rows : ℕ → Row) (live : List ℕ) → levels_of rows (take (length live - 1) live) ≡ take (length (levels_of rows live) - 1) (levels_of rows live)
+levels-left rows live =
+    with_places-take (λ n j at. row_time (rows at) n j) 0 (length live - 1) live
+    ∙ ap (λ n. take (n - 1) (levels_of rows live)) (sym (length-with_places (λ n j at. row_time (rows at) n j) 0 live))
+
+-- rows that agree stand for the same maps
+pub levels_same : (rows others : ℕ → Row) (live : List ℕ) → ((loc : ℕ) → others loc ≡ rows loc) → levels_of others live ≡ levels_of rows live
+levels_same rows others live h = with_places_same (λ n j at. row_time (others at) n j) (λ n j at. row_time (rows at) n j) 0 live (λ n j. λ i at. row_time (h at i) n j)
+
+-- a map that was set at a location, there and elsewhere
+pub with_time_here : (loc t : ℕ) (m : ℕ → ℕ) → with_time loc t m loc ≡ t
+with_time_here loc t m = grind (arith, nat_tests)
+
+pub with_time_there : (loc t : ℕ) (m : ℕ → ℕ) (at : ℕ) → at ≢ loc → with_time loc t m at ≡ m at
+with_time_there loc t m at ne = grind (arith, nat_tests)
+
+-- rows of which one was written, and the others are as before
+pub record IsWritten (rows others : ℕ → Row) (loc given : ℕ) (times : List ℕ) : Type 0 where
+  pub stamp : (others loc).stamp ≡ given
+  pub each : (k : ℕ) → k < length times → slice_index (others loc).times k ≡ slice_index times k
+  pub rest : (at : ℕ) → at ≢ loc → others at ≡ rows at
+
+-- one map after a write
+with_time_row : (rows others : ℕ → Row) (loc n j t given : ℕ) → n ≤ given → (others loc).stamp ≡ given → slice_index (others loc).times j ≡ t → ((at : ℕ) → at ≢ loc → others at ≡ rows at) → (at : ℕ) → row_time (others at) n j ≡ with_time loc t (λ l. row_time (rows l) n j) at
+with_time_row rows others loc n j t given low stamp time rest at =
+    let m : ℕ → ℕ = λ l. row_time (rows l) n j in
+    let P : ℕ → Type 0 = λ x. row_time (others x) n j ≡ with_time loc t m x in
+    let low_enough : n ≤ (others loc).stamp = omega (arith, stamp) in
+    ⊎_elim
+    (λ (e : at ≡ loc). subst P (sym e) (row_time_since (others loc) n j low_enough ∙ time ∙ sym (with_time_here loc t m)))
+    (λ (ne : at ≢ loc). ap (λ r. row_time r n j) (rest at ne) ∙ sym (with_time_there loc t m at ne))
+    (cases_eq at loc)
+
+-- the maps after a write, from the place k on
+levels-written-from : (rows others : ℕ → Row) (loc given k : ℕ) (times live : List ℕ) → (others loc).stamp ≡ given → ((at : ℕ) → at ≢ loc → others at ≡ rows at) → ((i : ℕ) → i < length times → slice_index (others loc).times (k + i) ≡ slice_index times i) → WereGiven given live → length times ≡ length live
+    → with_places (λ n j at. row_time (others at) n j) k live ≡ set_times loc times (with_places (λ n j at. row_time (rows at) n j) k live)
+levels-written-from rows others loc given k [] [] stamp rest each live same = refl
+levels-written-from rows others loc given k [] (n ∷ ns) stamp rest each live same = absurd (omega arith)
+levels-written-from rows others loc given k (t ∷ ts) [] stamp rest each live same = absurd (omega arith)
+levels-written-from rows others loc given k (t ∷ ts) (n ∷ ns) stamp rest each live same =
+    let zero_more : k ≡ k + 0 = omega arith in
+    let here : slice_index (others loc).times k ≡ t = ap (λ j. slice_index (others loc).times j) zero_more ∙ each 0 (omega arith) in
+    let later : (i : ℕ) → i < length ts → slice_index (others loc).times (k + 1 + i) ≡ slice_index ts i = λ i h.
+    let more : k + 1 + i ≡ k + suc i = omega arith in ap (λ j. slice_index (others loc).times j) more ∙ each (suc i) (omega arith) in
+    let fewer : length ts ≡ length ns = omega arith in
+    λ i. (λ at. with_time_row rows others loc n k t given live.1 stamp here rest at i) ∷ levels-written-from rows others loc given (k + 1) ts ns stamp rest later live.2 fewer i
+
+-- a write to all live levels
+pub levels-written : (rows others : ℕ → Row) (loc given : ℕ) (times live : List ℕ) → IsWritten rows others loc given times → WereGiven given live → length times ≡ length live → levels_of others live ≡ set_times loc times (levels_of rows live)
+levels-written rows others loc given times live w given_all same =
+    levels-written-from rows others loc given 0 times live w.stamp w.rest (λ i h. ap (λ j. slice_index (others loc).times j) (omega arith) ∙ w.each i h) given_all same
+
+-- rows of which some have the stamp 0, and the others are as before
+pub record IsCleared (rows others : ℕ → Row) (first count : ℕ) : Type 0 where
+  pub among : (at : ℕ) → first ≤ at → at < first + count → (others at).stamp ≡ 0
+  pub before : (at : ℕ) → at < first → others at ≡ rows at
+  pub behind : (at : ℕ) → first + count ≤ at → others at ≡ rows at
+
+-- one map after a clear
+without_row : (rows others : ℕ → Row) (first count n j : ℕ) → 0 < n → IsCleared rows others first count → (at : ℕ) → row_time (others at) n j ≡ without first count (λ l. row_time (rows l) n j) at
+without_row rows others first count n j low h at =
+    let m : ℕ → ℕ = λ l. row_time (rows l) n j in
+    ⊎_elim
+    (λ (lt : at < first). ap (λ r. row_time r n j) (h.before at lt) ∙ without_before first count m at lt)
+    (λ (ge : first ≤ at). ⊎_elim
+    (λ (lt : at < first + count). row_time_later (others at) n j (let e : (others at).stamp ≡ 0 = h.among at ge lt in omega arith) ∙ without_among first count m at ge lt)
+    (λ (past : first + count ≤ at). ap (λ r. row_time r n j) (h.behind at past) ∙ without_behind first count m at past)
+    (cases_lt at (first + count)))
+    (cases_lt at first)
+  where
+    without_before : (first count : ℕ) (m : ℕ → ℕ) (at : ℕ) → at < first → m at ≡ without first count m at
+    without_before first count m at lt = grind (arith, nat_tests)
+
+    without_among : (first count : ℕ) (m : ℕ → ℕ) (at : ℕ) → first ≤ at → at < first + count → 0 ≡ without first count m at
+    without_among first count m at ge lt = grind (arith, nat_tests)
+
+    without_behind : (first count : ℕ) (m : ℕ → ℕ) (at : ℕ) → first + count ≤ at → m at ≡ without first count m at
+    without_behind first count m at past = grind (arith, nat_tests)
+
+levels-cleared-from : (rows others : ℕ → Row) (first count given k : ℕ) (live : List ℕ) → IsCleared rows others first count → WereGiven given live
+    → with_places (λ n j at. row_time (others at) n j) k live ≡ map (without first count) (with_places (λ n j at. row_time (rows at) n j) k live)
+levels-cleared-from rows others first count given k [] h live = refl
+levels-cleared-from rows others first count given k (n ∷ ns) h live =
+    λ i. (λ at. without_row rows others first count n k live.0 h at i) ∷ levels-cleared-from rows others first count given (k + 1) ns h live.2 i
+
+-- locations are cleared at all live levels
+pub levels-cleared : (rows others : ℕ → Row) (first count given : ℕ) (live : List ℕ) → IsCleared rows others first count → WereGiven given live → levels_of others live ≡ map (without first count) (levels_of rows live)
+levels-cleared rows others first count given live h given_all = levels-cleared-from rows others first count given 0 live h given_all
+
+-- the times of one row, as those of a control entry: a level is entered
+pub times-entered : (row : Row) (live : List ℕ) (given : ℕ) → row.stamp ≤ given → times_of row (live ++ (given + 1) ∷ []) ≡ times_of row live ++ 0 ∷ []
+times-entered row live given h =
+    with_places-append (row_time row) 0 live (given + 1)
+    ∙ ap (λ t. times_of row live ++ t ∷ []) (row_time_later row (given + 1) (0 + length live) (omega arith))
+
+-- the innermost level is left
+pub times-left : (row : Row) (live : List ℕ) → times_of row (take (length live - 1) live) ≡ take (length (times_of row live) - 1) (times_of row live)
+times-left row live =
+    with_places-take (row_time row) 0 (length live - 1) live
+    ∙ ap (λ n. take (n - 1) (times_of row live)) (sym (length-with_places (row_time row) 0 live))
+
+-- the time at a live level
+pub time_from_row : (row : Row) (live : List ℕ) (level : ℕ) → level < length live → slice_index (times_of row live) level ≡ row_time row (slice_index live level) level
+time_from_row row live level h = get_or-with_places (row_time row) 0 live level 0 h ∙ ap (λ j. row_time row (slice_index live level) j) (omega arith)
+
+times-written-from : (row : Row) (given k : ℕ) (times live : List ℕ) → row.stamp ≡ given → ((i : ℕ) → i < length times → slice_index row.times (k + i) ≡ slice_index times i) → WereGiven given live → length times ≡ length live → with_places (row_time row) k live ≡ times
+times-written-from row given k [] [] stamp each live same = refl
+times-written-from row given k [] (n ∷ ns) stamp each live same = absurd (omega arith)
+times-written-from row given k (t ∷ ts) [] stamp each live same = absurd (omega arith)
+times-written-from row given k (t ∷ ts) (n ∷ ns) stamp each live same =
+    let zero_more : k ≡ k + 0 = omega arith in
+    let here : slice_index row.times k ≡ t = ap (λ j. slice_index row.times j) zero_more ∙ each 0 (omega arith) in
+    let later : (i : ℕ) → i < length ts → slice_index row.times (k + 1 + i) ≡ slice_index ts i = λ i h.
+    let more : k + 1 + i ≡ k + suc i = omega arith in ap (λ j. slice_index row.times j) more ∙ each (suc i) (omega arith) in
+    let low : n ≤ row.stamp = omega (arith, live.1, stamp) in
+    λ i. (row_time_since row n k low ∙ here) i ∷ times-written-from row given (k + 1) ts ns stamp later live.2 (omega arith) i
+
+-- a row that was written at all live levels has the times that were written
+pub times-written : (row : Row) (given : ℕ) (times live : List ℕ) → row.stamp ≡ given → ((i : ℕ) → i < length times → slice_index row.times i ≡ slice_index times i) → WereGiven given live → length times ≡ length live → times_of row live ≡ times
+times-written row given times live stamp each given_all same =
+    times-written-from row given 0 times live stamp (λ i h. ap (λ j. slice_index row.times j) (omega arith) ∙ each i h) given_all same
+
+-- the rows of a list have stamps
+pub row_at_stamp : (given : ℕ) (rows : List Row) → WereStamped given rows → (loc : ℕ) → (row_at rows loc).stamp ≤ given
+row_at_stamp given [] h loc = omega arith
+row_at_stamp given (row ∷ rows) h zero = h.0
+row_at_stamp given (row ∷ rows) h (suc loc) = row_at_stamp given rows h.1 loc
+
+-- a write to one row of a list
+pub one_row_written : (rows others : List Row) (loc given : ℕ) (times : List ℕ) (row : Row) → loc < length rows → others ≡ set rows loc row → row.stamp ≡ given → ((k : ℕ) → k < length times → slice_index row.times k ≡ slice_index times k) → IsWritten (row_at rows) (row_at others) loc given times
+one_row_written rows others loc given times row h same stamp each =
+    let here : row_at others loc ≡ row = ap (λ rs. get_or rs loc blank_row) same ∙ get_or-set_same rows loc row blank_row h in
+    record {
+      stamp = ap (λ r. r.stamp) here ∙ stamp;
+      each = λ k lt. ap (λ r. slice_index r.times k) here ∙ each k lt;
+      rest = λ at ne. ap (λ rs. get_or rs at blank_row) same ∙ get_or-set_other rows loc at row blank_row ne;
+    }
+
+-- a list that was filled with a row's times
+pub times_filled : (row : Row) (live times : List ℕ) → length times ≡ length live → ((k : ℕ) → k < length live → slice_index times k ≡ row_time row (slice_index live k) k) → times ≡ times_of row live
+times_filled row live times same h =
+    let counted : length (times_of row live) ≡ length live = length-with_places (row_time row) 0 live in
+    ext_get_or 0 times (times_of row live) (same ∙ sym counted) (λ k lt.
+    let inside : k < length live = omega (arith, same) in h k inside ∙ sym (time_from_row row live k inside))
+
+-- a row that was never written has time 0
+pub blank_time : (n level : ℕ) → row_time blank_row n level ≡ 0
+blank_time n level = cond_same (nat_le n 0) (get_or (replicate 32 0) level 0) (zeros level)
+  where
+    zeros : (level : ℕ) → ◌≡◌ {A = ℕ} (get_or (replicate 32 0) level 0) 0
+    zeros level = ⊎_elim
+        (λ (lt : level < 32). get_or-replicate 32 level 0 0 lt)
+        (λ (ge : 32 ≤ level). get_or_past (replicate 32 0) level 0 (omega (arith, length-replicate {A = ℕ} 32 0)))
+        (cases_lt level 32)
+
+    cond_same : (b : Bool) (t : ℕ) → ◌≡◌ {A = ℕ} t 0 → ◌≡◌ {A = ℕ} (cond b t 0) 0
+    cond_same true t e = e
+    cond_same false t e = refl
+
+-- stamps after a write
+pub stamped-written : (rows others : ℕ → Row) (loc given : ℕ) (times : List ℕ) → IsWritten rows others loc given times → ((at : ℕ) → (rows at).stamp ≤ given) → (at : ℕ) → (others at).stamp ≤ given
+stamped-written rows others loc given times w h at = ⊎_elim
+    (λ (e : at ≡ loc). let P : ℕ → Type 0 = λ x. (others x).stamp ≤ given in subst P (sym e) (omega (arith, w.stamp)))
+    (λ (ne : at ≢ loc). let P : Row → Type 0 = λ r. r.stamp ≤ given in subst P (sym (w.rest at ne)) (h at))
+    (cases_eq at loc)
+
+-- stamps after a clear
+pub stamped-cleared : (rows others : ℕ → Row) (first count given : ℕ) → IsCleared rows others first count → ((at : ℕ) → (rows at).stamp ≤ given) → (at : ℕ) → (others at).stamp ≤ given
+stamped-cleared rows others first count given c h at =
+    let P : Row → Type 0 = λ r. r.stamp ≤ given in
+    ⊎_elim
+    (λ (lt : at < first). subst P (sym (c.before at lt)) (h at))
+    (λ (ge : first ≤ at). ⊎_elim
+    (λ (lt : at < first + count). let e : (others at).stamp ≡ 0 = c.among at ge lt in omega arith)
+    (λ (past : first + count ≤ at). subst P (sym (c.behind at past)) (h at))
+    (cases_lt at (first + count)))
+    (cases_lt at first)
+
+-- times that were raised to those of a row
+pub raised_by_row : (row : Row) (live numbers old new : List ℕ) → numbers ≡ live → ((k : ℕ) → k < length numbers → slice_index new k ≡ max (slice_index old k) (row_time row (slice_index numbers k) k)) → (k : ℕ) → k < length live → slice_index new k ≡ max (slice_index old k) (row_time row (slice_index live k) k)
+raised_by_row row live numbers old new same h k lt =
+    (let P : List ℕ → Type 0 = λ ns. k < length ns in h k (subst P (sym same) lt)) ∙ ap (λ ns. max (slice_index old k) (row_time row (slice_index ns k) k)) same

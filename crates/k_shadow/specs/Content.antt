@@ -1,0 +1,51 @@
+-- *Shadow content*: what is seen of a shadow, and what each call makes of it.
+use Rattle.std.specs.Prelude.{ℕ, ◌+◌, ◌-◌, ◌≤◌, ◌<◌, ◌==◌, ◌&&◌, nat_lt, nat_le, if◌then◌else◌, List, [], ◌∷◌, ◌++◌, length, take, map, slice_index_or}
+
+-- a list with one finite map from location to time for each live level, outermost first (an absent location has
+-- time 0); how many levels were entered so far; and the limit below which every location lies
+pub record Content : Type 0 where
+  pub levels : List (ℕ → ℕ)
+  pub entries : ℕ
+  pub limit : ℕ
+
+-- no level is live, and none was entered
+abbrev pub empty : ℕ → Content
+empty limit = record { levels = []; entries = 0; limit = limit }
+
+-- how many levels are live
+abbrev pub depth : Content → ℕ
+depth c = length c.levels
+
+-- the time of a location at a level
+abbrev pub time_at : Content → ℕ → ℕ → ℕ
+time_at c level loc = slice_index_or c.levels level (λ _. 0) loc
+
+-- an empty map is added at the end
+abbrev pub entered : Content → Content
+entered c = record c { levels = c.levels ++ (λ _. 0) ∷ []; entries = c.entries + 1 }
+
+-- the last map is taken away
+abbrev pub left : Content → Content
+left c = record c { levels = take (length c.levels - 1) c.levels }
+
+-- a map with that time at that location
+abbrev pub with_time : ℕ → ℕ → (ℕ → ℕ) → ℕ → ℕ
+with_time loc time level = λ at. if at == loc then time else level at
+
+-- these maps, each with that location set to the time of its level
+abbrev pub set_times : ℕ → List ℕ → List (ℕ → ℕ) → List (ℕ → ℕ)
+set_times loc [] levels = levels
+set_times loc (time ∷ times) [] = []
+set_times loc (time ∷ times) (level ∷ levels) = with_time loc time level ∷ set_times loc times levels
+
+-- the location is set to the time of its level in every live map
+abbrev pub written : ℕ → List ℕ → Content → Content
+written loc times c = record c { levels = set_times loc times c.levels }
+
+-- a map without the `count` locations from `first` on
+abbrev pub without : ℕ → ℕ → (ℕ → ℕ) → ℕ → ℕ
+without first count level = λ at. if nat_le first at && nat_lt at (first + count) then 0 else level at
+
+-- the time of the `count` locations from `first` on is 0 in every live map
+abbrev pub cleared : ℕ → ℕ → Content → Content
+cleared first count c = record c { levels = map (without first count) c.levels }

@@ -1,0 +1,5 @@
+pub mod Content
+pub mod Maps
+pub mod Numbers
+pub mod Rows
+pub mod Stack

@@ -1,0 +1,51 @@
+-- One stamp for each location: the last instance number that was given when the location was last written. Instances
+-- nest and a write goes to all live levels, so a level's time is live exactly where the level's instance began no
+-- later than that write.
+use Rattle.std.specs.Prelude.{ℕ, ◌+◌, ◌≤◌, nat_le, if◌then◌else◌, List, [], ◌∷◌, replicate, map, slice_index, slice_index_or, Bool}
+use Rattle.k_shadow.specs.Content.{Content}
+use Rattle.k_shadow.specs.Numbers.{Numbers}
+use Rattle.k_shadow.specs.Stack.{Stack}
+use Rattle.k_shadow.specs.declared.row.Row.{Row}
+
+-- the time of a row at a level, where the level's instance has that number
+abbrev pub row_time : Row → ℕ → ℕ → ℕ
+row_time row number level = if nat_le number row.stamp then slice_index row.times level else 0
+
+-- a row that was never written
+abbrev pub blank_row : Row
+blank_row = record { stamp = 0; times = replicate 32 0 }
+
+-- f of each number and its place, places being counted from k on
+abbrev pub with_places : {A : Type 0} → (ℕ → ℕ → A) → ℕ → List ℕ → List A
+with_places f k [] = []
+with_places f k (n ∷ ns) = f n k ∷ with_places f (k + 1) ns
+
+-- the time of a row at each live level
+abbrev pub times_of : Row → List ℕ → List ℕ
+times_of row live = with_places (row_time row) 0 live
+
+-- the map of each live level, where `rows` gives the row of each location
+abbrev pub levels_of : (ℕ → Row) → List ℕ → List (ℕ → ℕ)
+levels_of rows live = with_places (λ number level loc. row_time (rows loc) number level) 0 live
+
+-- the row of each location, where rows stand in the order of locations; blank where there is none
+abbrev pub row_at : List Row → ℕ → Row
+row_at rows loc = slice_index_or rows loc blank_row
+
+-- the content of a shadow whose locations have these rows
+abbrev pub content_of : (ℕ → Row) → Numbers → ℕ → Content
+content_of rows numbers limit = record { levels = levels_of rows numbers.live; entries = numbers.given; limit = limit }
+
+-- no row was written later than that number was given
+abbrev pub WereStamped : ℕ → List Row → Type 0
+WereStamped given [] = Unit {0}
+WereStamped given (row ∷ rows) = (row.stamp ≤ given) × WereStamped given rows
+
+-- the control stack whose entries are these rows
+abbrev pub stack_in : Row → List Row → Numbers → Bool → Stack
+stack_in current saved numbers room = record {
+  current = times_of current numbers.live;
+  saved = map (λ row. times_of row numbers.live) saved;
+  entries = numbers.given;
+  room = room;
+}

@@ -1,0 +1,22 @@
+//! Shadow storage: one time for each location and live level of a running program's regions, and the control stack,
+//! whose entries have one time for each live level too.
+#![tactic(auto)]
+
+mod control;
+mod level_maps;
+mod maps;
+mod row;
+mod shadow;
+mod steps;
+#[cfg(test)]
+mod tests;
+mod times;
+mod versions;
+
+pub use control::Control;
+pub use level_maps::LevelMaps;
+pub use row::Row;
+pub use shadow::Shadow;
+pub use steps::Steps;
+pub use times::Times;
+pub use versions::Versions;

@@ -1,0 +1,9 @@
+//! The shadow of memory: one row of times for each element number, in pages that are made when they are reserved.
+#![tactic(auto)]
+
+mod pages;
+mod shadow_pages;
+#[cfg(test)]
+mod tests;
+
+pub use shadow_pages::ShadowPages;

@@ -1,0 +1,158 @@
+//! The shadow of memory.
+ghost use Rattle.std.specs.Prelude.{◌≡◌, ℕ, ◌≤◌};
+ghost use Rattle.k_shadow.specs.Content.{empty};
+ghost use Rattle.k_spage.specs.Pages.{paged_row, ArePages};
+
+use crate::pages::{PAGE, clear_locations, key_of, make_pages, row_of, write_row};
+use k_num::NoMemory;
+use k_shadow::{Row, Shadow, Steps, Times, Versions};
+use slab::Slab;
+use std::alloc::Global;
+use std::sync::ledger::Ledger;
+
+/// A shadow over element numbers, which are below 4,194,304.
+///
+/// Pages of 256 locations stand in a slab, and a table names the page of a location. `reserve` alone makes pages. A
+/// row's stamp tells at which levels its times are live, so entering or leaving a level writes no row.
+#[derive(Drop)]
+pub struct ShadowPages {
+    pages: Slab<Vec<Row>>,
+    table: Vec<Option<usize>>,
+    versions: Versions,
+    alloc: Global,
+    ghost kept: { ArePages pages.slots table.items },
+    ghost stamped: { (loc : ℕ) → (paged_row pages.slots table.items loc).stamp ≤ versions.given },
+}
+
+impl ShadowPages {
+    ghost use Rattle.std.specs.Prelude.{false};
+    ghost use Rattle.k_spage.specs.ShadowPages.{has_page, page_count};
+
+    /// No level is live, and there is no page.
+    pub fn new(alloc: Global) -> ShadowPages
+        ensures empty { ⟦<ShadowPages as Shadow>⟧.content result ≡ empty 4194304 }
+        ensures none { (page : ℕ) → has_page result page ≡ false }
+    {
+        ShadowPages {
+            pages: Slab::new(alloc),
+            table: Vec::new(alloc),
+            versions: Versions::new(),
+            alloc,
+        }
+    }
+
+    /// How many pages there are. Only `reserve` makes pages, those of its locations.
+    pub fn pages(&self) -> u64
+        ensures count { result ≡ page_count self.now }
+    {
+        self.pages.len() as u64
+    }
+}
+
+impl Shadow for ShadowPages {
+    ghost use Rattle.std.specs.Prelude.{◌+◌, ◌<◌, ◌^◌, length, OnOk, true};
+    ghost use Rattle.k_shadow.specs.Content.{depth, time_at, entered, left, written, cleared};
+    ghost use Rattle.k_spage.specs.ShadowPages.{pages_content, has_room, has_page, HasSamePages, IsTouched};
+
+    ghost content = { pages_content };
+
+    ghost room = { has_room };
+
+    #[inline]
+    fn depth(&self) -> usize {
+        self.versions.depth()
+    }
+
+    #[inline]
+    fn enter(&mut self)
+        requires shallow { depth (pages_content self.old) < 32 }
+        requires few { (pages_content self.old).entries < 2 ^ 62 }
+        ensures content { pages_content self.new ≡ entered (pages_content self.old) }
+        ensures pages { HasSamePages self.old self.new }
+    {
+        self.versions.enter();
+    }
+
+    #[inline]
+    fn leave(&mut self)
+        requires { 0 < depth (pages_content self.old) }
+        ensures content { pages_content self.new ≡ left (pages_content self.old) }
+        ensures pages { HasSamePages self.old self.new }
+    {
+        self.versions.leave();
+    }
+
+    fn reserve(&mut self, first: u32, count: u32) -> Result<(), NoMemory>
+        requires { first + count ≤ (pages_content self.old).limit }
+        ensures content { pages_content self.new ≡ pages_content self.old }
+        ensures room { OnOk result ((loc : ℕ) → first ≤ loc → loc < first + count → has_room self.new loc) }
+        ensures kept { (loc : ℕ) → has_room self.old loc → has_room self.new loc }
+
+        // It makes the pages of its locations alone. A refusal may have made some of them.
+        ensures pages_kept { (page : ℕ) → has_page self.old page ≡ true → has_page self.new page ≡ true }
+        ensures no_other { (page : ℕ) → (IsTouched first count page → ⊥) → has_page self.new page ≡ has_page self.old page }
+    {
+        let end = (first + count) as usize;
+        make_pages(
+            self.alloc,
+            &mut self.pages,
+            &mut self.table,
+            first as usize,
+            end,
+        )
+    }
+
+    #[inline]
+    fn read<L: Ledger>(&self, loc: u32, level: usize, steps: &mut Steps<L>) -> u64 {
+        steps.tick();
+        match row_of(&self.pages, &self.table, loc as usize) {
+            Some(row) => row.time(self.versions.number(level), level),
+            None => 0,
+        }
+    }
+
+    #[inline]
+    fn raise<L: Ledger>(&self, loc: u32, times: &mut [u64], steps: &mut Steps<L>) {
+        match row_of(&self.pages, &self.table, loc as usize) {
+            Some(row) => row.raise(self.versions.live(), times, steps),
+            None => Row::blank().raise(self.versions.live(), times, steps),
+        }
+    }
+
+    #[inline]
+    fn write(&mut self, loc: u32, times: &Times)
+        requires below { loc < (pages_content self.old).limit }
+        requires each { length times.now ≡ depth (pages_content self.old) }
+        requires room { has_room self.old loc }
+        ensures content { pages_content self.new ≡ written loc times.now (pages_content self.old) }
+        ensures kept { (at : ℕ) → has_room self.old at → has_room self.new at }
+        ensures pages { HasSamePages self.old self.new }
+    {
+        let stamp = self.versions.last_given();
+        if let Some(key) = key_of(&self.table, loc as usize / PAGE) {
+            write_row(
+                &mut self.pages,
+                key,
+                loc as usize % PAGE,
+                stamp,
+                times.as_slice(),
+            );
+        }
+    }
+
+    fn clear(&mut self, first: u32, count: u32)
+        requires { first + count ≤ (pages_content self.old).limit }
+        ensures content { pages_content self.new ≡ cleared first count (pages_content self.old) }
+        ensures kept { (loc : ℕ) → has_room self.old loc → has_room self.new loc }
+        ensures pages { HasSamePages self.old self.new }
+    {
+        if self.versions.depth() > 0 {
+            clear_locations(
+                &mut self.pages,
+                &self.table,
+                first as usize,
+                (first + count) as usize,
+            );
+        }
+    }
+}

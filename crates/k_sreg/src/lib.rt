@@ -1,0 +1,9 @@
+//! The shadow of registers: one row of times for each absolute register number.
+#![tactic(auto)]
+
+mod rows;
+mod shadow_regs;
+#[cfg(test)]
+mod tests;
+
+pub use shadow_regs::ShadowRegs;

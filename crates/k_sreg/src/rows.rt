@@ -1,0 +1,39 @@
+//! Rows in the order of register numbers.
+ghost use Rattle.std.specs.Prelude.{◌≡◌, ◌<◌, ◌≤◌, ℕ, length, vec_len, OnOk, option_copied, unwrap_or};
+ghost use Rattle.k_shadow.specs.Rows.{row_at, blank_row};
+
+use k_num::NoMemory;
+use k_shadow::Row;
+
+/// The row of a location, if there is one.
+#[inline]
+pub fn row_of(rows: &[Row], loc: usize) -> Option<&Row>
+    ensures { unwrap_or (option_copied result) blank_row ≡ row_at rows.now loc }
+{
+    rows.get(loc)
+}
+
+/// Adds blank rows until there are `count`. A refusal leaves the rows as they were.
+pub fn grow_to(rows: &mut Vec<Row>, count: usize) -> Result<(), NoMemory>
+    ensures same { (loc : ℕ) → row_at rows.new.items loc ≡ row_at rows.old.items loc }
+    ensures longer { vec_len rows.old ≤ vec_len rows.new }
+    ensures ok { OnOk result (count ≤ vec_len rows.new) }
+{
+    if rows.len() < count {
+        rows.resize(count, Row::blank())?;
+    }
+    Ok(())
+}
+
+/// Makes the rows from `first` to before `end` read 0 at every level.
+pub fn clear_rows(rows: &mut [Row], first: usize, end: usize)
+    ensures among { (k : ℕ) → first ≤ k → k < end → (row_at rows.new k).stamp ≡ 0 }
+    ensures before { (k : ℕ) → k < first → row_at rows.new k ≡ row_at rows.old k }
+    ensures behind { (k : ℕ) → end ≤ k → row_at rows.new k ≡ row_at rows.old k }
+    ensures length { length rows.new ≡ length rows.old }
+{
+    for at in first..end.min(rows.len()) {
+        let row = &mut rows[at];
+        row.stamp = 0;
+    }
+}

@@ -1,0 +1,96 @@
+//! The shadow of registers.
+ghost use Rattle.std.specs.Prelude.{◌≡◌, ℕ, ◌≤◌};
+ghost use Rattle.k_shadow.specs.Content.{empty};
+ghost use Rattle.k_shadow.specs.Rows.{row_at};
+
+use crate::rows::{clear_rows, grow_to, row_of};
+use k_num::NoMemory;
+use k_shadow::{Row, Shadow, Steps, Times, Versions};
+use std::alloc::Global;
+use std::sync::ledger::Ledger;
+
+/// A shadow over absolute register numbers, which are below 2,097,152.
+///
+/// A frame that ends gives its numbers back, and their rows stay: a row's stamp alone tells at which levels its times
+/// are live, so entering or leaving a level writes no row.
+#[derive(Drop)]
+pub struct ShadowRegs {
+    rows: Vec<Row>,
+    versions: Versions,
+    ghost stamped: { (loc : ℕ) → (row_at rows.items loc).stamp ≤ versions.given },
+}
+
+impl ShadowRegs {
+    /// No level is live.
+    pub fn new(alloc: Global) -> ShadowRegs
+        ensures empty { ⟦<ShadowRegs as Shadow>⟧.content result ≡ empty 2097152 }
+    {
+        ShadowRegs {
+            rows: Vec::new(alloc),
+            versions: Versions::new(),
+        }
+    }
+}
+
+impl Shadow for ShadowRegs {
+    ghost use Rattle.std.specs.Prelude.{◌<◌, vec_len};
+    ghost use Rattle.k_shadow.specs.Rows.{row_at, content_of};
+
+    ghost content = { λ s. content_of (row_at s.rows.items) s.versions 2097152 };
+
+    ghost room = { λ s loc. loc < vec_len s.rows };
+
+    #[inline]
+    fn depth(&self) -> usize {
+        self.versions.depth()
+    }
+
+    #[inline]
+    fn enter(&mut self) {
+        self.versions.enter();
+    }
+
+    #[inline]
+    fn leave(&mut self) {
+        self.versions.leave();
+    }
+
+    #[inline]
+    fn reserve(&mut self, first: u32, count: u32) -> Result<(), NoMemory> {
+        if count == 0 {
+            return Ok(());
+        }
+        grow_to(&mut self.rows, (first + count) as usize)
+    }
+
+    #[inline]
+    fn read<L: Ledger>(&self, loc: u32, level: usize, steps: &mut Steps<L>) -> u64 {
+        steps.tick();
+        match row_of(&self.rows, loc as usize) {
+            Some(row) => row.time(self.versions.number(level), level),
+            None => 0,
+        }
+    }
+
+    #[inline]
+    fn raise<L: Ledger>(&self, loc: u32, times: &mut [u64], steps: &mut Steps<L>) {
+        match row_of(&self.rows, loc as usize) {
+            Some(row) => row.raise(self.versions.live(), times, steps),
+            None => Row::blank().raise(self.versions.live(), times, steps),
+        }
+    }
+
+    #[inline]
+    fn write(&mut self, loc: u32, times: &Times) {
+        let stamp = self.versions.last_given();
+        let row = &mut self.rows[loc as usize];
+        row.write(stamp, times.as_slice());
+    }
+
+    #[inline]
+    fn clear(&mut self, first: u32, count: u32) {
+        if self.versions.depth() > 0 {
+            clear_rows(&mut self.rows, first as usize, (first + count) as usize);
+        }
+    }
+}

@@ -1,0 +1,109 @@
+// The loops of `k_bench` in C: for one operation the times of two operands and of the control entry are read at each
+// live level, and their maximum is written to one location at each live level. One stamp for each location.
+//
+//     gcc -O2 -o shadow shadow.c && ./shadow flat 65536 8 1000000
+#include <stdint.h>
+#include <stdio.h>
+#include <stdlib.h>
+#include <string.h>
+
+struct row {
+    uint64_t stamp;
+    uint64_t times[32];
+};
+
+static struct row *rows;
+static struct row *pages[16384];
+static struct row control;
+static uint64_t numbers[32];
+static uint64_t given;
+static unsigned depth;
+
+static void enter(void)
+{
+    numbers[depth++] = ++given;
+}
+
+static void leave(void)
+{
+    depth--;
+}
+
+static uint64_t time_in(const struct row *row, unsigned level)
+{
+    return numbers[level] <= row->stamp ? row->times[level] : 0;
+}
+
+static uint64_t max(uint64_t a, uint64_t b)
+{
+    return a < b ? b : a;
+}
+
+static void operation(const struct row *a, const struct row *b, struct row *to, uint64_t latency)
+{
+    uint64_t times[32];
+    for (unsigned level = 0; level < depth; level++)
+        times[level] = max(max(time_in(a, level), time_in(b, level)), time_in(&control, level)) + latency;
+    to->stamp = given;
+    for (unsigned level = 0; level < depth; level++)
+        to->times[level] = times[level];
+}
+
+static uint32_t next(uint64_t *state, uint32_t last)
+{
+    *state = *state * 6364136223846793005u + 1442695040888963407u;
+    return (uint32_t)(*state >> 33) & last;
+}
+
+static struct row *flat(uint64_t loc)
+{
+    return &rows[loc];
+}
+
+static struct row *paged(uint64_t loc)
+{
+    return &pages[loc / 256][loc % 256];
+}
+
+int main(int argc, char **argv)
+{
+    if (argc < 5)
+        return 2;
+    int in_pages = strcmp(argv[1], "pages") == 0;
+    uint64_t locations = strtoull(argv[2], 0, 10);
+    uint32_t last = locations - 1;
+    unsigned levels = strtoul(argv[3], 0, 10);
+    uint64_t count = strtoull(argv[4], 0, 10);
+    uint64_t state = 1;
+    uint64_t sum = 0;
+    if (in_pages)
+        for (uint64_t page = 0; page < (locations + 255) / 256; page++)
+            pages[page] = calloc(256, sizeof(struct row));
+    else
+        rows = calloc(locations, sizeof(struct row));
+    for (unsigned level = 0; level < levels; level++)
+        enter();
+    if (strcmp(argv[1], "enter") == 0) {
+        for (uint64_t k = 0; k < count; k++) {
+            leave();
+            enter();
+        }
+        sum = given;
+    } else if (in_pages) {
+        for (uint64_t k = 0; k < count; k++) {
+            uint32_t a = next(&state, last), b = next(&state, last), to = next(&state, last);
+            operation(paged(a), paged(b), paged(to), 1);
+        }
+        for (uint64_t loc = 0; loc < locations; loc++)
+            sum += time_in(paged(loc), 0);
+    } else {
+        for (uint64_t k = 0; k < count; k++) {
+            uint32_t a = next(&state, last), b = next(&state, last), to = next(&state, last);
+            operation(flat(a), flat(b), flat(to), 1);
+        }
+        for (uint64_t loc = 0; loc < locations; loc++)
+            sum += time_in(flat(loc), 0);
+    }
+    printf("%llu\n", (unsigned long long)sum);
+    return 0;
+}
