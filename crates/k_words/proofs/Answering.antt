@@ -1,21 +1,11 @@
 -- From the answer to a command's arguments to the answer to the words.
-use Rattle.std.proofs.Common.{◌≡◌, ◌<◌, ◌≤◌, ◌∙◌, ℕ, suc, zero, true, false, List, [], ◌∷◌, length, Option, Some, None, is_some, Result, Ok, Err, ap, arith, refl, sym}
+use Rattle.std.proofs.Common.{◌≡◌, ◌<◌, ◌∙◌, ℕ, suc, zero, false, List, ◌∷◌, Option, Some, None, Result, Ok, Err, arith, refl}
 use Rattle.k_words.specs.declared.job.Job.{Job}
-use Rattle.k_words.specs.declared.job.Job.TheVariants as job
 use Rattle.k_words.specs.declared.option.Command.{Command}
 use Rattle.k_words.specs.declared.usage.Usage.{Usage}
 use Rattle.k_words.specs.declared.usage.Usage.TheVariants.{NoCommand, UnknownWord, BadNumber, Twice, NoFile, Memory}
-use Rattle.k_words.specs.Settings.{Given, IsFirst, ReadsAll, settings_fault}
-use Rattle.k_words.specs.Words.{Answers, IsAnswer, ReadsFile, argument_fault, command_of, demo_fault, demo_job, demo_loops, demo_number, fault_at, file_fault, is_no_file, job_of, job_with}
-
--- a fault is an answer
-pub answers_first : (faults : ℕ → Option Usage) (asked : Option Job) (fault : Usage) → IsFirst faults fault → Answers faults asked (Err fault)
-answers_first faults asked NoCommand first = first
-answers_first faults asked (UnknownWord index) first = first
-answers_first faults asked (BadNumber index) first = first
-answers_first faults asked (Twice index) first = first
-answers_first faults asked NoFile first = first
-answers_first faults asked Memory first = tt
+use Rattle.k_words.specs.Settings.{IsFirst, settings_fault}
+use Rattle.k_words.specs.Words.{Answers, IsAnswer, argument_fault, command_of, fault_at, file_fault, is_no_file, job_of, job_with}
 
 module _ (f g : ℕ → Option Usage) (front : f 0 ≡ None) (behind : (k : ℕ) → f (suc k) ≡ g k) where
   before_later : (at : ℕ) → ((k : ℕ) → k < at → g k ≡ None) → (k : ℕ) → k < suc at → f k ≡ None
@@ -52,23 +42,7 @@ of_arguments all word words command r split is answers =
     let asked : job_of (word ∷ words) ≡ job_with words command = rw is refl in
     rw (split, asked) (answers_later (fault_at (word ∷ words)) (argument_fault command words) (rw is refl) behind (job_with words command) r answers)
 
--- no arguments, or a file that has no name
-pub no_file : (command : Command) (arguments : List (List ℕ)) → arguments ≡ [] → IsFirst (file_fault command arguments) NoFile
-no_file command arguments none = rw none (first_here _ NoFile refl)
-
 module _ (command : Command) (arguments : List (List ℕ)) (file : List ℕ) (words : List (List ℕ)) (split : arguments ≡ file ∷ words) where
-  pub nameless : is_no_file file ≡ true → IsFirst (file_fault command arguments) NoFile
-  nameless none = rw split (first_here _ NoFile (rw none refl))
-
   -- an option that is wrong
   pub wrong_option : is_no_file file ≡ false → (fault : Usage) → IsFirst (settings_fault command words) fault → IsFirst (file_fault command arguments) fault
   wrong_option named fault first = rw split (first_later (file_fault command (file ∷ words)) (settings_fault command words) (rw named refl) (λ k. refl) fault first)
-
-  -- a file and its options
-  pub reads_file : is_no_file file ≡ false → (g : Given) → ReadsAll command words g → ReadsFile command arguments file g
-  reads_file named g read = record {
-    right = rw split (right_later (file_fault command (file ∷ words)) (settings_fault command words) (rw named refl) (λ k. refl) read.right);
-    words = words;
-    split = split;
-    all = read.all;
-  }

@@ -1,20 +1,13 @@
 -- The answer to the arguments of `demo`.
-use Rattle.std.proofs.Common.{◌≡◌, ◌+◌, ◌≤◌, ◌∙◌, ℕ, suc, zero, List, [], ◌∷◌, length, Option, Some, None, Ok, Err, ap, arith, refl}
+use Rattle.std.proofs.Common.{◌≡◌, ◌+◌, ℕ, List, [], ◌∷◌, Some, None, Err, refl}
 use Rattle.std.specs.Prelude.{slice_get}
-use Rattle.k_words.specs.declared.job.Job.TheVariants as job
 use Rattle.k_words.specs.declared.usage.Usage.{Usage}
 use Rattle.k_words.specs.declared.usage.Usage.TheVariants.{UnknownWord, BadNumber, NoFile}
 use Rattle.k_words.specs.Settings.{IsFirst}
 use Rattle.k_words.specs.Words.{Answers, demo_fault, demo_job, demo_loops, demo_number, loops_fault, one_too_many}
-use Rattle.k_words.proofs.Answering.{answers_first, first_here, first_later, right_later}
-
-pub no_number : (arguments : List (List ℕ)) → arguments ≡ [] → Answers (demo_fault arguments) (demo_job arguments) (Err NoFile)
-no_number arguments none = rw none (first_here _ NoFile refl)
+use Rattle.k_words.proofs.Answering.{first_here, first_later}
 
 module _ (arguments : List (List ℕ)) (number : List ℕ) (words : List (List ℕ)) (split : arguments ≡ number ∷ words) where
-  pub wrong_number : demo_number number ≡ None → Answers (demo_fault arguments) (demo_job arguments) (Err (BadNumber 1))
-  wrong_number none = rw split (first_here _ (BadNumber 1) (rw none refl))
-
   module _ (n : ℕ) (is : demo_number number ≡ Some n) where
     behind : (fault : Usage) → IsFirst (loops_fault words) fault → IsFirst (demo_fault arguments) fault
     behind fault first = rw split (first_later (demo_fault (number ∷ words)) (loops_fault words) (rw is refl) (λ k. refl) fault first)
@@ -32,10 +25,3 @@ module _ (arguments : List (List ℕ)) (number : List ℕ) (words : List (List �
         one_more word words_left left =
             behind (UnknownWord 3) (rw more (first_later (loops_fault (loops ∷ rest)) (λ k. one_too_many (slice_get rest k) (k + 3)) (rw are refl) (λ k. refl)
             (UnknownWord 3) (first_here _ (UnknownWord 3) (rw left refl))))
-
-        right_loops : rest ≡ [] → (k : ℕ) → loops_fault words k ≡ None
-        right_loops none = rw (more, none) (right_later (loops_fault (loops ∷ [])) (λ k. one_too_many (slice_get [] k) (k + 3)) (rw are refl) (λ k. refl) (λ k. refl))
-
-        pub made : rest ≡ [] → Answers (demo_fault arguments) (demo_job arguments) (Ok (job.Demo n l))
-        made none =
-            (rw split (right_later (demo_fault (number ∷ words)) (loops_fault words) (rw is refl) (λ k. refl) (right_loops none)), rw (split, more, is, are) refl)

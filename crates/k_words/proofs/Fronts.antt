@@ -1,5 +1,5 @@
 -- What follows a text at the front of a word.
-use Rattle.std.proofs.Common.{◌≡◌, ℕ, true, false, List, length, drop, Bor, Option, Some, None, option_map, MatchOption, ap, refl, subst, sym}
+use Rattle.std.proofs.Common.{◌≡◌, ℕ, true, false, List, Bor, Option, Some, None, option_map, MatchOption, refl, subst, sym}
 use Rattle.std.proofs.lemmas.Str.Pattern.{starts_text}
 use Rattle.std.specs.Str.{IsCharBoundary}
 use Rattle.std.specs.Str.Pattern.{FindsTextPrefix, StripsPrefix}

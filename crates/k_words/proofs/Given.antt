@@ -1,13 +1,12 @@
 -- What one word more gives.
-use Rattle.std.proofs.Common.{◌≡◌, ◌+◌, ◌<◌, ◌≤◌, ◌∙◌, ℕ, suc, zero, Bool, true, false, List, [], ◌∷◌, ◌++◌, map, length, take, get_or, Option, Some, None, IsSome, is_some, option_map, option_and_then, ap, arith, refl, sym, subst, rules}
+use Rattle.std.proofs.Common.{◌≡◌, ◌+◌, ◌∙◌, ℕ, false, List, [], ◌∷◌, ◌++◌, Option, Some, None, is_some, option_map, option_and_then, ap, arith, refl, sym}
 use Rattle.std.proofs.lemmas.Bool.{false≢true}
 use Rattle.k_words.specs.declared.option.Command.{Command}
 use Rattle.k_words.specs.declared.option.Setting.{Setting}
 use Rattle.k_words.specs.declared.option.Setting.TheVariants.{Steps, Depth, Latency, Dict, Save}
 use Rattle.k_words.specs.Number.{number_within}
-use Rattle.k_words.specs.declared.usage.Usage.TheVariants.{BadNumber, Twice}
-use Rattle.k_words.specs.Setting.{is_value, most_depth, most_steps, option_of, or_else}
-use Rattle.k_words.specs.Settings.{Given, TakesWord, count, depth_in, first_of, given, has, one, set, steps_in, text_in, value_in, word_fault}
+use Rattle.k_words.specs.Setting.{most_depth, most_steps, option_of, or_else}
+use Rattle.k_words.specs.Settings.{Given, count, depth_in, first_of, given, has, set, steps_in, text_in, value_in}
 
 or_else-none : {A : Type 0} (a : Option A) → or_else a None ≡ a
 or_else-none None = refl
@@ -94,43 +93,6 @@ module _ (command : Command) (ws : List (List ℕ)) (w : List ℕ) where
       let dict = kept (text_in command Dict) ws w (text_by Dict _ is) in
       let save = added (text_in command Save) ws w value fresh (text_by Save _ is) in
       sym same ∙ (λ i. record { steps = steps i; depth = depth i; latency = latency i; dict = is_some (dict i); save = save i })
-
-mapped-none : {A B : Type 0} (f : A → B) (o : Option A) → is_some (option_map f o) ≡ is_some o
-mapped-none f None = refl
-mapped-none f (Some x) = refl
-
--- an option is set where its value is one that it may have
-is_some-set : (command : Command) (g : Given) (setting : Setting) (value : List ℕ) → is_some (set command g setting value) ≡ is_value command setting value
-is_some-set command g Steps value = mapped-none _ (number_within 1 (most_steps command) value)
-is_some-set command g Depth value = mapped-none _ (number_within 1 most_depth value)
-is_some-set command g Latency value = refl
-is_some-set command g Dict value = refl
-is_some-set command g Save value = refl
-
-module _ (command : Command) (old : Given) (word : List ℕ) (index : ℕ) (setting : Setting) (value : List ℕ) (is : option_of command word ≡ Some (setting, value)) where
-  -- a word that sets an option is right
-  pub takes_word : (new : Given) → has old setting ≡ false → set command old setting value ≡ Some new → TakesWord command old word index new
-  takes_word new fresh made =
-      let good : is_value command setting value ≡ true = sym (is_some-set command old setting value) ∙ ap is_some made in
-      record { setting = setting; value = value; option = is; first = fresh; made = made; right = rw (is, fresh, good) refl }
-
-  -- an option is not given twice
-  pub twice : has old setting ≡ true → word_fault command (has old) word index ≡ Some (Twice index)
-  twice again = rw (is, again) refl
-
-  -- its number is in range
-  pub bad_number : has old setting ≡ false → set command old setting value ≡ None → word_fault command (has old) word index ≡ Some (BadNumber index)
-  bad_number fresh none =
-      let bad : is_value command setting value ≡ false = sym (is_some-set command old setting value) ∙ ap is_some none in
-      rw (is, fresh, bad) refl
-
-one-le : (b : Bool) → one b ≤ 1
-one-le true = omega arith
-one-le false = omega arith
-
--- there are five options
-pub count-le : (g : Given) → count g ≤ 5
-count-le g = omega (arith, one-le (is_some g.steps), one-le (is_some g.depth), one-le (is_some g.latency), one-le g.dict, one-le (is_some g.save))
 
 -- an option more counts
 pub count-set : (command : Command) (g new : Given) (setting : Setting) (value : List ℕ) → has g setting ≡ false → set command g setting value ≡ Some new

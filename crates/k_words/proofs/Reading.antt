@@ -1,12 +1,12 @@
 -- The words behind a file, one after another.
-use Rattle.std.proofs.Common.{◌≡◌, ◌+◌, ◌<◌, ◌≤◌, ◌∙◌, ◌⊎◌, ℕ, suc, zero, List, [], ◌∷◌, ◌++◌, map, length, take, take_all, get_or, Option, Some, None, option_map, String, Global, string_bytes, add-one, ap, arith, inl, inr, refl, subst, sym}
+use Rattle.std.proofs.Common.{◌≡◌, ◌+◌, ◌<◌, ◌≤◌, ◌∙◌, ◌⊎◌, ℕ, suc, zero, List, [], ◌∷◌, ◌++◌, length, take, take_all, get_or, Option, Some, None, option_map, String, Global, string_bytes, add-one, ap, arith, inl, inr, refl, subst, sym}
 use Rattle.std.proofs.lemmas.Bool.{cases_Bool}
 use Rattle.std.proofs.lemmas.Bool.Decides.{nat_tests}
 use Rattle.std.proofs.lemmas.Option.{slice_get-get_or, slice_get-map, slice_get_past, slice_get_within}
 use Rattle.std.specs.Prelude.{nat_lt, slice_get}
 use Rattle.k_words.specs.declared.option.Command.{Command}
 use Rattle.k_words.specs.declared.usage.Usage.{Usage}
-use Rattle.k_words.specs.Settings.{Given, IsFirst, ReadsAll, TakesWord, count, fault_if_there, given, has, seen_words, settings_fault, word_fault}
+use Rattle.k_words.specs.Settings.{Given, IsFirst, ReadsAll, TakesWord, count, given, has, seen_words, settings_fault, word_fault}
 use Rattle.k_words.proofs.Given.{count-set, given-more}
 
 -- so many words were read, none of them is wrong, and this is what they give
@@ -74,7 +74,3 @@ module _ (command : Command) (words : List (List ℕ)) (k index : ℕ) (old : Gi
     ];
     all = read.so_far ∙ ap (given command) (take_all k words past);
   }
-
--- nothing was read yet
-pub read_none : (command : Command) (words : List (List ℕ)) (g : Given) → g ≡ given command [] → IsRead command words 0 2 g
-read_none command words g none = record { at = refl; counted = sym (ap count none); so_far = none; right = λ j below. absurd (omega (arith, below)) }

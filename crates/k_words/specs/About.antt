@@ -1,5 +1,5 @@
 -- *Texts on the program itself*, and the words that ask for them.
-use Rattle.std.specs.Prelude.{ℕ, Bool, ◌||◌, ◌++◌, if◌then◌else◌, List, [], ◌∷◌, codes, nat_eq, Option, Some, None}
+use Rattle.std.specs.Prelude.{ℕ, Bool, ◌||◌, if◌then◌else◌, List, [], ◌∷◌, codes, nat_eq, Option, Some, None}
 use Rattle.std.specs.List.{concat}
 use Rattle.std.specs.Cmp.Lexicographic.{pointwise}
 use Rattle.k_words.specs.declared.about.Asked.{Asked}

@@ -1,5 +1,5 @@
 -- *Words*: what the words of the command line ask for, and the first of them that is wrong.
-use Rattle.std.specs.Prelude.{ℕ, zero, suc, ◌+◌, ◌<◌, ◌≡◌, ◌-◌, ◌^◌, Bool, true, false, if◌then◌else◌, List, [], ◌∷◌, codes, nat_eq, slice_get, Option, Some, None, is_some, unwrap_or, option_map, option_and_then, Result, Ok, Err}
+use Rattle.std.specs.Prelude.{ℕ, zero, suc, ◌+◌, ◌≡◌, Bool, true, if◌then◌else◌, List, [], ◌∷◌, codes, nat_eq, slice_get, Option, Some, None, is_some, unwrap_or, option_map, option_and_then, Result, Ok, Err}
 use Rattle.std.specs.List.{starts_with}
 use Rattle.std.specs.Cmp.Lexicographic.{pointwise}
 use Rattle.k_words.specs.declared.job.Job.{Job}
@@ -23,10 +23,11 @@ file_fault command [] (suc k) = None
 file_fault command (file ∷ words) zero = if is_no_file file then Some NoFile else None
 file_fault command (file ∷ words) (suc k) = settings_fault command words k
 
--- the two numbers of `demo`
+-- the number that `demo` makes a program from
 abbrev pub demo_number : List ℕ → Option ℕ
 demo_number word = number_within 0 18446744073709551615 word
 
+-- the number of its loops
 abbrev pub demo_loops : List ℕ → Option ℕ
 demo_loops word = number_within 1 2000 word
 
@@ -83,25 +84,29 @@ fault_at [] (suc k) = None
 fault_at (command ∷ words) zero = command_fault (command_of command)
 fault_at (command ∷ words) (suc k) = fault_behind (command_of command) words k
 
--- what `run`, `graph` and `show` ask for, with this file and these options
+-- what `run` with this file and these options asks for
 abbrev pub run_of : List ℕ → Given → Job
 run_of file g = job.Run file (unwrap_or g.steps 100000000) (unwrap_or g.depth 24) g.latency g.dict g.save
 
+-- what `graph` with this file and these options asks for
 abbrev pub graph_of : List ℕ → Given → Job
 graph_of file g = job.Graph file (unwrap_or g.steps 200000) (unwrap_or g.depth 24) g.latency
 
+-- what `show` with this file and these options asks for
 abbrev pub show_of : List ℕ → Given → Job
 show_of file g = job.Show file g.dict
 
--- the same with these arguments
+-- what `run` with these arguments asks for
 abbrev pub run_job : List (List ℕ) → Option Job
 run_job [] = None
 run_job (file ∷ words) = Some (run_of file (given Run words))
 
+-- what `graph` with these arguments asks for
 abbrev pub graph_job : List (List ℕ) → Option Job
 graph_job [] = None
 graph_job (file ∷ words) = Some (graph_of file (given Graph words))
 
+-- what `show` with these arguments asks for
 abbrev pub show_job : List (List ℕ) → Option Job
 show_job [] = None
 show_job (file ∷ words) = Some (show_of file (given Show words))

@@ -1,4 +1,4 @@
-use Rattle.std.proofs.Common.{◌≡◌, ◌∙◌, ◌∷◌, List, Some, ap, string_bytes, sym}
+use Rattle.std.proofs.Common.{◌≡◌, ◌∙◌, Some, ap, string_bytes, sym}
 use Rattle.std.proofs.lemmas.List.{nil_from_length}
 use Rattle.k_words.specs.Settings.{seen_words}
 use Rattle.k_words.specs.Words.{demo_loops, demo_number}

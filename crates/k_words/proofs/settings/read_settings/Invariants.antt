@@ -1,4 +1,3 @@
-use Rattle.std.proofs.Common.{◌≤◌, length}
 use Rattle.k_words.specs.Settings.{seen, seen_words}
 use Rattle.k_words.proofs.Reading.{IsRead}
 use Rattle.k_words.proofs.settings.read_settings.Given as goal
