@@ -1,0 +1,10 @@
+pub mod Calls
+pub mod Conversions
+pub mod Expressions
+pub mod Formats
+pub mod Made
+pub mod Names
+pub mod Operands
+pub mod Operators
+pub mod Specifiers
+pub mod Types
