@@ -1,10 +1,15 @@
 pub mod Calls
+pub mod Constants
 pub mod Conversions
+pub mod Declarations
+pub mod Dimensions
 pub mod Expressions
 pub mod Formats
+pub mod Initialisers
 pub mod Made
 pub mod Names
 pub mod Operands
 pub mod Operators
 pub mod Specifiers
+pub mod Statements
 pub mod Types
