@@ -1,3 +1,4 @@
+pub mod Called
 pub mod Calls
 pub mod Constants
 pub mod Conversions
@@ -5,6 +6,7 @@ pub mod Declarations
 pub mod Dimensions
 pub mod Expressions
 pub mod Formats
+pub mod Functions
 pub mod Initialisers
 pub mod Made
 pub mod Names
@@ -13,3 +15,4 @@ pub mod Operators
 pub mod Specifiers
 pub mod Statements
 pub mod Types
+pub mod Units
