@@ -4,6 +4,7 @@ pub mod Constants
 pub mod Conversions
 pub mod Declarations
 pub mod Dimensions
+pub mod Elaborated
 pub mod Expressions
 pub mod Formats
 pub mod Functions

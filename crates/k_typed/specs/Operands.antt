@@ -116,8 +116,8 @@ addressed p e None fixed = refused (fault.NotPlace p)
 addressed p e (Some kind) None = refused (fault.NotPlace p)
 addressed p e (Some kind) (Some fixed) =
     Fine (value (ctype.Pointer (record { kind = kind; dims = []; fixed = fixed }))
-      (typed.Address (at p (pointer_to (record { kind = kind; dims = []; fixed = fixed }))) e.tree)
-      (variable_step (out-TExpr e.tree) e.taken))
+    (typed.Address (at p (pointer_to (record { kind = kind; dims = []; fixed = fixed }))) e.tree)
+    (variable_step (out-TExpr e.tree) e.taken))
 
 -- C17 6.5.3.2p1: `&` takes a place of a number; the variable that it is applied to has an address from then on
 abbrev pub address_rule : Place → Typed → Made Typed
