@@ -1,3 +1,4 @@
+pub mod Bare
 pub mod Called
 pub mod Calls
 pub mod Constants
@@ -11,6 +12,7 @@ pub mod Functions
 pub mod Initialisers
 pub mod Made
 pub mod Names
+pub mod Numbered
 pub mod Operands
 pub mod Operators
 pub mod Specifiers
