@@ -1,5 +1,5 @@
 -- A typed tree without its numbers: what two typed trees have in common that differ in numbers alone.
-use Rattle.std.specs.Prelude.{ℕ, ◌≡◌, List, [], map, Option, Some, None}
+use Rattle.std.specs.Prelude.{◌≡◌, List, [], map, Option, Some, None}
 use Rattle.k_tree.specs.declared.tree.unit.Unit as source
 use Rattle.k_typed.specs.declared.tree.expression.Node.{Node}
 use Rattle.k_typed.specs.declared.tree.expression.TExpr.{TExpr, fold-TExpr}

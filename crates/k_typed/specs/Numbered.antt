@@ -1,7 +1,6 @@
 -- The numbers of a typed tree: its expressions and statements in text order, parents first; its strings that are objects, and its
 -- loops, each in text order.
 use Rattle.std.specs.Prelude.{ℕ, zero, suc, ◌≡◌, ◌+◌, List, [], ◌∷◌, ◌++◌, map, length, Option, Some, None}
-use Rattle.k_num.specs.declared.place.Place.{Place}
 use Rattle.k_typed.specs.declared.tree.expression.Node.{Node}
 use Rattle.k_typed.specs.declared.tree.expression.TExpr.{TExpr, fold-TExpr}
 use Rattle.k_typed.specs.declared.tree.expression.TExpr.TheOpen.{TExpr-F}
@@ -15,7 +14,6 @@ use Rattle.k_typed.specs.declared.tree.statement.TFirst.TheVariants as first
 use Rattle.k_typed.specs.declared.tree.statement.TStmt.{TStmt, fold-TStmt}
 use Rattle.k_typed.specs.declared.tree.statement.TPart.TheOpen.{TPart-F, TStmt-F}
 use Rattle.k_typed.specs.declared.tree.unit.TFunc.{TFunc}
-use Rattle.k_typed.specs.declared.tree.unit.TObject.{TObject}
 use Rattle.k_typed.specs.declared.tree.unit.TString.{TString}
 use Rattle.k_typed.specs.declared.tree.unit.TUnit.{TUnit}
 
