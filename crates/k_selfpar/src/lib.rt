@@ -1,4 +1,5 @@
-//! Self-parallelism as exact fractions, and the rows of a tree: what the instances of each region come to together.
+//! Self-parallelism as exact fractions, the rows of a tree, which tell what the instances of each region come to together, and its
+//! contexts, which tell the same of the instances with each list of regions from the root.
 #![tactic(auto)]
 
 mod context;
