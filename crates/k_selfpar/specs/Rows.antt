@@ -1,4 +1,4 @@
--- *Rows*: what the instances of each region of a tree come to together.
+-- *Rows*: what the instances of each region of a tree come to together (Garcia, Jeon, Louie, Taylor, PLDI 2011).
 use Rattle.std.specs.Prelude.{ℕ, ◌≡◌, ◌<◌, ◌≤◌, ◌==◌, List, length, filter, Some, slice_get}
 use Rattle.k_optab.specs.declared.node.Node.{Node}
 use Rattle.k_optab.specs.Meaning.{paths, serial_of, works}
