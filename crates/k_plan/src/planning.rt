@@ -45,8 +45,8 @@ fn add_best(below: &mut [u64], inner: &[Context], limits: &Limits, run_work: u64
     while let Some((context, before)) = rest.split_last() {
         let number = before.len() + 1;
         let total = best_total(context, limits, run_work, below[number]);
-        let parent = context.parent as usize;
-        below[parent] += total;
+        let sum = &mut below[context.parent as usize];
+        *sum += total;
         rest = before;
     }
 }
