@@ -1,12 +1,12 @@
 -- The picks so far, from the first context on.
-use Rattle.std.proofs.Common.{◌≡◌, ℕ, zero, suc, ◌+◌, ◌<◌, ◌≤◌, ◌^◌, inl, inr, Bool, true, false, not, ◌&&◌, ◌||◌, List, [], ◌∷◌, ◌++◌, length, get_or, length-append, Some, slice_get, refl, sym, ap, ◌∙◌, subst, arith, append_assoc, if◌then◌else◌}
+use Rattle.std.proofs.Common.{◌≡◌, ℕ, zero, suc, ◌+◌, ◌<◌, ◌^◌, inl, inr, Bool, true, false, not, ◌&&◌, ◌||◌, List, [], ◌∷◌, ◌++◌, length, get_or, length-append, Some, slice_get, refl, sym, ap, ◌∙◌, arith, append_assoc, if◌then◌else◌}
 use Rattle.std.proofs.lemmas.List.{append-nil}
 use Rattle.std.proofs.lemmas.Bool.{cases_eq}
 use Rattle.k_plan.specs.declared.advice.Pick.{Pick}
 use Rattle.k_selfpar.specs.declared.context.Context.{Context}
 use Rattle.k_plan.specs.declared.limits.Limits.{Limits}
 use Rattle.k_plan.specs.Best.{AreBest, best_below, best_choice, is_free, taken, takes, takes_some, with_pick}
-use Rattle.k_plan.specs.Choices.{Choice, root_work}
+use Rattle.k_plan.specs.Choices.{root_work}
 use Rattle.k_plan.specs.Plan.{CanPlan, behind_root, pick_of, picks_from}
 use Rattle.k_plan.proofs.Above.{are_behind, covered, covered_by_parent, first_is_free}
 use Rattle.k_plan.proofs.Summing.{place_behind}

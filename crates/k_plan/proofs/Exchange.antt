@@ -6,11 +6,11 @@ use Rattle.std.proofs.lemmas.Option.{none-some, same_Some}
 use Rattle.k_plan.specs.declared.advice.Advice.{Advice}
 use Rattle.k_selfpar.specs.declared.context.Context.{Context}
 use Rattle.k_plan.specs.declared.limits.Limits.{Limits}
-use Rattle.k_plan.specs.Choices.{Choice, IsAbove, IsChoice, root_work, total, total_from}
+use Rattle.k_plan.specs.Choices.{Choice, IsAbove, IsChoice, total, total_from}
 use Rattle.k_plan.specs.Plan.{CanPlan, IsAdvice, IsPlan, picks_from}
-use Rattle.k_plan.specs.Saving.{passes, saving}
+use Rattle.k_plan.specs.Saving.{saving}
 use Rattle.k_plan.proofs.Above.{AreBehind, are_behind, above_before, above_goes_on, above_in_line}
-use Rattle.k_plan.proofs.Totals.{saved, totals_add}
+use Rattle.k_plan.proofs.Totals.{totals_add}
 
 -- one context alone
 abbrev only : ℕ → ℕ → Bool

@@ -1,18 +1,18 @@
 -- The contexts that are taken and have none above them that is are a plan.
 use Rattle.std.proofs.Common.{◌≡◌, ℕ, zero, suc, ◌+◌, ◌<◌, ◌≤◌, ◌⊎◌, inl, inr, Bool, true, false, not, ◌&&◌, ◌||◌, List, [], ◌∷◌, ◌++◌, length, Option, Some, None, slice_get, refl, sym, ap, ◌∙◌, subst, arith, if◌then◌else◌, leb, length-append, append_assoc}
 use Rattle.std.specs.Prelude.{◌==◌}
-use Rattle.std.proofs.lemmas.Bool.{cases_Bool, cond-true, eq-eqb, eqb-true, and_parts, and_from, and_cases, leb-false, not-true, not_from_false, false_from_ne_true, true≢false, or_left}
+use Rattle.std.proofs.lemmas.Bool.{cases_Bool, cond-true, eq-eqb, eqb-true, and_parts, and_from, and_cases, leb-false, not-true, not_from_false, true≢false, or_left}
 use Rattle.std.proofs.lemmas.Option.{slice_get_within, none-some, same_Some}
 use Rattle.k_selfpar.specs.declared.context.Context.{Context}
 use Rattle.k_plan.specs.declared.limits.Limits.{Limits}
 use Rattle.k_plan.specs.Best.{best, best_below, best_choice, given, taken, takes, takes_some}
 use Rattle.k_plan.specs.Choices.{Choice, IsAbove, IsChoice, IsPassing, root_work, total}
-use Rattle.k_plan.specs.Plan.{CanPlan, IsPlan, behind_root}
+use Rattle.k_plan.specs.Plan.{CanPlan, IsPlan}
 use Rattle.k_plan.specs.Saving.{passes, saving}
-use Rattle.k_plan.proofs.Above.{AreBehind, are_behind, covered, covered_from_above, covers, above_before}
+use Rattle.k_plan.proofs.Above.{AreBehind, are_behind, covered, covered_from_above, covers}
 use Rattle.k_plan.proofs.Attained.{attained, part_below, saved_below, total_of_best}
 use Rattle.k_plan.proofs.Bounded.{best_at_root, total_at_most}
-use Rattle.k_plan.proofs.Marks.{IsMarked, Marked, all_marked, cut_at, marked_behind, marked_part}
+use Rattle.k_plan.proofs.Marks.{Marked, all_marked, cut_at, marked_behind, marked_part}
 use Rattle.k_plan.proofs.Totals.{given_is_saved, sums}
 
 module _ (limits : Limits) (contexts : List Context) (behind : AreBehind contexts) where

@@ -3,7 +3,7 @@ use Rattle.std.proofs.Common.{◌≡◌, ℕ, zero, suc, ◌+◌, ◌<◌, ◌�
 use Rattle.std.proofs.lemmas.Bool.{cases_eq}
 use Rattle.std.proofs.lemmas.Option.{none-some, same_Some}
 use Rattle.k_selfpar.specs.declared.context.Context.{Context}
-use Rattle.k_plan.specs.Plan.{CanPlan, ParentsComeFirst, StandBehindParents, behind_root, works_under}
+use Rattle.k_plan.specs.Plan.{CanPlan, StandBehindParents, works_under}
 
 -- a context has what is asked of one with this number
 pub record IsRight (inner : List Context) (k : ℕ) (c : Context) : Type 0 where

@@ -1,5 +1,5 @@
 -- What holds of plans: the statements of the laws.
-use Rattle.std.specs.Prelude.{ℕ, ◌*◌, ◌^◌, ◌≡◌, ◌<◌, ◌≤◌, List, sum_by}
+use Rattle.std.specs.Prelude.{ℕ, ◌*◌, ◌≡◌, ◌<◌, ◌≤◌, List, sum_by}
 use Rattle.std.specs.Int.{div_ceil}
 use Rattle.k_plan.specs.declared.advice.Advice.{Advice}
 use Rattle.k_selfpar.specs.declared.context.Context.{Context}
