@@ -8,7 +8,7 @@ mod planning;
 mod saving;
 
 pub use advice::{Advice, Pick};
-pub use k_selfpar::{Context, ContextFault, ContextList};
+pub use k_selfpar::{Context, ContextFault, ContextList, contexts};
 pub use limits::{Limits, standard_limits};
 pub use planning::plan;
 
