@@ -208,43 +208,34 @@ fn picks_have_contexts(picks: &[Pick], contexts: &[Context]) -> bool
     picks.iter().all(|pick| (pick.context as usize) < count)
 }
 
-/// A report: its regions, what main returned and the number of operations, its rows and its dictionary.
-#[derive(Clone, Copy)]
-struct Reported<'a> {
-    regions: &'a Seq<Region>,
-    exit: i32,
-    ops: u64,
-    rows: &'a Seq<Row>,
-    dict: Option<&'a Dict>,
-}
+/// What main returned, and the number of operations.
+type Ends = (i32, u64);
 
 /// The report of a run with a plan is this text.
 fn check_planned(
     rt: &impl Abort,
     alloc: Global,
-    run: &Reported<'_>,
+    regions: &Seq<Region>,
+    ends: Ends,
+    rows: &Seq<Row>,
+    dict: Option<&Dict>,
     contexts: &Seq<Context>,
-    picks: &[Pick],
-    total: u64,
+    advice: &Advice,
     text: &str,
 ) -> Result<(), Fail> {
-    assert!(rt; rows_have_regions(run.rows.as_slice(), run.regions.as_slice()));
-    assert!(rt; contexts_have_regions(contexts.as_slice(), run.regions.as_slice()));
+    assert!(rt; rows_have_regions(rows.as_slice(), regions.as_slice()));
+    assert!(rt; contexts_have_regions(contexts.as_slice(), regions.as_slice()));
     assert!(rt; parents_come_first(contexts.as_slice()));
-    let advice = Advice {
-        picks: Seq::copy_of(alloc, picks)?,
-        total,
-    };
     assert!(rt; picks_have_contexts(advice.picks.as_slice(), contexts.as_slice()));
     let found = report(
         alloc,
-        run.regions,
-        run.exit,
-        run.ops,
-        run.rows,
-        run.dict,
+        regions,
+        ends.0,
+        ends.1,
+        rows,
+        dict,
         contexts,
-        Some(&advice),
+        Some(advice),
     )?;
     assert_eq!(rt; found.as_slice(), text.as_bytes());
     Ok(())
@@ -254,25 +245,25 @@ fn check_planned(
 fn check_wide(
     rt: &impl Abort,
     alloc: Global,
-    run: &Reported<'_>,
+    regions: &Seq<Region>,
+    ends: Ends,
+    rows: &Seq<Row>,
     contexts: &Seq<Context>,
     text: &str,
 ) -> Result<(), Fail> {
-    assert!(rt; rows_have_regions(run.rows.as_slice(), run.regions.as_slice()));
-    assert!(rt; contexts_have_regions(contexts.as_slice(), run.regions.as_slice()));
+    assert!(rt; rows_have_regions(rows.as_slice(), regions.as_slice()));
+    assert!(rt; contexts_have_regions(contexts.as_slice(), regions.as_slice()));
     assert!(rt; parents_come_first(contexts.as_slice()));
-    let found = report(
-        alloc,
-        run.regions,
-        run.exit,
-        run.ops,
-        run.rows,
-        run.dict,
-        contexts,
-        None,
-    )?;
+    let found = report(alloc, regions, ends.0, ends.1, rows, None, contexts, None)?;
     assert_eq!(rt; found.as_slice(), text.as_bytes());
     Ok(())
+}
+
+fn advice_of(alloc: Global, picks: &[Pick], total: u64) -> Result<Advice, Fail> {
+    Ok(Advice {
+        picks: Seq::copy_of(alloc, picks)?,
+        total,
+    })
 }
 
 fn doall(context: u32, saves: u64) -> Pick {
@@ -298,21 +289,8 @@ fn odd_sum(rt: HostRuntime) -> Result<(), Fail> {
     let rows = rows_of(alloc, &ODD_SUM_ROWS)?;
     let dict = dict_of(&rt, alloc, &ODD_SUM_ENTRIES)?;
     let contexts = contexts_of(alloc, &[0, 0, 1], 35)?;
-    let run = Reported {
-        regions: &regions,
-        exit: 9,
-        ops: 47,
-        rows: &rows,
-        dict: Some(&dict),
-    };
-    check_planned(
-        &rt,
-        alloc,
-        &run,
-        &contexts,
-        &[doall(1, 31)],
-        31,
-        "== kremlin ==\nexit 9\nops 47\n\
+    let advice = advice_of(alloc, &[doall(1, 31)], 31)?;
+    let text = "== kremlin ==\nexit 9\nops 47\n\
          func main 1:5 n=1 work=35 path=4 sp=1/1\n\
          loop main 1:30 n=1 work=35 path=4 sp=35/4\n\
          body main 1:47 n=6 work=15 path=15 sp=1/1\n\
@@ -322,7 +300,17 @@ fn odd_sum(rt: HostRuntime) -> Result<(), Fail> {
          2 region 1 work 35 path 4 runs 0*3 1*3\n\
          3 region 0 work 35 path 4 runs 2*1\n\
          plan loop main 1:30 at 0/1 doall saves 31\n\
-         plan total 31 of 35\n",
+         plan total 31 of 35\n";
+    check_planned(
+        &rt,
+        alloc,
+        &regions,
+        (9, 47),
+        &rows,
+        Some(&dict),
+        &contexts,
+        &advice,
+        text,
     )?;
     Ok(())
 }
@@ -333,21 +321,8 @@ fn matrix_product(rt: HostRuntime) -> Result<(), Fail> {
     let regions = regions_of(alloc, &MATRIX_REGIONS)?;
     let rows = rows_of(alloc, &MATRIX_ROWS)?;
     let contexts = contexts_of(alloc, &MATRIX_PARENTS, 642_388)?;
-    let run = Reported {
-        regions: &regions,
-        exit: 0,
-        ops: 449_995,
-        rows: &rows,
-        dict: None,
-    };
-    check_planned(
-        &rt,
-        alloc,
-        &run,
-        &contexts,
-        &[doall(1, 11_190), doall(5, 615_237)],
-        626_427,
-        "== kremlin ==\nexit 0\nops 449995\n\
+    let advice = advice_of(alloc, &[doall(1, 11_190), doall(5, 615_237)], 626_427)?;
+    let text = "== kremlin ==\nexit 0\nops 449995\n\
          func main 4:5 n=1 work=642388 path=27 sp=32/27\n\
          loop main 7:5 n=1 work=11426 path=4 sp=97/2\n\
          body main 8:9 n=32 work=11328 path=96 sp=1/1\n\
@@ -361,7 +336,17 @@ fn matrix_product(rt: HostRuntime) -> Result<(), Fail> {
          body main 16:17 n=32768 work=524288 path=327680 sp=8/5\n\
          plan loop main 7:5 at 0/1 doall saves 11190\n\
          plan loop main 12:5 at 0/5 doall saves 615237\n\
-         plan total 626427 of 642388\n",
+         plan total 626427 of 642388\n";
+    check_planned(
+        &rt,
+        alloc,
+        &regions,
+        (0, 449_995),
+        &rows,
+        None,
+        &contexts,
+        &advice,
+        text,
     )?;
     Ok(())
 }
@@ -373,31 +358,33 @@ fn other_lines(rt: HostRuntime) -> Result<(), Fail> {
     let rows = Seq::new(alloc);
     let dict = Dict::new(alloc);
     let contexts = contexts_of(alloc, &MATRIX_PARENTS, 10_000_000_000_000)?;
-    let run = Reported {
-        regions: &regions,
-        exit: -2_147_483_648,
-        ops: 1_000_000_000,
-        rows: &rows,
-        dict: Some(&dict),
-    };
+    let advice = advice_of(alloc, &[doacross(9, 0)], 0)?;
+    let text = "== kremlin ==\nexit -2147483648\nops 1000000000\ndict 0\n\
+         plan loop main 15:13 at 0/5/6/7/8/9 doacross saves 0\n\
+         plan total 0 of 10000000000000\n";
     check_planned(
         &rt,
         alloc,
-        &run,
+        &regions,
+        (-2_147_483_648, 1_000_000_000),
+        &rows,
+        Some(&dict),
         &contexts,
-        &[doacross(9, 0)],
-        0,
-        "== kremlin ==\nexit -2147483648\nops 1000000000\ndict 0\n\
-         plan loop main 15:13 at 0/5/6/7/8/9 doacross saves 0\n\
-         plan total 0 of 10000000000000\n",
+        &advice,
+        text,
     )?;
-    check_wide(
-        &rt,
-        alloc,
-        &run,
-        &contexts,
-        "== kremlin ==\nexit -2147483648\nops 1000000000\ndict 0\nplan: over 65536 contexts\n",
-    )?;
+    Ok(())
+}
+
+#[test]
+fn one_line_in_place_of_others(rt: HostRuntime) -> Result<(), Fail> {
+    let alloc = rt.alloc();
+    let regions = regions_of(alloc, &ODD_SUM_REGIONS)?;
+    let rows = rows_of(alloc, &ODD_SUM_ROWS[..1])?;
+    let contexts = contexts_of(alloc, &[0, 0, 1], 35)?;
+    let text =
+        "== kremlin ==\nexit 9\nops 47\nfunc main 1:5 n=1 work=35 path=4 sp=1/1\nplan: over 65536 contexts\n";
+    check_wide(&rt, alloc, &regions, (9, 47), &rows, &contexts, text)?;
     let large = report_large(alloc, 0, 1)?;
     assert_eq!(rt;
         large.as_slice(),
