@@ -1,16 +1,15 @@
 -- A run and its tree have one listing: there is one chosen path of an interval.
-use Rattle.std.proofs.Common.{◌≡◌, ℕ, zero, suc, ◌+◌, ◌<◌, ◌≤◌, ◌⊎◌, inl, inr, List, [], ◌∷◌, ◌++◌, length, Some, arith, refl, ap, sym, subst, ◌∙◌}
+use Rattle.std.proofs.Common.{◌≡◌, ℕ, suc, ◌+◌, ◌<◌, ◌≤◌, inl, inr, List, [], ◌∷◌, ◌++◌, length, arith, refl, ap, sym, subst, ◌∙◌}
 use Rattle.std.specs.List.{All}
 use Rattle.std.proofs.lemmas.Bool.{cases_lt}
 use Rattle.std.proofs.Math.Nat.{eq-or-lt_of_le}
 use Rattle.k_optab.specs.declared.event.Src.{Src}
-use Rattle.k_optab.specs.Events.{Operation, IsOperation, ListsUnbroken, operations}
-use Rattle.k_optab.specs.Graph.{Heaviest, HeaviestTo}
-use Rattle.k_optab.proofs.Heaviest.{heaviest_to_unique, heaviest_unique, same_operation}
+use Rattle.k_optab.specs.Events.{Operation, operations}
+use Rattle.k_optab.proofs.Heaviest.{heaviest_unique, same_operation}
 use Rattle.k_graph.specs.declared.tree.Instance.{Instance}
 use Rattle.k_graph.specs.Chosen.{ChosenTo, HasNoSource, IsChosen, IsChosenSource, follows, starts}
 use Rattle.k_plain.specs.declared.listing.Listing.{Listing}
-use Rattle.k_report.specs.Graph.{AreInstanceLines, IsChosenHeaviest, IsGraphText, IsHeaviestPath, IsWithin, end_line, event_lines, instance_line}
+use Rattle.k_report.specs.Graph.{AreInstanceLines, IsGraphText, IsHeaviestPath, IsWithin, end_line, event_lines, instance_line}
 
 -- a chosen source is no later than another
 no_later : (ops : List Operation) (s : ℕ) (sources : List Src) (j k : ℕ) (one : IsChosenSource ops s sources j) (other : IsChosenSource ops s sources k)

@@ -1,4 +1,4 @@
-use Rattle.std.proofs.Common.{◌<◌, arith}
+use Rattle.std.proofs.Common.{arith}
 use Rattle.k_report.proofs.Testing.{within_more}
 use Rattle.k_report.proofs.tests.graphs.all_within.Goals as goal
 
