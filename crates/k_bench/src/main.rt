@@ -2,15 +2,18 @@
 //! operands and of the control entry are read at each live level, and their maximum is written to one location at
 //! each live level.
 //!
-//! Words: the shadow (`maps`, `regs`, `pages` or `enter`), how its times are read (`read` or `raise`), how many
-//! locations, a power of two, how many levels, and how many operations. It prints the sum of all times at the outermost level, so that runs can be compared. Without words
-//! it runs a few operations over each of the three.
+//! Words: the shadow (`maps`, `regs`, `pages` or `enter`), how its times are read (`read`, `raise` or `after`), how
+//! many locations, a power of two, how many levels, and how many operations. It prints the sum of all times at the
+//! outermost level, so that runs can be compared. Without words it runs a few operations over each of the three, in
+//! each of the three ways.
 #![tactic(auto)]
 
 ghost use Rattle.std.specs.Prelude.{◌≡◌, ◌<◌};
 
 mod draws;
 mod operations;
+#[cfg(test)]
+mod tests;
 
 use k_shadow::{LevelMaps, Shadow, Steps};
 use k_spage::ShadowPages;
@@ -22,12 +25,14 @@ use std::sync::ledger::{Blank, Ledger};
 use std::{env, io};
 
 /// What runs where no words are given.
-const SMALL: Plan = Plan {
-    way: Way::Raise,
-    last: 1023,
-    levels: 8,
-    operations: 2_000,
-};
+fn small(way: Way) -> Plan {
+    Plan {
+        way,
+        last: 1023,
+        levels: 8,
+        operations: 2_000,
+    }
+}
 
 /// The words behind the program's own name.
 fn words(rt: &HostRuntime) -> io::Result<Vec<String>> {
@@ -39,6 +44,7 @@ fn plan_of(way: &str, locations: &str, levels: &str, operations: &str) -> Option
     let way = match way {
         "read" => Way::Read,
         "raise" => Way::Raise,
+        "after" => Way::After,
         _ => return None,
     };
     let locations: u32 = locations.parse().ok()?;
@@ -115,8 +121,10 @@ fn main(rt: HostRuntime) -> io::Result<()> {
         }
         _ => {
             for subject in [Subject::Maps, Subject::Registers, Subject::Pages] {
-                let sum = answer::<Brand>(rt.alloc(), subject, SMALL, Blank::new(1));
-                println!(rt; "{subject:?} {sum:?}")?;
+                for way in [Way::Read, Way::Raise, Way::After] {
+                    let sum = answer::<Brand>(rt.alloc(), subject, small(way), Blank::new(1));
+                    println!(rt; "{subject:?} {way:?} {sum:?}")?;
+                }
             }
         }
     }

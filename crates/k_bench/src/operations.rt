@@ -15,6 +15,8 @@ pub enum Way {
     Read,
     /// Operand by operand, by `raise`.
     Raise,
+    /// Both operands and the control entry at once, by `times_after`.
+    After,
 }
 
 /// What is run.
@@ -62,6 +64,7 @@ pub fn run<S: Shadow, L: Ledger>(
         match plan.way {
             Way::Read => read_operands(shadow, &control, &mut times, left, right, steps),
             Way::Raise => raise_by_operands(shadow, &control, &mut times, left, right, steps),
+            Way::After => make_after_operands(shadow, &control, &mut times, left, right, steps),
         }
         shadow.write(to, &times);
     }
@@ -118,6 +121,26 @@ fn raise_by_operands<S: Shadow, L: Ledger>(
     for slot in slots.iter_mut() {
         *slot = slot.wrapping_add(1);
     }
+}
+
+/// The same, at once.
+#[inline]
+#[tactic(auto, using(k_shadow::proofs::Laws::depth_entered, k_shadow::proofs::Laws::depth_left, k_shadow::proofs::Laws::depth_written))]
+fn make_after_operands<S: Shadow, L: Ledger>(
+    shadow: &S,
+    control: &Control,
+    times: &mut Times,
+    left: u32,
+    right: u32,
+    steps: &mut Steps<L>,
+)
+    requires left { left < (S.content shadow.now).limit }
+    requires right { right < (S.content shadow.now).limit }
+    requires live { length times.old ≡ depth (S.content shadow.now) }
+    requires control { length times.old ≡ length control.now.current }
+    ensures live { length times.new ≡ length times.old }
+{
+    shadow.times_after(left, right, control, 1, times.as_mut_slice(), steps);
 }
 
 /// The sum of the times at the outermost level.

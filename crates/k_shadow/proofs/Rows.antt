@@ -247,8 +247,3 @@ stamped-cleared rows others first count given c h at =
     (λ (past : first + count ≤ at). subst P (sym (c.behind at past)) (h at))
     (cases_lt at (first + count)))
     (cases_lt at first)
-
--- times that were raised to those of a row
-pub raised_by_row : (row : Row) (live numbers old new : List ℕ) → numbers ≡ live → ((k : ℕ) → k < length numbers → slice_index new k ≡ max (slice_index old k) (row_time row (slice_index numbers k) k)) → (k : ℕ) → k < length live → slice_index new k ≡ max (slice_index old k) (row_time row (slice_index live k) k)
-raised_by_row row live numbers old new same h k lt =
-    (let P : List ℕ → Type 0 = λ ns. k < length ns in h k (subst P (sym same) lt)) ∙ ap (λ ns. max (slice_index old k) (row_time row (slice_index ns k) k)) same

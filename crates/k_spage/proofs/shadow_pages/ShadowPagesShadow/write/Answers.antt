@@ -6,8 +6,8 @@ use Rattle.k_spage.specs.Pages.{rows_under, key_of, paged_row}
 use Rattle.k_spage.proofs.Paged.{IsWritten-paged}
 use Rattle.k_spage.proofs.shadow_pages.ShadowPagesShadow.write.Goals as goal
 
-pub returns-in-Some-clause-content : goal.returns-in-Some-clause-content
-returns-in-Some-clause-content c =
+pub returns-clause-content : goal.returns-clause-content
+returns-clause-content c =
     let s = c.args.self.now in
     let table = s.table.items in
     let new = c.write_row.new.pages.slots in
