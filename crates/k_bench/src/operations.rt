@@ -44,13 +44,14 @@ pub fn run<W: Way, S: Shadow, L: Ledger>(
     shadow.reserve(0, plan.last + 1)?;
     let mut times = Times::new(alloc);
     times.resize(plan.levels);
+    let slots = times.as_mut_slice();
     let mut draws = Draws::new();
     for _operation in 0..plan.operations {
         let left = draws.next(plan.last);
         let right = draws.next(plan.last);
         let to = draws.next(plan.last);
-        W::fill(shadow, &control, &mut times, left, right, steps);
-        shadow.write(to, &times);
+        W::fill(shadow, &control, slots, left, right, steps);
+        shadow.put(to, slots);
     }
     Ok(sum(shadow, plan.last, steps))
 }

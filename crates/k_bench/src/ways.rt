@@ -2,7 +2,7 @@
 ghost use Rattle.std.specs.Prelude.{◌≡◌, ◌+◌, ◌<◌, ◌≤◌, length};
 ghost use Rattle.k_shadow.specs.Content.{depth};
 
-use k_shadow::{Control, Shadow, Steps, Times};
+use k_shadow::{Control, Shadow, Steps};
 use std::sync::ledger::Ledger;
 
 /// A way to read the times of an operation's operands.
@@ -12,7 +12,7 @@ pub trait Way {
     fn fill<S: Shadow, L: Ledger>(
         shadow: &S,
         control: &Control,
-        times: &mut Times,
+        times: &mut [u64],
         left: u32,
         right: u32,
         steps: &mut Steps<L>,
@@ -20,8 +20,7 @@ pub trait Way {
         requires left { left < (S.content shadow.now).limit }
         requires right { right < (S.content shadow.now).limit }
         requires live { length times.old ≡ depth (S.content shadow.now) }
-        requires control { length times.old ≡ length control.now.current }
-        ensures live { length times.new ≡ length times.old };
+        requires control { length times.old ≡ length control.now.current };
 }
 
 /// Level by level, by `read`.
@@ -32,17 +31,16 @@ impl Way for ByLevel {
     fn fill<S: Shadow, L: Ledger>(
         shadow: &S,
         control: &Control,
-        times: &mut Times,
+        times: &mut [u64],
         left: u32,
         right: u32,
         steps: &mut Steps<L>,
     ) {
-        let slots = times.as_mut_slice();
-        for level in 0..slots.len() {
+        for level in 0..times.len() {
             let a = shadow.read(left, level, steps);
             let b = shadow.read(right, level, steps);
             let c = control.time(level, steps);
-            slots[level] = a.max(b).max(c).wrapping_add(1);
+            times[level] = a.max(b).max(c).wrapping_add(1);
         }
     }
 }
@@ -55,17 +53,16 @@ impl Way for ByOperand {
     fn fill<S: Shadow, L: Ledger>(
         shadow: &S,
         control: &Control,
-        times: &mut Times,
+        times: &mut [u64],
         left: u32,
         right: u32,
         steps: &mut Steps<L>,
     ) {
-        let slots = times.as_mut_slice();
-        control.fill(slots, steps);
-        shadow.raise(left, slots, steps);
-        shadow.raise(right, slots, steps);
-        for slot in slots.iter_mut() {
-            *slot = slot.wrapping_add(1);
+        control.fill(times, steps);
+        shadow.raise(left, times, steps);
+        shadow.raise(right, times, steps);
+        for time in times.iter_mut() {
+            *time = time.wrapping_add(1);
         }
     }
 }
@@ -78,11 +75,11 @@ impl Way for AtOnce {
     fn fill<S: Shadow, L: Ledger>(
         shadow: &S,
         control: &Control,
-        times: &mut Times,
+        times: &mut [u64],
         left: u32,
         right: u32,
         steps: &mut Steps<L>,
     ) {
-        shadow.times_after(left, right, control, 1, times.as_mut_slice(), steps);
+        shadow.times_after(left, right, control, 1, times, steps);
     }
 }

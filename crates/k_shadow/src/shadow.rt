@@ -94,6 +94,17 @@ pub trait Shadow: Drop {
         requires each { length times.now ≡ depth (content self.old) }
         requires room { room self.old loc }
         ensures content { content self.new ≡ written loc times.now (content self.old) }
+        ensures kept { (at : ℕ) → room self.old at → room self.new at }
+    {
+        self.put(loc, times.as_slice());
+    }
+
+    /// `write` from the slice that is filled for each operation.
+    fn put(&mut self, loc: u32, times: &[u64])
+        requires below { loc < (content self.old).limit }
+        requires each { length times.now ≡ depth (content self.old) }
+        requires room { room self.old loc }
+        ensures content { content self.new ≡ written loc times.now (content self.old) }
         ensures kept { (at : ℕ) → room self.old at → room self.new at };
 
     /// Makes the time of the `count` locations from `first` on 0 at every live level.

@@ -23,6 +23,18 @@ pub fn key_of(table: &[Option<usize>], page: usize) -> Option<usize>
     }
 }
 
+/// The key of the page of that number, which is there.
+#[inline]
+pub fn key_of_page(table: &[Option<usize>], page: usize) -> usize
+    requires { IsSome (key_of table.now page) }
+    ensures { Some result ≡ key_of table.now page }
+{
+    match table[page] {
+        Some(key) => key,
+        None => unreachable!(),
+    }
+}
+
 /// The row of a location, a blank one where its page is not there.
 #[inline]
 pub fn row_of<'a>(pages: &'a Slab<Vec<Row>>, table: &[Option<usize>], loc: usize) -> &'a Row
@@ -56,13 +68,9 @@ pub fn write_row(pages: &mut Slab<Vec<Row>>, key: usize, place: usize, stamp: u6
     ensures stamp { (row_at (rows_under pages.new.slots (Some key)) place).stamp ≡ stamp }
     ensures times { (k : ℕ) → k < length times.now → slice_index (row_at (rows_under pages.new.slots (Some key)) place).times k ≡ slice_index times.now k }
 {
-    match pages.get_mut(key) {
-        Some(page) => {
-            let row = &mut page[place];
-            row.write(stamp, times);
-        }
-        None => unreachable!(),
-    }
+    let page = &mut pages[key];
+    let row = &mut page[place];
+    row.write(stamp, times);
 }
 
 /// Makes the row at a place of the page at a key read 0 at every level.
@@ -72,13 +80,9 @@ pub fn clear_row(pages: &mut Slab<Vec<Row>>, key: usize, place: usize)
     ensures one { IsOneRow pages.old.slots pages.new.slots key place }
     ensures stamp { (row_at (rows_under pages.new.slots (Some key)) place).stamp ≡ 0 }
 {
-    match pages.get_mut(key) {
-        Some(page) => {
-            let row = &mut page[place];
-            row.stamp = 0;
-        }
-        None => unreachable!(),
-    }
+    let page = &mut pages[key];
+    let row = &mut page[place];
+    row.stamp = 0;
 }
 
 /// The rows of a page that was never written.

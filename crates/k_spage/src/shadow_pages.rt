@@ -3,7 +3,7 @@ ghost use Rattle.std.specs.Prelude.{◌≡◌, ℕ, ◌≤◌};
 ghost use Rattle.k_shadow.specs.Content.{empty};
 ghost use Rattle.k_spage.specs.Pages.{paged_row, ArePages};
 
-use crate::pages::{PAGE, clear_locations, key_of, make_pages, row_of, write_row};
+use crate::pages::{PAGE, clear_locations, key_of_page, make_pages, row_of, write_row};
 use k_num::NoMemory;
 use k_shadow::{Control, Row, Shadow, Steps, Times, Versions};
 use slab::Slab;
@@ -146,17 +146,21 @@ impl Shadow for ShadowPages {
         ensures kept { (at : ℕ) → has_room self.old at → has_room self.new at }
         ensures pages { HasSamePages self.old self.new }
     {
+        self.put(loc, times.as_slice());
+    }
+
+    #[inline]
+    fn put(&mut self, loc: u32, times: &[u64])
+        requires below { loc < (pages_content self.old).limit }
+        requires each { length times.now ≡ depth (pages_content self.old) }
+        requires room { has_room self.old loc }
+        ensures content { pages_content self.new ≡ written loc times.now (pages_content self.old) }
+        ensures kept { (at : ℕ) → has_room self.old at → has_room self.new at }
+        ensures pages { HasSamePages self.old self.new }
+    {
         let stamp = self.versions.last_given();
-        let Some(key) = key_of(&self.table, loc as usize / PAGE) else {
-            unreachable!()
-        };
-        write_row(
-            &mut self.pages,
-            key,
-            loc as usize % PAGE,
-            stamp,
-            times.as_slice(),
-        );
+        let key = key_of_page(&self.table, loc as usize / PAGE);
+        write_row(&mut self.pages, key, loc as usize % PAGE, stamp, times);
     }
 
     fn clear(&mut self, first: u32, count: u32)

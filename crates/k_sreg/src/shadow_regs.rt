@@ -5,7 +5,7 @@ ghost use Rattle.k_shadow.specs.Rows.{row_at};
 
 use crate::rows::{clear_rows, grow_to, row_of, row_or_blank};
 use k_num::NoMemory;
-use k_shadow::{Control, Row, Shadow, Steps, Times, Versions};
+use k_shadow::{Control, Row, Shadow, Steps, Versions};
 use std::alloc::Global;
 use std::sync::ledger::Ledger;
 
@@ -100,10 +100,10 @@ impl Shadow for ShadowRegs {
     }
 
     #[inline]
-    fn write(&mut self, loc: u32, times: &Times) {
+    fn put(&mut self, loc: u32, times: &[u64]) {
         let stamp = self.versions.last_given();
         let row = &mut self.rows[loc as usize];
-        row.write(stamp, times.as_slice());
+        row.write(stamp, times);
     }
 
     #[inline]
