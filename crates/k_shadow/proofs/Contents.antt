@@ -1,10 +1,10 @@
 -- What the calls of a shadow whose locations have rows make of its content.
-use Rattle.std.proofs.Common.{◌≡◌, ℕ, ◌+◌, ◌<◌, ◌≤◌, List, length, max, get_or, refl, ap, sym, ◌∙◌, arith}
+use Rattle.std.proofs.Common.{◌≡◌, ℕ, ◌+◌, ◌<◌, ◌≤◌, List, length, max, ap, sym, ◌∙◌, arith}
 use Rattle.std.specs.Prelude.{slice_index}
 use Rattle.k_shadow.specs.declared.row.Row.{Row}
-use Rattle.k_shadow.specs.Content.{Content, depth, time_at, time_after, entered, left, written, cleared}
+use Rattle.k_shadow.specs.Content.{depth, time_at, time_after, entered, left, written, cleared}
 use Rattle.k_shadow.specs.Numbers.{Numbers, number_given, number_left, WereGiven}
-use Rattle.k_shadow.specs.Rows.{row_time, levels_of, content_of}
+use Rattle.k_shadow.specs.Rows.{row_time, content_of}
 use Rattle.k_shadow.proofs.Places.{length-with_places}
 use Rattle.k_shadow.proofs.Rows.{time_from_rows, levels-entered, levels-left, levels_same, IsWritten, levels-written, IsCleared, levels-cleared}
 

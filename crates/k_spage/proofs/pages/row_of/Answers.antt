@@ -1,4 +1,4 @@
-use Rattle.std.proofs.Common.{◌/◌, ◌%◌, sym, arith}
+use Rattle.std.proofs.Common.{◌/◌, sym, arith}
 use Rattle.k_spage.proofs.pages.row_of.Goals as goal
 
 pub row_in-requires : goal.row_in-requires

@@ -1,5 +1,4 @@
-use Rattle.std.proofs.Common.{◌≡◌, ℕ, ◌<◌, ◌/◌, ◌%◌, length, Some, ◌∙◌, ap, sym, arith}
-use Rattle.std.specs.Prelude.{slice_index}
+use Rattle.std.proofs.Common.{◌≡◌, ◌/◌, ◌%◌, Some, ◌∙◌, ap, sym, arith}
 use Rattle.k_shadow.specs.Rows.{row_at}
 use Rattle.k_shadow.proofs.Contents.{depth_counted, content-written}
 use Rattle.k_spage.specs.Pages.{rows_under, key_of, paged_row}

@@ -1,5 +1,4 @@
-use Rattle.std.proofs.Common.{◌≡◌, ℕ, ◌<◌, length, vec_len, set, ◌∙◌, ap, arith, rules, refl}
-use Rattle.std.specs.Prelude.{slice_index}
+use Rattle.std.proofs.Common.{◌≡◌, ◌<◌, length, vec_len, set, ◌∙◌, arith, rules, refl}
 use Rattle.k_shadow.specs.Rows.{row_at}
 use Rattle.k_shadow.proofs.Contents.{depth_counted, content-written}
 use Rattle.k_shadow.proofs.Rows.{one_row_written}
