@@ -1,5 +1,5 @@
 -- Tokens that lead a machine from one state to another, none of which is refused, and none of which reaches too deep.
-use Rattle.std.proofs.Common.{ℕ, ◌≡◌, ◌<◌, ◌≤◌, List, [], ◌∷◌, ◌++◌, map, sym, subst, refl, arith}
+use Rattle.std.proofs.Common.{ℕ, ◌≡◌, ◌<◌, ◌≤◌, List, [], ◌∷◌, ◌++◌, sym, subst, arith}
 use Rattle.k_num.specs.declared.place.Place.{Place}
 use Rattle.k_tree.specs.declared.tokens.Token.{Token}
 use Rattle.k_tree.specs.declared.tokens.TokenKind.{TokenKind}
@@ -70,34 +70,6 @@ leads-in M N f bound more (x ∷ xs) r P Q moves le l g = λ p.
 abbrev pub Reaches : {S : Type 0} → Moves S → ℕ → S → List Token → S → Type 0
 Reaches M bound r [] end = r ≡ end
 Reaches M bound r (t ∷ ts) end = Step M bound r t (λ next. Reaches M bound next ts end)
-
-pub record Reached {S : Type 0} (M : Moves S) (bound : ℕ) (r : S) (ts : List Token) (Q : S → Type 0) : Type 0 where
-  pub end : S
-  pub reaches : Reaches M bound r ts end
-  pub there : Q end
-
-kinds_head : (t : Token) (ts : List Token) (x : TokenKind) (xs : Spelled) → ◌≡◌ {A = Spelled} (t.what ∷ map (λ t. t.what) ts) (x ∷ xs) → t.what ≡ x
-kinds_head t ts x xs e = cc
-
-kinds_tail : (t : Token) (ts : List Token) (x : TokenKind) (xs : Spelled) → ◌≡◌ {A = Spelled} (t.what ∷ map (λ t. t.what) ts) (x ∷ xs)
-    → map (λ t. t.what) ts ≡ xs
-kinds_tail t ts x xs e = cc
-
--- tokens of these kinds lead there
-pub reached : {S : Type 0} (M : Moves S) (bound : ℕ) (xs : Spelled) (ts : List Token) (r : S) (Q : S → Type 0)
-    → map (λ t. t.what) ts ≡ xs → Leads M bound xs r Q → Reached M bound r ts Q
-reached M bound [] [] r Q e l = record { end = r; reaches = refl; there = l }
-reached M bound [] (t ∷ ts) r Q e l = absurd cc
-reached M bound (x ∷ xs) [] r Q e l = absurd cc
-reached M bound (x ∷ xs) (t ∷ ts) r Q e l =
-    let first : Step M bound r t (λ next. Leads M bound xs next Q) =
-    subst (λ kind. Step M bound r (token_at t.place kind) (λ next. Leads M bound xs next Q)) (sym (kinds_head t ts x xs e)) (l t.place) in
-    let rest : Reached M bound first.next ts Q = reached M bound xs ts first.next Q (kinds_tail t ts x xs e) first.there in
-    record {
-      end = rest.end;
-      reaches = record { next = first.next; reach = first.reach; goes = first.goes; low = first.low; there = rest.reaches };
-      there = rest.there;
-    }
 
 -- the same tokens lead to one state
 pub leads-once : {S : Type 0} (M : Moves S) (bound other : ℕ) (xs : Spelled) (r : S) (P Q : S → Type 0) (C : Type 0)

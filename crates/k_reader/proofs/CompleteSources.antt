@@ -16,7 +16,7 @@ use Rattle.k_reader.specs.Sources.{feed_source, begin_source, starts}
 use Rattle.k_reader.specs.declared.source.Source.{Source}
 use Rattle.k_reader.specs.declared.source.Sourced.{Sourced}
 use Rattle.k_reader.specs.declared.source.Sourced.TheVariants as sourced
-use Rattle.k_reader.proofs.CompleteLeads.{token_at, Leads, Reached, reached, leads-then, leads-once}
+use Rattle.k_reader.proofs.CompleteLeads.{token_at, Leads, leads-then, leads-once}
 use Rattle.k_reader.proofs.CompleteItems.{Sources, starts_at, ItemRead, item_complete}
 
 abbrev pub unit_of : List Item → Place → source.Unit
@@ -58,11 +58,6 @@ items_lead bound (i ∷ more) r low seen done e =
 -- a ranked source leads from the start of a source to where its end gives it back, up to places; no reach is below its nesting
 pub source_complete : (u : source.Unit) → RankedUnit u → Leads Sources (1 + nesting u) (in_row (map spell_item u.items)) begin_source (SourceRead u.items)
 source_complete u h = items_lead (1 + nesting u) u.items h (omega arith) [] [] refl
-
--- the same for tokens
-pub source_reached : (u : source.Unit) → RankedUnit u → (ts : List Token) → map (λ t. t.what) ts ≡ in_row (map spell_item u.items)
-    → Reached Sources (1 + nesting u) begin_source ts (SourceRead u.items)
-source_reached u h ts spelled = reached Sources (1 + nesting u) (in_row (map spell_item u.items)) ts begin_source (SourceRead u.items) spelled (source_complete u h)
 
 one_source : (a b : Source) (m n : ℕ) → ◌≡◌ {A = Sourced} (sourced.Goes a m) (sourced.Goes b n) → a ≡ b
 one_source a b m n e = cc

@@ -46,7 +46,7 @@ use Rattle.k_reader.specs.declared.declaration.Declared.TheVariants as declared_
 use Rattle.k_reader.proofs.Commas.{comma, lay_each, each_push, with_last, not_none}
 use Rattle.k_reader.proofs.Rows.{row_push, deepest_more, StartsAt, starts-more, at_stands}
 use Rattle.k_reader.proofs.ExpressionState.{IsLimit, IsRead, Keeps}
-use Rattle.k_reader.proofs.ExpressionTerms.{one_at, stand-more, regroup, three, four, and_left, and_right}
+use Rattle.k_reader.proofs.ExpressionTerms.{one_at, stand-more, regroup, three, and_left, and_right}
 use Rattle.k_reader.proofs.ExpressionTerms as terms
 use Rattle.k_reader.proofs.TypeSound.{stars_more, stars_const, is_const_word, no_stars_yet}
 use Rattle.k_reader.proofs.ReadingSound.{At, site, begin_at, at_keeps, IsMaybe, KeepsMaybe, maybe_keeps, Behind}
@@ -63,17 +63,6 @@ none_yet (x ∷ xs) h = absurd (no (eqb-true (length (x ∷ xs)) 0 h))
 pub some_yet : {A : Type 0} (xs : List A) → nat_eq (length xs) 0 ≡ false → xs ≢ []
 some_yet [] h = absurd (eqb-false 0 0 h refl)
 some_yet (x ∷ xs) h = λ q. cc
-
--- behind pieces, one token more
-pub behind_more : (xs : Pieces) (P Q : List Token → Type 0) (ts : List Token) (t : Token) → ((us : List Token) → P us → Q (us ++ t ∷ []))
-    → Behind xs P ts → Behind xs Q (ts ++ t ∷ [])
-behind_more xs P Q ts t f b = record {
-  front = b.front;
-  back = b.back ++ t ∷ [];
-  is = ap (λ z. z ++ t ∷ []) b.is ∙ append_assoc b.front b.back (t ∷ []);
-  stands = b.stands;
-  rest = f b.back b.rest;
-}
 
 pub behind_all : (xs ys : Pieces) (P : List Token → Type 0) (ts : List Token) (b : Behind xs P ts) → Stand ys b.back → Stand (xs ++ ys) ts
 behind_all xs ys P ts b st = subst (λ z. Stand (xs ++ ys) z) (sym b.is) (stand-append xs ys b.front b.back b.stands st)
@@ -388,9 +377,6 @@ module _ (lim : ℕ) (is_limit : IsLimit lim) (l : ℕ) (ts : List Token) (t : T
   starts_keeps f d s o k = kind_starts_keeps f d s t.what o refl k
 
   -- in an expression that is an initialiser
-
-  In : Front → List Brace → Place → Reading → List Token → Type 0
-  In f s p r us = At lim (site 1 (plus (plus f.level (length s)) 1)) r us × StartsAt p us
 
   true_value : (a n d : ℕ) → plus (plus a n) 1 + d ≤ lim + 1 → (a + n) + (1 + d) ≤ lim + 1
   true_value a n d h = omega (arith, is_limit, h)

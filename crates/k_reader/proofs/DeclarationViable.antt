@@ -29,14 +29,13 @@ use Rattle.k_reader.specs.declared.declaration.Stage.TheVariants as stage
 use Rattle.k_reader.specs.declared.declaration.Declaration.{Declaration}
 use Rattle.k_reader.specs.declared.declaration.Declared.TheVariants as declared_
 use Rattle.k_reader.proofs.DeclarationReach.{StageReached}
-use Rattle.k_reader.proofs.DeclarationSound.{declaration_keeps}
-use Rattle.k_reader.proofs.DeclarationState.{OkDeclaration, OkStage, IsDeclared, KeepsDeclared}
+use Rattle.k_reader.proofs.DeclarationState.{OkDeclaration, OkStage}
 use Rattle.k_reader.proofs.ExpressionState.{IsLimit, Keeps}
 use Rattle.k_reader.proofs.ExpressionReach.{Reached}
 use Rattle.k_reader.proofs.ExpressionViable.{mark_token, Ends_operand}
 use Rattle.k_reader.proofs.ReadingSound.{At, site, begin_at, at_keeps}
 use Rattle.k_reader.proofs.ReadingViable.{inner_can_end, inner_ends, maybe_can_end}
-use Rattle.k_reader.proofs.Runs.{Runs, run_ends, CanEnd, goes_then, runs_keep}
+use Rattle.k_reader.proofs.Runs.{run_ends, CanEnd, goes_then}
 
 -- specifiers and declarators
 abbrev pub Outcome : Type 0
@@ -48,21 +47,8 @@ DeclarationGoes d t next reach = spec.feed_declaration d t ≡ declared_.Goes ne
 abbrev pub DeclarationEnds : Declaration → Token → Outcome → Type 0
 DeclarationEnds d t o = spec.feed_declaration d t ≡ declared_.Done o.0 o.1
 
--- tokens, each within the limit, that lead from a declaration to its end
-abbrev pub DeclarationRuns : ℕ → Declaration → List Token → Outcome → Type 0
-DeclarationRuns lim = Runs Declaration Outcome DeclarationGoes DeclarationEnds lim
-
 abbrev pub DeclarationCanEnd : ℕ → Declaration → Type 0
 DeclarationCanEnd lim = CanEnd Declaration Outcome DeclarationGoes DeclarationEnds lim
-
--- what is read by such tokens is a declaration, which begins with those that were read before
-pub declaration_runs_sound : (lim : ℕ) → IsLimit lim → (l : ℕ) (d : Declaration) (us : List Token) (o : Outcome) (ts : List Token)
-    → DeclarationRuns lim d us o → OkDeclaration lim l d ts → IsDeclared lim l o.0 o.1 (ts ++ us)
-declaration_runs_sound lim is_limit l d us o ts runs ok =
-    runs_keep Declaration Outcome DeclarationGoes DeclarationEnds lim (OkDeclaration lim l) (λ o ts. IsDeclared lim l o.0 o.1 ts)
-    (λ d t next reach ts e le k. (subst (λ z. KeepsDeclared lim l ts t z) e (declaration_keeps lim is_limit l ts t d k)) le)
-    (λ d t o ts e k. subst (λ z. KeepsDeclared lim l ts t z) e (declaration_keeps lim is_limit l ts t d k))
-    d us o ts runs ok
 
 semicolon_ends : Ends_operand mark.Semicolon
 unfolding binding
@@ -137,9 +123,6 @@ module _ (lim : ℕ) (is_limit : IsLimit lim) (f : Front) where
       → Ended (stage.After (inits.plug_into d s (inits.listed (record { place = b.place; items = b.items ++ i ∷ [] }) false)).declarator
       (inits.plug_into d s (inits.listed (record { place = b.place; items = b.items ++ i ∷ [] }) false)).braces)
   closed_ended d b s i = after_ended _ _
-
-  inner_site : List Brace → Site
-  inner_site s = site 1 (plus (plus f.level (length s)) 1)
 
   -- an expression that is an initialiser
   value_ended : (d : Declarator) (s : List Brace) (p : Place) (r : Reading) (g : Site) (ts : List Token) → At lim g r ts

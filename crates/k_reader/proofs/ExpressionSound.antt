@@ -1,7 +1,7 @@
 -- Each token of an expression keeps what was read true.
-use Rattle.std.proofs.Common.{ℕ, ◌≡◌, ◌≤◌, List, []}
+use Rattle.std.proofs.Common.{ℕ, List}
 use Rattle.k_tree.specs.declared.tokens.Token.{Token}
-use Rattle.k_reader.specs.Expressions.{Opens, begin, feed, feed_at}
+use Rattle.k_reader.specs.Expressions.{Opens, feed, feed_at}
 use Rattle.k_reader.specs.declared.expression.Now.{Now}
 use Rattle.k_reader.specs.declared.expression.Now.TheVariants as now
 use Rattle.k_reader.specs.declared.expression.Reading.{Reading}
@@ -10,10 +10,6 @@ use Rattle.k_reader.proofs.ExpressionState.{IsLimit, Inv, Keeps}
 use Rattle.k_reader.proofs.OperandSound.{operand_keeps}
 use Rattle.k_reader.proofs.TypeSound.{type_keeps}
 use Rattle.k_reader.proofs.ValueSound.{value_keeps, named_keeps}
-
--- what was read of an expression at a site
-abbrev pub Reading_at : ℕ → Site → Reading → List Token → Type 0
-Reading_at lim g r ts = (r.site ≡ g) × Inv lim g r.opens r.state ts
 
 module _ (lim : ℕ) (is_limit : IsLimit lim) (g : Site) (ts : List Token) (t : Token) where
   feed_at_keeps : (s : Opens) (n : Now) → Inv lim g s n ts → Keeps lim g ts t (feed_at g s n t)
@@ -25,6 +21,3 @@ module _ (lim : ℕ) (is_limit : IsLimit lim) (g : Site) (ts : List Token) (t : 
 pub feed_keeps : (lim : ℕ) → IsLimit lim → (ts : List Token) (t : Token) (r : Reading) → Inv lim r.site r.opens r.state ts → Keeps lim r.site ts t (feed r t)
 unfolding feed
 feed_keeps lim is_limit ts t r i = feed_at_keeps lim is_limit r.site ts t r.opens r.state i
-
-pub begin_valid : (lim rank level : ℕ) → rank ≤ 2 → Inv lim (begin rank level).site (begin rank level).opens (begin rank level).state []
-begin_valid lim rank level h = record { stands = tt; opens = h; state = tt }

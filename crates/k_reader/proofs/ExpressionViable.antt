@@ -1,5 +1,5 @@
 -- Viable: an expression that has been read so far can be gone on with, to its end and within the limit.
-use Rattle.std.proofs.Common.{ℕ, suc, ◌≡◌, ◌≤◌, ◌+◌, true, false, List, [], ◌∷◌, ◌++◌, append_assoc, append-nil, map, length, None, sym, ◌∙◌, ap, subst, refl, arith}
+use Rattle.std.proofs.Common.{ℕ, suc, ◌≡◌, ◌≤◌, ◌+◌, true, false, List, [], ◌∷◌, ◌++◌, map, length, None, ◌∙◌, ap, refl, arith}
 use Rattle.std.specs.Prelude.{max}
 use Rattle.std.proofs.lemmas.Bool.{cond-false, false≢true}
 use Rattle.k_num.specs.declared.place.Place.{Place}
@@ -27,8 +27,7 @@ use Rattle.k_reader.specs.declared.expression.Now.TheVariants as now
 use Rattle.k_reader.specs.declared.expression.Site.{Site}
 use Rattle.k_reader.specs.declared.expression.Reading.{Reading}
 use Rattle.k_reader.specs.declared.expression.Fed.TheVariants as fed
-use Rattle.k_reader.proofs.ExpressionState.{IsLimit, Fits, OkOpen, ok_infix, ok_then, ok_other, ok_index, ok_call, lev, Valid, ValidNow, Inv, IsRead, Keeps}
-use Rattle.k_reader.proofs.ExpressionSound.{feed_keeps}
+use Rattle.k_reader.proofs.ExpressionState.{IsLimit, Fits, OkOpen, ok_infix, ok_then, ok_other, ok_index, ok_call, lev, Valid, ValidNow}
 use Rattle.k_reader.proofs.ExpressionReach.{Reached}
 use Rattle.k_reader.proofs.ExpressionDepth.{some_depth}
 
@@ -48,20 +47,6 @@ pub data Completes (lim : ℕ) (end : Token) : Reading → List Token → Expr �
   completes : (r : Reading) (e : Expr) → feed r end ≡ fed.Ends e → Completes lim end r [] e
   completes_by : (r next : Reading) (t : Token) (ts : List Token) (e : Expr) (reach : ℕ) → feed r t ≡ fed.Goes next reach
       → reach ≤ lim → Completes lim end next ts e → Completes lim end r (t ∷ ts) e
-
--- what is read by such tokens is an expression, which begins with those that were read before
-pub completes_sound : (lim : ℕ) → IsLimit lim → (end : Token) (r : Reading) (us : List Token) (e : Expr) (ts : List Token)
-    → Completes lim end r us e → Inv lim r.site r.opens r.state ts → IsRead lim r.site e (ts ++ us)
-completes_sound lim h end _ _ _ ts (completes r e q) i =
-    let ends : Keeps lim r.site ts end (fed.Ends e) = subst (λ z. Keeps lim r.site ts end z) q (feed_keeps lim h ts end r i) in
-    subst (λ z. IsRead lim r.site e z) (sym (append-nil ts)) ends
-completes_sound lim h end _ _ _ ts (completes_by r next t us e reach q le rest) i =
-    let goes_on : Keeps lim r.site ts t (fed.Goes next reach) = subst (λ z. Keeps lim r.site ts t z) q (feed_keeps lim h ts t r i) in
-    let k : (next.site ≡ r.site) × Inv lim r.site next.opens next.state (ts ++ t ∷ []) = goes_on le in
-    let later : IsRead lim next.site e ((ts ++ t ∷ []) ++ us) =
-    completes_sound lim h end next us e (ts ++ t ∷ []) rest
-    (subst (λ g. Inv lim g next.opens next.state (ts ++ t ∷ [])) (sym k.0) k.1) in
-    subst (λ z. IsRead lim r.site e z) (append_assoc ts (t ∷ []) us) (subst (λ g. IsRead lim g e ((ts ++ t ∷ []) ++ us)) k.0 later)
 
 not_taken : (k n : ℕ) (m : Mark) → binding m ≡ None → takes k n m ≡ false
 unfolding takes
@@ -336,12 +321,3 @@ module _ (lim : ℕ) (is_limit : IsLimit lim) (end : Mark) (ends : Ends_operand 
   now_completes s (now.Type specs stars) v k h = type_completes s specs stars v h k.1
   now_completes s (now.Value a) v k h =
       let y : Ended s a = value_ending s a v in (y.0, y.1, value_completes s a y.0 y.1 y.2)
-
--- what was read of an expression, at these tokens: there are tokens that end it, each within the limit
-pub viable : (lim : ℕ) → IsLimit lim → (end : Mark) → Ends_operand end → (r : Reading) (ts : List Token)
-    → Inv lim r.site r.opens r.state ts → Reached lim r.site r.opens
-    → (us : List Token) × (e : Expr) × Completes lim (mark_token end) r us e × IsRead lim r.site e (ts ++ us)
-viable lim is_limit end ends r ts i h =
-    let x : (us : List Token) × (e : Expr) × Completes lim (mark_token end) r us e =
-    now_completes lim is_limit end ends r.site r.opens r.state i.opens i.state h in
-    (x.0, x.1, x.2, completes_sound lim is_limit (mark_token end) r x.0 x.1 ts x.2 i)

@@ -95,11 +95,6 @@ unfolding is_bracket
 is_bracket_mark mark.LeftBracket h = refl
 is_bracket_mark _ h = absurd (false_true h)
 
-pub is_question_mark : (m : Mark) → is_question m ≡ true → m ≡ mark.Question
-unfolding is_question
-is_question_mark mark.Question h = refl
-is_question_mark _ h = absurd (false_true h)
-
 pub is_equal_mark : (m : Mark) → is_equal m ≡ true → m ≡ mark.Equal
 unfolding is_equal
 is_equal_mark mark.Equal h = refl

@@ -405,9 +405,6 @@ module _ (lim : ℕ) (is_limit : IsLimit lim) (ts : List Token) (t : Token) wher
 
   -- in a dimension
 
-  sized : Param → Option Expr → Param
-  sized p v = record p { dims = p.dims ++ v ∷ [] }
-
   inner_sized : (p : Param) (v : Option Expr) (us : List Token)
       → Stand ((lay_inner p ++ plain (the_mark mark.LeftBracket)) ++ (lay_option v ++ plain (the_mark mark.RightBracket))) us
       → Stand (lay_inner (record p { dims = p.dims ++ v ∷ [] })) us

@@ -1,5 +1,5 @@
 -- Viable: parameters that have been read so far can be ended within the limit.
-use Rattle.std.proofs.Common.{ℕ, ◌≡◌, ◌≤◌, Bool, true, false, ◌&&◌, cond, nat_eq, List, [], ◌∷◌, ◌++◌, length, None, ap, subst, refl, arith}
+use Rattle.std.proofs.Common.{ℕ, ◌≡◌, ◌≤◌, Bool, true, false, ◌&&◌, cond, nat_eq, List, [], ◌∷◌, ◌++◌, length, None, ap, refl, arith}
 use Rattle.std.proofs.lemmas.Bool.{cond_both}
 use Rattle.k_num.specs.declared.place.Place.{Place}
 use Rattle.k_tree.specs.Bare.{nowhere}
@@ -30,11 +30,11 @@ use Rattle.k_reader.specs.declared.parameter.Parametric.TheVariants as parametri
 use Rattle.k_reader.proofs.DeclarationReach.{MaybeStays, maybe_stays, begin_begun}
 use Rattle.k_reader.proofs.ExpressionState.{IsLimit}
 use Rattle.k_reader.proofs.ExpressionViable.{mark_token}
-use Rattle.k_reader.proofs.ParameterSound.{OkParameters, OkPart, AreRead, KeepsParametric, parameters_keep}
+use Rattle.k_reader.proofs.ParameterSound.{OkParameters, OkPart}
 use Rattle.k_reader.proofs.ReadingReach.{Begun}
 use Rattle.k_reader.proofs.ReadingSound.{At, site}
 use Rattle.k_reader.proofs.ReadingViable.{maybe_can_end}
-use Rattle.k_reader.proofs.Runs.{Runs, run_ends, CanEnd, goes_then, runs_keep}
+use Rattle.k_reader.proofs.Runs.{run_ends, CanEnd, goes_then}
 
 -- what a part makes sure
 abbrev pub PartReached : ℕ → Part → Type 0
@@ -122,21 +122,8 @@ ParametersGo ps t next reach = spec.feed_parameters ps t ≡ parametric.Goes nex
 abbrev pub ParametersEnd : Parameters → Token → Params → Type 0
 ParametersEnd ps t o = spec.feed_parameters ps t ≡ parametric.Done o
 
--- tokens, each within the limit, that lead from parameters to their end
-abbrev pub ParametersRun : ℕ → Parameters → List Token → Params → Type 0
-ParametersRun lim = Runs Parameters Params ParametersGo ParametersEnd lim
-
 abbrev pub ParametersCanEnd : ℕ → Parameters → Type 0
 ParametersCanEnd lim = CanEnd Parameters Params ParametersGo ParametersEnd lim
-
--- what is read by such tokens are parameters, which begin with those that were read before
-pub parameters_run_sound : (lim : ℕ) → IsLimit lim → (ps : Parameters) (us : List Token) (o : Params) (ts : List Token)
-    → ParametersRun lim ps us o → OkParameters lim ps ts → AreRead lim o (ts ++ us)
-parameters_run_sound lim is_limit ps us o ts runs ok =
-    runs_keep Parameters Params ParametersGo ParametersEnd lim (OkParameters lim) (AreRead lim)
-    (λ d t next reach ts e le k. (subst (λ z. KeepsParametric lim ts t z) e (parameters_keep lim is_limit ts t d k)) le)
-    (λ d t o ts e k. subst (λ z. KeepsParametric lim ts t z) e (parameters_keep lim is_limit ts t d k))
-    ps us o ts runs ok
 
 module _ (lim : ℕ) (is_limit : IsLimit lim) (list : List Param) where
   -- `)` behind a parameter

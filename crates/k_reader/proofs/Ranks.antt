@@ -1,33 +1,12 @@
 -- The ranks of the binary operators are those of their marks.
-use Rattle.std.proofs.Common.{ℕ, ◌≡◌, ◌≤◌, ◌+◌, refl, arith, Some, None, ◌∙◌, sym, ap, subst}
+use Rattle.std.proofs.Common.{ℕ, ◌≡◌, ◌+◌, refl, Some, None, ◌∙◌, sym, ap, subst}
 use Rattle.k_num.specs.declared.numbers.Bin.{Bin}
-use Rattle.k_num.specs.declared.numbers.Bin.TheVariants.{Add, Sub, Mul, Div, Rem, And, Or, Xor, Shl, Shr, Lt, Le, Gt, Ge, Eq, Ne, LogAnd, LogOr}
 use Rattle.k_tree.specs.declared.tokens.mark.Mark.{Mark}
 use Rattle.k_tree.specs.declared.tokens.mark.Mark.TheVariants as mark
 use Rattle.k_tree.specs.Ranked.{binary_rank, is_assignment}
 use Rattle.k_reader.specs.Operators.{binding, binding_by, other_binding}
 use Rattle.k_tree.specs.Operators.{operator_of}
 use Rattle.k_reader.specs.Ranks.{rank_of, ranked}
-
-pub rank_small : (operator : Bin) → rank_of operator ≤ 12
-rank_small Add = omega arith
-rank_small Sub = omega arith
-rank_small Mul = omega arith
-rank_small Div = omega arith
-rank_small Rem = omega arith
-rank_small And = omega arith
-rank_small Or = omega arith
-rank_small Xor = omega arith
-rank_small Shl = omega arith
-rank_small Shr = omega arith
-rank_small Lt = omega arith
-rank_small Le = omega arith
-rank_small Gt = omega arith
-rank_small Ge = omega arith
-rank_small Eq = omega arith
-rank_small Ne = omega arith
-rank_small LogAnd = omega arith
-rank_small LogOr = omega arith
 
 -- the rank of the operator that a mark is, is its rank as a binary operator
 pub table_ranks : (m : Mark) → ranked (operator_of m) ≡ binary_rank m

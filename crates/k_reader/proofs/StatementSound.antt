@@ -100,10 +100,6 @@ module _ (lim : ℕ) (is_limit : IsLimit lim) (ts : List Token) (t : Token) wher
   inner_room : (s : Frames) → level s ≤ lim → inner s ≤ lim + 1
   inner_room s h = omega (arith, is_limit, h)
 
-  -- what is known before a token
-  OkBase : Parts → Frames → Type 0
-  OkBase ps s = OkParts lim ps × OkFrames lim s
-
   goes : (ps : Parts) (s : Frames) (x : Step) (reach : ℕ) → OkParts lim ps → OkFrames lim s → (reach ≤ lim → OkStep lim ps s x (ts ++ t ∷ []))
       → KeepsStepped lim ts t (spec.steps ps s x reach)
   goes ps s x reach a b f = λ z. record { parts = a; frames = b; step = f z }
@@ -378,10 +374,6 @@ module _ (lim : ℕ) (is_limit : IsLimit lim) (ts : List Token) (t : Token) wher
       )))
       (λ e. tt)
 
-  -- a test with its parentheses
-  parens : Expr → Pieces
-  parens e = left_paren ++ (lay_expr e ++ plain (the_mark mark.RightParen))
-
   test_done_keeps : (ps : Parts) (s : Frames) (x : Tested) (e : Expr) → OkParts lim ps → OkFrames lim s → OkTested lim (1 + length s) x
       → Below lim (1 + length s) 0 e
       → Stand (lay_base ps s ++ (lay_tested x ++ (left_paren ++ (lay_expr e ++ plain (the_mark mark.RightParen))))) (ts ++ t ∷ [])
@@ -618,10 +610,6 @@ module _ (lim : ℕ) (is_limit : IsLimit lim) (ts : List Token) (t : Token) wher
       (behind_all (lay_base ps s ++ For_at p) (lay_option v) _ ts b.behind h.0.stands) (one t (token.Mark mark.Semicolon) h.1)))
       (first_ok s v h.0.ranked (true_inner s (option_depth v) h.0.within))
   start_by_keeps ps s p r maybe.Refused o f b h = tt
-
-  empty_list : (us : List Token) → Stand [] us → us ≡ []
-  empty_list [] h = refl
-  empty_list (u ∷ us) h = absurd h
 
   for_declares_begins : (ps : Parts) (s : Frames) (p : Place) (r : Reading) (w : Word) → OkParts lim ps → OkFrames lim s → t.what ≡ token.Word w
       → is_spec_word w ≡ true → is_fresh r ≡ true → (b : OkBehind lim s (lay_base ps s ++ For_at p) (At lim (site 0 (inner s)) r) ts)

@@ -3,7 +3,6 @@ use Rattle.std.proofs.Common.{ℕ, suc, ◌≡◌, ◌≤◌, Bool, true, false,
 use Rattle.std.proofs.lemmas.Bool.{cond-false, cond_both, and_parts, false≢true}
 use Rattle.k_num.specs.declared.place.Place.{Place}
 use Rattle.k_tree.specs.Bare.{nowhere}
-use Rattle.k_tree.specs.Places.{Stand, lay_stmts}
 use Rattle.k_tree.specs.declared.tokens.Token.{Token}
 use Rattle.k_tree.specs.declared.tokens.TokenKind.{TokenKind}
 use Rattle.k_tree.specs.declared.tokens.TokenKind.TheVariants as token
@@ -49,11 +48,10 @@ use Rattle.k_reader.proofs.ExpressionViable.{mark_token}
 use Rattle.k_reader.proofs.ReadingReach.{Begun, fresh_is}
 use Rattle.k_reader.proofs.ReadingSound.{At, site, begin_at}
 use Rattle.k_reader.proofs.ReadingViable.{needed_goes, needed_ends, closing_ends, closing_closes, inner_can_end, maybe_can_end}
-use Rattle.k_reader.proofs.Runs.{Runs, run_ends, CanEnd, goes_then, runs_keep, inside_can_end}
+use Rattle.k_reader.proofs.Runs.{run_ends, CanEnd, goes_then, inside_can_end}
 use Rattle.k_reader.proofs.StatementReach.{FramesReached, ReadingReached, StepReached, BodyReached}
-use Rattle.k_reader.proofs.StatementSound.{body_keeps}
 use Rattle.k_reader.proofs.SwitchTerms.{switch_split}
-use Rattle.k_reader.proofs.StatementState.{OkStep, OkParts, OkBody, KeepsStepped}
+use Rattle.k_reader.proofs.StatementState.{OkStep, OkBody}
 
 abbrev pub BodyGoes : Body → Token → Body → ℕ → Type 0
 BodyGoes b t next reach = spec.feed_body b t ≡ stepped.Goes next reach
@@ -61,27 +59,8 @@ BodyGoes b t next reach = spec.feed_body b t ≡ stepped.Goes next reach
 abbrev pub BodyEnds : Body → Token → Parts → Type 0
 BodyEnds b t o = spec.feed_body b t ≡ stepped.Done o
 
--- tokens, each within the limit, that lead from a block to its end
-abbrev pub BodyRuns : ℕ → Body → List Token → Parts → Type 0
-BodyRuns lim = Runs Body Parts BodyGoes BodyEnds lim
-
 abbrev pub BodyCanEnd : ℕ → Body → Type 0
 BodyCanEnd lim = CanEnd Body Parts BodyGoes BodyEnds lim
-
--- statements that were read whole, with the brace behind them
-abbrev pub IsBody : ℕ → Parts → List Token → Type 0
-IsBody lim o ts =
-    (front : List Token) × (last : Token) × (ts ≡ front ++ last ∷ []) × OkParts lim o × Stand (lay_stmts o) front
-    × (last.what ≡ token.Mark mark.RightBrace)
-
-pub body_runs_sound : (lim : ℕ) → IsLimit lim → (b : Body) (us : List Token) (o : Parts) (ts : List Token)
-    → BodyRuns lim b us o → OkBody lim b ts → IsBody lim o (ts ++ us)
-body_runs_sound lim is_limit b us o ts runs ok =
-    runs_keep Body Parts BodyGoes BodyEnds lim (OkBody lim) (IsBody lim)
-    (λ d t next reach ts e le k. (subst (λ z. KeepsStepped lim ts t z) e (body_keeps lim is_limit ts t d k)) le)
-    (λ d t o ts e k. let q : KeepsStepped lim ts t (stepped.Done o) = subst (λ z. KeepsStepped lim ts t z) e (body_keeps lim is_limit ts t d k) in
-    (ts, t, refl, q.0, q.1, q.2))
-    b us o ts runs ok
 
 -- a specifier where the first part of a `for` begins is none of an expression
 not_sizeof : (w : Word) → is_spec_word w ≡ true → is_sizeof w ≡ false

@@ -19,7 +19,7 @@ use Rattle.k_tree.specs.Ranked.{Ranked, RankedArgs, Specs, is_step, is_unary, co
 use Rattle.k_tree.specs.Spelling.{the_mark, the_name}
 use Rattle.k_reader.specs.Level.{plus, above}
 use Rattle.k_reader.specs.Operators.{is_bracket, is_question, binding, takes, takes_by, right_of, right_rank, own_of, own_rank, is_step_mark}
-use Rattle.k_reader.specs.Expressions.{Opens, goes, level, hole, term, valued, operator_opens, take_operator, plug, closed_by, take_token, takes_token, enclose, enclose_by, argued, colon, posted, enclosed, indexed, infix_tree, infix_made, value, named, is_left_paren}
+use Rattle.k_reader.specs.Expressions.{Opens, goes, level, hole, term, valued, take_operator, plug, closed_by, take_token, takes_token, enclose, enclose_by, argued, colon, posted, enclosed, indexed, infix_tree, infix_made, value, named, is_left_paren}
 use Rattle.k_reader.specs.Expressions as spec
 use Rattle.k_reader.specs.declared.expression.Term.{Term}
 use Rattle.k_reader.specs.declared.expression.Open.{Open}
@@ -311,9 +311,6 @@ module _ (lim : ℕ) (is_limit : IsLimit lim) (g : Site) (ts : List Token) (t : 
   only_unary : (a b : Bool) → IsTrue (a || b) → a ≡ false → IsTrue b
   only_unary true b h e = absurd (false_true (sym e))
   only_unary false b h e = h
-
-  prefixed_tree : Bool → Place → Mark → Expr → Expr
-  prefixed_tree b p op e = cond b (expr.Pre p op e) (expr.Unary p op e)
 
   prefix_reads : (s : Opens) (p : Place) (op : Mark) (a : Term) (b : Bool) → is_step_mark op ≡ b → hole g s ≤ 14
       → IsTrue (is_step op || is_unary op) → Reads (open_.Prefix p op ∷ s) a
