@@ -56,6 +56,7 @@ pub mod StatementBound
 pub mod StatementReach
 pub mod StatementSound
 pub mod StatementState
+pub mod StatementTerms
 pub mod StatementViable
 pub mod SwitchTerms
 pub mod TypeSound

@@ -56,23 +56,11 @@ use Rattle.k_reader.proofs.ReadingSound.{At, site, begin_at, at_keeps, KeepsRead
 use Rattle.k_reader.proofs.DeclarationState.{OkDeclaration, KeepsDeclared}
 use Rattle.k_reader.proofs.DeclarationSound.{behind_all, behind_now, declaration_keeps, begin_declared}
 use Rattle.k_reader.proofs.SwitchTerms.{switch_split, switched_append, switch_push, does_stands}
+use Rattle.k_reader.proofs.StatementTerms.{parts_push, base_open, base_close, left_paren_is, else_is, while_is, brace_is}
 use Rattle.k_reader.proofs.StatementState.{word_at, left_paren, left_brace, semicolon, lay_frame, lay_frames, lay_base, lay_tested, Below, OkFrame, OkFrames, OkTested, IsPart, a_stmt, a_declaration, OkSemicolon, OkBehind, For_at, OkStep, OkParts, OkBody, KeepsStepped}
 
 false_true : false ≡ true → ⊥
 false_true z = cc
-
--- one part more
-parts_push : (ps : Parts) (x : Stmt) → RankedParts ps → IsPart x → RankedParts (ps ++ x ∷ [])
-parts_push [] _ h (a_stmt x r) = statement x [] r no_parts
-parts_push [] _ h (a_declaration p specs list r) = declaration p specs list [] r no_parts
-parts_push (_ ∷ ps) x (statement y _ a b) r = statement y (ps ++ x ∷ []) a (parts_push ps x b r)
-parts_push (_ ∷ ps) x (declaration p specs list _ a b) r = declaration p specs list (ps ++ x ∷ []) a (parts_push ps x b r)
-
-base_open : (ps : Parts) (f : Frame) (s : Frames) (us : List Token) → Stand (lay_base ps (f ∷ s)) us → Stand (lay_base ps s ++ lay_frame f) us
-base_open ps f s us st = subst (λ x. Stand x us) (sym (append_assoc (lay_stmts ps) (lay_frames s) (lay_frame f))) st
-
-base_close : (ps : Parts) (f : Frame) (s : Frames) (us : List Token) → Stand (lay_base ps s ++ lay_frame f) us → Stand (lay_base ps (f ∷ s)) us
-base_close ps f s us st = subst (λ x. Stand x us) (append_assoc (lay_stmts ps) (lay_frames s) (lay_frame f)) st
 
 module _ (lim : ℕ) (is_limit : IsLimit lim) (ts : List Token) (t : Token) where
   stepped_cond : (b : Bool) (x y : Stepped) → (b ≡ true → KeepsStepped lim ts t x) → (b ≡ false → KeepsStepped lim ts t y)
@@ -358,10 +346,6 @@ module _ (lim : ℕ) (is_limit : IsLimit lim) (ts : List Token) (t : Token) wher
 
   -- tests in parentheses
 
-  left_paren_is : (k : TokenKind) → is_left_paren k ≡ true → k ≡ token.Mark mark.LeftParen
-  left_paren_is (token.Mark mark.LeftParen) h = refl
-  left_paren_is _ h = absurd (false_true h)
-
   pub opened_keeps : (ps : Parts) (s : Frames) (x : Tested) → OkParts lim ps → OkFrames lim s
       → Stand (lay_base ps s ++ lay_tested x) ts → OkTested lim (1 + length s) x → KeepsStepped lim ts t (spec.opened ps s x t)
   unfolding spec.opened
@@ -424,10 +408,6 @@ module _ (lim : ℕ) (is_limit : IsLimit lim) (ts : List Token) (t : Token) wher
     part : (IsPart x × (is_in_block s ≡ true)) ⊎ RankedStmt x
     shut : spec.is_else t.what ≡ true → ends_open x ≡ false
     within : (1 + length s) + stmt_depth x ≤ lim + 1
-
-  else_is : (k : TokenKind) → spec.is_else k ≡ true → k ≡ token.Word word.Else
-  else_is (token.Word word.Else) h = refl
-  else_is _ h = absurd (false_true h)
 
   part_of : (x : Stmt) (b : Bool) → ((IsPart x × (b ≡ true)) ⊎ RankedStmt x) → IsPart x
   part_of x b (inl h) = h.0
@@ -496,10 +476,6 @@ module _ (lim : ℕ) (is_limit : IsLimit lim) (ts : List Token) (t : Token) wher
     shut = λ z. stmt_For (Unit {0}) Bool ends_open_part ends_open_step p start test third x ∙ k.shut z;
     within = omega (arith, stmt_For ℕ ℕ part_depth_step stmt_depth_step p start test third x, f.0.0.1, f.0.1.1, f.0.2.1, k.within);
   }
-
-  while_is : (k : TokenKind) → spec.is_while k ≡ true → k ≡ token.Word word.While
-  while_is (token.Word word.While) h = refl
-  while_is _ h = absurd (false_true h)
 
   do_keeps : (ps : Parts) (s : Frames) (p : Place) (x : Stmt) → OkParts lim ps → OkFrames lim (frame.Do p ∷ s)
       → Ended ps (frame.Do p ∷ s) x → KeepsStepped lim ts t (spec.do_while ps s p x t)
@@ -706,10 +682,6 @@ module _ (lim : ℕ) (is_limit : IsLimit lim) (ts : List Token) (t : Token) wher
   third_by_keeps ps s p start test r maybe.Refused o f b k q2 h = tt
 
   -- the braces of a `switch`
-
-  brace_is : (k : TokenKind) → spec.is_brace k ≡ true → k ≡ token.Mark mark.LeftBrace
-  brace_is (token.Mark mark.LeftBrace) h = refl
-  brace_is _ h = absurd (false_true h)
 
   braces_keeps : (ps : Parts) (s : Frames) (p : Place) (e : Expr) → OkParts lim ps → OkFrames lim s → Below lim (1 + length s) 0 e
       → Stand (lay_base ps s ++ (word_at p word.Switch ++ lay_in_parens (lay_expr e))) ts → KeepsStepped lim ts t (spec.braces ps s p e t)
