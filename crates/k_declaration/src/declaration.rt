@@ -8,7 +8,7 @@ use k_expression::expression::{begin, feed};
 use k_expression::reading::read_maybe;
 use k_num::{NoMemory, Place, Seq, Text};
 use k_reader::declaration::initialiser::{After, Brace, Opened};
-use k_reader::declaration::{Declaration, Declared, Front, Stage};
+use k_reader::declaration::{Declaration, Declared, Front, DeclarationStage};
 use k_reader::expression::{Fed, Reading};
 use k_reader::level::plus;
 use k_reader::operators::{is_bracket, is_equal, is_left_brace, is_right_brace, is_spec};
@@ -19,7 +19,7 @@ use k_tree::{Declarator, Init, Mark, Token, TokenKind, Word};
 use std::alloc::Global;
 
 /// The declaration goes on.
-fn declares(front: Front, stage: Stage, reach: usize) -> Declared
+fn declares(front: Front, stage: DeclarationStage, reach: usize) -> Declared
     ensures { result ≡ spec.declares front stage reach }
 {
     let declaration = Declaration { front, stage };
@@ -40,7 +40,7 @@ pub fn begin_declaration(alloc: Global, word: Word, level: usize) -> Result<Decl
     let stars = no_stars(alloc);
     Ok(Declaration {
         front,
-        stage: Stage::Before { stars },
+        stage: DeclarationStage::Before { stars },
     })
 }
 
@@ -54,13 +54,13 @@ fn word(mut front: Front, stars: Stars, word: Word) -> Result<Declared, NoMemory
             return Ok(Declared::Refused);
         }
         let stars = constant(stars)?;
-        return Ok(declares(front, Stage::Before { stars }, 0));
+        return Ok(declares(front, DeclarationStage::Before { stars }, 0));
     }
     if stars.done.len() > 0 || front.list.len() > 0 || !is_spec(word) {
         return Ok(Declared::Refused);
     }
     front.specs.push(word)?;
-    Ok(declares(front, Stage::Before { stars }, 0))
+    Ok(declares(front, DeclarationStage::Before { stars }, 0))
 }
 
 /// The name of a declarator.
@@ -83,7 +83,7 @@ fn name(
         dims: Seq::new(alloc),
         init: None,
     };
-    Ok(declares(front, Stage::Named { declarator }, 0))
+    Ok(declares(front, DeclarationStage::Named { declarator }, 0))
 }
 
 /// A token before the name of a declarator.
@@ -107,7 +107,7 @@ fn mark_before(front: Front, stars: Stars, mark: Mark) -> Result<Declared, NoMem
     match mark {
         Mark::Star => {
             let stars = star(stars)?;
-            Ok(declares(front, Stage::Before { stars }, 0))
+            Ok(declares(front, DeclarationStage::Before { stars }, 0))
         }
         _ => Ok(Declared::Refused),
     }
@@ -127,7 +127,7 @@ fn end(
         Mark::Comma => {
             front.list.push(declarator)?;
             let stars = no_stars(alloc);
-            Ok(declares(front, Stage::Before { stars }, 0))
+            Ok(declares(front, DeclarationStage::Before { stars }, 0))
         }
         Mark::Semicolon => {
             front.list.push(declarator)?;
@@ -155,7 +155,7 @@ fn named(
         let reading = begin(alloc, 2, front.level);
         Ok(declares(
             front,
-            Stage::Size {
+            DeclarationStage::Size {
                 declarator,
                 reading,
             },
@@ -164,7 +164,7 @@ fn named(
     } else if is_equal(mark) {
         let reach = plus(front.level, 1);
         let braces = Stack::new(alloc);
-        Ok(declares(front, Stage::Starts { declarator, braces }, reach))
+        Ok(declares(front, DeclarationStage::Starts { declarator, braces }, reach))
     } else {
         end(alloc, front, declarator, mark)
     }
@@ -210,19 +210,19 @@ fn size(
         Maybe::Goes { reading, reach } => {
             Ok(declares(
                 front,
-                Stage::Size {
+                DeclarationStage::Size {
                     declarator,
                     reading,
                 },
                 reach,
             ))
         }
-        Maybe::Closed { value } => {
+        Maybe::Done { value } => {
             if let Err(NoMemory) = declarator.dims.push(value) {
                 drop(declarator);
                 return Err(NoMemory);
             }
-            Ok(declares(front, Stage::Named { declarator }, 0))
+            Ok(declares(front, DeclarationStage::Named { declarator }, 0))
         }
         Maybe::Refused => {
             drop(declarator);
@@ -243,11 +243,11 @@ fn behind(alloc: Global, front: Front, opened: Opened, token: &Token) -> Result<
     match initialiser::behind(opened, *mark)? {
         After::Starts { opened } => {
             let Opened { declarator, braces } = opened;
-            Ok(declares(front, Stage::Starts { declarator, braces }, 0))
+            Ok(declares(front, DeclarationStage::Starts { declarator, braces }, 0))
         }
         After::Closed { opened } => {
             let Opened { declarator, braces } = opened;
-            Ok(declares(front, Stage::After { declarator, braces }, 0))
+            Ok(declares(front, DeclarationStage::After { declarator, braces }, 0))
         }
         After::Done { declarator } => end(alloc, front, declarator, *mark),
         After::Refused => Ok(Declared::Refused),
@@ -305,7 +305,7 @@ fn open_brace(
         drop(declarator);
         return Err(NoMemory);
     }
-    Ok(declares(front, Stage::Starts { declarator, braces }, reach))
+    Ok(declares(front, DeclarationStage::Starts { declarator, braces }, reach))
 }
 
 /// A brace closes behind a comma.
@@ -317,7 +317,7 @@ fn last_comma(front: Front, opened: Opened) -> Result<Declared, NoMemory>
         None => Ok(Declared::Refused),
         Some(opened) => {
             let Opened { declarator, braces } = opened;
-            Ok(declares(front, Stage::After { declarator, braces }, 0))
+            Ok(declares(front, DeclarationStage::After { declarator, braces }, 0))
         }
     }
 }
@@ -339,7 +339,7 @@ fn first(alloc: Global, front: Front, opened: Opened, token: &Token) -> Result<D
     match fed {
         Fed::Goes { reading, reach } => {
             let place = token.place;
-            let stage = Stage::Value {
+            let stage = DeclarationStage::Value {
                 declarator,
                 braces,
                 place,
@@ -381,7 +381,7 @@ fn value(
     match fed {
         Fed::Goes { reading, reach } => {
             let Opened { declarator, braces } = opened;
-            let stage = Stage::Value {
+            let stage = DeclarationStage::Value {
                 declarator,
                 braces,
                 place,
@@ -411,16 +411,16 @@ pub fn feed_declaration(
 {
     let Declaration { front, stage } = declaration;
     match stage {
-        Stage::Before { stars } => before(alloc, front, stars, token),
-        Stage::Named { declarator } => behind_name(alloc, front, declarator, token),
-        Stage::Size {
+        DeclarationStage::Before { stars } => before(alloc, front, stars, token),
+        DeclarationStage::Named { declarator } => behind_name(alloc, front, declarator, token),
+        DeclarationStage::Size {
             declarator,
             reading,
         } => size(alloc, front, declarator, reading, token),
-        Stage::Starts { declarator, braces } => {
+        DeclarationStage::Starts { declarator, braces } => {
             starts(alloc, front, Opened { declarator, braces }, token)
         }
-        Stage::Value {
+        DeclarationStage::Value {
             declarator,
             braces,
             place,
@@ -433,7 +433,7 @@ pub fn feed_declaration(
             reading,
             token,
         ),
-        Stage::After { declarator, braces } => {
+        DeclarationStage::After { declarator, braces } => {
             behind(alloc, front, Opened { declarator, braces }, token)
         }
     }

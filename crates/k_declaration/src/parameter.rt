@@ -7,7 +7,7 @@ use k_expression::reading::read_maybe;
 use k_num::{NoMemory, Place, Seq, Text};
 use k_reader::expression::Reading;
 use k_reader::operators::{is_bracket, is_spec, is_star};
-use k_reader::parameter::{Parameters, Parametric, Part};
+use k_reader::parameter::{Parameters, Parametric, ParameterStage};
 use k_reader::reading::{Closer, Maybe};
 use k_reader::stars::{Stars, all_stars, constant, no_stars, star};
 use k_tree::{Mark, Param, Params, Token, TokenKind, Word};
@@ -15,7 +15,7 @@ use std::alloc::Global;
 use std::mem;
 
 /// The parameters go on.
-fn follows(list: Seq<Param>, part: Part, reach: usize) -> Parametric
+fn follows(list: Seq<Param>, part: ParameterStage, reach: usize) -> Parametric
     ensures { result ≡ spec.follows list part reach }
 {
     let parameters = Parameters { list, part };
@@ -28,7 +28,7 @@ pub fn begin_parameters(alloc: Global) -> Parameters
 {
     Parameters {
         list: Seq::new(alloc),
-        part: Part::Starts,
+        part: ParameterStage::Starts,
     }
 }
 
@@ -50,7 +50,7 @@ fn starts(alloc: Global, list: Seq<Param>, word: Word, place: Place) -> Result<P
         dims: Seq::new(alloc),
     };
     let stars = no_stars(alloc);
-    Ok(follows(list, Part::Typed { param, stars }, 0))
+    Ok(follows(list, ParameterStage::Typed { param, stars }, 0))
 }
 
 /// A closing parenthesis where a parameter could begin.
@@ -108,7 +108,7 @@ fn end(mut list: Seq<Param>, param: Param, mark: Mark) -> Result<Parametric, NoM
     match mark {
         Mark::Comma => {
             list.push(param)?;
-            Ok(follows(list, Part::Starts, 0))
+            Ok(follows(list, ParameterStage::Starts, 0))
         }
         Mark::RightParen => {
             if list.len() == 0 && is_void_alone(&param) {
@@ -136,7 +136,7 @@ fn named(alloc: Global, list: Seq<Param>, param: Param, mark: Mark) -> Result<Pa
 {
     if is_bracket(mark) {
         let reading = begin(alloc, 2, 1);
-        Ok(follows(list, Part::Size { param, reading }, 0))
+        Ok(follows(list, ParameterStage::Size { param, reading }, 0))
     } else {
         end(list, param, mark)
     }
@@ -182,7 +182,7 @@ fn word(
                 return Err(NoMemory);
             }
         };
-        return Ok(follows(list, Part::Typed { param, stars }, 0));
+        return Ok(follows(list, ParameterStage::Typed { param, stars }, 0));
     }
     if stars.done.len() > 0 || !is_spec(word) {
         drop(param);
@@ -192,7 +192,7 @@ fn word(
         drop(param);
         return Err(NoMemory);
     }
-    Ok(follows(list, Part::Typed { param, stars }, 0))
+    Ok(follows(list, ParameterStage::Typed { param, stars }, 0))
 }
 
 /// The stars of a parameter are done.
@@ -226,7 +226,7 @@ fn name(
     match Text::copy_of(alloc, name.as_str()) {
         Ok(name) => {
             drop(mem::replace(&mut param.name, Some(name)));
-            Ok(follows(list, Part::Named { param }, 0))
+            Ok(follows(list, ParameterStage::Named { param }, 0))
         }
         Err(NoMemory) => {
             drop(param);
@@ -270,7 +270,7 @@ fn mark_typed(
 {
     if is_star(mark) {
         match star(stars) {
-            Ok(stars) => Ok(follows(list, Part::Typed { param, stars }, 0)),
+            Ok(stars) => Ok(follows(list, ParameterStage::Typed { param, stars }, 0)),
             Err(NoMemory) => {
                 drop(param);
                 Err(NoMemory)
@@ -301,13 +301,13 @@ fn size(
         }
     };
     match read {
-        Maybe::Goes { reading, reach } => Ok(follows(list, Part::Size { param, reading }, reach)),
-        Maybe::Closed { value } => {
+        Maybe::Goes { reading, reach } => Ok(follows(list, ParameterStage::Size { param, reading }, reach)),
+        Maybe::Done { value } => {
             if let Err(NoMemory) = param.dims.push(value) {
                 drop(param);
                 return Err(NoMemory);
             }
-            Ok(follows(list, Part::Named { param }, 0))
+            Ok(follows(list, ParameterStage::Named { param }, 0))
         }
         Maybe::Refused => {
             drop(param);
@@ -327,9 +327,9 @@ pub fn feed_parameters(
 {
     let Parameters { list, part } = parameters;
     match part {
-        Part::Starts => first(alloc, list, token),
-        Part::Typed { param, stars } => typed(alloc, list, param, stars, token),
-        Part::Named { param } => behind_name(alloc, list, param, token),
-        Part::Size { param, reading } => size(alloc, list, param, reading, token),
+        ParameterStage::Starts => first(alloc, list, token),
+        ParameterStage::Typed { param, stars } => typed(alloc, list, param, stars, token),
+        ParameterStage::Named { param } => behind_name(alloc, list, param, token),
+        ParameterStage::Size { param, reading } => size(alloc, list, param, reading, token),
     }
 }

@@ -11,7 +11,7 @@ ghost use Rattle.k_reader.specs.declared.expression.Fed.TheVariants as feds;
 
 use crate::reading::is_left_paren;
 use k_num::{NoMemory, Place, Seq, Text};
-use k_reader::expression::{Fed, Now, Open, Reading, Site, Term};
+use k_reader::expression::{Fed, ExpressionStage, Open, Reading, Site, Term};
 use k_reader::level::plus;
 use k_reader::operators::right_rank;
 use k_reader::stack::Stack;
@@ -19,7 +19,7 @@ use k_tree::{Expr, Mark, Token};
 use std::alloc::Global;
 
 /// The expression goes on.
-fn goes(site: Site, opens: Stack<Open>, state: Now, reach: usize) -> Fed
+fn goes(site: Site, opens: Stack<Open>, state: ExpressionStage, reach: usize) -> Fed
     ensures { result ≡ spec.goes site opens state reach }
 {
     let reading = Reading { site, opens, state };
@@ -77,10 +77,10 @@ pub fn feed(alloc: Global, reading: Reading, token: &Token) -> Result<Fed, NoMem
 {
     let Reading { site, opens, state } = reading;
     match state {
-        Now::Operand => operand::operand(alloc, site, opens, token),
-        Now::Named { place, name } => named(alloc, site, opens, place, name, token),
-        Now::Type { specs, stars } => types::in_type(site, opens, specs, stars, token),
-        Now::Value { term } => close::value(alloc, site, opens, term, token),
+        ExpressionStage::Operand => operand::operand(alloc, site, opens, token),
+        ExpressionStage::Named { place, name } => named(alloc, site, opens, place, name, token),
+        ExpressionStage::Type { specs, stars } => types::in_type(site, opens, specs, stars, token),
+        ExpressionStage::Value { term } => close::value(alloc, site, opens, term, token),
     }
 }
 
@@ -103,7 +103,7 @@ fn named(
             args: Seq::new(alloc),
             height: 0,
         })?;
-        return Ok(goes(site, opens, Now::Operand, 0));
+        return Ok(goes(site, opens, ExpressionStage::Operand, 0));
     }
     let term = Term {
         tree: Expr::Name { place, name },
@@ -120,6 +120,6 @@ pub fn begin(alloc: Global, rank: u8, level: usize) -> Reading
     Reading {
         site: Site { rank, level },
         opens: Stack::new(alloc),
-        state: Now::Operand,
+        state: ExpressionStage::Operand,
     }
 }

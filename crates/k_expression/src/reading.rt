@@ -7,7 +7,7 @@ ghost use Rattle.k_tree.specs.declared.tokens.TokenKind.TheVariants as kinds;
 
 use crate::expression::feed;
 use k_num::NoMemory;
-use k_reader::expression::{Fed, Now, Reading};
+use k_reader::expression::{Fed, ExpressionStage, Reading};
 use k_reader::reading::{Closer, Maybe, Read};
 use k_tree::{Mark, Token, TokenKind};
 use std::alloc::Global;
@@ -82,7 +82,7 @@ pub fn is_fresh(reading: &Reading) -> bool
     ensures { result ≡ spec.is_fresh reading.now }
 {
     match &reading.state {
-        Now::Operand => reading.opens.len() == 0,
+        ExpressionStage::Operand => reading.opens.len() == 0,
         _ => false,
     }
 }
@@ -101,7 +101,7 @@ pub fn read_needed(
         Fed::Goes { reading, reach } => Ok(Read::Goes { reading, reach }),
         Fed::Ends { value } => {
             if closes(token, closer) {
-                return Ok(Read::Closed { value });
+                return Ok(Read::Done { value });
             }
             drop(value);
             Ok(Read::Refused)
@@ -129,11 +129,11 @@ pub fn read_maybe(
 {
     if is_left_out(&reading, token, closer) {
         drop(reading);
-        return Ok(Maybe::Closed { value: None });
+        return Ok(Maybe::Done { value: None });
     }
     match read_needed(alloc, reading, token, closer)? {
         Read::Goes { reading, reach } => Ok(Maybe::Goes { reading, reach }),
-        Read::Closed { value } => Ok(Maybe::Closed { value: Some(value) }),
+        Read::Done { value } => Ok(Maybe::Done { value: Some(value) }),
         Read::Refused => Ok(Maybe::Refused),
     }
 }

@@ -15,8 +15,8 @@ use Rattle.k_reader.specs.Statements as statements
 use Rattle.k_reader.specs.Statements.{Parts, Frames}
 use Rattle.k_reader.specs.Sources as sources
 use Rattle.k_reader.specs.declared.expression.Term.{Term}
-use Rattle.k_reader.specs.declared.expression.Now.{Now}
-use Rattle.k_reader.specs.declared.expression.Now.TheVariants as now
+use Rattle.k_reader.specs.declared.expression.ExpressionStage.{ExpressionStage}
+use Rattle.k_reader.specs.declared.expression.ExpressionStage.TheVariants as now
 use Rattle.k_reader.specs.declared.expression.Site.{Site}
 use Rattle.k_reader.specs.declared.expression.Reading.{Reading}
 use Rattle.k_reader.specs.declared.expression.Fed.{Fed}
@@ -28,24 +28,24 @@ use Rattle.k_reader.specs.declared.reading.Closer.TheVariants as closer
 use Rattle.k_reader.specs.declared.reading.Read.TheVariants as read_
 use Rattle.k_reader.specs.declared.reading.Maybe.TheVariants as maybe_
 use Rattle.k_reader.specs.declared.declaration.Front.{Front}
-use Rattle.k_reader.specs.declared.declaration.Stage.{Stage}
-use Rattle.k_reader.specs.declared.declaration.Stage.TheVariants as stage
+use Rattle.k_reader.specs.declared.declaration.DeclarationStage.{DeclarationStage}
+use Rattle.k_reader.specs.declared.declaration.DeclarationStage.TheVariants as stage
 use Rattle.k_reader.specs.declared.declaration.Declaration.{Declaration}
 use Rattle.k_reader.specs.declared.declaration.Declared.TheVariants as declared_
 use Rattle.k_reader.specs.declared.declaration.initialiser.Opened.{Opened}
 use Rattle.k_reader.specs.Initialisers as inits
-use Rattle.k_reader.specs.declared.parameter.Part.{Part}
-use Rattle.k_reader.specs.declared.parameter.Part.TheVariants as part_
+use Rattle.k_reader.specs.declared.parameter.ParameterStage.{ParameterStage}
+use Rattle.k_reader.specs.declared.parameter.ParameterStage.TheVariants as part_
 use Rattle.k_reader.specs.declared.parameter.Parameters.{Parameters}
 use Rattle.k_reader.specs.declared.parameter.Parametric.TheVariants as parametric
 use Rattle.k_reader.specs.declared.statement.Frame.{Frame}
 use Rattle.k_reader.specs.declared.statement.Frame.TheVariants as frame
-use Rattle.k_reader.specs.declared.statement.Step.{Step}
-use Rattle.k_reader.specs.declared.statement.Step.TheVariants as step
+use Rattle.k_reader.specs.declared.statement.BlockStage.{BlockStage}
+use Rattle.k_reader.specs.declared.statement.BlockStage.TheVariants as step
 use Rattle.k_reader.specs.declared.statement.Body.{Body}
 use Rattle.k_reader.specs.declared.statement.Stepped.TheVariants as stepped
-use Rattle.k_reader.specs.declared.source.Phase.{Phase}
-use Rattle.k_reader.specs.declared.source.Phase.TheVariants as phase
+use Rattle.k_reader.specs.declared.source.SourceStage.{SourceStage}
+use Rattle.k_reader.specs.declared.source.SourceStage.TheVariants as phase
 use Rattle.k_reader.specs.declared.source.Source.{Source}
 use Rattle.k_reader.specs.declared.source.Sourced.{Sourced}
 use Rattle.k_reader.specs.declared.source.Sourced.TheVariants as sourced
@@ -80,7 +80,7 @@ module _ (p : Place) where
   value_stops g [] a = tt
   value_stops g (o ∷ s) a = plugged_stops g s (expressions.plug o a) (λ b. expressions.value g s b end) (λ b. value_stops g s b)
 
-  now_stops : (g : Site) (s : Opens) (n : Now) → FedStops (expressions.feed_at g s n end)
+  now_stops : (g : Site) (s : Opens) (n : ExpressionStage) → FedStops (expressions.feed_at g s n end)
   unfolding expressions.operand expressions.named expressions.in_type
   now_stops g s now.Operand = tt
   now_stops g s (now.Named q name) = value_stops g s _
@@ -107,8 +107,8 @@ module _ (p : Place) where
   maybe_refused : (r : Reading) (c : Closer) → readings.read_maybe r end c ≡ maybe_.Refused
   unfolding readings.read_maybe
   maybe_refused r c =
-      ap (λ b. cond (readings.is_fresh r && b) (maybe_.Closed None) (readings.maybe_by (readings.read_needed r end c))) (not_closed c)
-      ∙ ap (λ b. cond b (maybe_.Closed None) (readings.maybe_by (readings.read_needed r end c))) (and-false (readings.is_fresh r))
+      ap (λ b. cond (readings.is_fresh r && b) (maybe_.Done None) (readings.maybe_by (readings.read_needed r end c))) (not_closed c)
+      ∙ ap (λ b. cond b (maybe_.Done None) (readings.maybe_by (readings.read_needed r end c))) (and-false (readings.is_fresh r))
       ∙ ap readings.maybe_by (needed_refused r c)
 
   -- declarations
@@ -127,7 +127,7 @@ module _ (p : Place) where
   value_refused f o q (fed.Ends e) h = after_refused f _
   value_refused f o q fed.Refused h = refl
 
-  stage_refused : (f : Front) (s : Stage) → declarations.stage_fed f s end ≡ declared_.Refused
+  stage_refused : (f : Front) (s : DeclarationStage) → declarations.stage_fed f s end ≡ declared_.Refused
   unfolding declarations.before declarations.size declarations.starts declarations.first_token declarations.value
   stage_refused f (stage.Before stars) = refl
   stage_refused f (stage.Named d) = refl
@@ -142,7 +142,7 @@ module _ (p : Place) where
 
   -- parameters
 
-  part_refused : (list : List Param) (x : Part) → parameters.part_fed list x end ≡ parametric.Refused
+  part_refused : (list : List Param) (x : ParameterStage) → parameters.part_fed list x end ≡ parametric.Refused
   unfolding parameters.first_token parameters.typed parameters.size
   part_refused list part_.Starts = refl
   part_refused list (part_.Typed q stars) = refl
@@ -180,14 +180,14 @@ module _ (p : Place) where
   behind_refused ps [] x = begins_refused (ps ++ x ∷ []) []
   behind_refused ps (f ∷ s) x = frame_refused ps s f x (λ y. behind_refused ps s y)
 
-  switch_refused : (ps : Parts) (s : Frames) (x : Step) → statements.in_switch ps s x end ≡ stepped.Refused
+  switch_refused : (ps : Parts) (s : Frames) (x : BlockStage) → statements.in_switch ps s x end ≡ stepped.Refused
   unfolding statements.in_switch statements.braces statements.case_value statements.default_label
   switch_refused ps s (step.Braces q e) = refl
   switch_refused ps s (step.Case q r) = ap (statements.case_by ps s q) (needed_refused r closer.Colon)
   switch_refused ps s (step.Default q) = ap (λ b. cond b (statements.labelled ps s (labels.Default q)) stepped.Refused) (not_closed closer.Colon)
   switch_refused ps s _ = refl
 
-  for_refused : (ps : Parts) (s : Frames) (x : Step) → statements.in_for ps s x end ≡ stepped.Refused
+  for_refused : (ps : Parts) (s : Frames) (x : BlockStage) → statements.in_for ps s x end ≡ stepped.Refused
   unfolding statements.in_for statements.for_opened statements.start statements.specifier statements.for_declares statements.second statements.third
   for_refused ps s (step.For q) = refl
   for_refused ps s (step.Start q r) = ap (statements.start_by ps s q) (maybe_refused r closer.Semicolon)
@@ -196,7 +196,7 @@ module _ (p : Place) where
   for_refused ps s (step.Third q start test r) = ap (statements.third_by ps s q start test) (maybe_refused r closer.Paren)
   for_refused ps s x = switch_refused ps s x
 
-  step_refused : (ps : Parts) (s : Frames) (x : Step) → statements.step_fed ps s x end ≡ stepped.Refused
+  step_refused : (ps : Parts) (s : Frames) (x : BlockStage) → statements.step_fed ps s x end ≡ stepped.Refused
   unfolding statements.value statements.opened statements.test statements.semicolon statements.returned statements.local
   step_refused ps s step.Begins = begins_refused ps s
   step_refused ps s (step.Whole x) = behind_refused ps s x
@@ -221,7 +221,7 @@ module _ (p : Place) where
 
   -- sources
 
-  phase_stops : (items : List Item) (x : Phase) → SourcedStops (sources.phase_fed items x end)
+  phase_stops : (items : List Item) (x : SourceStage) → SourcedStops (sources.phase_fed items x end)
   unfolding sources.starts sources.declares sources.parameters sources.headed sources.in_body
   phase_stops items phase.Starts = tt
   phase_stops items (phase.Declares q d) =

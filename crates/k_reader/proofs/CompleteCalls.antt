@@ -15,7 +15,7 @@ use Rattle.k_reader.specs.Level.{plus}
 use Rattle.k_reader.specs.Expressions.{then_ends, paren_ends, index_ends, feed, operand, named, hole, plug, Opens, goes, level, term, mark_operand, no_arguments, enclose, argued}
 use Rattle.k_reader.specs.declared.expression.Term.{Term}
 use Rattle.k_reader.specs.declared.expression.Open.TheVariants as open_
-use Rattle.k_reader.specs.declared.expression.Now.TheVariants as now
+use Rattle.k_reader.specs.declared.expression.ExpressionStage.TheVariants as now
 use Rattle.k_reader.specs.declared.expression.Site.{Site}
 use Rattle.k_reader.specs.declared.expression.Reading.{Reading}
 use Rattle.k_reader.specs.declared.expression.plug.Plugged.TheVariants as plugged

@@ -25,7 +25,7 @@ use Rattle.k_reader.specs.declared.reading.Closer.TheVariants as closer
 use Rattle.k_reader.specs.Initialisers as inits
 use Rattle.k_reader.specs.Declarations.{mark_before, feed_declaration, declaration_at, declares, front_of, begin_declaration, before, word, name, named, end, size, size_by, after}
 use Rattle.k_reader.specs.declared.declaration.Front.{Front}
-use Rattle.k_reader.specs.declared.declaration.Stage.TheVariants as stage
+use Rattle.k_reader.specs.declared.declaration.DeclarationStage.TheVariants as stage
 use Rattle.k_reader.specs.declared.declaration.Declaration.{Declaration}
 use Rattle.k_reader.specs.declared.declaration.Declared.TheVariants as declared_
 use Rattle.k_reader.specs.declared.expression.Reading.{Reading}

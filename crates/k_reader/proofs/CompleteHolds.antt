@@ -15,15 +15,15 @@ use Rattle.k_reader.specs.declared.operators.Binding.{Binding}
 use Rattle.k_reader.specs.Expressions.{feed, value, hole, plug, Opens, takes_token, is_left_paren, take_operator, enclose_by, closed_by, take_token}
 use Rattle.k_reader.specs.declared.expression.Term.{Term}
 use Rattle.k_reader.specs.declared.expression.Open.{Open}
-use Rattle.k_reader.specs.declared.expression.Now.{Now}
-use Rattle.k_reader.specs.declared.expression.Now.TheVariants as now
+use Rattle.k_reader.specs.declared.expression.ExpressionStage.{ExpressionStage}
+use Rattle.k_reader.specs.declared.expression.ExpressionStage.TheVariants as now
 use Rattle.k_reader.specs.declared.expression.Site.{Site}
 use Rattle.k_reader.specs.declared.expression.Reading.{Reading}
 use Rattle.k_reader.specs.declared.expression.Fed.TheVariants as fed
 use Rattle.k_reader.specs.declared.expression.plug.Plugged.TheVariants as plugged
 use Rattle.k_reader.proofs.CompleteLeads.{token_at, Moves, Leads}
 
-abbrev pub reading : Site → Opens → Now → Reading
+abbrev pub reading : Site → Opens → ExpressionStage → Reading
 reading g s n = record { site = g; opens = s; state = n }
 
 -- how the machine of expressions moves

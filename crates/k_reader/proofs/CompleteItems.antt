@@ -26,8 +26,8 @@ use Rattle.k_reader.specs.Parameters.{begin_parameters}
 use Rattle.k_reader.specs.Statements.{mark_begins, feed_body, begin_body, begins, block_ends, is_in_block, behind}
 use Rattle.k_reader.specs.Sources.{mark_headed, feed_source, goes_on, starts, declares, declares_by, titled, titled_by, is_titled, parameters, parameters_by, headed, in_body, body_by}
 use Rattle.k_reader.specs.declared.declaration.Front.{Front}
-use Rattle.k_reader.specs.declared.declaration.Stage.{Stage}
-use Rattle.k_reader.specs.declared.declaration.Stage.TheVariants as stage
+use Rattle.k_reader.specs.declared.declaration.DeclarationStage.{DeclarationStage}
+use Rattle.k_reader.specs.declared.declaration.DeclarationStage.TheVariants as stage
 use Rattle.k_reader.specs.declared.declaration.Declaration.{Declaration}
 use Rattle.k_reader.specs.declared.declaration.Declared.{Declared}
 use Rattle.k_reader.specs.declared.declaration.Declared.TheVariants as declared_
@@ -35,8 +35,8 @@ use Rattle.k_reader.specs.declared.parameter.Parameters.{Parameters}
 use Rattle.k_reader.specs.declared.statement.Body.{Body}
 use Rattle.k_reader.specs.declared.statement.Stepped.TheVariants as stepped
 use Rattle.k_reader.specs.declared.source.Title.{Title}
-use Rattle.k_reader.specs.declared.source.Phase.{Phase}
-use Rattle.k_reader.specs.declared.source.Phase.TheVariants as phase
+use Rattle.k_reader.specs.declared.source.SourceStage.{SourceStage}
+use Rattle.k_reader.specs.declared.source.SourceStage.TheVariants as phase
 use Rattle.k_reader.specs.declared.source.Source.{Source}
 use Rattle.k_reader.specs.declared.source.Sourced.TheVariants as sourced
 use Rattle.k_reader.proofs.CompleteLeads.{token_at, Moves, Leads, leads-then, leads-in}
@@ -50,7 +50,7 @@ use Rattle.k_reader.proofs.CompleteBlocks.{Blocks, PartsHold, EachPart, parts_le
 abbrev pub Sources : Moves Source
 Sources s t next reach = feed_source s t ≡ sourced.Goes next reach
 
-abbrev phase_at : List Item → Phase → Source
+abbrev phase_at : List Item → SourceStage → Source
 phase_at items p = record { items = items; phase = p }
 
 -- an item may begin
@@ -76,7 +76,7 @@ unfolding feed_declaration named end is_bracket is_equal
 paren_refused f d p (token.Mark mark.LeftParen) h = refl
 paren_refused f d p kind h = absurd cc
 
-stage_refused : (f : Front) (n : Stage) (t : Token) → is_left_paren t.what ≡ true → titled_by f n ≡ true → feed_declaration (declaration_at f n) t ≡ declared_.Refused
+stage_refused : (f : Front) (n : DeclarationStage) (t : Token) → is_left_paren t.what ≡ true → titled_by f n ≡ true → feed_declaration (declaration_at f n) t ≡ declared_.Refused
 stage_refused f (stage.Named d) t h i = paren_refused f d t.place t.what h
 stage_refused f n t h i = absurd cc
 

@@ -29,14 +29,14 @@ use Rattle.k_reader.specs.Declarations.{begin_declaration}
 use Rattle.k_reader.specs.Statements.{mark_begins, jump, Parts, Frames, feed_body, begins, keyword, in_for, for_opened, start, start_with, start_by, first_of, specifier, specifier_by, for_declares, for_declares_by, second, second_by, third, third_by, behind, close, inner}
 use Rattle.k_reader.specs.declared.declaration.Declaration.{Declaration}
 use Rattle.k_reader.specs.declared.expression.Reading.{Reading}
-use Rattle.k_reader.specs.declared.expression.Now.{Now}
-use Rattle.k_reader.specs.declared.expression.Now.TheVariants as now
+use Rattle.k_reader.specs.declared.expression.ExpressionStage.{ExpressionStage}
+use Rattle.k_reader.specs.declared.expression.ExpressionStage.TheVariants as now
 use Rattle.k_reader.specs.declared.expression.Open.TheVariants as open_
 use Rattle.k_reader.specs.declared.expression.Site.{Site}
 use Rattle.k_reader.specs.declared.expression.Fed.{Fed}
 use Rattle.k_reader.specs.declared.expression.Fed.TheVariants as fed
 use Rattle.k_reader.specs.declared.statement.Frame.TheVariants as frame
-use Rattle.k_reader.specs.declared.statement.Step.TheVariants as step
+use Rattle.k_reader.specs.declared.statement.BlockStage.TheVariants as step
 use Rattle.k_reader.specs.declared.statement.Body.{Body}
 use Rattle.k_reader.proofs.CompleteLeads.{token_at, Leads, leads-then, leads-more, leads-in}
 use Rattle.k_reader.proofs.CompleteHolds.{Feeds, reading, awaits}
@@ -62,7 +62,7 @@ opens_refused : (g : Site) (s : Opens) (p : Place) (w : Word) → length s ≡ 0
 opens_refused g [] p w z e = spec_refused g p w e
 opens_refused g (o ∷ s) p w z e = absurd (omega arith)
 
-state_refused : (g : Site) (s : Opens) (n : Now) (p : Place) (w : Word) → is_fresh (reading g s n) ≡ true → is_spec_word w ≡ true
+state_refused : (g : Site) (s : Opens) (n : ExpressionStage) (p : Place) (w : Word) → is_fresh (reading g s n) ≡ true → is_spec_word w ≡ true
     → feed (reading g s n) (token_at p (token.Word w)) ≡ fed.Refused
 unfolding is_fresh
 state_refused g s now.Operand p w f e = opens_refused g s p w (eqb-true (length s) 0 f) e

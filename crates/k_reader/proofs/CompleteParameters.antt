@@ -24,8 +24,8 @@ use Rattle.k_reader.specs.Expressions.{begin}
 use Rattle.k_reader.specs.Readings.{read_maybe, is_fresh, closes}
 use Rattle.k_reader.specs.declared.reading.Closer.TheVariants as closer
 use Rattle.k_reader.specs.Parameters.{mark_typed, mark_first, feed_parameters, begin_parameters, follows, first_token, starts, none, typed, word, name, named, end, size, size_by, is_void, is_void_list, is_void_alone}
-use Rattle.k_reader.specs.declared.parameter.Part.{Part}
-use Rattle.k_reader.specs.declared.parameter.Part.TheVariants as part_
+use Rattle.k_reader.specs.declared.parameter.ParameterStage.{ParameterStage}
+use Rattle.k_reader.specs.declared.parameter.ParameterStage.TheVariants as part_
 use Rattle.k_reader.specs.declared.parameter.Parameters.{Parameters}
 use Rattle.k_reader.specs.declared.parameter.Parametric.TheVariants as parametric
 use Rattle.k_reader.specs.declared.expression.Reading.{Reading}
@@ -39,7 +39,7 @@ use Rattle.k_reader.proofs.CompleteRows.{words_lead, Starred, stars_lead, Sized,
 abbrev pub Follows : Moves Parameters
 Follows ps t next reach = feed_parameters ps t ≡ parametric.Goes next reach
 
-abbrev at_part : List Param → Part → Parameters
+abbrev at_part : List Param → ParameterStage → Parameters
 at_part list p = record { list = list; part = p }
 
 abbrev param_at : Place → List Word → List Bool → Option (List ℕ) → List (Option Expr) → Param

@@ -12,8 +12,8 @@ use Rattle.k_tree.specs.declared.tree.expression.Expr.{Expr}
 use Rattle.k_reader.specs.Operators.{is_open, is_close, binding, is_prefix_mark}
 use Rattle.k_reader.specs.Expressions.{feed, operand, mark_operand, no_arguments, Opens}
 use Rattle.k_reader.specs.Readings.{read_needed, read_maybe, read_by, maybe_by, is_fresh, closes, mark_closes, kind_closes}
-use Rattle.k_reader.specs.declared.expression.Now.{Now}
-use Rattle.k_reader.specs.declared.expression.Now.TheVariants as now
+use Rattle.k_reader.specs.declared.expression.ExpressionStage.{ExpressionStage}
+use Rattle.k_reader.specs.declared.expression.ExpressionStage.TheVariants as now
 use Rattle.k_reader.specs.declared.expression.Site.{Site}
 use Rattle.k_reader.specs.declared.expression.Reading.{Reading}
 use Rattle.k_reader.specs.declared.expression.Fed.{Fed}
@@ -29,9 +29,9 @@ pub needed_goes : (r : Reading) (t : Token) (c : Closer) (next : Reading) (reach
 unfolding read_needed
 needed_goes r t c next reach h = ap (λ f. read_by f (closes t c)) h
 
-pub needed_ends : (r : Reading) (t : Token) (c : Closer) (e : Expr) → feed r t ≡ fed.Ends e → closes t c ≡ true → read_needed r t c ≡ read_.Closed e
+pub needed_ends : (r : Reading) (t : Token) (c : Closer) (e : Expr) → feed r t ≡ fed.Ends e → closes t c ≡ true → read_needed r t c ≡ read_.Done e
 unfolding read_needed
-needed_ends r t c e h i = ap (λ f. read_by f (closes t c)) h ∙ ap (λ b. cond b (read_.Closed e) read_.Refused) i
+needed_ends r t c e h i = ap (λ f. read_by f (closes t c)) h ∙ ap (λ b. cond b (read_.Done e) read_.Refused) i
 
 -- a mark that closes is refused where nothing has been read yet
 mark_refused : (g : Site) (p : Place) (c : Closer) (m : Mark) → mark_closes c m ≡ true → feed (awaits g []) (token_at p (token.Mark m)) ≡ fed.Refused
@@ -50,7 +50,7 @@ opens_refused : (g : Site) (s : Opens) (p : Place) (c : Closer) (kind : TokenKin
 opens_refused g [] p c kind z e = kind_refused g p c kind e
 opens_refused g (o ∷ s) p c kind z e = absurd (omega arith)
 
-state_refused : (g : Site) (s : Opens) (n : Now) (t : Token) (c : Closer) → is_fresh (reading g s n) ≡ true → closes t c ≡ true → feed (reading g s n) t ≡ fed.Refused
+state_refused : (g : Site) (s : Opens) (n : ExpressionStage) (t : Token) (c : Closer) → is_fresh (reading g s n) ≡ true → closes t c ≡ true → feed (reading g s n) t ≡ fed.Refused
 unfolding is_fresh closes
 state_refused g s now.Operand t c f e = opens_refused g s t.place c t.what (eqb-true (length s) 0 f) e
 state_refused g s n t c f e = absurd cc
@@ -72,13 +72,13 @@ not_fresh r t c f = ⊎_elim (λ e. absurd (f (fresh_refused r t c e))) (λ e. e
 pub maybe_goes : (r : Reading) (t : Token) (c : Closer) (next : Reading) (reach : ℕ) → Feeds r t next reach → read_maybe r t c ≡ maybe_.Goes next reach
 unfolding read_maybe
 maybe_goes r t c next reach h =
-    ap (λ b. cond b (maybe_.Closed None) (maybe_by (read_needed r t c))) (not_fresh r t c (λ e. refused_goes next reach (sym e ∙ h)))
+    ap (λ b. cond b (maybe_.Done None) (maybe_by (read_needed r t c))) (not_fresh r t c (λ e. refused_goes next reach (sym e ∙ h)))
     ∙ ap maybe_by (needed_goes r t c next reach h)
 
-pub maybe_ends : (r : Reading) (t : Token) (c : Closer) (e : Expr) → feed r t ≡ fed.Ends e → closes t c ≡ true → read_maybe r t c ≡ maybe_.Closed (Some e)
+pub maybe_ends : (r : Reading) (t : Token) (c : Closer) (e : Expr) → feed r t ≡ fed.Ends e → closes t c ≡ true → read_maybe r t c ≡ maybe_.Done (Some e)
 unfolding read_maybe
 maybe_ends r t c e h i =
-    ap (λ b. cond b (maybe_.Closed None) (maybe_by (read_needed r t c))) (not_fresh r t c (λ j. refused_ends e (sym j ∙ h)))
+    ap (λ b. cond b (maybe_.Done None) (maybe_by (read_needed r t c))) (not_fresh r t c (λ j. refused_ends e (sym j ∙ h)))
     ∙ ap maybe_by (needed_ends r t c e h i)
 
 -- the marks that close end each expression

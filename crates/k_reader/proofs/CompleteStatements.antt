@@ -24,8 +24,8 @@ use Rattle.k_reader.specs.Readings.{read_maybe, is_fresh, closes}
 use Rattle.k_reader.specs.declared.reading.Closer.TheVariants as closer
 use Rattle.k_reader.specs.Statements.{mark_begins, jump, Parts, Frames, feed_body, begins, begins_by, expression, expression_by, keyword, value, value_by, returned, returned_by, semicolon, behind, is_else, declares, level, inner}
 use Rattle.k_reader.specs.declared.expression.Reading.{Reading}
-use Rattle.k_reader.specs.declared.statement.Step.{Step as Stage}
-use Rattle.k_reader.specs.declared.statement.Step.TheVariants as step
+use Rattle.k_reader.specs.declared.statement.BlockStage.{BlockStage}
+use Rattle.k_reader.specs.declared.statement.BlockStage.TheVariants as step
 use Rattle.k_reader.specs.declared.statement.Body.{Body}
 use Rattle.k_reader.specs.declared.statement.Stepped.{Stepped}
 use Rattle.k_reader.specs.declared.statement.Stepped.TheVariants as stepped
@@ -38,7 +38,7 @@ use Rattle.k_reader.proofs.CompleteReadings.{needed_goes, needed_ends, maybe_goe
 abbrev pub Runs : Moves Body
 Runs b t next reach = feed_body b t ≡ stepped.Goes next reach
 
-abbrev pub body_at : Parts → Frames → Stage → Body
+abbrev pub body_at : Parts → Frames → BlockStage → Body
 body_at ps s n = record { parts = ps; frames = s; step = n }
 
 -- a statement begins

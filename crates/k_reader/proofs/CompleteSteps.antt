@@ -14,7 +14,7 @@ use Rattle.k_reader.specs.Top.{top}
 use Rattle.k_reader.specs.Expressions.{feed, operand, opened, mark_operand, prefix_operator, word_operand, hole, plug, Opens, goes, level, is_left_paren, take_operator, operator_opens, is_sizeof_open, posted, infix_made}
 use Rattle.k_reader.specs.declared.expression.Term.{Term}
 use Rattle.k_reader.specs.declared.expression.Open.TheVariants as open_
-use Rattle.k_reader.specs.declared.expression.Now.TheVariants as now
+use Rattle.k_reader.specs.declared.expression.ExpressionStage.TheVariants as now
 use Rattle.k_reader.specs.declared.expression.Site.{Site}
 use Rattle.k_reader.specs.declared.expression.Fed.TheVariants as fed
 use Rattle.k_reader.specs.declared.expression.plug.Plugged.TheVariants as plugged

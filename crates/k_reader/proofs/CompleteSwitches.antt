@@ -26,7 +26,7 @@ use Rattle.k_reader.specs.Statements.{mark_begins, jump, Parts, Frames, feed_bod
 use Rattle.k_reader.specs.declared.expression.Reading.{Reading}
 use Rattle.k_reader.specs.declared.statement.Frame.TheVariants as frame
 use Rattle.k_reader.specs.declared.statement.Tested.TheVariants as tested
-use Rattle.k_reader.specs.declared.statement.Step.TheVariants as step
+use Rattle.k_reader.specs.declared.statement.BlockStage.TheVariants as step
 use Rattle.k_reader.specs.declared.statement.Body.{Body}
 use Rattle.k_reader.specs.declared.statement.Stepped.TheVariants as stepped
 use Rattle.k_reader.proofs.CompleteLeads.{token_at, Leads, leads-then, leads-more, leads-in}

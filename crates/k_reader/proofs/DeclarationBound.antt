@@ -25,8 +25,8 @@ use Rattle.k_reader.specs.Declarations as spec
 use Rattle.k_reader.specs.declared.declaration.initialiser.Brace.{Brace}
 use Rattle.k_reader.specs.declared.declaration.initialiser.Opened.{Opened}
 use Rattle.k_reader.specs.declared.declaration.Front.{Front}
-use Rattle.k_reader.specs.declared.declaration.Stage.{Stage}
-use Rattle.k_reader.specs.declared.declaration.Stage.TheVariants as stage
+use Rattle.k_reader.specs.declared.declaration.DeclarationStage.{DeclarationStage}
+use Rattle.k_reader.specs.declared.declaration.DeclarationStage.TheVariants as stage
 use Rattle.k_reader.specs.declared.declaration.Declaration.{Declaration}
 use Rattle.k_reader.specs.declared.declaration.Declared.{Declared}
 use Rattle.k_reader.specs.declared.declaration.Declared.TheVariants as declared_
@@ -80,7 +80,7 @@ module _ (lim : ℕ) where
 
   size_bound : (f : Front) (d : Declarator) (x : Maybe) → MaybeBound lim x → DeclaredBound lim (spec.size_by f d x)
   size_bound f d (maybe.Goes r reach) h = h
-  size_bound f d (maybe.Closed v) h = no_level lim
+  size_bound f d (maybe.Done v) h = no_level lim
   size_bound f d maybe.Refused h = tt
 
   -- initialisers
@@ -141,7 +141,7 @@ module _ (lim : ℕ) where
   value_bound f d s p t (fed.Ends v) h = after_bound f (inits.plug_into d s (init.One p v)) t.what
   value_bound f d s p t fed.Refused h = tt
 
-  stage_bound : (l : ℕ) (f : Front) (n : Stage) (ts : List Token) (t : Token) → OkFront lim l f → OkStage lim l f n ts → StageReached lim f n
+  stage_bound : (l : ℕ) (f : Front) (n : DeclarationStage) (ts : List Token) (t : Token) → OkFront lim l f → OkStage lim l f n ts → StageReached lim f n
       → DeclaredBound lim (spec.stage_fed f n t)
   unfolding spec.before spec.size spec.starts spec.value spec.after
   stage_bound l f (stage.Before stars) ts t o k h = before_bound f stars t.place t.what

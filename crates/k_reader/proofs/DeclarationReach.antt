@@ -30,8 +30,8 @@ use Rattle.k_reader.specs.Declarations as spec
 use Rattle.k_reader.specs.declared.declaration.initialiser.Brace.{Brace}
 use Rattle.k_reader.specs.declared.declaration.initialiser.Opened.{Opened}
 use Rattle.k_reader.specs.declared.declaration.Front.{Front}
-use Rattle.k_reader.specs.declared.declaration.Stage.{Stage}
-use Rattle.k_reader.specs.declared.declaration.Stage.TheVariants as stage
+use Rattle.k_reader.specs.declared.declaration.DeclarationStage.{DeclarationStage}
+use Rattle.k_reader.specs.declared.declaration.DeclarationStage.TheVariants as stage
 use Rattle.k_reader.specs.declared.declaration.Declaration.{Declaration}
 use Rattle.k_reader.specs.declared.declaration.Declared.{Declared}
 use Rattle.k_reader.specs.declared.declaration.Declared.TheVariants as declared_
@@ -63,13 +63,13 @@ needed_stays lim is_limit r t c b =
 
 by_stays : (lim : ℕ) (x : Read) → ReadStays lim x → MaybeStays lim (maybe_by x)
 by_stays lim (read.Goes r reach) h = h
-by_stays lim (read.Closed v) h = tt
+by_stays lim (read.Done v) h = tt
 by_stays lim read.Refused h = tt
 
 pub maybe_stays : (lim : ℕ) → IsLimit lim → (r : Reading) (t : Token) (c : Closer) → Begun lim r → MaybeStays lim (read_maybe r t c)
 unfolding read_maybe
 maybe_stays lim is_limit r t c b =
-    cond_both (is_fresh r && closes t c) (maybe.Closed None) (maybe_by (read_needed r t c)) (MaybeStays lim) (λ e. tt)
+    cond_both (is_fresh r && closes t c) (maybe.Done None) (maybe_by (read_needed r t c)) (MaybeStays lim) (λ e. tt)
     (λ e. by_stays lim (read_needed r t c) (needed_stays lim is_limit r t c b))
 
 -- nothing was read of an expression that begins
@@ -83,7 +83,7 @@ Filled [] = Unit {0}
 Filled (b ∷ s) = b.items ≢ []
 
 -- what a stage makes sure
-abbrev pub StageReached : ℕ → Front → Stage → Type 0
+abbrev pub StageReached : ℕ → Front → DeclarationStage → Type 0
 StageReached lim f (stage.Size d r) = Begun lim r
 StageReached lim f (stage.Starts d []) = f.level + 1 ≤ lim
 StageReached lim f (stage.Starts d (b ∷ s)) = b.items ≡ [] → f.level + length s + 2 ≤ lim
@@ -136,7 +136,7 @@ module _ (lim : ℕ) (is_limit : IsLimit lim) where
 
   size_stays : (f : Front) (d : Declarator) (x : Maybe) → MaybeStays lim x → DeclaredStays lim (spec.size_by f d x)
   size_stays f d (maybe.Goes r reach) h = λ le e. h le
-  size_stays f d (maybe.Closed v) h = λ le. tt
+  size_stays f d (maybe.Done v) h = λ le. tt
   size_stays f d maybe.Refused h = tt
 
   -- an initialiser that ends fills the brace around it
@@ -199,7 +199,7 @@ module _ (lim : ℕ) (is_limit : IsLimit lim) where
   value_stays f d s p t (fed.Ends v) h = after_stays f (inits.plug_into d s (init.One p v)) t.what (plug_filled d s (init.One p v))
   value_stays f d s p t fed.Refused h = tt
 
-  stage_stays : (f : Front) (n : Stage) (t : Token) → StageReached lim f n → DeclaredStays lim (spec.stage_fed f n t)
+  stage_stays : (f : Front) (n : DeclarationStage) (t : Token) → StageReached lim f n → DeclaredStays lim (spec.stage_fed f n t)
   unfolding spec.before spec.size spec.starts spec.value spec.after
   stage_stays f (stage.Before stars) t h = before_stays f stars t.place t.what
   stage_stays f (stage.Named d) t h = kind_named_stays f d t.what

@@ -38,8 +38,8 @@ use Rattle.k_reader.specs.Initialisers as inits
 use Rattle.k_reader.specs.declared.declaration.initialiser.Brace.{Brace}
 use Rattle.k_reader.specs.Declarations as spec
 use Rattle.k_reader.specs.declared.declaration.Front.{Front}
-use Rattle.k_reader.specs.declared.declaration.Stage.{Stage}
-use Rattle.k_reader.specs.declared.declaration.Stage.TheVariants as stage
+use Rattle.k_reader.specs.declared.declaration.DeclarationStage.{DeclarationStage}
+use Rattle.k_reader.specs.declared.declaration.DeclarationStage.TheVariants as stage
 use Rattle.k_reader.specs.declared.declaration.Declaration.{Declaration}
 use Rattle.k_reader.specs.declared.declaration.Declared.{Declared}
 use Rattle.k_reader.specs.declared.declaration.Declared.TheVariants as declared_
@@ -277,7 +277,7 @@ module _ (lim : ℕ) (is_limit : IsLimit lim) (l : ℕ) (ts : List Token) (t : T
       bare = k.bare;
     };
   }
-  size_by_keeps f d r (maybe.Closed v) o k h = λ z. record { front = o; stage = size_done f d r v o k h.0 h.1 }
+  size_by_keeps f d r (maybe.Done v) o k h = λ z. record { front = o; stage = size_done f d r v o k h.0 h.1 }
   size_by_keeps f d r maybe.Refused o k h = tt
 
   size_keeps : (f : Front) (d : Declarator) (r : Reading) → OkFront lim l f → OkSize lim l f d (At lim (site 2 f.level) r) ts
@@ -421,7 +421,7 @@ module _ (lim : ℕ) (is_limit : IsLimit lim) (l : ℕ) (ts : List Token) (t : T
   value_keeps f d s p r o k =
       value_by_keeps f d s p r (feed r t) o k (at_keeps lim is_limit (site 1 (plus (plus f.level (length s)) 1)) k.behind.back t r k.behind.rest.0)
 
-  stage_keeps : (f : Front) (g : Stage) → OkFront lim l f → OkStage lim l f g ts → KeepsDeclared lim l ts t (spec.stage_fed f g t)
+  stage_keeps : (f : Front) (g : DeclarationStage) → OkFront lim l f → OkStage lim l f g ts → KeepsDeclared lim l ts t (spec.stage_fed f g t)
   stage_keeps f (stage.Before stars) o k = before_keeps f stars o k
   stage_keeps f (stage.Named d) o k = kind_named_keeps f d t.what o refl k
   stage_keeps f (stage.Size d r) o k = size_keeps f d r o k

@@ -13,8 +13,8 @@ use Rattle.k_reader.specs.Stars.{all_stars}
 use Rattle.k_reader.specs.Level.{plus}
 use Rattle.k_reader.specs.declared.declaration.initialiser.Brace.{Brace}
 use Rattle.k_reader.specs.declared.declaration.Front.{Front}
-use Rattle.k_reader.specs.declared.declaration.Stage.{Stage}
-use Rattle.k_reader.specs.declared.declaration.Stage.TheVariants as stage
+use Rattle.k_reader.specs.declared.declaration.DeclarationStage.{DeclarationStage}
+use Rattle.k_reader.specs.declared.declaration.DeclarationStage.TheVariants as stage
 use Rattle.k_reader.specs.declared.declaration.Declaration.{Declaration}
 use Rattle.k_reader.specs.declared.declaration.Declared.{Declared}
 use Rattle.k_reader.specs.declared.declaration.Declared.TheVariants as declared_
@@ -96,7 +96,7 @@ pub record OkValue (lim : ℕ) (l : ℕ) (f : Front) (d : Declarator) (s : List 
   pub bare : OkBare lim l d
   pub braces : OkBraces lim l s
 
-abbrev pub OkStage : ℕ → ℕ → Front → Stage → List Token → Type 0
+abbrev pub OkStage : ℕ → ℕ → Front → DeclarationStage → List Token → Type 0
 OkStage lim l f (stage.Before stars) ts = Stand (lay_front f ++ plain (spell_stars (all_stars stars))) ts
 OkStage lim l f (stage.Named d) ts = OkNamed lim l f d ts
 OkStage lim l f (stage.Size d r) ts = OkSize lim l f d (At lim (site 2 f.level) r) ts

@@ -15,7 +15,7 @@ use Rattle.k_reader.specs.Operators.{binding, is_bracket, is_equal, is_left_brac
 use Rattle.k_reader.specs.Stars.{all_stars}
 use Rattle.k_reader.specs.declared.stars.Stars.{Stars}
 use Rattle.k_reader.specs.Expressions.{level, begin, operand, feed}
-use Rattle.k_reader.specs.declared.expression.Now.TheVariants as now
+use Rattle.k_reader.specs.declared.expression.ExpressionStage.TheVariants as now
 use Rattle.k_reader.specs.declared.expression.Site.{Site}
 use Rattle.k_reader.specs.declared.expression.Reading.{Reading}
 use Rattle.k_reader.specs.declared.expression.Fed.TheVariants as fed
@@ -24,8 +24,8 @@ use Rattle.k_reader.specs.Initialisers as inits
 use Rattle.k_reader.specs.Declarations as spec
 use Rattle.k_reader.specs.declared.declaration.initialiser.Brace.{Brace}
 use Rattle.k_reader.specs.declared.declaration.Front.{Front}
-use Rattle.k_reader.specs.declared.declaration.Stage.{Stage}
-use Rattle.k_reader.specs.declared.declaration.Stage.TheVariants as stage
+use Rattle.k_reader.specs.declared.declaration.DeclarationStage.{DeclarationStage}
+use Rattle.k_reader.specs.declared.declaration.DeclarationStage.TheVariants as stage
 use Rattle.k_reader.specs.declared.declaration.Declaration.{Declaration}
 use Rattle.k_reader.specs.declared.declaration.Declared.TheVariants as declared_
 use Rattle.k_reader.proofs.DeclarationReach.{StageReached}
@@ -59,11 +59,11 @@ unfolding binding
 brace_ends = (refl, refl)
 
 module _ (lim : ℕ) (is_limit : IsLimit lim) (f : Front) where
-  abbrev Ended : Stage → Type 0
+  abbrev Ended : DeclarationStage → Type 0
   Ended n = DeclarationCanEnd lim (spec.declaration_at f n)
 
   -- a mark or a name that leads on
-  leads : (n next : Stage) (t : Token) → DeclarationGoes (spec.declaration_at f n) t (spec.declaration_at f next) 0 → Ended next → Ended n
+  leads : (n next : DeclarationStage) (t : Token) → DeclarationGoes (spec.declaration_at f n) t (spec.declaration_at f next) 0 → Ended next → Ended n
   leads n next t e x =
       goes_then Declaration Outcome DeclarationGoes DeclarationEnds lim (spec.declaration_at f n) (spec.declaration_at f next) t 0 e (omega arith) x
 
@@ -189,7 +189,7 @@ module _ (lim : ℕ) (is_limit : IsLimit lim) (f : Front) where
       by (i ∷ items) e =
           subst (λ z. Ended (stage.Starts d (record { place = b.place; items = z } ∷ s))) (sym e) (comma_ended d b.place i items s)
 
-  stage_ended : (n : Stage) (ts : List Token) → OkStage lim f.level f n ts → StageReached lim f n → Ended n
+  stage_ended : (n : DeclarationStage) (ts : List Token) → OkStage lim f.level f n ts → StageReached lim f n → Ended n
   stage_ended (stage.Before stars) ts k h = before_ended stars
   stage_ended (stage.Named d) ts k h = named_ended d
   stage_ended (stage.Size d r) ts k h = size_ended d r k.behind.back k.behind.rest h

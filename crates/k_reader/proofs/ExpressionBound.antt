@@ -20,8 +20,8 @@ use Rattle.k_reader.specs.Readings.{is_operand, is_fresh}
 use Rattle.k_reader.specs.declared.expression.Term.{Term}
 use Rattle.k_reader.specs.declared.expression.Open.{Open}
 use Rattle.k_reader.specs.declared.expression.Open.TheVariants as open_
-use Rattle.k_reader.specs.declared.expression.Now.{Now}
-use Rattle.k_reader.specs.declared.expression.Now.TheVariants as now
+use Rattle.k_reader.specs.declared.expression.ExpressionStage.{ExpressionStage}
+use Rattle.k_reader.specs.declared.expression.ExpressionStage.TheVariants as now
 use Rattle.k_reader.specs.declared.expression.Site.{Site}
 use Rattle.k_reader.specs.declared.expression.Reading.{Reading}
 use Rattle.k_reader.specs.declared.expression.Fed.{Fed}
@@ -241,7 +241,7 @@ module _ (lim : ℕ) (g : Site) where
       cond_bound (is_left_paren t.what) (goes g (open_.Call p x [] 0 ∷ s) now.Operand 0) (value g s (term (expr.Name p x) 16 1) t)
       (λ e. no_level lim) (λ e. value_bound s (term (expr.Name p x) 16 1) t v (omega (arith, le)))
 
-  now_bound : (s : Opens) (n : Now) (t : Token) → g.level ≤ lim + 2 → Valid lim g s → ValidNow lim g s n
+  now_bound : (s : Opens) (n : ExpressionStage) (t : Token) → g.level ≤ lim + 2 → Valid lim g s → ValidNow lim g s n
       → ((is_operand n && nat_eq (length s) 0) ≡ false → Reached lim g s) → FedBound lim (feed_at g s n t)
   unfolding operand in_type
   now_bound s now.Operand t low v k begun = kind_bound s t.place t.what (near s low v begun)

@@ -18,8 +18,8 @@ use Rattle.k_reader.specs.Expressions.{Opens, goes, level, hole, term, valued, p
 use Rattle.k_reader.specs.declared.expression.Term.{Term}
 use Rattle.k_reader.specs.declared.expression.Open.{Open}
 use Rattle.k_reader.specs.declared.expression.Open.TheVariants as open_
-use Rattle.k_reader.specs.declared.expression.Now.{Now}
-use Rattle.k_reader.specs.declared.expression.Now.TheVariants as now
+use Rattle.k_reader.specs.declared.expression.ExpressionStage.{ExpressionStage}
+use Rattle.k_reader.specs.declared.expression.ExpressionStage.TheVariants as now
 use Rattle.k_reader.specs.declared.expression.Site.{Site}
 use Rattle.k_reader.specs.declared.expression.Reading.{Reading}
 use Rattle.k_reader.specs.declared.expression.Fed.{Fed}
@@ -174,7 +174,7 @@ module _ (lim : ℕ) (is_limit : IsLimit lim) (g : Site) where
       (closed_by g s (plug o a) t.what (λ b. value g s b t)) (λ e. take_stays (o ∷ s) a t.what t.place h)
       (λ e. closed_stays s (plug o a) t.what (λ b. value g s b t) h.1 (λ b. value_stays s b t h.1))
 
-  now_stays : (s : Opens) (n : Now) (t : Token) → Reached lim g s → Stays lim g (feed_at g s n t)
+  now_stays : (s : Opens) (n : ExpressionStage) (t : Token) → Reached lim g s → Stays lim g (feed_at g s n t)
   unfolding operand named in_type
   now_stays s now.Operand t h = kind_stays s t.place t.what h
   now_stays s (now.Named p x) t h =

@@ -2,8 +2,8 @@
 use Rattle.std.proofs.Common.{ℕ, List}
 use Rattle.k_tree.specs.declared.tokens.Token.{Token}
 use Rattle.k_reader.specs.Expressions.{Opens, feed, feed_at}
-use Rattle.k_reader.specs.declared.expression.Now.{Now}
-use Rattle.k_reader.specs.declared.expression.Now.TheVariants as now
+use Rattle.k_reader.specs.declared.expression.ExpressionStage.{ExpressionStage}
+use Rattle.k_reader.specs.declared.expression.ExpressionStage.TheVariants as now
 use Rattle.k_reader.specs.declared.expression.Reading.{Reading}
 use Rattle.k_reader.specs.declared.expression.Site.{Site}
 use Rattle.k_reader.proofs.ExpressionState.{IsLimit, Inv, Keeps}
@@ -12,7 +12,7 @@ use Rattle.k_reader.proofs.TypeSound.{type_keeps}
 use Rattle.k_reader.proofs.ValueSound.{value_keeps, named_keeps}
 
 module _ (lim : ℕ) (is_limit : IsLimit lim) (g : Site) (ts : List Token) (t : Token) where
-  feed_at_keeps : (s : Opens) (n : Now) → Inv lim g s n ts → Keeps lim g ts t (feed_at g s n t)
+  feed_at_keeps : (s : Opens) (n : ExpressionStage) → Inv lim g s n ts → Keeps lim g ts t (feed_at g s n t)
   feed_at_keeps s now.Operand i = operand_keeps lim is_limit g ts t s i.stands i.opens
   feed_at_keeps s (now.Named p x) i = named_keeps lim is_limit g ts t s p x i
   feed_at_keeps s (now.Type specs stars) i = type_keeps lim is_limit g ts t s specs stars i

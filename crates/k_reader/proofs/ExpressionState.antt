@@ -17,8 +17,8 @@ use Rattle.k_reader.specs.Expressions.{Opens, hole, is_before_type}
 use Rattle.k_reader.specs.declared.expression.Term.{Term}
 use Rattle.k_reader.specs.declared.expression.Open.{Open}
 use Rattle.k_reader.specs.declared.expression.Open.TheVariants as open_
-use Rattle.k_reader.specs.declared.expression.Now.{Now}
-use Rattle.k_reader.specs.declared.expression.Now.TheVariants as now
+use Rattle.k_reader.specs.declared.expression.ExpressionStage.{ExpressionStage}
+use Rattle.k_reader.specs.declared.expression.ExpressionStage.TheVariants as now
 use Rattle.k_reader.specs.declared.expression.Site.{Site}
 use Rattle.k_reader.specs.declared.expression.Fed.{Fed}
 use Rattle.k_reader.specs.declared.expression.Fed.TheVariants as fed
@@ -50,7 +50,7 @@ lay_opens [] = []
 lay_opens (o ∷ s) = lay_opens s ++ lay_open o
 
 -- the pieces that were read
-abbrev pub laid : Opens → Now → Pieces
+abbrev pub laid : Opens → ExpressionStage → Pieces
 laid s now.Operand = lay_opens s
 laid s (now.Named p x) = lay_opens s ++ at p (plain (the_name x))
 laid s (now.Type specs stars) = lay_opens s ++ plain (spell_type specs (all_stars stars))
@@ -85,14 +85,14 @@ abbrev pub Valid : ℕ → Site → Opens → Type 0
 Valid lim g [] = g.rank ≤ 2
 Valid lim g (o ∷ s) = OkOpen lim (lev g s) (hole g s) o × Valid lim g s
 
-abbrev pub ValidNow : ℕ → Site → Opens → Now → Type 0
+abbrev pub ValidNow : ℕ → Site → Opens → ExpressionStage → Type 0
 ValidNow lim g s now.Operand = Unit {0}
 ValidNow lim g s (now.Named p x) = lev g s ≤ lim
 ValidNow lim g s (now.Type specs stars) = Specs specs × IsTrue (is_before_type g s)
 ValidNow lim g s (now.Value a) = (hole g s ≤ a.rank) × Fits lim (lev g s) a
 
 -- what was read stands at these tokens
-pub record Inv (lim : ℕ) (g : Site) (s : Opens) (n : Now) (ts : List Token) : Type 0 where
+pub record Inv (lim : ℕ) (g : Site) (s : Opens) (n : ExpressionStage) (ts : List Token) : Type 0 where
   pub stands : Stand (laid s n) ts
   pub opens : Valid lim g s
   pub state : ValidNow lim g s n

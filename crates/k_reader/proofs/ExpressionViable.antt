@@ -22,8 +22,8 @@ use Rattle.k_reader.specs.Expressions.{Opens, goes, level, hole, term, opened, n
 use Rattle.k_reader.specs.declared.expression.Term.{Term}
 use Rattle.k_reader.specs.declared.expression.Open.{Open}
 use Rattle.k_reader.specs.declared.expression.Open.TheVariants as open_
-use Rattle.k_reader.specs.declared.expression.Now.{Now}
-use Rattle.k_reader.specs.declared.expression.Now.TheVariants as now
+use Rattle.k_reader.specs.declared.expression.ExpressionStage.{ExpressionStage}
+use Rattle.k_reader.specs.declared.expression.ExpressionStage.TheVariants as now
 use Rattle.k_reader.specs.declared.expression.Site.{Site}
 use Rattle.k_reader.specs.declared.expression.Reading.{Reading}
 use Rattle.k_reader.specs.declared.expression.Fed.TheVariants as fed
@@ -39,7 +39,7 @@ mark_token m = record { what = token.Mark m; place = nowhere }
 abbrev pub Ends_operand : Mark → Type 0
 Ends_operand m = (binding m ≡ None) × (is_left_paren (token.Mark m) ≡ false)
 
-abbrev reading : Site → Opens → Now → Reading
+abbrev reading : Site → Opens → ExpressionStage → Reading
 reading g s n = record { site = g; opens = s; state = n }
 
 -- tokens, each within the limit, that lead from a reading to the end of the expression, before a last token
@@ -81,7 +81,7 @@ module _ (lim : ℕ) (is_limit : IsLimit lim) (end : Mark) (ends : Ends_operand 
   abbrev Ended : Opens → Term → Type 0
   Ended s a = (us : List Token) × (e : Expr) × Ending s a us e
 
-  abbrev Completed : Opens → Now → Type 0
+  abbrev Completed : Opens → ExpressionStage → Type 0
   Completed s n = (us : List Token) × (e : Expr) × Completes lim (mark_token end) (reading g s n) us e
 
   value_completes : (s : Opens) (a : Term) (us : List Token) (e : Expr) → Ending s a us e
@@ -313,7 +313,7 @@ module _ (lim : ℕ) (is_limit : IsLimit lim) (end : Mark) (ends : Ends_operand 
   operand_completes (open_.Call p x (a ∷ args) height ∷ s) v h =
       deep_completes s (open_.Call p x (a ∷ args) height) v (call_level s p x a args height v.0)
 
-  pub now_completes : (s : Opens) (n : Now) → Valid lim g s → ValidNow lim g s n → Reached lim g s → Completed s n
+  pub now_completes : (s : Opens) (n : ExpressionStage) → Valid lim g s → ValidNow lim g s n → Reached lim g s → Completed s n
   now_completes s now.Operand v k h = operand_completes s v h
   now_completes s (now.Named p x) v k h =
       let y : Ended s (term (expr.Name p x) 16 1) = value_ending s (term (expr.Name p x) 16 1) v in

@@ -21,7 +21,7 @@ use Rattle.k_tree.proofs.Standing.{stand-append}
 use Rattle.k_reader.specs.Operators.{is_open, is_close, is_prefix_mark, is_step_mark, is_spec_word}
 use Rattle.k_reader.specs.Expressions.{Opens, goes, level, hole, prefix_rank, leaf, opened, no_arguments, prefix_operator, mark_operand, is_before_type, type_begun, is_sizeof, word_operand, operand_at, operand}
 use Rattle.k_reader.specs.declared.expression.Open.TheVariants as open_
-use Rattle.k_reader.specs.declared.expression.Now.TheVariants as now
+use Rattle.k_reader.specs.declared.expression.ExpressionStage.TheVariants as now
 use Rattle.k_reader.specs.declared.expression.Site.{Site}
 use Rattle.k_reader.specs.declared.expression.Fed.{Fed}
 use Rattle.k_reader.specs.declared.expression.Fed.TheVariants as fed

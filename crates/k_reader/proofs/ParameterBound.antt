@@ -18,8 +18,8 @@ use Rattle.k_reader.specs.declared.reading.Closer.TheVariants as closer
 use Rattle.k_reader.specs.declared.reading.Maybe.{Maybe}
 use Rattle.k_reader.specs.declared.reading.Maybe.TheVariants as maybe
 use Rattle.k_reader.specs.Parameters as spec
-use Rattle.k_reader.specs.declared.parameter.Part.{Part}
-use Rattle.k_reader.specs.declared.parameter.Part.TheVariants as part_
+use Rattle.k_reader.specs.declared.parameter.ParameterStage.{ParameterStage}
+use Rattle.k_reader.specs.declared.parameter.ParameterStage.TheVariants as part_
 use Rattle.k_reader.specs.declared.parameter.Parameters.{Parameters}
 use Rattle.k_reader.specs.declared.parameter.Parametric.{Parametric}
 use Rattle.k_reader.specs.declared.parameter.Parametric.TheVariants as parametric
@@ -90,10 +90,10 @@ module _ (lim : ℕ) where
 
   size_bound : (list : List Param) (p : Param) (x : Maybe) → MaybeBound lim x → ParametricBound lim (spec.size_by list p x)
   size_bound list p (maybe.Goes r reach) h = h
-  size_bound list p (maybe.Closed v) h = no_level lim
+  size_bound list p (maybe.Done v) h = no_level lim
   size_bound list p maybe.Refused h = tt
 
-  part_bound : (list : List Param) (n : Part) (ts : List Token) (t : Token) → OkPart lim list n ts → PartReached lim n
+  part_bound : (list : List Param) (n : ParameterStage) (ts : List Token) (t : Token) → OkPart lim list n ts → PartReached lim n
       → ParametricBound lim (spec.part_fed list n t)
   unfolding spec.first_token spec.typed spec.size
   part_bound list part_.Starts ts t k h = first_bound list t.place t.what

@@ -31,8 +31,8 @@ use Rattle.k_reader.specs.declared.reading.Closer.TheVariants as closer
 use Rattle.k_reader.specs.declared.reading.Maybe.{Maybe}
 use Rattle.k_reader.specs.declared.reading.Maybe.TheVariants as maybe
 use Rattle.k_reader.specs.Parameters as spec
-use Rattle.k_reader.specs.declared.parameter.Part.{Part}
-use Rattle.k_reader.specs.declared.parameter.Part.TheVariants as part_
+use Rattle.k_reader.specs.declared.parameter.ParameterStage.{ParameterStage}
+use Rattle.k_reader.specs.declared.parameter.ParameterStage.TheVariants as part_
 use Rattle.k_reader.specs.declared.parameter.Parameters.{Parameters}
 use Rattle.k_reader.specs.declared.parameter.Parametric.{Parametric}
 use Rattle.k_reader.specs.declared.parameter.Parametric.TheVariants as parametric
@@ -71,7 +71,7 @@ pub record OkSize (lim : ℕ) (list : List Param) (p : Param) (r : Reading) (ts 
   pub ranked : RankedParam p
   pub within : 1 + dims_depth p.dims ≤ lim + 1
 
-abbrev pub OkPart : ℕ → List Param → Part → List Token → Type 0
+abbrev pub OkPart : ℕ → List Param → ParameterStage → List Token → Type 0
 OkPart lim list part_.Starts ts = Stand (lay_each lay_param list) ts
 OkPart lim list (part_.Typed p stars) ts = OkTyped lim list p stars ts
 OkPart lim list (part_.Named p) ts = OkParam lim list p ts
@@ -458,7 +458,7 @@ module _ (lim : ℕ) (is_limit : IsLimit lim) (ts : List Token) (t : Token) wher
       within = k.within;
     };
   }
-  size_by_keeps list p r (maybe.Closed v) o k h = λ z. record { list = o; part = size_done list p r v k h.0 h.1 }
+  size_by_keeps list p r (maybe.Done v) o k h = λ z. record { list = o; part = size_done list p r v k h.0 h.1 }
   size_by_keeps list p r maybe.Refused o k h = tt
 
   size_keeps : (list : List Param) (p : Param) (r : Reading) → OkList lim list → OkSize lim list p r ts → KeepsParametric lim ts t (spec.size list p r t)
@@ -467,7 +467,7 @@ module _ (lim : ℕ) (is_limit : IsLimit lim) (ts : List Token) (t : Token) wher
       size_by_keeps list p r (read_maybe r t closer.Bracket) o k
       (maybe_keeps lim is_limit (site 2 1) k.behind.rest.0.back t r closer.Bracket (omega arith) k.behind.rest.0.rest)
 
-  part_keeps : (list : List Param) (q : Part) → OkList lim list → OkPart lim list q ts → KeepsParametric lim ts t (spec.part_fed list q t)
+  part_keeps : (list : List Param) (q : ParameterStage) → OkList lim list → OkPart lim list q ts → KeepsParametric lim ts t (spec.part_fed list q t)
   part_keeps list part_.Starts o k = first_keeps list o k
   part_keeps list (part_.Typed p stars) o k = typed_keeps list p stars o k
   part_keeps list (part_.Named p) o k = kind_named_keeps list p t.what o refl k

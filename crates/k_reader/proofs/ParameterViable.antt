@@ -22,8 +22,8 @@ use Rattle.k_reader.specs.declared.reading.Closer.TheVariants as closer
 use Rattle.k_reader.specs.declared.reading.Maybe.{Maybe}
 use Rattle.k_reader.specs.declared.reading.Maybe.TheVariants as maybe
 use Rattle.k_reader.specs.Parameters as spec
-use Rattle.k_reader.specs.declared.parameter.Part.{Part}
-use Rattle.k_reader.specs.declared.parameter.Part.TheVariants as part_
+use Rattle.k_reader.specs.declared.parameter.ParameterStage.{ParameterStage}
+use Rattle.k_reader.specs.declared.parameter.ParameterStage.TheVariants as part_
 use Rattle.k_reader.specs.declared.parameter.Parameters.{Parameters}
 use Rattle.k_reader.specs.declared.parameter.Parametric.{Parametric}
 use Rattle.k_reader.specs.declared.parameter.Parametric.TheVariants as parametric
@@ -37,7 +37,7 @@ use Rattle.k_reader.proofs.ReadingViable.{maybe_can_end}
 use Rattle.k_reader.proofs.Runs.{run_ends, CanEnd, goes_then}
 
 -- what a part makes sure
-abbrev pub PartReached : ℕ → Part → Type 0
+abbrev pub PartReached : ℕ → ParameterStage → Type 0
 PartReached lim (part_.Size p r) = Begun lim r
 PartReached lim _ = Unit {0}
 
@@ -100,10 +100,10 @@ module _ (lim : ℕ) (is_limit : IsLimit lim) where
 
   size_stays : (list : List Param) (p : Param) (x : Maybe) → MaybeStays lim x → ParametricStays lim (spec.size_by list p x)
   size_stays list p (maybe.Goes r reach) h = λ le e. h le
-  size_stays list p (maybe.Closed v) h = λ le. tt
+  size_stays list p (maybe.Done v) h = λ le. tt
   size_stays list p maybe.Refused h = tt
 
-  part_stays : (list : List Param) (n : Part) (t : Token) → PartReached lim n → ParametricStays lim (spec.part_fed list n t)
+  part_stays : (list : List Param) (n : ParameterStage) (t : Token) → PartReached lim n → ParametricStays lim (spec.part_fed list n t)
   unfolding spec.first_token spec.typed spec.size
   part_stays list part_.Starts t h = first_stays list t.place t.what
   part_stays list (part_.Typed p stars) t h = typed_stays list p stars t.what
@@ -127,7 +127,7 @@ ParametersCanEnd lim = CanEnd Parameters Params ParametersGo ParametersEnd lim
 
 module _ (lim : ℕ) (is_limit : IsLimit lim) (list : List Param) where
   -- `)` behind a parameter
-  end_by : (p : Param) → (n : Part) → (b : Bool)
+  end_by : (p : Param) → (n : ParameterStage) → (b : Bool)
       → spec.feed_parameters (record { list = list; part = n }) (mark_token mark.RightParen)
       ≡ cond b (parametric.Done params.Void) (parametric.Done (params.List (list ++ p ∷ [])))
       → ParametersCanEnd lim (record { list = list; part = n })
@@ -167,7 +167,7 @@ module _ (lim : ℕ) (is_limit : IsLimit lim) (list : List Param) where
       (λ u t next reach e. ap (λ z. spec.size_by list p z) e) (λ u t v e. ap (λ z. spec.size_by list p z) e)
       (λ v. named_ended (record p { dims = p.dims ++ v ∷ [] }))
 
-  part_ended : (n : Part) (ts : List Token) → OkPart lim list n ts → PartReached lim n → ParametersCanEnd lim (record { list = list; part = n })
+  part_ended : (n : ParameterStage) (ts : List Token) → OkPart lim list n ts → PartReached lim n → ParametersCanEnd lim (record { list = list; part = n })
   part_ended part_.Starts ts k h = starts_ended
   part_ended (part_.Typed p stars) ts k h = typed_ended p stars
   part_ended (part_.Named p) ts k h = named_ended p

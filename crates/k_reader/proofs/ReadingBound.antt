@@ -19,12 +19,12 @@ use Rattle.k_reader.proofs.ReadingSound.{At}
 
 abbrev pub ReadBound : ℕ → Read → Type 0
 ReadBound lim (read.Goes r reach) = reach ≤ furthest lim
-ReadBound lim (read.Closed e) = Unit {0}
+ReadBound lim (read.Done e) = Unit {0}
 ReadBound lim read.Refused = Unit {0}
 
 abbrev pub MaybeBound : ℕ → Maybe → Type 0
 MaybeBound lim (maybe.Goes r reach) = reach ≤ furthest lim
-MaybeBound lim (maybe.Closed e) = Unit {0}
+MaybeBound lim (maybe.Done e) = Unit {0}
 MaybeBound lim maybe.Refused = Unit {0}
 
 read_by_bound : (lim : ℕ) (x : Fed) (b : Bool) → FedBound lim x → ReadBound lim (read_by x b)
@@ -35,7 +35,7 @@ read_by_bound lim fed.Refused b h = tt
 
 maybe_by_bound : (lim : ℕ) (x : Read) → ReadBound lim x → MaybeBound lim (maybe_by x)
 maybe_by_bound lim (read.Goes r reach) h = h
-maybe_by_bound lim (read.Closed e) h = tt
+maybe_by_bound lim (read.Done e) h = tt
 maybe_by_bound lim read.Refused h = tt
 
 module _ (lim : ℕ) (g : Site) (ts : List Token) (t : Token) (r : Reading) (c : Closer) where
@@ -46,5 +46,5 @@ module _ (lim : ℕ) (g : Site) (ts : List Token) (t : Token) (r : Reading) (c :
   pub maybe_bound : g.level ≤ lim + 2 → At lim g r ts → Begun lim r → MaybeBound lim (read_maybe r t c)
   unfolding read_maybe
   maybe_bound low k begun =
-      cond_both (is_fresh r && closes t c) (maybe.Closed None) (maybe_by (read_needed r t c)) (MaybeBound lim) (λ e. tt)
+      cond_both (is_fresh r && closes t c) (maybe.Done None) (maybe_by (read_needed r t c)) (MaybeBound lim) (λ e. tt)
       (λ e. maybe_by_bound lim (read_needed r t c) (needed_bound low k begun))

@@ -13,8 +13,8 @@ use Rattle.k_reader.specs.Operators.{is_prefix_mark, is_spec_word, is_open, is_c
 use Rattle.k_reader.specs.Expressions.{Opens, goes, level, is_sizeof, opened, no_arguments, prefix_operator, mark_operand, is_before_type, type_begun, word_operand, operand_at, operand, feed_at, feed}
 use Rattle.k_reader.specs.Readings.{is_operand, is_fresh}
 use Rattle.k_reader.specs.declared.expression.Open.TheVariants as open_
-use Rattle.k_reader.specs.declared.expression.Now.{Now}
-use Rattle.k_reader.specs.declared.expression.Now.TheVariants as now
+use Rattle.k_reader.specs.declared.expression.ExpressionStage.{ExpressionStage}
+use Rattle.k_reader.specs.declared.expression.ExpressionStage.TheVariants as now
 use Rattle.k_reader.specs.declared.expression.Site.{Site}
 use Rattle.k_reader.specs.declared.expression.Reading.{Reading}
 use Rattle.k_reader.specs.declared.expression.Fed.TheVariants as fed
@@ -72,7 +72,7 @@ module _ (lim : ℕ) (is_limit : IsLimit lim) (g : Site) where
 abbrev pub Begun : ℕ → Reading → Type 0
 Begun lim r = is_fresh r ≡ false → Reached lim r.site r.opens
 
-pub fresh_is : (s : Opens) (n : Now) → (is_operand n && nat_eq (length s) 0) ≡ true → (n ≡ now.Operand) × (s ≡ [])
+pub fresh_is : (s : Opens) (n : ExpressionStage) → (is_operand n && nat_eq (length s) 0) ≡ true → (n ≡ now.Operand) × (s ≡ [])
 fresh_is [] now.Operand e = (refl, refl)
 fresh_is (o ∷ s) now.Operand e =
     absurd (let q : suc (length s) ≡ 0 = eqb-true (suc (length s)) 0 e in let f : ⊥ = omega arith in f)
@@ -80,7 +80,7 @@ fresh_is s (now.Named p x) e = absurd (false≢true e)
 fresh_is s (now.Type specs stars) e = absurd (false≢true e)
 fresh_is s (now.Value a) e = absurd (false≢true e)
 
-begun_by : (lim : ℕ) → IsLimit lim → (g : Site) (s : Opens) (n : Now) (t : Token)
+begun_by : (lim : ℕ) → IsLimit lim → (g : Site) (s : Opens) (n : ExpressionStage) (t : Token)
     → ((is_operand n && nat_eq (length s) 0) ≡ true) ⊎ Reached lim g s → Stays lim g (feed_at g s n t)
 unfolding feed
 begun_by lim is_limit g s n t (inl e) =

@@ -12,8 +12,8 @@ use Rattle.k_tree.specs.Places.{Pieces, lay_option, Stand}
 use Rattle.k_tree.specs.Ranked.{Ranked, IfGiven}
 use Rattle.k_reader.specs.Expressions.{Opens, begin, feed}
 use Rattle.k_reader.specs.Readings.{mark_closes, kind_closes, closes, is_operand, is_fresh, read_by, read_needed, maybe_by, read_maybe}
-use Rattle.k_reader.specs.declared.expression.Now.{Now}
-use Rattle.k_reader.specs.declared.expression.Now.TheVariants as now
+use Rattle.k_reader.specs.declared.expression.ExpressionStage.{ExpressionStage}
+use Rattle.k_reader.specs.declared.expression.ExpressionStage.TheVariants as now
 use Rattle.k_reader.specs.declared.expression.Reading.{Reading}
 use Rattle.k_reader.specs.declared.expression.Site.{Site}
 use Rattle.k_reader.specs.declared.expression.Fed.{Fed}
@@ -70,7 +70,7 @@ kind_is c _ h = absurd (false_true h)
 -- a token keeps it so
 abbrev pub KeepsRead : ℕ → Site → List Token → Token → Mark → Read → Type 0
 KeepsRead lim g ts t m (read.Goes r reach) = reach ≤ lim → At lim g r (ts ++ t ∷ [])
-KeepsRead lim g ts t m (read.Closed e) = IsRead lim g e ts × (t.what ≡ token.Mark m)
+KeepsRead lim g ts t m (read.Done e) = IsRead lim g e ts × (t.what ≡ token.Mark m)
 KeepsRead lim g ts t m read.Refused = Unit {0}
 
 -- an expression that may be left out
@@ -81,7 +81,7 @@ pub record IsMaybe (lim : ℕ) (g : Site) (v : Option Expr) (ts : List Token) : 
 
 abbrev pub KeepsMaybe : ℕ → Site → List Token → Token → Mark → Maybe → Type 0
 KeepsMaybe lim g ts t m (maybe.Goes r reach) = reach ≤ lim → At lim g r (ts ++ t ∷ [])
-KeepsMaybe lim g ts t m (maybe.Closed v) = IsMaybe lim g v ts × (t.what ≡ token.Mark m)
+KeepsMaybe lim g ts t m (maybe.Done v) = IsMaybe lim g v ts × (t.what ≡ token.Mark m)
 KeepsMaybe lim g ts t m maybe.Refused = Unit {0}
 
 read_by_keeps : (lim : ℕ) (g : Site) (ts : List Token) (t : Token) (m : Mark) (f : Fed) (b : Bool) → (b ≡ true → t.what ≡ token.Mark m)
@@ -104,10 +104,10 @@ read_keeps lim is_limit g ts t r c a =
 maybe_by_keeps : (lim : ℕ) (g : Site) (ts : List Token) (t : Token) (m : Mark) (f : Read)
     → KeepsRead lim g ts t m f → KeepsMaybe lim g ts t m (maybe_by f)
 maybe_by_keeps lim g ts t m (read.Goes r reach) k = k
-maybe_by_keeps lim g ts t m (read.Closed v) k = (record { ranked = k.0.ranked; stands = k.0.stands; within = k.0.within }, k.1)
+maybe_by_keeps lim g ts t m (read.Done v) k = (record { ranked = k.0.ranked; stands = k.0.stands; within = k.0.within }, k.1)
 maybe_by_keeps lim g ts t m read.Refused k = tt
 
-operand_is : (n : Now) → is_operand n ≡ true → n ≡ now.Operand
+operand_is : (n : ExpressionStage) → is_operand n ≡ true → n ≡ now.Operand
 operand_is now.Operand h = refl
 operand_is _ h = absurd (false_true h)
 
@@ -132,7 +132,7 @@ pub maybe_keeps : (lim : ℕ) → IsLimit lim → (g : Site) (ts : List Token) (
     → KeepsMaybe lim g ts t (closing c) (read_maybe r t c)
 unfolding read_maybe
 maybe_keeps lim is_limit g ts t r c le a =
-    maybe_cond lim g ts t (closing c) (is_fresh r && closes t c) (maybe.Closed None) (maybe_by (read_needed r t c))
+    maybe_cond lim g ts t (closing c) (is_fresh r && closes t c) (maybe.Done None) (maybe_by (read_needed r t c))
     (λ h. (
       record { ranked = tt; stands = fresh_stands lim g ts r (and_left (is_fresh r) (closes t c) h) a; within = omega (arith, le) },
       closes_is c t (and_right (is_fresh r) (closes t c) h),

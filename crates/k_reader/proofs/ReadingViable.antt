@@ -11,7 +11,7 @@ use Rattle.k_tree.specs.declared.tree.expression.Expr.{Expr}
 use Rattle.k_reader.specs.Operators.{binding, is_prefix_mark, is_open, is_close}
 use Rattle.k_reader.specs.Expressions.{mark_operand, no_arguments, operand_at, operand, feed_at, feed}
 use Rattle.k_reader.specs.Readings.{mark_closes, kind_closes, closes, is_fresh, read_by, read_needed, maybe_by, read_maybe}
-use Rattle.k_reader.specs.declared.expression.Now.TheVariants as now
+use Rattle.k_reader.specs.declared.expression.ExpressionStage.TheVariants as now
 use Rattle.k_reader.specs.declared.expression.Site.{Site}
 use Rattle.k_reader.specs.declared.expression.Reading.{Reading}
 use Rattle.k_reader.specs.declared.expression.Fed.TheVariants as fed
@@ -76,29 +76,29 @@ unfolding read_needed
 needed_goes r t c next reach e = ap (λ z. read_by z (closes t c)) e
 
 pub needed_ends : (r : Reading) (t : Token) (c : Closer) (e : Expr) → feed r t ≡ fed.Ends e → closes t c ≡ true
-    → read_needed r t c ≡ read.Closed e
+    → read_needed r t c ≡ read.Done e
 unfolding read_needed
-needed_ends r t c e q h = ap (λ z. read_by z (closes t c)) q ∙ ap (λ b. cond b (read.Closed e) read.Refused) h
+needed_ends r t c e q h = ap (λ z. read_by z (closes t c)) q ∙ ap (λ b. cond b (read.Done e) read.Refused) h
 
 pub maybe_goes : (r : Reading) (t : Token) (c : Closer) (next : Reading) (reach : ℕ) → feed r t ≡ fed.Goes next reach
     → read_maybe r t c ≡ maybe.Goes next reach
 unfolding read_maybe
 maybe_goes r t c next reach e =
-    cond_both (is_fresh r && closes t c) (maybe.Closed None) (maybe_by (read_needed r t c)) (λ z. z ≡ maybe.Goes next reach)
+    cond_both (is_fresh r && closes t c) (maybe.Done None) (maybe_by (read_needed r t c)) (λ z. z ≡ maybe.Goes next reach)
     (λ h. let b : (is_fresh r ≡ true) × (closes t c ≡ true) = and_parts (is_fresh r) (closes t c) h in
     absurd (refused_goes next reach (sym (fresh_refuses r t c b.0 b.1) ∙ e)))
     (λ h. ap maybe_by (needed_goes r t c next reach e))
 
 pub maybe_ends : (r : Reading) (t : Token) (c : Closer) (e : Expr) → feed r t ≡ fed.Ends e → closes t c ≡ true
-    → read_maybe r t c ≡ maybe.Closed (Some e)
+    → read_maybe r t c ≡ maybe.Done (Some e)
 unfolding read_maybe
 maybe_ends r t c e q h =
-    cond_both (is_fresh r && closes t c) (maybe.Closed None) (maybe_by (read_needed r t c)) (λ z. z ≡ maybe.Closed (Some e))
+    cond_both (is_fresh r && closes t c) (maybe.Done None) (maybe_by (read_needed r t c)) (λ z. z ≡ maybe.Done (Some e))
     (λ k. let b : (is_fresh r ≡ true) × (closes t c ≡ true) = and_parts (is_fresh r) (closes t c) k in
     absurd (refused_ends e (sym (fresh_refuses r t c b.0 b.1) ∙ q)))
     (λ k. ap maybe_by (needed_ends r t c e q h))
 
-pub maybe_left_out : (r : Reading) (t : Token) (c : Closer) → is_fresh r ≡ true → closes t c ≡ true → read_maybe r t c ≡ maybe.Closed None
+pub maybe_left_out : (r : Reading) (t : Token) (c : Closer) → is_fresh r ≡ true → closes t c ≡ true → read_maybe r t c ≡ maybe.Done None
 unfolding read_maybe
 maybe_left_out r t c e h = cond-true (is_fresh r && closes t c) _ _ (and_from (is_fresh r) (closes t c) e h)
 
@@ -153,7 +153,7 @@ module _ (R O : Type 0) (Goes : R → Token → R → ℕ → Type 0) (Ends : R 
   pub maybe_can_end : IsLimit lim → (c : Closer) (g : Site) (r : Reading) (ts : List Token) → At lim g r ts
       → Begun lim r → (inside : Reading → R) (behind : Option Expr → R)
       → ((r : Reading) (t : Token) (next : Reading) (reach : ℕ) → read_maybe r t c ≡ maybe.Goes next reach → Goes (inside r) t (inside next) reach)
-      → ((r : Reading) (t : Token) (v : Option Expr) → read_maybe r t c ≡ maybe.Closed v → Goes (inside r) t (behind v) 0)
+      → ((r : Reading) (t : Token) (v : Option Expr) → read_maybe r t c ≡ maybe.Done v → Goes (inside r) t (behind v) 0)
       → ((v : Option Expr) → CanEnd R O Goes Ends lim (behind v)) → CanEnd R O Goes Ends lim (inside r)
   maybe_can_end is_limit c g r ts a b inside behind on off rest = by (is_fresh r) refl
     where

@@ -13,8 +13,8 @@ use Rattle.k_reader.specs.Operators.{is_spec_word}
 use Rattle.k_reader.specs.Expressions.{is_left_paren}
 use Rattle.k_reader.specs.Declarations.{begin_declaration, feed_declaration}
 use Rattle.k_reader.specs.declared.declaration.Front.{Front}
-use Rattle.k_reader.specs.declared.declaration.Stage.{Stage}
-use Rattle.k_reader.specs.declared.declaration.Stage.TheVariants as stage
+use Rattle.k_reader.specs.declared.declaration.DeclarationStage.{DeclarationStage}
+use Rattle.k_reader.specs.declared.declaration.DeclarationStage.TheVariants as stage
 use Rattle.k_reader.specs.declared.declaration.Declared.{Declared}
 use Rattle.k_reader.specs.declared.declaration.Declared.TheVariants as declared_
 use Rattle.k_reader.specs.Parameters.{feed_parameters}
@@ -25,8 +25,8 @@ use Rattle.k_reader.specs.declared.statement.Stepped.{Stepped}
 use Rattle.k_reader.specs.declared.statement.Stepped.TheVariants as stepped
 use Rattle.k_reader.specs.Sources as spec
 use Rattle.k_reader.specs.declared.source.Title.{Title}
-use Rattle.k_reader.specs.declared.source.Phase.{Phase}
-use Rattle.k_reader.specs.declared.source.Phase.TheVariants as phase
+use Rattle.k_reader.specs.declared.source.SourceStage.{SourceStage}
+use Rattle.k_reader.specs.declared.source.SourceStage.TheVariants as phase
 use Rattle.k_reader.specs.declared.source.Source.{Source}
 use Rattle.k_reader.specs.declared.source.Sourced.{Sourced}
 use Rattle.k_reader.specs.declared.source.Sourced.TheVariants as sourced
@@ -51,7 +51,7 @@ module _ (lim : ℕ) (items : List Item) where
       (λ e. no_level lim) (λ e. tt)
   starts_bound p _ = tt
 
-  titled_bound : (p : Place) (f : Front) (n : Stage) → SourcedBound lim (spec.titled_at items p f n)
+  titled_bound : (p : Place) (f : Front) (n : DeclarationStage) → SourcedBound lim (spec.titled_at items p f n)
   titled_bound p f (stage.Named d) = no_level lim
   titled_bound p f _ = tt
 
@@ -80,7 +80,7 @@ module _ (lim : ℕ) (items : List Item) where
   in_body_bound p h q (stepped.Done parts) k = no_level lim
   in_body_bound p h q stepped.Refused k = tt
 
-  phase_bound : (n : Phase) (ts : List Token) (t : Token) → OkPhase lim items n ts → PhaseReached lim n → SourcedBound lim (spec.phase_fed items n t)
+  phase_bound : (n : SourceStage) (ts : List Token) (t : Token) → OkPhase lim items n ts → PhaseReached lim n → SourcedBound lim (spec.phase_fed items n t)
   unfolding spec.starts spec.declares spec.titled spec.parameters spec.headed spec.in_body
   phase_bound phase.Starts ts t k h = starts_bound t.place t.what
   phase_bound (phase.Declares p d) ts t k h =

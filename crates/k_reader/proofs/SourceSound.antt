@@ -25,8 +25,8 @@ use Rattle.k_reader.specs.Operators.{is_spec_word}
 use Rattle.k_reader.specs.Expressions.{is_left_paren}
 use Rattle.k_reader.specs.Declarations.{begin_declaration}
 use Rattle.k_reader.specs.declared.declaration.Front.{Front}
-use Rattle.k_reader.specs.declared.declaration.Stage.{Stage}
-use Rattle.k_reader.specs.declared.declaration.Stage.TheVariants as stage
+use Rattle.k_reader.specs.declared.declaration.DeclarationStage.{DeclarationStage}
+use Rattle.k_reader.specs.declared.declaration.DeclarationStage.TheVariants as stage
 use Rattle.k_reader.specs.declared.declaration.Declaration.{Declaration}
 use Rattle.k_reader.specs.declared.declaration.Declared.{Declared}
 use Rattle.k_reader.specs.declared.declaration.Declared.TheVariants as declared_
@@ -40,8 +40,8 @@ use Rattle.k_reader.specs.declared.statement.Stepped.{Stepped}
 use Rattle.k_reader.specs.declared.statement.Stepped.TheVariants as stepped
 use Rattle.k_reader.specs.Sources as spec
 use Rattle.k_reader.specs.declared.source.Title.{Title}
-use Rattle.k_reader.specs.declared.source.Phase.{Phase}
-use Rattle.k_reader.specs.declared.source.Phase.TheVariants as phase
+use Rattle.k_reader.specs.declared.source.SourceStage.{SourceStage}
+use Rattle.k_reader.specs.declared.source.SourceStage.TheVariants as phase
 use Rattle.k_reader.specs.declared.source.Source.{Source}
 use Rattle.k_reader.specs.declared.source.Sourced.{Sourced}
 use Rattle.k_reader.specs.declared.source.Sourced.TheVariants as sourced
@@ -81,7 +81,7 @@ pub record OkHead (lim : ℕ) (h : Head) (p : Place) (us : List Token) : Type 0 
 abbrev pub IsHead : ℕ → Head → Type 0
 IsHead lim h = RankedHead h × (params_depth h.params ≤ lim)
 
-abbrev pub OkPhase : ℕ → List Item → Phase → List Token → Type 0
+abbrev pub OkPhase : ℕ → List Item → SourceStage → List Token → Type 0
 OkPhase lim items phase.Starts ts = Stand (lay_items items) ts
 OkPhase lim items (phase.Declares p d) ts = Behind (lay_items items) (λ us. OkDeclaration lim 1 d us × StartsAt p us) ts
 OkPhase lim items (phase.Parameters p title ps) ts = Behind (lay_items items) (OkTitle lim title ps p) ts
@@ -132,7 +132,7 @@ module _ (lim : ℕ) (is_limit : IsLimit lim) (ts : List Token) (t : Token) wher
   OkItems : List Item → Type 0
   OkItems items = All RankedItem items × (deepest (map item_depth items) ≤ lim)
 
-  goes : (items : List Item) (x : Phase) (reach : ℕ) → OkItems items → (reach ≤ lim → OkPhase lim items x (ts ++ t ∷ []))
+  goes : (items : List Item) (x : SourceStage) (reach : ℕ) → OkItems items → (reach ≤ lim → OkPhase lim items x (ts ++ t ∷ []))
       → KeepsSourced lim ts t (spec.goes_on items x reach)
   unfolding OkItems
   goes items x reach o f = λ z. record { items = o.0; within = o.1; phase = f z }
@@ -201,7 +201,7 @@ module _ (lim : ℕ) (is_limit : IsLimit lim) (ts : List Token) (t : Token) wher
   left_paren_is (token.Mark mark.LeftParen) h = refl
   left_paren_is _ h = absurd (false_true h)
 
-  titled_keeps : (items : List Item) (p : Place) (f : Front) (g : Stage) → OkItems items → t.what ≡ token.Mark mark.LeftParen → spec.titled_by f g ≡ true
+  titled_keeps : (items : List Item) (p : Place) (f : Front) (g : DeclarationStage) → OkItems items → t.what ≡ token.Mark mark.LeftParen → spec.titled_by f g ≡ true
       → Behind (lay_items items) (λ us. OkDeclaration lim 1 (record { front = f; stage = g }) us × StartsAt p us) ts
       → KeepsSourced lim ts t (spec.titled_at items p f g)
   titled_keeps items p f (stage.Named d) o e h b =
@@ -305,7 +305,7 @@ module _ (lim : ℕ) (is_limit : IsLimit lim) (ts : List Token) (t : Token) wher
       (behind_all (lay_items items ++ (at p (lay_head h) ++ left_brace)) (lay_stmts parts) _ ts b k.1) (one_at t (token.Mark mark.RightBrace) k.2)))
   body_by_keeps items p h d stepped.Refused o i b k = tt
 
-  phase_keeps : (items : List Item) (x : Phase) → OkItems items → OkPhase lim items x ts → KeepsSourced lim ts t (spec.phase_fed items x t)
+  phase_keeps : (items : List Item) (x : SourceStage) → OkItems items → OkPhase lim items x ts → KeepsSourced lim ts t (spec.phase_fed items x t)
   unfolding spec.starts spec.headed spec.in_body
   phase_keeps items phase.Starts o k = kind_starts_keeps items t.what o refl k
   phase_keeps items (phase.Declares p d) o k = declares_keeps items p d o k

@@ -19,8 +19,8 @@ use Rattle.k_reader.specs.Expressions.{is_left_paren}
 use Rattle.k_reader.specs.Declarations.{begin_declaration, feed_declaration, end, named, kind_named, stage_fed}
 use Rattle.k_tree.specs.declared.tree.declaration.Declarator.{Declarator}
 use Rattle.k_reader.specs.declared.declaration.Front.{Front}
-use Rattle.k_reader.specs.declared.declaration.Stage.{Stage}
-use Rattle.k_reader.specs.declared.declaration.Stage.TheVariants as stage
+use Rattle.k_reader.specs.declared.declaration.DeclarationStage.{DeclarationStage}
+use Rattle.k_reader.specs.declared.declaration.DeclarationStage.TheVariants as stage
 use Rattle.k_reader.specs.declared.declaration.Declaration.{Declaration}
 use Rattle.k_reader.specs.declared.declaration.Declared.{Declared}
 use Rattle.k_reader.specs.declared.declaration.Declared.TheVariants as declared_
@@ -34,8 +34,8 @@ use Rattle.k_reader.specs.declared.statement.Stepped.{Stepped}
 use Rattle.k_reader.specs.declared.statement.Stepped.TheVariants as stepped
 use Rattle.k_reader.specs.Sources as spec
 use Rattle.k_reader.specs.declared.source.Title.{Title}
-use Rattle.k_reader.specs.declared.source.Phase.{Phase}
-use Rattle.k_reader.specs.declared.source.Phase.TheVariants as phase
+use Rattle.k_reader.specs.declared.source.SourceStage.{SourceStage}
+use Rattle.k_reader.specs.declared.source.SourceStage.TheVariants as phase
 use Rattle.k_reader.specs.declared.source.Source.{Source}
 use Rattle.k_reader.specs.declared.source.Sourced.{Sourced}
 use Rattle.k_reader.specs.declared.source.Sourced.TheVariants as sourced
@@ -53,7 +53,7 @@ use Rattle.k_reader.proofs.StatementState.{OkBody}
 use Rattle.k_reader.proofs.StatementViable.{BodyGoes, BodyEnds, body_viable}
 
 -- what a phase makes sure
-abbrev pub PhaseReached : ℕ → Phase → Type 0
+abbrev pub PhaseReached : ℕ → SourceStage → Type 0
 PhaseReached lim phase.Starts = Unit {0}
 PhaseReached lim (phase.Declares p d) = StageReached lim d.front d.stage
 PhaseReached lim (phase.Parameters p t ps) = PartReached lim ps.part
@@ -72,7 +72,7 @@ module _ (lim : ℕ) (is_limit : IsLimit lim) (items : List Item) where
       (λ e le. tt) (λ e. tt)
   starts_stays p _ = tt
 
-  titled_stays : (p : Place) (f : Front) (n : Stage) → SourcedStays lim (spec.titled_at items p f n)
+  titled_stays : (p : Place) (f : Front) (n : DeclarationStage) → SourcedStays lim (spec.titled_at items p f n)
   titled_stays p f (stage.Named d) = λ le. tt
   titled_stays p f _ = tt
 
@@ -101,7 +101,7 @@ module _ (lim : ℕ) (is_limit : IsLimit lim) (items : List Item) where
   in_body_stays p h q (stepped.Done parts) k = λ le. tt
   in_body_stays p h q stepped.Refused k = tt
 
-  phase_stays : (n : Phase) (t : Token) → PhaseReached lim n → SourcedStays lim (spec.phase_fed items n t)
+  phase_stays : (n : SourceStage) (t : Token) → PhaseReached lim n → SourcedStays lim (spec.phase_fed items n t)
   unfolding spec.starts spec.declares spec.titled spec.parameters spec.headed spec.in_body
   phase_stays phase.Starts t h = starts_stays t.place t.what
   phase_stays (phase.Declares p d) t h =
@@ -146,7 +146,7 @@ unfolding named end is_bracket is_equal
 kind_refused f d (token.Mark mark.LeftParen) h = refl
 kind_refused f d _ h = absurd (false≢true h)
 
-stage_refused : (f : Front) (n : Stage) (t : Token) → is_left_paren t.what ≡ true → spec.titled_by f n ≡ true
+stage_refused : (f : Front) (n : DeclarationStage) (t : Token) → is_left_paren t.what ≡ true → spec.titled_by f n ≡ true
     → stage_fed f n t ≡ declared_.Refused
 stage_refused f (stage.Named d) t h e = kind_refused f d t.what h
 stage_refused f (stage.Before stars) t h e = absurd (false≢true e)
@@ -230,7 +230,7 @@ module _ (lim : ℕ) (is_limit : IsLimit lim) where
       (λ q u o e. declared_on items p q u (declared_.Done o.0 o.1) e (λ z. no_done o.0 o.1 z))
       d (declaration_viable lim is_limit 1 d ts ok k) (λ o c. starts_ended (items ++ item.Objects p o.0 o.1 ∷ []))
 
-  phase_ended : (items : List Item) (n : Phase) (ts : List Token) → OkPhase lim items n ts → PhaseReached lim n
+  phase_ended : (items : List Item) (n : SourceStage) (ts : List Token) → OkPhase lim items n ts → PhaseReached lim n
       → SourceCanEnd lim (record { items = items; phase = n })
   phase_ended items phase.Starts ts ok h = starts_ended items
   phase_ended items (phase.Declares p d) ts ok h = declares_ended items p d ok.back ok.rest.0 h

@@ -35,8 +35,8 @@ use Rattle.k_reader.specs.declared.statement.Frame.{Frame}
 use Rattle.k_reader.specs.declared.statement.Frame.TheVariants as frame
 use Rattle.k_reader.specs.declared.statement.Tested.{Tested}
 use Rattle.k_reader.specs.declared.statement.Tested.TheVariants as tested
-use Rattle.k_reader.specs.declared.statement.Step.{Step}
-use Rattle.k_reader.specs.declared.statement.Step.TheVariants as step
+use Rattle.k_reader.specs.declared.statement.BlockStage.{BlockStage}
+use Rattle.k_reader.specs.declared.statement.BlockStage.TheVariants as step
 use Rattle.k_reader.specs.declared.statement.Body.{Body}
 use Rattle.k_reader.specs.declared.statement.Stepped.{Stepped}
 use Rattle.k_reader.specs.declared.statement.Stepped.TheVariants as stepped
@@ -179,12 +179,12 @@ module _ (lim : ℕ) (ps : Parts) where
 
   value_bound : (s : Frames) (p : Place) (x : Read) → ReadBound lim x → SteppedBound lim (spec.value_by ps s p x)
   value_bound s p (read.Goes r reach) k = k
-  value_bound s p (read.Closed e) k = no_level lim
+  value_bound s p (read.Done e) k = no_level lim
   value_bound s p read.Refused k = tt
 
   returned_bound : (s : Frames) (p : Place) (x : Maybe) → MaybeBound lim x → SteppedBound lim (spec.returned_by ps s p x)
   returned_bound s p (maybe.Goes r reach) k = k
-  returned_bound s p (maybe.Closed e) k = no_level lim
+  returned_bound s p (maybe.Done e) k = no_level lim
   returned_bound s p maybe.Refused k = tt
 
   local_bound : (s : Frames) (p : Place) (x : Declared) → DeclaredBound lim x → SteppedBound lim (spec.local_by ps s p x)
@@ -206,10 +206,10 @@ module _ (lim : ℕ) (ps : Parts) where
   test_bound : (s : Frames) (x : Tested) (y : Read) → ReadBound lim y → SteppedBound lim (spec.test_by ps s x y)
   unfolding spec.test_done
   test_bound s x (read.Goes r reach) k = k
-  test_bound s (tested.If p) (read.Closed e) k = no_level lim
-  test_bound s (tested.While p) (read.Closed e) k = no_level lim
-  test_bound s (tested.Switch p) (read.Closed e) k = no_level lim
-  test_bound s (tested.Do p b) (read.Closed e) k = no_level lim
+  test_bound s (tested.If p) (read.Done e) k = no_level lim
+  test_bound s (tested.While p) (read.Done e) k = no_level lim
+  test_bound s (tested.Switch p) (read.Done e) k = no_level lim
+  test_bound s (tested.Do p b) (read.Done e) k = no_level lim
   test_bound s x read.Refused k = tt
 
   -- the token behind a statement
@@ -250,7 +250,7 @@ module _ (lim : ℕ) (ps : Parts) where
     where
       by : (x : Maybe) → MaybeBound lim x → SteppedBound lim (spec.start_by ps s p x)
       by (maybe.Goes u reach) m = m
-      by (maybe.Closed e) m = no_level lim
+      by (maybe.Done e) m = no_level lim
       by maybe.Refused m = tt
 
   for_declares_bound : (s : Frames) (p : Place) (x : Declared) → DeclaredBound lim x → SteppedBound lim (spec.for_declares_by ps s p x)
@@ -260,13 +260,13 @@ module _ (lim : ℕ) (ps : Parts) where
 
   second_bound : (s : Frames) (p : Place) (start : First) (x : Maybe) → MaybeBound lim x → SteppedBound lim (spec.second_by ps s p start x)
   second_bound s p start (maybe.Goes r reach) k = k
-  second_bound s p start (maybe.Closed e) k = no_level lim
+  second_bound s p start (maybe.Done e) k = no_level lim
   second_bound s p start maybe.Refused k = tt
 
   third_bound : (s : Frames) (p : Place) (start : First) (test : Option Expr) (x : Maybe) → MaybeBound lim x
       → SteppedBound lim (spec.third_by ps s p start test x)
   third_bound s p start test (maybe.Goes r reach) k = k
-  third_bound s p start test (maybe.Closed e) k = no_level lim
+  third_bound s p start test (maybe.Done e) k = no_level lim
   third_bound s p start test maybe.Refused k = tt
 
   -- the braces of a `switch`
@@ -284,7 +284,7 @@ module _ (lim : ℕ) (ps : Parts) where
 
   case_bound : (s : Frames) (p : Place) (x : Read) → ReadBound lim x → SteppedBound lim (spec.case_by ps s p x)
   case_bound s p (read.Goes r reach) k = k
-  case_bound s p (read.Closed e) k = labelled_bound s (part_.Case p e)
+  case_bound s p (read.Done e) k = labelled_bound s (part_.Case p e)
   case_bound s p read.Refused k = tt
 
   default_bound : (s : Frames) (p : Place) (t : Token) → SteppedBound lim (spec.default_label ps s p t)
@@ -299,7 +299,7 @@ behind_bound lim ps [] x t k = begins_bound lim (ps ++ x ∷ []) [] t (near lim 
 behind_bound lim ps (f ∷ s) x t k =
     closed_bound lim ps s f x (spec.is_else t.what) t (λ y. spec.behind ps s y t) k.0 (λ y. behind_bound lim ps s y t k.1)
 
-step_bound : (lim : ℕ) (ps : Parts) (s : Frames) (n : Step) (ts : List Token) (t : Token) → OkFrames lim s → FramesReached lim s
+step_bound : (lim : ℕ) (ps : Parts) (s : Frames) (n : BlockStage) (ts : List Token) (t : Token) → OkFrames lim s → FramesReached lim s
     → OkStep lim ps s n ts → StepReached lim s n → SteppedBound lim (spec.step_fed ps s n t)
 unfolding spec.value spec.test spec.returned spec.local spec.in_for spec.start spec.for_declares spec.second spec.third spec.in_switch spec.case_value
 step_bound lim ps s step.Begins ts t f h k r = begins_bound lim ps s t (near lim s f h)

@@ -34,8 +34,8 @@ use Rattle.k_reader.specs.declared.statement.Frame.{Frame}
 use Rattle.k_reader.specs.declared.statement.Frame.TheVariants as frame
 use Rattle.k_reader.specs.declared.statement.Tested.{Tested}
 use Rattle.k_reader.specs.declared.statement.Tested.TheVariants as tested
-use Rattle.k_reader.specs.declared.statement.Step.{Step}
-use Rattle.k_reader.specs.declared.statement.Step.TheVariants as step
+use Rattle.k_reader.specs.declared.statement.BlockStage.{BlockStage}
+use Rattle.k_reader.specs.declared.statement.BlockStage.TheVariants as step
 use Rattle.k_reader.specs.declared.statement.Body.{Body}
 use Rattle.k_reader.specs.declared.statement.Stepped.{Stepped}
 use Rattle.k_reader.specs.declared.statement.Stepped.TheVariants as stepped
@@ -57,7 +57,7 @@ FramesReached lim (f ∷ s) = FrameReached lim s f × FramesReached lim s
 abbrev pub ReadingReached : ℕ → Reading → Type 0
 ReadingReached lim r = Reached lim r.site r.opens
 
-abbrev pub StepReached : ℕ → Frames → Step → Type 0
+abbrev pub StepReached : ℕ → Frames → BlockStage → Type 0
 StepReached lim s (step.Value p r) = ReadingReached lim r
 StepReached lim s (step.Keyword x) = spec.inner s ≤ lim
 StepReached lim s (step.Test x r) = (spec.inner s ≤ lim) × ReadingReached lim r
@@ -164,12 +164,12 @@ module _ (lim : ℕ) (is_limit : IsLimit lim) (ps : Parts) where
 
   value_stays : (s : Frames) (p : Place) (x : Read) → FramesReached lim s → ReadStays lim x → BodyStays lim (spec.value_by ps s p x)
   value_stays s p (read.Goes r reach) h k = λ le. (h, k le)
-  value_stays s p (read.Closed e) h k = λ le. (h, tt)
+  value_stays s p (read.Done e) h k = λ le. (h, tt)
   value_stays s p read.Refused h k = tt
 
   returned_stays : (s : Frames) (p : Place) (x : Maybe) → FramesReached lim s → MaybeStays lim x → BodyStays lim (spec.returned_by ps s p x)
   returned_stays s p (maybe.Goes r reach) h k = λ le. (h, λ e. k le)
-  returned_stays s p (maybe.Closed e) h k = λ le. (h, tt)
+  returned_stays s p (maybe.Done e) h k = λ le. (h, tt)
   returned_stays s p maybe.Refused h k = tt
 
   local_stays : (s : Frames) (p : Place) (x : Declared) → FramesReached lim s → DeclaredStays lim x → BodyStays lim (spec.local_by ps s p x)
@@ -192,10 +192,10 @@ module _ (lim : ℕ) (is_limit : IsLimit lim) (ps : Parts) where
       → BodyStays lim (spec.test_by ps s x y)
   unfolding spec.test_done
   test_stays s x (read.Goes r reach) h i k = λ le. (h, (i, k le))
-  test_stays s (tested.If p) (read.Closed e) h i k = λ le. ((i, h), tt)
-  test_stays s (tested.While p) (read.Closed e) h i k = λ le. ((i, h), tt)
-  test_stays s (tested.Switch p) (read.Closed e) h i k = λ le. (h, tt)
-  test_stays s (tested.Do p b) (read.Closed e) h i k = λ le. (h, tt)
+  test_stays s (tested.If p) (read.Done e) h i k = λ le. ((i, h), tt)
+  test_stays s (tested.While p) (read.Done e) h i k = λ le. ((i, h), tt)
+  test_stays s (tested.Switch p) (read.Done e) h i k = λ le. (h, tt)
+  test_stays s (tested.Do p b) (read.Done e) h i k = λ le. (h, tt)
   test_stays s x read.Refused h i k = tt
 
   -- the token behind a statement
@@ -235,7 +235,7 @@ module _ (lim : ℕ) (is_limit : IsLimit lim) (ps : Parts) where
     where
       by : (x : Maybe) → MaybeStays lim x → BodyStays lim (spec.start_by ps s p x)
       by (maybe.Goes u reach) m = λ le. (h, (i, m le))
-      by (maybe.Closed e) m = λ le. (h, (i, i))
+      by (maybe.Done e) m = λ le. (h, (i, i))
       by maybe.Refused m = tt
 
   for_declares_stays : (s : Frames) (p : Place) (x : Declared) → FramesReached lim s → spec.inner s ≤ lim → DeclaredStays lim x
@@ -247,13 +247,13 @@ module _ (lim : ℕ) (is_limit : IsLimit lim) (ps : Parts) where
   second_stays : (s : Frames) (p : Place) (start : First) (x : Maybe) → FramesReached lim s → spec.inner s ≤ lim → MaybeStays lim x
       → BodyStays lim (spec.second_by ps s p start x)
   second_stays s p start (maybe.Goes r reach) h i k = λ le. (h, (i, k le))
-  second_stays s p start (maybe.Closed e) h i k = λ le. (h, (i, i))
+  second_stays s p start (maybe.Done e) h i k = λ le. (h, (i, i))
   second_stays s p start maybe.Refused h i k = tt
 
   third_stays : (s : Frames) (p : Place) (start : First) (test : Option Expr) (x : Maybe) → FramesReached lim s → spec.inner s ≤ lim
       → MaybeStays lim x → BodyStays lim (spec.third_by ps s p start test x)
   third_stays s p start test (maybe.Goes r reach) h i k = λ le. (h, (i, k le))
-  third_stays s p start test (maybe.Closed e) h i k = λ le. ((i, h), tt)
+  third_stays s p start test (maybe.Done e) h i k = λ le. ((i, h), tt)
   third_stays s p start test maybe.Refused h i k = tt
 
   -- the braces of a `switch`
@@ -271,7 +271,7 @@ module _ (lim : ℕ) (is_limit : IsLimit lim) (ps : Parts) where
 
   case_stays : (s : Frames) (p : Place) (x : Read) → FramesReached lim s → ReadStays lim x → BodyStays lim (spec.case_by ps s p x)
   case_stays s p (read.Goes r reach) h k = λ le. (h, k le)
-  case_stays s p (read.Closed e) h k = labelled_stays s (part_.Case p e) h
+  case_stays s p (read.Done e) h k = labelled_stays s (part_.Case p e) h
   case_stays s p read.Refused h k = tt
 
   default_stays : (s : Frames) (p : Place) (t : Token) → FramesReached lim s → BodyStays lim (spec.default_label ps s p t)
@@ -286,7 +286,7 @@ behind_stays lim is_limit ps [] x t h = begins_stays lim is_limit (ps ++ x ∷ [
 behind_stays lim is_limit ps (f ∷ s) x t h =
     closed_stays lim is_limit ps s f x (spec.is_else t.what) t (λ y. spec.behind ps s y t) h (λ y. behind_stays lim is_limit ps s y t h.1)
 
-step_stays : (lim : ℕ) → IsLimit lim → (ps : Parts) (s : Frames) (n : Step) (t : Token) → FramesReached lim s → StepReached lim s n
+step_stays : (lim : ℕ) → IsLimit lim → (ps : Parts) (s : Frames) (n : BlockStage) (t : Token) → FramesReached lim s → StepReached lim s n
     → BodyStays lim (spec.step_fed ps s n t)
 unfolding spec.value spec.test spec.returned spec.local spec.in_for spec.start spec.for_declares spec.second spec.third spec.in_switch spec.case_value
 step_stays lim l ps s step.Begins t h k = begins_stays lim l ps s t h

@@ -44,8 +44,8 @@ use Rattle.k_reader.specs.declared.statement.Frame.{Frame}
 use Rattle.k_reader.specs.declared.statement.Frame.TheVariants as frame
 use Rattle.k_reader.specs.declared.statement.Tested.{Tested}
 use Rattle.k_reader.specs.declared.statement.Tested.TheVariants as tested
-use Rattle.k_reader.specs.declared.statement.Step.{Step}
-use Rattle.k_reader.specs.declared.statement.Step.TheVariants as step
+use Rattle.k_reader.specs.declared.statement.BlockStage.{BlockStage}
+use Rattle.k_reader.specs.declared.statement.BlockStage.TheVariants as step
 use Rattle.k_reader.specs.declared.statement.Body.{Body}
 use Rattle.k_reader.specs.declared.statement.Stepped.{Stepped}
 use Rattle.k_reader.specs.declared.statement.Stepped.TheVariants as stepped
@@ -88,7 +88,7 @@ module _ (lim : ℕ) (is_limit : IsLimit lim) (ts : List Token) (t : Token) wher
   inner_room : (s : Frames) → level s ≤ lim → inner s ≤ lim + 1
   inner_room s h = omega (arith, is_limit, h)
 
-  goes : (ps : Parts) (s : Frames) (x : Step) (reach : ℕ) → OkParts lim ps → OkFrames lim s → (reach ≤ lim → OkStep lim ps s x (ts ++ t ∷ []))
+  goes : (ps : Parts) (s : Frames) (x : BlockStage) (reach : ℕ) → OkParts lim ps → OkFrames lim s → (reach ≤ lim → OkStep lim ps s x (ts ++ t ∷ []))
       → KeepsStepped lim ts t (spec.steps ps s x reach)
   goes ps s x reach a b f = λ z. record { parts = a; frames = b; step = f z }
 
@@ -99,7 +99,7 @@ module _ (lim : ℕ) (is_limit : IsLimit lim) (ts : List Token) (t : Token) wher
   unfolding pushed
   value_by_keeps ps s p r (read.Goes q reach) o f b h =
       goes ps s (step.Value p q) reach o f (λ z. pushed (lay_base ps s) _ _ b (h z, starts-more p b.back (t ∷ []) b.rest.1))
-  value_by_keeps ps s p r (read.Closed e) o f b h =
+  value_by_keeps ps s p r (read.Done e) o f b h =
       goes ps s (step.Whole (stmt.Expr p e)) 0 o f (λ z. record {
         stands = subst (λ x. Stand (lay_base ps s ++ x) (ts ++ t ∷ [])) (sym (stmt_Expr Pieces Pieces lay_part_step lay_stmt_step p e))
             (behind_all (lay_base ps s) (at p (lay_expr e ++ semicolon)) _ (ts ++ t ∷ [])
@@ -124,7 +124,7 @@ module _ (lim : ℕ) (is_limit : IsLimit lim) (ts : List Token) (t : Token) wher
       → KeepsMaybe lim (site 0 (inner s)) b.behind.back t mark.Semicolon m → KeepsStepped lim ts t (spec.returned_by ps s p m)
   returned_by_keeps ps s p r (maybe.Goes q reach) o f b h =
       goes ps s (step.Return p q) reach o f (λ z. record { behind = pushed (lay_base ps s ++ word_at p word.Return) _ _ b.behind (h z); room = b.room })
-  returned_by_keeps ps s p r (maybe.Closed e) o f b h =
+  returned_by_keeps ps s p r (maybe.Done e) o f b h =
       goes ps s (step.Whole (stmt.Return p e)) 0 o f (λ z. record {
         stands = subst (λ x. Stand (lay_base ps s ++ x) (ts ++ t ∷ [])) (sym (stmt_Return Pieces Pieces lay_part_step lay_stmt_step p e))
             (regroup (lay_base ps s) (word_at p word.Return) (lay_option e ++ semicolon) (ts ++ t ∷ [])
@@ -388,7 +388,7 @@ module _ (lim : ℕ) (is_limit : IsLimit lim) (ts : List Token) (t : Token) wher
       → KeepsRead lim (site 0 (inner s)) b.back t mark.RightParen m → KeepsStepped lim ts t (spec.test_by ps s x m)
   test_by_keeps ps s x r (read.Goes q reach) o f h b k =
       goes ps s (step.Test x q) reach o f (λ z. (pushed (lay_base ps s ++ (lay_tested x ++ left_paren)) _ _ b (k z), h))
-  test_by_keeps ps s x r (read.Closed e) o f h b k =
+  test_by_keeps ps s x r (read.Done e) o f h b k =
       test_done_keeps ps s x e o f h (k.0.ranked, true_inner s (expr_depth e) k.0.within)
       (three (lay_base ps s) (lay_tested x) left_paren (lay_expr e ++ plain (the_mark mark.RightParen)) (ts ++ t ∷ [])
       (stand-more (lay_base ps s ++ (lay_tested x ++ left_paren)) (lay_expr e) (plain (the_mark mark.RightParen)) ts (t ∷ [])
@@ -579,7 +579,7 @@ module _ (lim : ℕ) (is_limit : IsLimit lim) (ts : List Token) (t : Token) wher
       → KeepsMaybe lim (site 0 (inner s)) b.behind.back t mark.Semicolon m → KeepsStepped lim ts t (spec.start_by ps s p m)
   start_by_keeps ps s p r (maybe.Goes q reach) o f b h =
       goes ps s (step.Start p q) reach o f (λ z. record { behind = pushed (lay_base ps s ++ For_at p) _ _ b.behind (h z); room = b.room })
-  start_by_keeps ps s p r (maybe.Closed v) o f b h =
+  start_by_keeps ps s p r (maybe.Done v) o f b h =
       second_begins_keeps ps s p (spec.first_of v) o f b.room
       (subst (λ y. Stand ((lay_base ps s ++ For_at p) ++ y) (ts ++ t ∷ [])) (sym (first_laid v))
       (stand-more (lay_base ps s ++ For_at p) (lay_option v) semicolon ts (t ∷ [])
@@ -637,7 +637,7 @@ module _ (lim : ℕ) (is_limit : IsLimit lim) (ts : List Token) (t : Token) wher
       → KeepsMaybe lim (site 0 (inner s)) b.behind.back t mark.Semicolon m → KeepsStepped lim ts t (spec.second_by ps s p start m)
   second_by_keeps ps s p start r (maybe.Goes q reach) o f b k h =
       goes ps s (step.Second p start q) reach o f (λ z. (record { behind = pushed ((lay_base ps s ++ For_at p) ++ lay_first start) _ _ b.behind (h z); room = b.room }, k))
-  second_by_keeps ps s p start r (maybe.Closed v) o f b k h =
+  second_by_keeps ps s p start r (maybe.Done v) o f b k h =
       goes ps s (step.Third p start v (begin 0 (inner s))) 0 o f (λ z. (
         record {
           behind = behind_now ((lay_base ps s ++ For_at p) ++ (lay_first start ++ (lay_option v ++ semicolon))) _ (ts ++ t ∷ [])
@@ -674,7 +674,7 @@ module _ (lim : ℕ) (is_limit : IsLimit lim) (ts : List Token) (t : Token) wher
         k,
         q2,
       ))
-  third_by_keeps ps s p start test r (maybe.Closed v) o f b k q2 h =
+  third_by_keeps ps s p start test r (maybe.Done v) o f b k q2 h =
       await_keeps ps s (frame.For p start test v) 0 o f (λ z. (k, q2, (h.0.ranked, true_inner s (option_depth v) h.0.within)))
       (for_laid (lay_base ps s) (word_at p word.For) left_paren (lay_first start) (lay_option test) semicolon (lay_option v) (plain (the_mark mark.RightParen)) (ts ++ t ∷ [])
       (stand-more ((lay_base ps s ++ For_at p) ++ (lay_first start ++ (lay_option test ++ semicolon))) (lay_option v) (plain (the_mark mark.RightParen)) ts (t ∷ [])
@@ -721,7 +721,7 @@ module _ (lim : ℕ) (is_limit : IsLimit lim) (ts : List Token) (t : Token) wher
       → KeepsRead lim (site 2 (level s)) b.back t mark.Colon m → KeepsStepped lim ts t (spec.case_by ps s p m)
   case_by_keeps ps s p (read.Goes q reach) o f i r b h =
       goes ps s (step.Case p q) reach o f (λ z. (pushed (lay_base ps s ++ word_at p word.Case) _ _ b (h z), i))
-  case_by_keeps ps s p (read.Closed e) o f i r b h =
+  case_by_keeps ps s p (read.Done e) o f i r b h =
       labelled_keeps ps (part_.Case p e) o s i f (case_label p e [] h.0.ranked no_labels)
       (λ z. omega (arith, is_limit, h.0.within, part_Case ℕ ℕ part_depth_step stmt_depth_step p e))
       (subst (λ x. Stand (lay_base ps s ++ x) (ts ++ t ∷ [])) (sym (part_Case Pieces Pieces lay_part_step lay_stmt_step p e))
@@ -742,7 +742,7 @@ module _ (lim : ℕ) (is_limit : IsLimit lim) (ts : List Token) (t : Token) wher
       (one t (token.Mark mark.Colon) (closes_is closer.Colon t e)))))
       (λ e. tt)
 
-  switch_keeps : (ps : Parts) (s : Frames) (x : Step) → OkParts lim ps → OkFrames lim s → OkStep lim ps s x ts → KeepsStepped lim ts t (spec.in_switch ps s x t)
+  switch_keeps : (ps : Parts) (s : Frames) (x : BlockStage) → OkParts lim ps → OkFrames lim s → OkStep lim ps s x ts → KeepsStepped lim ts t (spec.in_switch ps s x t)
   unfolding spec.in_switch spec.case_value
   switch_keeps ps s (step.Braces p e) o f k = braces_keeps ps s p e o f k.1 k.0
   switch_keeps ps s (step.Case p r) o f k =
@@ -750,7 +750,7 @@ module _ (lim : ℕ) (is_limit : IsLimit lim) (ts : List Token) (t : Token) wher
   switch_keeps ps s (step.Default p) o f k = default_label_keeps ps s p o f k.1 k.0
   switch_keeps ps s _ o f k = tt
 
-  for_keeps : (ps : Parts) (s : Frames) (x : Step) → OkParts lim ps → OkFrames lim s → OkStep lim ps s x ts → KeepsStepped lim ts t (spec.in_for ps s x t)
+  for_keeps : (ps : Parts) (s : Frames) (x : BlockStage) → OkParts lim ps → OkFrames lim s → OkStep lim ps s x ts → KeepsStepped lim ts t (spec.in_for ps s x t)
   unfolding spec.in_for spec.for_declares spec.second spec.third
   for_keeps ps s (step.For p) o f k = for_opened_keeps ps s p o f k.0 k.1
   for_keeps ps s (step.Start p r) o f k = start_keeps ps s p r o f k
@@ -762,7 +762,7 @@ module _ (lim : ℕ) (is_limit : IsLimit lim) (ts : List Token) (t : Token) wher
       third_by_keeps ps s p start test r _ o f k.0 k.1 k.2 (maybe_keeps lim is_limit (site 0 (inner s)) k.0.behind.back t r closer.Paren k.0.room k.0.behind.rest)
   for_keeps ps s x o f k = switch_keeps ps s x o f k
 
-  step_keeps : (ps : Parts) (s : Frames) (x : Step) → OkParts lim ps → OkFrames lim s → OkStep lim ps s x ts → KeepsStepped lim ts t (spec.step_fed ps s x t)
+  step_keeps : (ps : Parts) (s : Frames) (x : BlockStage) → OkParts lim ps → OkFrames lim s → OkStep lim ps s x ts → KeepsStepped lim ts t (spec.step_fed ps s x t)
   step_keeps ps s step.Begins o f k = begins_keeps ps s o f k
   step_keeps ps s (step.Whole x) o f k = behind_keeps ps s x o f (record { stands = k.stands; part = k.part; shut = λ z. k.shut; within = k.within })
   step_keeps ps s (step.Value p r) o f k = value_keeps ps s p r o f k

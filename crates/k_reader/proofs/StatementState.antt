@@ -19,8 +19,8 @@ use Rattle.k_reader.specs.declared.statement.Frame.{Frame}
 use Rattle.k_reader.specs.declared.statement.Frame.TheVariants as frame
 use Rattle.k_reader.specs.declared.statement.Tested.{Tested}
 use Rattle.k_reader.specs.declared.statement.Tested.TheVariants as tested
-use Rattle.k_reader.specs.declared.statement.Step.{Step}
-use Rattle.k_reader.specs.declared.statement.Step.TheVariants as step
+use Rattle.k_reader.specs.declared.statement.BlockStage.{BlockStage}
+use Rattle.k_reader.specs.declared.statement.BlockStage.TheVariants as step
 use Rattle.k_reader.specs.declared.statement.Body.{Body}
 use Rattle.k_reader.specs.declared.statement.Stepped.{Stepped}
 use Rattle.k_reader.specs.declared.statement.Stepped.TheVariants as stepped
@@ -121,7 +121,7 @@ pub record OkBehind (lim : ℕ) (s : Frames) (xs : Pieces) (P : List Token → T
 abbrev pub For_at : Place → Pieces
 For_at p = word_at p word.For ++ left_paren
 
-abbrev pub OkStep : ℕ → Parts → Frames → Step → List Token → Type 0
+abbrev pub OkStep : ℕ → Parts → Frames → BlockStage → List Token → Type 0
 OkStep lim ps s step.Begins ts = Stand (lay_base ps s) ts
 OkStep lim ps s (step.Whole x) ts = OkWhole lim ps s x ts
 OkStep lim ps s (step.Value p r) ts = Behind (lay_base ps s) (λ us. At lim (site 0 (inner s)) r us × StartsAt p us) ts

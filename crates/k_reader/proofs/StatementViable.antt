@@ -19,7 +19,7 @@ use Rattle.k_tree.specs.declared.tree.statement.Stmt.TheVariants as stmt
 use Rattle.k_reader.specs.Level.{plus}
 use Rattle.k_reader.specs.Operators.{is_spec_word, is_semicolon, is_left_brace, is_right_brace}
 use Rattle.k_reader.specs.Expressions.{begin, is_sizeof, is_before_type, type_begun, word_operand, operand, feed_at, feed, goes, level}
-use Rattle.k_reader.specs.declared.expression.Now.TheVariants as now
+use Rattle.k_reader.specs.declared.expression.ExpressionStage.TheVariants as now
 use Rattle.k_reader.specs.declared.expression.Open.TheVariants as open_
 use Rattle.k_reader.specs.declared.expression.Site.{Site}
 use Rattle.k_reader.specs.declared.expression.Reading.{Reading}
@@ -35,8 +35,8 @@ use Rattle.k_reader.specs.declared.statement.Frame.{Frame}
 use Rattle.k_reader.specs.declared.statement.Frame.TheVariants as frame
 use Rattle.k_reader.specs.declared.statement.Tested.{Tested}
 use Rattle.k_reader.specs.declared.statement.Tested.TheVariants as tested
-use Rattle.k_reader.specs.declared.statement.Step.{Step}
-use Rattle.k_reader.specs.declared.statement.Step.TheVariants as step
+use Rattle.k_reader.specs.declared.statement.BlockStage.{BlockStage}
+use Rattle.k_reader.specs.declared.statement.BlockStage.TheVariants as step
 use Rattle.k_reader.specs.declared.statement.Body.{Body}
 use Rattle.k_reader.specs.declared.statement.Stepped.{Stepped}
 use Rattle.k_reader.specs.declared.statement.Stepped.TheVariants as stepped
@@ -91,7 +91,7 @@ spec_read : (r : Reading) (p : Place) (w : Word) → is_fresh r ≡ true → is_
 unfolding read_maybe read_needed closes
 spec_read r p w e h =
     let t : Token = record { what = token.Word w; place = p } in
-    cond_both (is_fresh r && false) (maybe.Closed None) (maybe_by (read_by (feed r t) false)) (λ z. z ≡ maybe.Refused)
+    cond_both (is_fresh r && false) (maybe.Done None) (maybe_by (read_by (feed r t) false)) (λ z. z ≡ maybe.Refused)
     (λ q. absurd (no_token (is_fresh r) q)) (λ q. ap (λ z. maybe_by (read_by z false)) (fresh_refused r p w e h))
 
 -- what is read of an expression begins no declaration
@@ -107,14 +107,14 @@ not_specifier r p _ m e no_refusal = refl
 goes_on : (next : Reading) (reach : ℕ) → maybe.Goes next reach ≡ maybe.Refused → ⊥
 goes_on next reach e = cc
 
-closed_so : (v : Option Expr) → maybe.Closed v ≡ maybe.Refused → ⊥
+closed_so : (v : Option Expr) → maybe.Done v ≡ maybe.Refused → ⊥
 closed_so v e = cc
 
 module _ (lim : ℕ) (is_limit : IsLimit lim) (ps : Parts) where
-  abbrev body : Frames → Step → Body
+  abbrev body : Frames → BlockStage → Body
   body s n = record { parts = ps; frames = s; step = n }
 
-  abbrev Ended : Frames → Step → Type 0
+  abbrev Ended : Frames → BlockStage → Type 0
   Ended s n = BodyCanEnd lim (body s n)
 
   -- what a token makes can be ended
@@ -339,7 +339,7 @@ module _ (lim : ℕ) (is_limit : IsLimit lim) (ps : Parts) where
       ap (λ w. spec.start_with ps s p u t w) (not_specifier u t.place t.what (maybe.Goes next reach) e (goes_on next reach))
       ∙ ap (λ z. spec.start_by ps s p z) e)
       (λ u t v e.
-      ap (λ w. spec.start_with ps s p u t w) (not_specifier u t.place t.what (maybe.Closed v) e (closed_so v))
+      ap (λ w. spec.start_with ps s p u t w) (not_specifier u t.place t.what (maybe.Done v) e (closed_so v))
       ∙ ap (λ z. spec.start_by ps s p z) e)
       (λ v. seconds s p (spec.first_of v) h i)
 
@@ -360,7 +360,7 @@ module _ (lim : ℕ) (is_limit : IsLimit lim) (ps : Parts) where
       (λ u t next reach e. ap (λ z. spec.for_declares_by ps s p z) e) (λ u t o e. ap (λ z. spec.for_declares_by ps s p z) e)
       d (declaration_viable lim is_limit l d ts ok k) (λ o t. seconds s p (first.Declare o.0 o.1) h i)
 
-  step_ended : (s : Frames) (n : Step) (ts : List Token) → OkStep lim ps s n ts → FramesReached lim s → StepReached lim s n → Ended s n
+  step_ended : (s : Frames) (n : BlockStage) (ts : List Token) → OkStep lim ps s n ts → FramesReached lim s → StepReached lim s n → Ended s n
   step_ended s step.Begins ts ok h k = begins_ended s h
   step_ended s (step.Whole x) ts ok h k = closes_whole s x h
   step_ended s (step.Value p r) ts ok h k = value_ended s p r (site 0 (spec.inner s)) ok.back ok.rest.0 k h

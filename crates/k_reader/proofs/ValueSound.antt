@@ -24,7 +24,7 @@ use Rattle.k_reader.specs.Expressions as spec
 use Rattle.k_reader.specs.declared.expression.Term.{Term}
 use Rattle.k_reader.specs.declared.expression.Open.{Open}
 use Rattle.k_reader.specs.declared.expression.Open.TheVariants as open_
-use Rattle.k_reader.specs.declared.expression.Now.TheVariants as now
+use Rattle.k_reader.specs.declared.expression.ExpressionStage.TheVariants as now
 use Rattle.k_reader.specs.declared.expression.Site.{Site}
 use Rattle.k_reader.proofs.Marks.{Infix, Kind, kind_of, infix_kind, question, bracket, step, no_operator}
 use Rattle.k_reader.proofs.ExpressionState.{IsLimit, lay_args, lay_open, lay_opens, Fits, OkOpen, ok_infix, ok_then, ok_other, ok_cast, ok_prefix, ok_sizeof, ok_paren, ok_index, ok_call, lev, Valid, Inv, IsRead, Keeps}

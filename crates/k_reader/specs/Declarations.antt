@@ -27,18 +27,18 @@ use Rattle.k_reader.specs.declared.declaration.initialiser.Opened.{Opened}
 use Rattle.k_reader.specs.declared.declaration.initialiser.After.{After}
 use Rattle.k_reader.specs.declared.declaration.initialiser.After.TheVariants as after_
 use Rattle.k_reader.specs.declared.declaration.Front.{Front}
-use Rattle.k_reader.specs.declared.declaration.Stage.{Stage}
-use Rattle.k_reader.specs.declared.declaration.Stage.TheVariants as stage
+use Rattle.k_reader.specs.declared.declaration.DeclarationStage.{DeclarationStage}
+use Rattle.k_reader.specs.declared.declaration.DeclarationStage.TheVariants as stage
 use Rattle.k_reader.specs.declared.declaration.Declaration.{Declaration}
 use Rattle.k_reader.specs.declared.declaration.Declared.{Declared}
 use Rattle.k_reader.specs.declared.declaration.Declared.TheVariants as declared_
 
 -- a declaration with this front, of which the reading stands at this stage
-abbrev pub declaration_at : Front → Stage → Declaration
+abbrev pub declaration_at : Front → DeclarationStage → Declaration
 declaration_at f s = record { front = f; stage = s }
 
 -- the declaration goes on at this stage, and the token makes sure that a node lies at this level
-abbrev pub declares : Front → Stage → ℕ → Declared
+abbrev pub declares : Front → DeclarationStage → ℕ → Declared
 declares f s reach = declared_.Goes (declaration_at f s) reach
 
 -- what stands before a declarator: the specifiers, the declarators so far, and the level of a node in a declarator
@@ -102,7 +102,7 @@ sized d size = record d { dims = d.dims ++ size ∷ [] }
 -- the dimension goes on, or its `]` was read and the declarator has it, or the token can't stand there
 abbrev pub size_by : Front → Declarator → Maybe → Declared
 size_by f d (maybe.Goes r reach) = declares f (stage.Size d r) reach
-size_by f d (maybe.Closed value) = declares f (stage.Named (sized d value)) 0
+size_by f d (maybe.Done value) = declares f (stage.Named (sized d value)) 0
 size_by f d maybe.Refused = declared_.Refused
 
 -- a token in a dimension
@@ -176,7 +176,7 @@ unfoldable pub value : Front → Opened → Place → Reading → Token → Decl
 value f o p r t = value_by f o p (feed r t) t
 
 -- the next token of a declaration, at each stage of its reading
-abbrev pub stage_fed : Front → Stage → Token → Declared
+abbrev pub stage_fed : Front → DeclarationStage → Token → Declared
 stage_fed f (stage.Before stars) t = before f stars t
 stage_fed f (stage.Named d) t = kind_named f d t.what
 stage_fed f (stage.Size d r) t = size f d r t

@@ -18,8 +18,8 @@ use Rattle.k_reader.specs.declared.stars.Stars.{Stars}
 use Rattle.k_reader.specs.declared.expression.Term.{Term}
 use Rattle.k_reader.specs.declared.expression.Open.{Open}
 use Rattle.k_reader.specs.declared.expression.Open.TheVariants as open_
-use Rattle.k_reader.specs.declared.expression.Now.{Now}
-use Rattle.k_reader.specs.declared.expression.Now.TheVariants as now
+use Rattle.k_reader.specs.declared.expression.ExpressionStage.{ExpressionStage}
+use Rattle.k_reader.specs.declared.expression.ExpressionStage.TheVariants as now
 use Rattle.k_reader.specs.declared.expression.Site.{Site}
 use Rattle.k_reader.specs.declared.expression.Reading.{Reading}
 use Rattle.k_reader.specs.declared.expression.Fed.{Fed}
@@ -33,7 +33,7 @@ abbrev pub Opens : Type 0
 Opens = List Open
 
 -- the reading goes on in this state, and the token makes sure that a node lies at this level
-abbrev pub goes : Site → Opens → Now → ℕ → Fed
+abbrev pub goes : Site → Opens → ExpressionStage → ℕ → Fed
 goes g s n reach = fed.Goes (record { site = g; opens = s; state = n }) reach
 
 -- the level of a node in the innermost open construct
@@ -299,7 +299,7 @@ named g s p name t =
     (value g s (term (expr.Name p name) 16 1) t)
 
 -- the next token of an expression, in each state of its reading
-abbrev pub feed_at : Site → Opens → Now → Token → Fed
+abbrev pub feed_at : Site → Opens → ExpressionStage → Token → Fed
 feed_at g s now.Operand t = operand g s t
 feed_at g s (now.Named p name) t = named g s p name t
 feed_at g s (now.Type specs stars) t = in_type g s specs stars t

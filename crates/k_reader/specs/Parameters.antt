@@ -19,14 +19,14 @@ use Rattle.k_reader.specs.Readings.{read_maybe}
 use Rattle.k_reader.specs.declared.reading.Closer.TheVariants as closer
 use Rattle.k_reader.specs.declared.reading.Maybe.{Maybe}
 use Rattle.k_reader.specs.declared.reading.Maybe.TheVariants as maybe
-use Rattle.k_reader.specs.declared.parameter.Part.{Part}
-use Rattle.k_reader.specs.declared.parameter.Part.TheVariants as part_
+use Rattle.k_reader.specs.declared.parameter.ParameterStage.{ParameterStage}
+use Rattle.k_reader.specs.declared.parameter.ParameterStage.TheVariants as part_
 use Rattle.k_reader.specs.declared.parameter.Parameters.{Parameters}
 use Rattle.k_reader.specs.declared.parameter.Parametric.{Parametric}
 use Rattle.k_reader.specs.declared.parameter.Parametric.TheVariants as parametric
 
 -- the parameters go on in this part, and the token makes sure that a node lies at this level
-abbrev pub follows : List Param → Part → ℕ → Parametric
+abbrev pub follows : List Param → ParameterStage → ℕ → Parametric
 follows list p reach = parametric.Goes (record { list = list; part = p }) reach
 
 -- the opening parenthesis was read, and no parameter yet
@@ -124,7 +124,7 @@ typed list p stars t = kind_typed list p stars t.what
 -- the dimension goes on, or its `]` was read and the parameter has it, or the token can't stand there
 abbrev pub size_by : List Param → Param → Maybe → Parametric
 size_by list p (maybe.Goes r reach) = follows list (part_.Size p r) reach
-size_by list p (maybe.Closed value) = follows list (part_.Named (record p { dims = p.dims ++ value ∷ [] })) 0
+size_by list p (maybe.Done value) = follows list (part_.Named (record p { dims = p.dims ++ value ∷ [] })) 0
 size_by list p maybe.Refused = parametric.Refused
 
 -- a token in a dimension
@@ -132,7 +132,7 @@ unfoldable pub size : List Param → Param → Reading → Token → Parametric
 size list p r t = size_by list p (read_maybe r t closer.Bracket)
 
 -- the next token of parameters, in each part of their reading
-abbrev pub part_fed : List Param → Part → Token → Parametric
+abbrev pub part_fed : List Param → ParameterStage → Token → Parametric
 part_fed list part_.Starts t = first_token list t
 part_fed list (part_.Typed p stars) t = typed list p stars t
 part_fed list (part_.Named p) t = kind_named list p t.what

@@ -5,8 +5,8 @@ use Rattle.k_tree.specs.declared.tokens.TokenKind.{TokenKind}
 use Rattle.k_tree.specs.declared.tokens.TokenKind.TheVariants as token
 use Rattle.k_tree.specs.declared.tokens.mark.Mark.{Mark}
 use Rattle.k_tree.specs.declared.tokens.mark.Mark.TheVariants as mark
-use Rattle.k_reader.specs.declared.expression.Now.{Now}
-use Rattle.k_reader.specs.declared.expression.Now.TheVariants as now
+use Rattle.k_reader.specs.declared.expression.ExpressionStage.{ExpressionStage}
+use Rattle.k_reader.specs.declared.expression.ExpressionStage.TheVariants as now
 use Rattle.k_reader.specs.declared.expression.Reading.{Reading}
 use Rattle.k_reader.specs.declared.expression.Fed.{Fed}
 use Rattle.k_reader.specs.declared.expression.Fed.TheVariants as fed
@@ -36,7 +36,7 @@ unfoldable pub closes : Token → Closer → Bool
 closes t c = kind_closes c t.what
 
 -- is it the state where an operand begins?
-abbrev pub is_operand : Now → Bool
+abbrev pub is_operand : ExpressionStage → Bool
 is_operand now.Operand = true
 is_operand _ = false
 
@@ -47,7 +47,7 @@ is_fresh r = is_operand r.state && nat_eq (length r.opens) 0
 -- the expression goes on, or it ended before the token, which must be the mark that closes it
 abbrev pub read_by : Fed → Bool → Read
 read_by (fed.Goes r reach) closed = read_.Goes r reach
-read_by (fed.Ends value) closed = cond closed (read_.Closed value) read_.Refused
+read_by (fed.Ends value) closed = cond closed (read_.Done value) read_.Refused
 read_by fed.Refused closed = read_.Refused
 
 -- the next token of an expression up to a mark
@@ -57,9 +57,9 @@ read_needed r t c = read_by (feed r t) (closes t c)
 -- what a token does in an expression that was not left out
 abbrev pub maybe_by : Read → Maybe
 maybe_by (read_.Goes r reach) = maybe_.Goes r reach
-maybe_by (read_.Closed value) = maybe_.Closed (Some value)
+maybe_by (read_.Done value) = maybe_.Done (Some value)
 maybe_by read_.Refused = maybe_.Refused
 
 -- the next token of an expression that may be left out, up to a mark
 unfoldable pub read_maybe : Reading → Token → Closer → Maybe
-read_maybe r t c = cond (is_fresh r && closes t c) (maybe_.Closed None) (maybe_by (read_needed r t c))
+read_maybe r t c = cond (is_fresh r && closes t c) (maybe_.Done None) (maybe_by (read_needed r t c))

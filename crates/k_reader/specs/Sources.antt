@@ -15,8 +15,8 @@ use Rattle.k_reader.specs.Operators.{is_spec_word}
 use Rattle.k_reader.specs.Expressions.{is_left_paren}
 use Rattle.k_reader.specs.Declarations.{begin_declaration, feed_declaration}
 use Rattle.k_reader.specs.declared.declaration.Front.{Front}
-use Rattle.k_reader.specs.declared.declaration.Stage.{Stage}
-use Rattle.k_reader.specs.declared.declaration.Stage.TheVariants as stage
+use Rattle.k_reader.specs.declared.declaration.DeclarationStage.{DeclarationStage}
+use Rattle.k_reader.specs.declared.declaration.DeclarationStage.TheVariants as stage
 use Rattle.k_reader.specs.declared.declaration.Declaration.{Declaration}
 use Rattle.k_reader.specs.declared.declaration.Declared.{Declared}
 use Rattle.k_reader.specs.declared.declaration.Declared.TheVariants as declared_
@@ -29,14 +29,14 @@ use Rattle.k_reader.specs.declared.statement.Body.{Body}
 use Rattle.k_reader.specs.declared.statement.Stepped.{Stepped}
 use Rattle.k_reader.specs.declared.statement.Stepped.TheVariants as stepped
 use Rattle.k_reader.specs.declared.source.Title.{Title}
-use Rattle.k_reader.specs.declared.source.Phase.{Phase}
-use Rattle.k_reader.specs.declared.source.Phase.TheVariants as phase
+use Rattle.k_reader.specs.declared.source.SourceStage.{SourceStage}
+use Rattle.k_reader.specs.declared.source.SourceStage.TheVariants as phase
 use Rattle.k_reader.specs.declared.source.Source.{Source}
 use Rattle.k_reader.specs.declared.source.Sourced.{Sourced}
 use Rattle.k_reader.specs.declared.source.Sourced.TheVariants as sourced
 
 -- the source goes on in this phase, and the token makes sure that a node lies at this level
-abbrev pub goes_on : List Item → Phase → ℕ → Sourced
+abbrev pub goes_on : List Item → SourceStage → ℕ → Sourced
 goes_on items p reach = sourced.Goes (record { items = items; phase = p }) reach
 
 -- nothing was read yet
@@ -58,7 +58,7 @@ unfoldable pub starts : List Item → Token → Sourced
 starts items t = kind_starts items t.place t.what
 
 -- is it the stage right behind the name of the first declarator, before any dimension?
-abbrev pub titled_by : Front → Stage → Bool
+abbrev pub titled_by : Front → DeclarationStage → Bool
 titled_by f (stage.Named d) = nat_eq (length f.list) 0 && nat_eq (length d.dims) 0
 titled_by f _ = false
 
@@ -71,7 +71,7 @@ abbrev pub title_of : Front → Declarator → Title
 title_of f d = record { specs = f.specs; stars = d.stars; name = d.name; name_place = d.place }
 
 -- `(` behind the name of the first declarator: the parameters of a function begin (C17 6.7.6.3)
-abbrev pub titled_at : List Item → Place → Front → Stage → Sourced
+abbrev pub titled_at : List Item → Place → Front → DeclarationStage → Sourced
 titled_at items p f (stage.Named d) = goes_on items (phase.Parameters p (title_of f d) begin_parameters) 0
 titled_at items p f _ = sourced.Refused
 
@@ -130,7 +130,7 @@ unfoldable pub in_body : List Item → Place → Head → Body → Token → Sou
 in_body items p h b t = body_by items p h t.place (feed_body b t)
 
 -- the next token of a source, in each phase of its reading
-abbrev pub phase_fed : List Item → Phase → Token → Sourced
+abbrev pub phase_fed : List Item → SourceStage → Token → Sourced
 phase_fed items phase.Starts t = starts items t
 phase_fed items (phase.Declares p d) t = declares items p d t
 phase_fed items (phase.Parameters p title ps) t = parameters items p title ps t

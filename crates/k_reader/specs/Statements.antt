@@ -37,13 +37,13 @@ use Rattle.k_reader.specs.declared.statement.Frame.{Frame}
 use Rattle.k_reader.specs.declared.statement.Frame.TheVariants as frame
 use Rattle.k_reader.specs.declared.statement.Tested.{Tested}
 use Rattle.k_reader.specs.declared.statement.Tested.TheVariants as tested
-use Rattle.k_reader.specs.declared.statement.Step.{Step}
-use Rattle.k_reader.specs.declared.statement.Step.TheVariants as step
+use Rattle.k_reader.specs.declared.statement.BlockStage.{BlockStage}
+use Rattle.k_reader.specs.declared.statement.BlockStage.TheVariants as step
 use Rattle.k_reader.specs.declared.statement.Body.{Body}
 use Rattle.k_reader.specs.declared.statement.Stepped.{Stepped}
 use Rattle.k_reader.specs.declared.statement.Stepped.TheVariants as stepped
-use Rattle.k_reader.specs.declared.statement.clause.Closed.{Closed}
-use Rattle.k_reader.specs.declared.statement.clause.Closed.TheVariants as closed
+use Rattle.k_reader.specs.declared.statement.clause.Fitted.{Fitted}
+use Rattle.k_reader.specs.declared.statement.clause.Fitted.TheVariants as closed
 
 -- statements of a block, in their order
 abbrev pub Parts : Type 0
@@ -54,7 +54,7 @@ abbrev pub Frames : Type 0
 Frames = List Frame
 
 -- the block goes on at this step, and the token makes sure that a node lies at this level
-abbrev pub steps : Parts → Frames → Step → ℕ → Stepped
+abbrev pub steps : Parts → Frames → BlockStage → ℕ → Stepped
 steps ps s n reach = stepped.Goes (record { parts = ps; frames = s; step = n }) reach
 
 -- this statement was read to its end
@@ -80,7 +80,7 @@ begin_body = record { parts = []; frames = []; step = step.Begins }
 -- the expression goes on, or its semicolon was read and it is a statement, or the token can't stand there (C17 6.8.3)
 abbrev pub value_by : Parts → Frames → Place → Read → Stepped
 value_by ps s p (read.Goes r reach) = steps ps s (step.Value p r) reach
-value_by ps s p (read.Closed e) = whole ps s (stmt.Expr p e)
+value_by ps s p (read.Done e) = whole ps s (stmt.Expr p e)
 value_by ps s p read.Refused = stepped.Refused
 
 -- a token in an expression that is a statement (C17 6.8.3)
@@ -90,7 +90,7 @@ value ps s p r t = value_by ps s p (read_needed r t closer.Semicolon)
 -- the value of `return` goes on, or the semicolon was read, or the token can't stand there (C17 6.8.6.4)
 abbrev pub returned_by : Parts → Frames → Place → Maybe → Stepped
 returned_by ps s p (maybe.Goes r reach) = steps ps s (step.Return p r) reach
-returned_by ps s p (maybe.Closed e) = whole ps s (stmt.Return p e)
+returned_by ps s p (maybe.Done e) = whole ps s (stmt.Return p e)
 returned_by ps s p maybe.Refused = stepped.Refused
 
 -- a token behind `return` (C17 6.8.6.4)
@@ -220,7 +220,7 @@ test_done ps s (tested.Do p b) e = steps ps s (step.Semicolon (stmt.DoWhile p b 
 -- the test goes on, or its `)` was read, or the token can't stand there
 abbrev pub test_by : Parts → Frames → Tested → Read → Stepped
 test_by ps s x (read.Goes r reach) = steps ps s (step.Test x r) reach
-test_by ps s x (read.Closed e) = test_done ps s x e
+test_by ps s x (read.Done e) = test_done ps s x e
 test_by ps s x read.Refused = stepped.Refused
 
 -- a token in the test of `if`, `while`, `do` or `switch` (C17 6.8.4, 6.8.5.1, 6.8.5.2)
@@ -230,7 +230,7 @@ test ps s x r t = test_by ps s x (read_needed r t closer.Paren)
 -- the token behind a statement
 
 -- a statement put into the construct that awaits it, which is whole by that or not; the last argument: is the next token `else`?
-unfoldable pub close : Frame → Stmt → Bool → Closed
+unfoldable pub close : Frame → Stmt → Bool → Fitted
 close (frame.Then p e) a true = closed.Part (frame.Then p e) a
 close (frame.Then p e) a false = closed.Whole (stmt.If p e a None)
 close (frame.Else p e a) b other = closed.Whole (stmt.If p e a (Some b))
@@ -277,7 +277,7 @@ part ps s (frame.Switch p e parts) a t = more_switched ps s p e parts a t
 part ps s _ a t = stepped.Refused
 
 -- a construct that is whole is a statement before the same token; one that isn't gets the token
-abbrev pub closed_by : Parts → Frames → Closed → Token → (Stmt → Stepped) → Stepped
+abbrev pub closed_by : Parts → Frames → Fitted → Token → (Stmt → Stepped) → Stepped
 closed_by ps s (closed.Whole a) t again = again a
 closed_by ps s (closed.Part f a) t again = part ps s f a t
 
@@ -313,7 +313,7 @@ specifier r t = specifier_by r t.what
 -- the first part of a `for` goes on, or its semicolon was read, or the token can't stand there
 abbrev pub start_by : Parts → Frames → Place → Maybe → Stepped
 start_by ps s p (maybe.Goes r reach) = steps ps s (step.Start p r) reach
-start_by ps s p (maybe.Closed e) = second_begins ps s p (first_of e)
+start_by ps s p (maybe.Done e) = second_begins ps s p (first_of e)
 start_by ps s p maybe.Refused = stepped.Refused
 
 -- the token in the first part of a `for`: this specifier begins a declaration, else it belongs to an expression
@@ -338,7 +338,7 @@ for_declares ps s p d t = for_declares_by ps s p (feed_declaration d t)
 -- the second part of a `for` goes on, or its semicolon was read, or the token can't stand there
 abbrev pub second_by : Parts → Frames → Place → First → Maybe → Stepped
 second_by ps s p start (maybe.Goes r reach) = steps ps s (step.Second p start r) reach
-second_by ps s p start (maybe.Closed e) = steps ps s (step.Third p start e (begin 0 (inner s))) 0
+second_by ps s p start (maybe.Done e) = steps ps s (step.Third p start e (begin 0 (inner s))) 0
 second_by ps s p start maybe.Refused = stepped.Refused
 
 -- a token in the second part of a `for`, its test (C17 6.8.5.3)
@@ -352,7 +352,7 @@ body_begins ps s p start test step = await_part ps s (frame.For p start test ste
 -- the third part of a `for` goes on, or its `)` was read, or the token can't stand there
 abbrev pub third_by : Parts → Frames → Place → First → Option Expr → Maybe → Stepped
 third_by ps s p start test (maybe.Goes r reach) = steps ps s (step.Third p start test r) reach
-third_by ps s p start test (maybe.Closed e) = body_begins ps s p start test e
+third_by ps s p start test (maybe.Done e) = body_begins ps s p start test e
 third_by ps s p start test maybe.Refused = stepped.Refused
 
 -- a token in the third part of a `for`, what is done behind each round (C17 6.8.5.3)
@@ -378,7 +378,7 @@ labelled ps _ x = stepped.Refused
 -- the value of a `case` goes on, or its `:` was read, or the token can't stand there
 abbrev pub case_by : Parts → Frames → Place → Read → Stepped
 case_by ps s p (read.Goes r reach) = steps ps s (step.Case p r) reach
-case_by ps s p (read.Closed e) = labelled ps s (part_.Case p e)
+case_by ps s p (read.Done e) = labelled ps s (part_.Case p e)
 case_by ps s p read.Refused = stepped.Refused
 
 -- a token in the value of a `case`, a conditional expression (C17 6.8.1)
@@ -390,14 +390,14 @@ unfoldable pub default_label : Parts → Frames → Place → Token → Stepped
 default_label ps s p t = cond (closes t closer.Colon) (labelled ps s (part_.Default p)) stepped.Refused
 
 -- a token in a label, or before the braces of a `switch` (C17 6.8.1, 6.8.4.2)
-unfoldable pub in_switch : Parts → Frames → Step → Token → Stepped
+unfoldable pub in_switch : Parts → Frames → BlockStage → Token → Stepped
 in_switch ps s (step.Braces p e) t = braces ps s p e t
 in_switch ps s (step.Case p r) t = case_value ps s p r t
 in_switch ps s (step.Default p) t = default_label ps s p t
 in_switch ps s _ t = stepped.Refused
 
 -- a token in the parentheses of a `for` or before them, or one of a `switch` (C17 6.8.4.2, 6.8.5.3)
-unfoldable pub in_for : Parts → Frames → Step → Token → Stepped
+unfoldable pub in_for : Parts → Frames → BlockStage → Token → Stepped
 in_for ps s (step.For p) t = for_opened ps s p t
 in_for ps s (step.Start p r) t = start ps s p r t
 in_for ps s (step.Declares p d) t = for_declares ps s p d t
@@ -406,7 +406,7 @@ in_for ps s (step.Third p start test r) t = third ps s p start test r t
 in_for ps s x t = in_switch ps s x t
 
 -- the next token of the block of a function, at each step of its reading
-abbrev pub step_fed : Parts → Frames → Step → Token → Stepped
+abbrev pub step_fed : Parts → Frames → BlockStage → Token → Stepped
 step_fed ps s step.Begins t = begins ps s t
 step_fed ps s (step.Whole x) t = behind ps s x t
 step_fed ps s (step.Value p r) t = value ps s p r t

@@ -19,7 +19,7 @@ pub struct Front {
 
 /// Where the reading of a declaration stands.
 #[derive(Drop)]
-pub enum Stage {
+pub enum DeclarationStage {
     /// Before the name of a declarator.
     Before {
         stars: Stars,
@@ -56,7 +56,7 @@ pub enum Stage {
 #[derive(Drop)]
 pub struct Declaration {
     pub front: Front,
-    pub stage: Stage,
+    pub stage: DeclarationStage,
 }
 
 /// What a token does in a declaration.

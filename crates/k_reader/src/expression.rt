@@ -70,7 +70,7 @@ pub enum Open {
 
 /// Where the reading of an expression stands.
 #[derive(Drop)]
-pub enum Now {
+pub enum ExpressionStage {
     /// An operand begins.
     Operand,
     /// Behind a name.
@@ -93,7 +93,7 @@ pub struct Site {
 pub struct Reading {
     pub site: Site,
     pub opens: Stack<Open>,
-    pub state: Now,
+    pub state: ExpressionStage,
 }
 
 /// What a token does.

@@ -7,7 +7,7 @@ use k_tree::{Param, Params};
 
 /// Where the reading of parameters stands.
 #[derive(Drop)]
-pub enum Part {
+pub enum ParameterStage {
     /// Before a parameter.
     Starts,
     /// In the specifiers and stars of a parameter.
@@ -22,7 +22,7 @@ pub enum Part {
 #[derive(Drop)]
 pub struct Parameters {
     pub list: Seq<Param>,
-    pub part: Part,
+    pub part: ParameterStage,
 }
 
 /// What a token does among parameters.

@@ -9,7 +9,7 @@ pub enum Read {
     /// The expression goes on; `reach` is the deepest level that the token makes sure.
     Goes { reading: Reading, reach: usize },
     /// The token is the mark.
-    Closed { value: Expr },
+    Done { value: Expr },
     /// The token can't stand here.
     Refused,
 }
@@ -20,7 +20,7 @@ pub enum Maybe {
     /// The expression goes on; `reach` is the deepest level that the token makes sure.
     Goes { reading: Reading, reach: usize },
     /// The token is the mark.
-    Closed { value: Option<Expr> },
+    Done { value: Option<Expr> },
     /// The token can't stand here.
     Refused,
 }

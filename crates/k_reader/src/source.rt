@@ -17,7 +17,7 @@ pub struct Title {
 
 /// Where the reading of a source stands.
 #[derive(Drop)]
-pub enum Phase {
+pub enum SourceStage {
     /// An item begins, or the end is there.
     Starts,
     /// In an item that may be a declaration or a function.
@@ -48,7 +48,7 @@ pub enum Phase {
 #[derive(Drop)]
 pub struct Source {
     pub items: Seq<Item>,
-    pub phase: Phase,
+    pub phase: SourceStage,
 }
 
 /// What a token does in a source.

@@ -62,7 +62,7 @@ pub enum Tested {
 
 /// Where the reading of a block stands.
 #[derive(Drop)]
-pub enum Step {
+pub enum BlockStage {
     /// A statement begins, or in a block a declaration or its end.
     Begins,
     /// Behind a statement.
@@ -145,7 +145,7 @@ pub enum Step {
 pub struct Body {
     pub parts: Seq<Stmt>,
     pub frames: Stack<Frame>,
-    pub step: Step,
+    pub step: BlockStage,
 }
 
 /// What a token does in the block of a function.

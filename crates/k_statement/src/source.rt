@@ -2,7 +2,7 @@
 ghost use Rattle.std.specs.Prelude.{◌≡◌, IfOk};
 ghost use Rattle.k_reader.specs.Parameters.{begin_parameters};
 ghost use Rattle.k_reader.specs.Sources as spec;
-ghost use Rattle.k_reader.specs.declared.source.Phase.TheVariants as phases;
+ghost use Rattle.k_reader.specs.declared.source.SourceStage.TheVariants as phases;
 ghost use Rattle.k_reader.specs.declared.source.Sourced.TheVariants as sourced;
 ghost use Rattle.k_reader.specs.Declarations.{feed_declaration};
 
@@ -11,15 +11,15 @@ use k_declaration::declaration::{begin_declaration, feed_declaration};
 use k_declaration::parameter::{begin_parameters, feed_parameters};
 use k_expression::reading::is_left_paren;
 use k_num::{NoMemory, Place, Seq};
-use k_reader::declaration::{Declaration, Declared, Front, Stage};
+use k_reader::declaration::{Declaration, Declared, Front, DeclarationStage};
 use k_reader::operators::is_spec;
 use k_reader::parameter::{Parameters, Parametric};
-use k_reader::source::{Phase, Source, Sourced, Title};
+use k_reader::source::{SourceStage, Source, Sourced, Title};
 use k_reader::statement::{Body, Stepped};
 use k_tree::{Declarator, Head, Item, Mark, Params, Token, TokenKind, Unit, Word};
 use std::alloc::Global;
 
-fn goes_on(items: Seq<Item>, phase: Phase, reach: usize) -> Sourced
+fn goes_on(items: Seq<Item>, phase: SourceStage, reach: usize) -> Sourced
     ensures { result ≡ spec.goes_on items phase reach }
 {
     let source = Source { items, phase };
@@ -32,7 +32,7 @@ pub fn begin_source(alloc: Global) -> Source
 {
     Source {
         items: Seq::new(alloc),
-        phase: Phase::Starts,
+        phase: SourceStage::Starts,
     }
 }
 
@@ -41,7 +41,7 @@ fn item_done(mut items: Seq<Item>, item: Item) -> Result<Sourced, NoMemory>
     ensures { IfOk result (λ fed. fed ≡ spec.item_done items item) }
 {
     items.push(item)?;
-    Ok(goes_on(items, Phase::Starts, 0))
+    Ok(goes_on(items, SourceStage::Starts, 0))
 }
 
 /// A token where an item begins.
@@ -59,7 +59,7 @@ fn starts(alloc: Global, items: Seq<Item>, token: &Token) -> Result<Sourced, NoM
                 return Ok(Sourced::Refused);
             }
             let declaration = begin_declaration(alloc, *word, 1)?;
-            Ok(goes_on(items, Phase::Declares { place, declaration }, 0))
+            Ok(goes_on(items, SourceStage::Declares { place, declaration }, 0))
         }
         _ => Ok(Sourced::Refused),
     }
@@ -71,7 +71,7 @@ fn is_titled(declaration: &Declaration) -> bool
     ensures { result ≡ spec.is_titled declaration.now }
 {
     match &declaration.stage {
-        Stage::Named { declarator } => {
+        DeclarationStage::Named { declarator } => {
             declaration.front.list.len() == 0 && declarator.dims.len() == 0
         }
         _ => false,
@@ -112,7 +112,7 @@ fn parameters_begin(
 {
     let title = title_of(front, declarator);
     let parameters = begin_parameters(alloc);
-    let phase = Phase::Parameters {
+    let phase = SourceStage::Parameters {
         place,
         title,
         parameters,
@@ -121,7 +121,7 @@ fn parameters_begin(
 }
 
 /// `(` at a stage where no function's parameters can begin.
-fn refused(stage: Stage) -> Sourced
+fn refused(stage: DeclarationStage) -> Sourced
     ensures { result ≡ sourced.Refused }
 {
     drop(stage);
@@ -129,11 +129,11 @@ fn refused(stage: Stage) -> Sourced
 }
 
 /// `(` in an item at this stage.
-fn titled_at(alloc: Global, items: Seq<Item>, place: Place, front: Front, stage: Stage) -> Sourced
+fn titled_at(alloc: Global, items: Seq<Item>, place: Place, front: Front, stage: DeclarationStage) -> Sourced
     ensures { result ≡ spec.titled_at items place front stage }
 {
     match stage {
-        Stage::Named { declarator } => parameters_begin(alloc, items, place, front, declarator),
+        DeclarationStage::Named { declarator } => parameters_begin(alloc, items, place, front, declarator),
         stage => refused(stage),
     }
 }
@@ -159,7 +159,7 @@ fn declared(
 {
     match feed_declaration(alloc, declaration, token)? {
         Declared::Goes { declaration, reach } => {
-            Ok(goes_on(items, Phase::Declares { place, declaration }, reach))
+            Ok(goes_on(items, SourceStage::Declares { place, declaration }, reach))
         }
         Declared::Done { specs, list } => item_done(items, Item::Objects { place, specs, list }),
         Declared::Refused => Ok(Sourced::Refused),
@@ -223,7 +223,7 @@ fn parameters(
     };
     match fed {
         Parametric::Goes { parameters, reach } => {
-            let phase = Phase::Parameters {
+            let phase = SourceStage::Parameters {
                 place,
                 title,
                 parameters,
@@ -232,7 +232,7 @@ fn parameters(
         }
         Parametric::Done { params } => {
             let head = head_of(title, params);
-            Ok(goes_on(items, Phase::Headed { place, head }, 0))
+            Ok(goes_on(items, SourceStage::Headed { place, head }, 0))
         }
         Parametric::Refused => {
             drop(title);
@@ -256,7 +256,7 @@ fn mark_headed(
         Mark::Semicolon => item_done(items, Item::Prototype { place, head }),
         Mark::LeftBrace => {
             let body = begin_body(alloc);
-            Ok(goes_on(items, Phase::Body { place, head, body }, 0))
+            Ok(goes_on(items, SourceStage::Body { place, head, body }, 0))
         }
         _ => {
             drop(head);
@@ -306,7 +306,7 @@ fn in_body(
     };
     match fed {
         Stepped::Goes { body, reach } => {
-            Ok(goes_on(items, Phase::Body { place, head, body }, reach))
+            Ok(goes_on(items, SourceStage::Body { place, head, body }, reach))
         }
         Stepped::Done { parts } => {
             let item = Item::Function {
@@ -331,16 +331,16 @@ pub fn feed_source(alloc: Global, source: Source, token: &Token) -> Result<Sourc
 {
     let Source { items, phase } = source;
     match phase {
-        Phase::Starts => starts(alloc, items, token),
-        Phase::Declares { place, declaration } => {
+        SourceStage::Starts => starts(alloc, items, token),
+        SourceStage::Declares { place, declaration } => {
             declares(alloc, items, place, declaration, token)
         }
-        Phase::Parameters {
+        SourceStage::Parameters {
             place,
             title,
             parameters: list,
         } => parameters(alloc, items, place, title, list, token),
-        Phase::Headed { place, head } => headed(alloc, items, place, head, token),
-        Phase::Body { place, head, body } => in_body(alloc, items, place, head, body, token),
+        SourceStage::Headed { place, head } => headed(alloc, items, place, head, token),
+        SourceStage::Body { place, head, body } => in_body(alloc, items, place, head, body, token),
     }
 }

@@ -15,12 +15,12 @@ use k_reader::expression::Reading;
 use k_reader::level::plus;
 use k_reader::reading::{Closer, Maybe, Read};
 use k_reader::stack::Stack;
-use k_reader::statement::{Body, Frame, Step, Stepped};
+use k_reader::statement::{Body, Frame, BlockStage, Stepped};
 use k_tree::{Expr, Stmt, Token};
 use std::alloc::Global;
 
 /// The block goes on.
-pub fn steps(parts: Seq<Stmt>, frames: Stack<Frame>, step: Step, reach: usize) -> Stepped
+pub fn steps(parts: Seq<Stmt>, frames: Stack<Frame>, step: BlockStage, reach: usize) -> Stepped
     ensures { result ≡ spec.steps parts frames step reach }
 {
     let body = Body {
@@ -35,7 +35,7 @@ pub fn steps(parts: Seq<Stmt>, frames: Stack<Frame>, step: Step, reach: usize) -
 pub fn whole(parts: Seq<Stmt>, frames: Stack<Frame>, stmt: Stmt) -> Stepped
     ensures { result ≡ spec.whole parts frames stmt }
 {
-    steps(parts, frames, Step::Whole { stmt }, 0)
+    steps(parts, frames, BlockStage::Whole { stmt }, 0)
 }
 
 /// A statement opened, of which a part is awaited.
@@ -48,7 +48,7 @@ pub fn await_part(
     ensures { IfOk result (λ fed. fed ≡ spec.await_part parts frames frame reach) }
 {
     frames.push(frame)?;
-    Ok(steps(parts, frames, Step::Begins, reach))
+    Ok(steps(parts, frames, BlockStage::Begins, reach))
 }
 
 /// The level of a statement that begins.
@@ -65,7 +65,7 @@ pub fn begin_body(alloc: Global) -> Body
     Body {
         parts: Seq::new(alloc),
         frames: Stack::new(alloc),
-        step: Step::Begins,
+        step: BlockStage::Begins,
     }
 }
 
@@ -83,9 +83,9 @@ fn value(
 {
     match read_needed(alloc, reading, token, Closer::Semicolon)? {
         Read::Goes { reading, reach } => {
-            Ok(steps(parts, frames, Step::Value { place, reading }, reach))
+            Ok(steps(parts, frames, BlockStage::Value { place, reading }, reach))
         }
-        Read::Closed { value } => {
+        Read::Done { value } => {
             let value = Box::new(alloc, value)?;
             Ok(whole(parts, frames, Stmt::Expr { place, value }))
         }
@@ -117,9 +117,9 @@ fn returned(
 {
     match read_maybe(alloc, reading, token, Closer::Semicolon)? {
         Maybe::Goes { reading, reach } => {
-            Ok(steps(parts, frames, Step::Return { place, reading }, reach))
+            Ok(steps(parts, frames, BlockStage::Return { place, reading }, reach))
         }
-        Maybe::Closed { value } => {
+        Maybe::Done { value } => {
             let value = boxed(alloc, value)?;
             Ok(whole(parts, frames, Stmt::Return { place, value }))
         }
@@ -141,7 +141,7 @@ fn local(
 {
     match feed_declaration(alloc, declaration, token)? {
         Declared::Goes { declaration, reach } => {
-            Ok(steps(parts, frames, Step::Local { place, declaration }, reach))
+            Ok(steps(parts, frames, BlockStage::Local { place, declaration }, reach))
         }
         Declared::Done { specs, list } => Ok(whole(
             parts,
@@ -176,16 +176,16 @@ pub fn feed_body(alloc: Global, body: Body, token: &Token) -> Result<Stepped, No
         step,
     } = body;
     match step {
-        Step::Begins => begin::begins(alloc, parts, frames, token),
-        Step::Whole { stmt } => clause::behind(alloc, parts, frames, stmt, token),
-        Step::Value { place, reading } => value(alloc, parts, frames, place, reading, token),
-        Step::Keyword { tested } => Ok(clause::opened(alloc, parts, frames, tested, token)),
-        Step::Test { tested, reading } => clause::test(
+        BlockStage::Begins => begin::begins(alloc, parts, frames, token),
+        BlockStage::Whole { stmt } => clause::behind(alloc, parts, frames, stmt, token),
+        BlockStage::Value { place, reading } => value(alloc, parts, frames, place, reading, token),
+        BlockStage::Keyword { tested } => Ok(clause::opened(alloc, parts, frames, tested, token)),
+        BlockStage::Test { tested, reading } => clause::test(
             alloc, parts, frames, tested, reading, token,
         ),
-        Step::Semicolon { stmt } => Ok(semicolon(parts, frames, stmt, token)),
-        Step::Return { place, reading } => returned(alloc, parts, frames, place, reading, token),
-        Step::Local { place, declaration } => {
+        BlockStage::Semicolon { stmt } => Ok(semicolon(parts, frames, stmt, token)),
+        BlockStage::Return { place, reading } => returned(alloc, parts, frames, place, reading, token),
+        BlockStage::Local { place, declaration } => {
             local(alloc, parts, frames, place, declaration, token)
         }
         step => loops::in_for(alloc, parts, frames, step, token),

@@ -5,7 +5,7 @@ ghost use Rattle.k_reader.specs.Expressions as spec;
 use crate::expression::goes;
 use k_num::NoMemory;
 use k_reader::expression::call::Called;
-use k_reader::expression::{Fed, Now, Open, Site, Term};
+use k_reader::expression::{Fed, ExpressionStage, Open, Site, Term};
 use k_reader::level::plus;
 use k_reader::stack::Stack;
 use k_tree::{Expr, Mark};
@@ -34,7 +34,7 @@ pub fn argued(
                 args,
                 height,
             })?;
-            Ok(goes(site, opens, Now::Operand, 0))
+            Ok(goes(site, opens, ExpressionStage::Operand, 0))
         }
         Mark::RightParen => {
             let term = Term {
@@ -42,7 +42,7 @@ pub fn argued(
                 rank: 15,
                 height: plus(height, 1),
             };
-            Ok(goes(site, opens, Now::Value { term }, 0))
+            Ok(goes(site, opens, ExpressionStage::Value { term }, 0))
         }
         _ => Ok(Fed::Refused),
     }

@@ -8,7 +8,7 @@ use crate::expression::{goes, hole, level, refused};
 use k_num::{Box, NoMemory, Place};
 use k_reader::expression::call::Called;
 use k_reader::expression::plug::Plugged;
-use k_reader::expression::{Fed, Now, Open, Site, Term};
+use k_reader::expression::{Fed, ExpressionStage, Open, Site, Term};
 use k_reader::level::{above, plus};
 use k_reader::operators::{is_bracket, is_question, is_step, takes};
 use k_reader::stack::Stack;
@@ -30,10 +30,10 @@ fn take(
     let reach = plus(level(site, &opens), left.height);
     if is_step(op) {
         let term = posted(alloc, place, op, left)?;
-        return Ok(goes(site, opens, Now::Value { term }, reach));
+        return Ok(goes(site, opens, ExpressionStage::Value { term }, reach));
     }
     opens.push(operator_opens(op, left, place))?;
-    Ok(goes(site, opens, Now::Operand, reach))
+    Ok(goes(site, opens, ExpressionStage::Operand, reach))
 }
 
 /// The construct that an operator behind an operand opens.
@@ -89,7 +89,7 @@ fn indexed(alloc: Global, place: Place, base: Term, index: Term) -> Result<Term,
 fn valued(site: Site, opens: Stack<Open>, term: Term) -> Fed
     ensures { result ≡ spec.valued site opens term }
 {
-    goes(site, opens, Now::Value { term }, 0)
+    goes(site, opens, ExpressionStage::Value { term }, 0)
 }
 
 /// `test ? then :`
@@ -103,7 +103,7 @@ fn colon(
     ensures { IfOk result (λ fed. fed ≡ spec.colon site opens place test «then») }
 {
     opens.push(Open::Other { place, test, then })?;
-    Ok(goes(site, opens, Now::Operand, 0))
+    Ok(goes(site, opens, ExpressionStage::Operand, 0))
 }
 
 /// The mark behind the second operand of a conditional expression.

@@ -6,7 +6,7 @@ ghost use Rattle.k_tree.specs.Ranked as ranked;
 
 use crate::expression::{goes, hole, level, refused};
 use k_num::{NoMemory, Place, Seq, Text};
-use k_reader::expression::{Fed, Now, Open, Site, Term};
+use k_reader::expression::{Fed, ExpressionStage, Open, Site, Term};
 use k_reader::level::plus;
 use k_reader::operators::{is_close, is_open, is_spec, is_step};
 use k_reader::stack::Stack;
@@ -24,7 +24,7 @@ fn leaf(site: Site, opens: Stack<Open>, tree: Expr) -> Fed
         rank: 16,
         height: 1,
     };
-    goes(site, opens, Now::Value { term }, reach)
+    goes(site, opens, ExpressionStage::Value { term }, reach)
 }
 
 /// `(` before an operand. Behind `sizeof` it may belong to a type, which adds no level.
@@ -37,7 +37,7 @@ fn opened(site: Site, mut opens: Stack<Open>, place: Place) -> Result<Fed, NoMem
         _ => plus(level(site, &opens), 1),
     };
     opens.push(Open::Paren { place })?;
-    Ok(goes(site, opens, Now::Operand, reach))
+    Ok(goes(site, opens, ExpressionStage::Operand, reach))
 }
 
 /// Are there no arguments?
@@ -69,7 +69,7 @@ fn no_arguments(site: Site, mut opens: Stack<Open>) -> Fed
                 rank: 15,
                 height: 1,
             };
-            goes(site, opens, Now::Value { term }, 0)
+            goes(site, opens, ExpressionStage::Value { term }, 0)
         }
         Some(around) => refused(around),
         None => Fed::Refused,
@@ -83,7 +83,7 @@ fn prefix(site: Site, mut opens: Stack<Open>, op: Mark, place: Place) -> Result<
 {
     let reach = plus(level(site, &opens), 1);
     opens.push(Open::Prefix { place, op })?;
-    Ok(goes(site, opens, Now::Operand, reach))
+    Ok(goes(site, opens, ExpressionStage::Operand, reach))
 }
 
 /// Is it a unary operator other than `++` and `--`?
@@ -165,7 +165,7 @@ fn word(
     if is_sizeof(word) {
         let reach = level(site, &opens);
         opens.push(Open::Sizeof { place })?;
-        return Ok(goes(site, opens, Now::Operand, reach));
+        return Ok(goes(site, opens, ExpressionStage::Operand, reach));
     }
     if !is_spec(word) {
         return Ok(Fed::Refused);
@@ -182,7 +182,7 @@ fn type_begins(alloc: Global, site: Site, opens: Stack<Open>, word: Word) -> Res
 {
     let mut specs = Seq::new(alloc);
     specs.push(word)?;
-    let now = Now::Type {
+    let now = ExpressionStage::Type {
         specs,
         stars: no_stars(alloc),
     };
@@ -204,7 +204,7 @@ pub fn operand(
         TokenKind::Name(name) => {
             let name = Text::copy_of(alloc, name.as_str())?;
             let reach = level(site, &opens);
-            Ok(goes(site, opens, Now::Named { place, name }, reach))
+            Ok(goes(site, opens, ExpressionStage::Named { place, name }, reach))
         }
         TokenKind::Number(kind, value) => {
             let tree = Expr::Number {

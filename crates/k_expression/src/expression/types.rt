@@ -4,7 +4,7 @@ ghost use Rattle.k_reader.specs.Expressions as spec;
 
 use crate::expression::{goes, refused};
 use k_num::{NoMemory, Place, Seq};
-use k_reader::expression::{Fed, Now, Open, Site, Term};
+use k_reader::expression::{Fed, ExpressionStage, Open, Site, Term};
 use k_reader::operators::is_spec;
 use k_reader::stack::Stack;
 use k_reader::stars::{Stars, all_stars, constant, star};
@@ -51,7 +51,7 @@ fn close_over(
                 rank: 14,
                 height: 1,
             };
-            Ok(goes(site, opens, Now::Value { term }, 0))
+            Ok(goes(site, opens, ExpressionStage::Value { term }, 0))
         }
         Some(around) => {
             opens.push(around)?;
@@ -82,7 +82,7 @@ fn cast(site: Site, mut opens: Stack<Open>, around: Open) -> Result<Fed, NoMemor
     ensures { IfOk result (λ fed. fed ≡ spec.cast_opened site opens around) }
 {
     opens.push(around)?;
-    Ok(goes(site, opens, Now::Operand, 0))
+    Ok(goes(site, opens, ExpressionStage::Operand, 0))
 }
 
 /// One more keyword of a type.
@@ -101,13 +101,13 @@ fn word(
             return Ok(Fed::Refused);
         }
         let stars = constant(stars)?;
-        return Ok(goes(site, opens, Now::Type { specs, stars }, 0));
+        return Ok(goes(site, opens, ExpressionStage::Type { specs, stars }, 0));
     }
     if stars.done.len() > 0 || !is_spec(word) {
         return Ok(Fed::Refused);
     }
     specs.push(word)?;
-    Ok(goes(site, opens, Now::Type { specs, stars }, 0))
+    Ok(goes(site, opens, ExpressionStage::Type { specs, stars }, 0))
 }
 
 /// One more mark in the name of a type.
@@ -124,7 +124,7 @@ fn mark(
     match mark {
         Mark::Star => {
             let stars = star(stars)?;
-            Ok(goes(site, opens, Now::Type { specs, stars }, 0))
+            Ok(goes(site, opens, ExpressionStage::Type { specs, stars }, 0))
         }
         Mark::RightParen => close(site, opens, specs, stars),
         _ => Ok(Fed::Refused),

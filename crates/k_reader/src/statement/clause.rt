@@ -5,7 +5,7 @@ use k_tree::Stmt;
 
 /// What comes of a statement that ends, and of the statement around it.
 #[derive(Drop)]
-pub enum Closed {
+pub enum Fitted {
     /// The statement around ends too.
     Whole { stmt: Stmt },
     /// The statement around has a part of its own to come.

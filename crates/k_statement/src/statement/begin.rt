@@ -11,7 +11,7 @@ use k_reader::expression::Fed;
 use k_reader::level::plus;
 use k_reader::operators::{is_left_brace, is_right_brace, is_semicolon, is_spec};
 use k_reader::stack::Stack;
-use k_reader::statement::{Frame, Step, Stepped, Tested};
+use k_reader::statement::{Frame, BlockStage, Stepped, Tested};
 use k_tree::{Mark, Stmt, Token, TokenKind, Word};
 use std::alloc::Global;
 
@@ -81,7 +81,7 @@ fn declares(
     }
     let reach = level(&frames);
     let declaration = begin_declaration(alloc, word, plus(reach, 1))?;
-    Ok(steps(parts, frames, Step::Local { place, declaration }, reach))
+    Ok(steps(parts, frames, BlockStage::Local { place, declaration }, reach))
 }
 
 /// A keyword that begins a declaration, a statement or a label.
@@ -118,31 +118,31 @@ fn jump(
     let (step, reach) = match word {
         Word::If => {
             let tested = Tested::If { place };
-            (Step::Keyword { tested }, inner)
+            (BlockStage::Keyword { tested }, inner)
         }
         Word::While => {
             let tested = Tested::While { place };
-            (Step::Keyword { tested }, inner)
+            (BlockStage::Keyword { tested }, inner)
         }
         Word::Do => return await_part(parts, frames, Frame::Do { place }, inner),
-        Word::For => (Step::For { place }, inner),
+        Word::For => (BlockStage::For { place }, inner),
         Word::Switch => {
             let tested = Tested::Switch { place };
-            (Step::Keyword { tested }, inner)
+            (BlockStage::Keyword { tested }, inner)
         }
         Word::Case => return Ok(case_begins(alloc, parts, frames, place)),
         Word::Default => return Ok(default_begins(parts, frames, place)),
         Word::Break => {
             let stmt = Stmt::Break { place };
-            (Step::Semicolon { stmt }, own)
+            (BlockStage::Semicolon { stmt }, own)
         }
         Word::Continue => {
             let stmt = Stmt::Continue { place };
-            (Step::Semicolon { stmt }, own)
+            (BlockStage::Semicolon { stmt }, own)
         }
         Word::Return => {
             let reading = begin(alloc, 0, inner);
-            (Step::Return { place, reading }, own)
+            (BlockStage::Return { place, reading }, own)
         }
         _ => return Ok(Stepped::Refused),
     };
@@ -163,7 +163,7 @@ fn expression(
     match feed(alloc, reading, token)? {
         Fed::Goes { reading, reach } => {
             let place = token.place;
-            Ok(steps(parts, frames, Step::Value { place, reading }, reach))
+            Ok(steps(parts, frames, BlockStage::Value { place, reading }, reach))
         }
         Fed::Ends { value } => {
             drop(value);
@@ -179,7 +179,7 @@ fn empty(parts: Seq<Stmt>, frames: Stack<Frame>, place: Place) -> Stepped
 {
     let reach = level(&frames);
     let stmt = Stmt::Empty { place };
-    steps(parts, frames, Step::Whole { stmt }, reach)
+    steps(parts, frames, BlockStage::Whole { stmt }, reach)
 }
 
 /// A mark that begins a statement, or ends a block.

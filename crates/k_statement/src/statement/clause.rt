@@ -13,7 +13,7 @@ use k_reader::level::plus;
 use k_reader::reading::{Closer, Read};
 use k_reader::stack::Stack;
 use k_reader::statement::clause::Closed;
-use k_reader::statement::{Frame, Step, Stepped, Tested};
+use k_reader::statement::{Frame, BlockStage, Stepped, Tested};
 use k_tree::{Expr, Stmt, Token, TokenKind, Word};
 use std::alloc::Global;
 
@@ -33,7 +33,7 @@ pub fn opened(
         return Stepped::Refused;
     }
     let reading = begin(alloc, 0, plus(level(&frames), 1));
-    steps(parts, frames, Step::Test { tested, reading }, 0)
+    steps(parts, frames, BlockStage::Test { tested, reading }, 0)
 }
 
 /// A test is done.
@@ -58,13 +58,13 @@ fn test_done(
         Tested::If { place } => await_part(parts, frames, Frame::Then { place, test }, 0),
         Tested::While { place } => await_part(parts, frames, Frame::While { place, test }, 0),
         Tested::Switch { place } => {
-            let step = Step::Braces { place, on: test };
+            let step = BlockStage::Braces { place, on: test };
             Ok(steps(parts, frames, step, 0))
         }
         Tested::Do { place, body } => {
             let body = Box::new(alloc, body)?;
             let stmt = Stmt::DoWhile { place, body, test };
-            Ok(steps(parts, frames, Step::Semicolon { stmt }, 0))
+            Ok(steps(parts, frames, BlockStage::Semicolon { stmt }, 0))
         }
     }
 }
@@ -89,9 +89,9 @@ pub fn test(
     };
     match read {
         Read::Goes { reading, reach } => {
-            Ok(steps(parts, frames, Step::Test { tested, reading }, reach))
+            Ok(steps(parts, frames, BlockStage::Test { tested, reading }, reach))
         }
-        Read::Closed { value } => test_done(alloc, parts, frames, tested, value),
+        Read::Done { value } => test_done(alloc, parts, frames, tested, value),
         Read::Refused => {
             drop(tested);
             Ok(Stepped::Refused)
@@ -115,14 +115,14 @@ fn is_while(token: &Token) -> bool
 
 /// A statement that ends is put into the statement around it; `other` says whether `else` follows.
 #[tactic(auto, unfolding(k_reader::specs::Statements::close))]
-fn close(alloc: Global, frame: Frame, stmt: Stmt, other: bool) -> Result<Closed, NoMemory>
+fn close(alloc: Global, frame: Frame, stmt: Stmt, other: bool) -> Result<Fitted, NoMemory>
     ensures { IfOk result (λ made. made ≡ spec.close frame stmt other) }
 {
     let stmt = match frame {
         Frame::Then { place, test } => {
             if other {
                 let frame = Frame::Then { place, test };
-                return Ok(Closed::Part { frame, stmt });
+                return Ok(Fitted::Part { frame, stmt });
             }
             if_alone(alloc, place, test, stmt)?
         }
@@ -158,9 +158,9 @@ fn close(alloc: Global, frame: Frame, stmt: Stmt, other: bool) -> Result<Closed,
                 body,
             }
         }
-        frame => return Ok(Closed::Part { frame, stmt }),
+        frame => return Ok(Fitted::Part { frame, stmt }),
     };
-    Ok(Closed::Whole { stmt })
+    Ok(Fitted::Whole { stmt })
 }
 
 /// `else` behind the statement of an `if`.
@@ -206,7 +206,7 @@ fn do_while(
         return Stepped::Refused;
     }
     let tested = Tested::Do { place, body };
-    steps(parts, frames, Step::Keyword { tested }, 0)
+    steps(parts, frames, BlockStage::Keyword { tested }, 0)
 }
 
 /// One more part of a block, and the token behind it.
@@ -279,7 +279,7 @@ pub fn behind(
         return begins(alloc, parts, frames, token);
     };
     match close(alloc, frame, stmt, is_else(token))? {
-        Closed::Whole { stmt } => behind(alloc, parts, frames, stmt, token),
-        Closed::Part { frame, stmt } => part(alloc, parts, frames, frame, stmt, token),
+        Fitted::Whole { stmt } => behind(alloc, parts, frames, stmt, token),
+        Fitted::Part { frame, stmt } => part(alloc, parts, frames, frame, stmt, token),
     }
 }

@@ -14,7 +14,7 @@ use k_reader::level::plus;
 use k_reader::operators::is_spec;
 use k_reader::reading::{Closer, Maybe};
 use k_reader::stack::Stack;
-use k_reader::statement::{Frame, Step, Stepped};
+use k_reader::statement::{Frame, BlockStage, Stepped};
 use k_tree::{Expr, First, Stmt, Token, TokenKind, Word};
 use std::alloc::Global;
 
@@ -33,7 +33,7 @@ fn opened(
         return Stepped::Refused;
     }
     let reading = begin(alloc, 0, plus(level(&frames), 1));
-    steps(parts, frames, Step::Start { place, reading }, 0)
+    steps(parts, frames, BlockStage::Start { place, reading }, 0)
 }
 
 /// The second part of a `for` begins.
@@ -47,7 +47,7 @@ fn second_begins(
     ensures { result ≡ spec.second_begins parts frames place start }
 {
     let reading = begin(alloc, 0, plus(level(&frames), 1));
-    let step = Step::Second {
+    let step = BlockStage::Second {
         place,
         start,
         reading,
@@ -96,13 +96,13 @@ fn start(
     if let Some(word) = specifier(&reading, token) {
         drop(reading);
         let declaration = begin_declaration(alloc, word, plus(level(&frames), 1))?;
-        return Ok(steps(parts, frames, Step::Declares { place, declaration }, 0));
+        return Ok(steps(parts, frames, BlockStage::Declares { place, declaration }, 0));
     }
     match read_maybe(alloc, reading, token, Closer::Semicolon)? {
         Maybe::Goes { reading, reach } => {
-            Ok(steps(parts, frames, Step::Start { place, reading }, reach))
+            Ok(steps(parts, frames, BlockStage::Start { place, reading }, reach))
         }
-        Maybe::Closed { value } => Ok(second_begins(alloc, parts, frames, place, first_of(value))),
+        Maybe::Done { value } => Ok(second_begins(alloc, parts, frames, place, first_of(value))),
         Maybe::Refused => Ok(Stepped::Refused),
     }
 }
@@ -121,7 +121,7 @@ fn declares(
 {
     match feed_declaration(alloc, declaration, token)? {
         Declared::Goes { declaration, reach } => {
-            Ok(steps(parts, frames, Step::Declares { place, declaration }, reach))
+            Ok(steps(parts, frames, BlockStage::Declares { place, declaration }, reach))
         }
         Declared::Done { specs, list } => {
             let start = First::Declare(specs, list);
@@ -153,16 +153,16 @@ fn second(
     };
     match read {
         Maybe::Goes { reading, reach } => {
-            let step = Step::Second {
+            let step = BlockStage::Second {
                 place,
                 start,
                 reading,
             };
             Ok(steps(parts, frames, step, reach))
         }
-        Maybe::Closed { value: test } => {
+        Maybe::Done { value: test } => {
             let reading = begin(alloc, 0, plus(level(&frames), 1));
-            let step = Step::Third {
+            let step = BlockStage::Third {
                 place,
                 start,
                 test,
@@ -238,7 +238,7 @@ fn third(
     };
     match read {
         Maybe::Goes { reading, reach } => {
-            let step = Step::Third {
+            let step = BlockStage::Third {
                 place,
                 start,
                 test,
@@ -246,7 +246,7 @@ fn third(
             };
             Ok(steps(parts, frames, step, reach))
         }
-        Maybe::Closed { value } => body_begins(alloc, parts, frames, place, start, test, value),
+        Maybe::Done { value } => body_begins(alloc, parts, frames, place, start, test, value),
         Maybe::Refused => {
             drop(start);
             drop(test);
@@ -261,23 +261,23 @@ pub fn in_for(
     alloc: Global,
     parts: Seq<Stmt>,
     frames: Stack<Frame>,
-    step: Step,
+    step: BlockStage,
     token: &Token,
 ) -> Result<Stepped, NoMemory>
     ensures { IfOk result (λ fed. fed ≡ spec.in_for parts frames step token.now) }
 {
     match step {
-        Step::For { place } => Ok(opened(alloc, parts, frames, place, token)),
-        Step::Start { place, reading } => start(alloc, parts, frames, place, reading, token),
-        Step::Declares { place, declaration } => {
+        BlockStage::For { place } => Ok(opened(alloc, parts, frames, place, token)),
+        BlockStage::Start { place, reading } => start(alloc, parts, frames, place, reading, token),
+        BlockStage::Declares { place, declaration } => {
             declares(alloc, parts, frames, place, declaration, token)
         }
-        Step::Second {
+        BlockStage::Second {
             place,
             start,
             reading,
         } => second(alloc, parts, frames, place, start, reading, token),
-        Step::Third {
+        BlockStage::Third {
             place,
             start,
             test,

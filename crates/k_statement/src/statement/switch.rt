@@ -10,7 +10,7 @@ use k_num::{Box, NoMemory, Place, Seq};
 use k_reader::expression::Reading;
 use k_reader::reading::{Closer, Read};
 use k_reader::stack::Stack;
-use k_reader::statement::{Frame, Step, Stepped};
+use k_reader::statement::{Frame, BlockStage, Stepped};
 use k_tree::{Expr, Mark, Part, Stmt, Token, TokenKind};
 use std::alloc::Global;
 
@@ -32,7 +32,7 @@ pub fn case_begins(alloc: Global, parts: Seq<Stmt>, frames: Stack<Frame>, place:
     }
     let reach = level(&frames);
     let reading = begin(alloc, 2, reach);
-    steps(parts, frames, Step::Case { place, reading }, reach)
+    steps(parts, frames, BlockStage::Case { place, reading }, reach)
 }
 
 /// `default`
@@ -43,7 +43,7 @@ pub fn default_begins(parts: Seq<Stmt>, frames: Stack<Frame>, place: Place) -> S
     if !is_in_switch(&frames) {
         return Stepped::Refused;
     }
-    steps(parts, frames, Step::Default { place }, 0)
+    steps(parts, frames, BlockStage::Default { place }, 0)
 }
 
 /// Is a token `{`?
@@ -123,9 +123,9 @@ fn case_value(
 {
     match read_needed(alloc, reading, token, Closer::Colon)? {
         Read::Goes { reading, reach } => {
-            Ok(steps(parts, frames, Step::Case { place, reading }, reach))
+            Ok(steps(parts, frames, BlockStage::Case { place, reading }, reach))
         }
-        Read::Closed { value } => {
+        Read::Done { value } => {
             let value = Box::new(alloc, value)?;
             labelled(parts, frames, Part::Case { place, value })
         }
@@ -181,15 +181,15 @@ pub fn in_switch(
     alloc: Global,
     parts: Seq<Stmt>,
     frames: Stack<Frame>,
-    step: Step,
+    step: BlockStage,
     token: &Token,
 ) -> Result<Stepped, NoMemory>
     ensures { IfOk result (λ fed. fed ≡ spec.in_switch parts frames step token.now) }
 {
     match step {
-        Step::Braces { place, on } => braces(alloc, parts, frames, place, on, token),
-        Step::Case { place, reading } => case_value(alloc, parts, frames, place, reading, token),
-        Step::Default { place } => default_label(parts, frames, place, token),
+        BlockStage::Braces { place, on } => braces(alloc, parts, frames, place, on, token),
+        BlockStage::Case { place, reading } => case_value(alloc, parts, frames, place, reading, token),
+        BlockStage::Default { place } => default_label(parts, frames, place, token),
         _step => Ok(Stepped::Refused),
     }
 }

@@ -5,9 +5,9 @@ pub returns-in-Goes : goal.returns-in-Goes
 unfolding Rattle.k_reader.specs.Statements.test
 returns-in-Goes c = search rules
 
-pub returns-in-Closed : goal.returns-in-Closed
+pub returns-in-Done : goal.returns-in-Done
 unfolding Rattle.k_reader.specs.Statements.test
-returns-in-Closed c = search rules
+returns-in-Done c = search rules
 
 pub returns-in-Refused : goal.returns-in-Refused
 unfolding Rattle.k_reader.specs.Statements.test
