@@ -1,11 +1,9 @@
 -- Behind the end of a source no reading goes on.
 use Rattle.std.proofs.Common.{ℕ, ◌≡◌, ◌+◌, ◌<◌, false, ◌&&◌, cond, List, [], ◌∷◌, ◌++◌, length, get_or, drop, None, refl, sym, ap, subst, ◌∙◌}
 use Rattle.std.proofs.Math.Bool.{and-false}
-use Rattle.k_num.specs.declared.place.Place.{Place}
-use Rattle.k_tree.specs.declared.tokens.Token.{Token}
+use Rattle.k_reader.specs.Types.{Place, Token, Stmt, Term, ExpressionStage, Site, Reading, Fed, Plugged, Closer, Front, DeclarationStage, Declaration, Opened, ParameterStage, Parameters, Frame, BlockStage, Body, SourceStage, Source, Sourced, Param, Item}
 use Rattle.k_tree.specs.declared.tokens.TokenKind.TheVariants as token
 use Rattle.k_tree.specs.declared.tree.statement.Part.TheVariants as labels
-use Rattle.k_tree.specs.declared.tree.statement.Stmt.{Stmt}
 use Rattle.k_reader.specs.Expressions as expressions
 use Rattle.k_reader.specs.Expressions.{Opens}
 use Rattle.k_reader.specs.Readings as readings
@@ -14,43 +12,22 @@ use Rattle.k_reader.specs.Parameters as parameters
 use Rattle.k_reader.specs.Statements as statements
 use Rattle.k_reader.specs.Statements.{Parts, Frames}
 use Rattle.k_reader.specs.Sources as sources
-use Rattle.k_reader.specs.declared.expression.Term.{Term}
-use Rattle.k_reader.specs.declared.expression.ExpressionStage.{ExpressionStage}
 use Rattle.k_reader.specs.declared.expression.ExpressionStage.TheVariants as now
-use Rattle.k_reader.specs.declared.expression.Site.{Site}
-use Rattle.k_reader.specs.declared.expression.Reading.{Reading}
-use Rattle.k_reader.specs.declared.expression.Fed.{Fed}
 use Rattle.k_reader.specs.declared.expression.Fed.TheVariants as fed
-use Rattle.k_reader.specs.declared.expression.plug.Plugged.{Plugged}
 use Rattle.k_reader.specs.declared.expression.plug.Plugged.TheVariants as plugged
-use Rattle.k_reader.specs.declared.reading.Closer.{Closer}
 use Rattle.k_reader.specs.declared.reading.Closer.TheVariants as closer
 use Rattle.k_reader.specs.declared.reading.Read.TheVariants as read_
 use Rattle.k_reader.specs.declared.reading.Maybe.TheVariants as maybe_
-use Rattle.k_reader.specs.declared.declaration.Front.{Front}
-use Rattle.k_reader.specs.declared.declaration.DeclarationStage.{DeclarationStage}
 use Rattle.k_reader.specs.declared.declaration.DeclarationStage.TheVariants as stage
-use Rattle.k_reader.specs.declared.declaration.Declaration.{Declaration}
 use Rattle.k_reader.specs.declared.declaration.Declared.TheVariants as declared_
-use Rattle.k_reader.specs.declared.declaration.initialiser.Opened.{Opened}
 use Rattle.k_reader.specs.Initialisers as inits
-use Rattle.k_reader.specs.declared.parameter.ParameterStage.{ParameterStage}
 use Rattle.k_reader.specs.declared.parameter.ParameterStage.TheVariants as part_
-use Rattle.k_reader.specs.declared.parameter.Parameters.{Parameters}
 use Rattle.k_reader.specs.declared.parameter.Parametric.TheVariants as parametric
-use Rattle.k_reader.specs.declared.statement.Frame.{Frame}
 use Rattle.k_reader.specs.declared.statement.Frame.TheVariants as frame
-use Rattle.k_reader.specs.declared.statement.BlockStage.{BlockStage}
 use Rattle.k_reader.specs.declared.statement.BlockStage.TheVariants as step
-use Rattle.k_reader.specs.declared.statement.Body.{Body}
 use Rattle.k_reader.specs.declared.statement.Stepped.TheVariants as stepped
-use Rattle.k_reader.specs.declared.source.SourceStage.{SourceStage}
 use Rattle.k_reader.specs.declared.source.SourceStage.TheVariants as phase
-use Rattle.k_reader.specs.declared.source.Source.{Source}
-use Rattle.k_reader.specs.declared.source.Sourced.{Sourced}
 use Rattle.k_reader.specs.declared.source.Sourced.TheVariants as sourced
-use Rattle.k_tree.specs.declared.tree.declaration.Param.{Param}
-use Rattle.k_tree.specs.declared.tree.unit.Item.{Item}
 use Rattle.k_tree.specs.Closed.{EndsOnce}
 use Rattle.k_reader.proofs.CompleteLeads.{token_at}
 use Rattle.k_parse.proofs.Turns.{drop_here}

@@ -2,11 +2,10 @@
 use Rattle.std.proofs.Common.{ℕ, ◌≡◌, ◌<◌, List, [], ◌∷◌, ◌++◌, Ok, Err, inl, inr, refl, sym, ap, subst, ◌∙◌, append_assoc, arith}
 use Rattle.std.specs.Prelude.{◌⊎◌, Result}
 use Rattle.std.proofs.lemmas.List.{map-append, append-nil}
-use Rattle.k_tree.specs.declared.tokens.Token.{Token}
+use Rattle.k_reader.specs.Types.{Token, ParseFault}
 use Rattle.k_tree.specs.declared.tree.unit.Unit as source
 use Rattle.k_tree.specs.Count.{unit_count}
 use Rattle.k_reader.specs.Beginnings.{kinds, Begins, IsRefusalAt, IsFirstWrong}
-use Rattle.k_reader.specs.declared.whole.ParseFault.{ParseFault}
 use Rattle.k_reader.specs.declared.whole.ParseFault.TheVariants as fault
 use Rattle.k_parse.specs.Parse.{IsTreeOf, IsRefused, IsParse}
 use Rattle.k_parse.proofs.Trees.{placed_spells, one_tree}

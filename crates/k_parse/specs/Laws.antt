@@ -1,8 +1,7 @@
 -- What is true of the answers that a token list may have.
 use Rattle.std.specs.Prelude.{◌≡◌, List, Result}
-use Rattle.k_tree.specs.declared.tokens.Token.{Token}
+use Rattle.k_reader.specs.Types.{Token, ParseFault}
 use Rattle.k_tree.specs.declared.tree.unit.Unit as source
-use Rattle.k_reader.specs.declared.whole.ParseFault.{ParseFault}
 use Rattle.k_parse.specs.Parse.{IsParse}
 
 -- a token list has one answer at most: one tree, or one refusal

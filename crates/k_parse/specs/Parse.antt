@@ -1,6 +1,6 @@
 -- What a token list is read to: the one tree that it spells, or the refusal of a list that spells none within the limits.
 use Rattle.std.specs.Prelude.{ℕ, ◌≡◌, ◌≤◌, ◌<◌, List, Result, Ok, Err}
-use Rattle.k_tree.specs.declared.tokens.Token.{Token}
+use Rattle.k_reader.specs.Types.{Token, ParseFault}
 use Rattle.k_tree.specs.declared.tree.unit.Unit as source
 use Rattle.k_tree.specs.Bare.{bare}
 use Rattle.k_tree.specs.Count.{unit_count}
@@ -8,7 +8,6 @@ use Rattle.k_tree.specs.Nesting.{nesting}
 use Rattle.k_tree.specs.Places.{Placed}
 use Rattle.k_tree.specs.Ranked.{RankedUnit}
 use Rattle.k_tree.specs.Spelling.{spelling}
-use Rattle.k_reader.specs.declared.whole.ParseFault.{ParseFault}
 use Rattle.k_reader.specs.declared.whole.ParseFault.TheVariants as fault
 use Rattle.k_reader.specs.Beginnings.{IsFirstWrong, kinds}
 

@@ -2,16 +2,10 @@
 use Rattle.std.proofs.Common.{ℕ, ◌≡◌, ◌≢◌, ◌+◌, ◌<◌, ◌≤◌, max, true, false, cond, ◌&&◌, IsTrue, List, [], ◌∷◌, ◌++◌, map, length, sym, ap, ◌∙◌, subst, refl, arith, append_assoc, append-nil}
 use Rattle.std.proofs.lemmas.List.{map-append}
 use Rattle.std.proofs.lemmas.List.Elements.{All-head}
-use Rattle.k_num.specs.declared.place.Place.{Place}
-use Rattle.k_tree.specs.declared.tokens.Token.{Token}
-use Rattle.k_tree.specs.declared.tokens.TokenKind.{TokenKind}
+use Rattle.k_reader.specs.Types.{Place, Token, TokenKind, Word, Declarator, Stmt, Part, Declaration, Body}
 use Rattle.k_tree.specs.declared.tokens.TokenKind.TheVariants as token
 use Rattle.k_tree.specs.declared.tokens.mark.Mark.TheVariants as mark
-use Rattle.k_tree.specs.declared.tokens.word.Word.{Word}
 use Rattle.k_tree.specs.declared.tokens.word.Word.TheVariants as word
-use Rattle.k_tree.specs.declared.tree.declaration.Declarator.{Declarator}
-use Rattle.k_tree.specs.declared.tree.statement.Stmt.{Stmt}
-use Rattle.k_tree.specs.declared.tree.statement.Part.{Part}
 use Rattle.k_tree.specs.declared.tree.statement.Stmt.TheVariants as stmt
 use Rattle.k_tree.specs.Bare.{bare_stmt, bare_part_step, bare_stmt_step, nowhere}
 use Rattle.k_tree.specs.Begins.{begins_stmt}
@@ -23,10 +17,8 @@ use Rattle.k_tree.proofs.Begin.{stmt_begins, not_empty}
 use Rattle.k_reader.specs.Operators.{is_semicolon, is_right_brace, is_left_brace, is_spec_word}
 use Rattle.k_reader.specs.Declarations.{begin_declaration}
 use Rattle.k_reader.specs.Statements.{mark_begins, jump, Parts, Frames, feed_body, begins, keyword, declares, is_in_block, block_ends, local, local_by, steps, behind, close, part, more, is_else, level, inner}
-use Rattle.k_reader.specs.declared.declaration.Declaration.{Declaration}
 use Rattle.k_reader.specs.declared.statement.Frame.TheVariants as frame
 use Rattle.k_reader.specs.declared.statement.BlockStage.TheVariants as step
-use Rattle.k_reader.specs.declared.statement.Body.{Body}
 use Rattle.k_reader.specs.declared.statement.Stepped.TheVariants as stepped
 use Rattle.k_reader.proofs.CompleteLeads.{token_at, Leads, leads-then, leads-more, leads-in}
 use Rattle.k_reader.proofs.CompleteDepths.{depth_positive}

@@ -1,10 +1,9 @@
 -- Calls, argument by argument.
 use Rattle.std.proofs.Common.{ℕ, ◌≡◌, ◌+◌, ◌≤◌, max, List, [], ◌∷◌, ◌++◌, map, length, sym, ap, ◌∙◌, subst, refl, arith, append_assoc}
 use Rattle.std.proofs.lemmas.List.{map-append}
-use Rattle.k_num.specs.declared.place.Place.{Place}
+use Rattle.k_reader.specs.Types.{Place, Expr, Term, Site, Reading}
 use Rattle.k_tree.specs.declared.tokens.TokenKind.TheVariants as token
 use Rattle.k_tree.specs.declared.tokens.mark.Mark.TheVariants as mark
-use Rattle.k_tree.specs.declared.tree.expression.Expr.{Expr}
 use Rattle.k_tree.specs.declared.tree.expression.Expr.TheVariants as expr
 use Rattle.k_tree.specs.Bare.{bare_expr, bare_expr_step, nowhere}
 use Rattle.k_tree.specs.Folds.{expr_Call}
@@ -13,11 +12,8 @@ use Rattle.k_tree.specs.Spelling.{Spelled, spell_expr, spell_expr_step, the_mark
 use Rattle.k_reader.specs.Operators.{is_prefix_mark, is_open, is_close, binding}
 use Rattle.k_reader.specs.Level.{plus}
 use Rattle.k_reader.specs.Expressions.{then_ends, paren_ends, index_ends, feed, operand, named, hole, plug, Opens, goes, level, term, mark_operand, no_arguments, enclose, argued}
-use Rattle.k_reader.specs.declared.expression.Term.{Term}
 use Rattle.k_reader.specs.declared.expression.Open.TheVariants as open_
 use Rattle.k_reader.specs.declared.expression.ExpressionStage.TheVariants as now
-use Rattle.k_reader.specs.declared.expression.Site.{Site}
-use Rattle.k_reader.specs.declared.expression.Reading.{Reading}
 use Rattle.k_reader.specs.declared.expression.plug.Plugged.TheVariants as plugged
 use Rattle.k_reader.proofs.CompleteLeads.{token_at, Leads, leads-then}
 use Rattle.k_reader.proofs.CompleteHolds.{Feeds, reading, awaits, kept, Below, Holds, Guards, Reads, below_by}

@@ -2,15 +2,10 @@
 use Rattle.std.proofs.Common.{ℕ, ◌≡◌, ◌≢◌, ◌+◌, ◌≤◌, Bool, true, cond, IsTrue, All, List, [], ◌∷◌, ◌++◌, map, length, Option, Some, None, sym, ap, ◌∙◌, subst, refl, arith, append_assoc}
 use Rattle.std.proofs.lemmas.List.{map-append}
 use Rattle.std.proofs.lemmas.List.Elements.{All-head, All-tail}
-use Rattle.k_num.specs.declared.place.Place.{Place}
-use Rattle.k_tree.specs.declared.tokens.Token.{Token}
+use Rattle.k_reader.specs.Types.{Place, Token, Word, Expr, Init, Declarator, Stars, Front, Declaration, Reading}
 use Rattle.k_tree.specs.declared.tokens.TokenKind.TheVariants as token
 use Rattle.k_tree.specs.declared.tokens.mark.Mark.TheVariants as mark
-use Rattle.k_tree.specs.declared.tokens.word.Word.{Word}
 use Rattle.k_tree.specs.declared.tokens.word.Word.TheVariants as word_
-use Rattle.k_tree.specs.declared.tree.expression.Expr.{Expr}
-use Rattle.k_tree.specs.declared.tree.declaration.Init.{Init}
-use Rattle.k_tree.specs.declared.tree.declaration.Declarator.{Declarator}
 use Rattle.k_tree.specs.Bare.{bare_dims, bare_init, bare_declarator, where_given, nowhere}
 use Rattle.k_tree.specs.Nesting.{init_depth, initialised_depth, declarator_depth, declarators_depth}
 use Rattle.k_tree.specs.Ranked.{Specs, IfGiven, RankedInit, RankedDeclarator, RankedDeclaration, is_spec}
@@ -18,17 +13,13 @@ use Rattle.k_tree.specs.Spelling.{spell_init, spell_initialised, spell_dims, spe
 use Rattle.k_reader.specs.Operators.{is_equal, is_bracket, binding, is_spec_word}
 use Rattle.k_reader.specs.Level.{plus}
 use Rattle.k_reader.specs.Stars.{no_stars, all_stars, star, constant}
-use Rattle.k_reader.specs.declared.stars.Stars.{Stars}
 use Rattle.k_reader.specs.Expressions.{begin}
 use Rattle.k_reader.specs.Readings.{read_maybe, is_fresh, closes}
 use Rattle.k_reader.specs.declared.reading.Closer.TheVariants as closer
 use Rattle.k_reader.specs.Initialisers as inits
 use Rattle.k_reader.specs.Declarations.{mark_before, feed_declaration, declaration_at, declares, front_of, begin_declaration, before, word, name, named, end, size, size_by, after}
-use Rattle.k_reader.specs.declared.declaration.Front.{Front}
 use Rattle.k_reader.specs.declared.declaration.DeclarationStage.TheVariants as stage
-use Rattle.k_reader.specs.declared.declaration.Declaration.{Declaration}
 use Rattle.k_reader.specs.declared.declaration.Declared.TheVariants as declared_
-use Rattle.k_reader.specs.declared.expression.Reading.{Reading}
 use Rattle.k_reader.proofs.CompleteLeads.{token_at, Leads, leads-then, leads-more}
 use Rattle.k_reader.proofs.CompleteHolds.{Feeds, Below, below_by}
 use Rattle.k_reader.proofs.CompleteSteps.{bind}

@@ -1,10 +1,8 @@
 -- What a mark of its own ends: parentheses, an index, a postfix operator; and the conditional operator.
 use Rattle.std.proofs.Common.{ℕ, ◌≡◌, ◌+◌, ◌<◌, ◌≤◌, max, Bool, true, false, cond, IsTrue, ◌∷◌, ◌++◌, length, Some, sym, ap, ◌∙◌, refl, arith}
-use Rattle.k_num.specs.declared.place.Place.{Place}
+use Rattle.k_reader.specs.Types.{Place, Mark, Expr, Term, Open, Site, Reading}
 use Rattle.k_tree.specs.declared.tokens.TokenKind.TheVariants as token
-use Rattle.k_tree.specs.declared.tokens.mark.Mark.{Mark}
 use Rattle.k_tree.specs.declared.tokens.mark.Mark.TheVariants as mark
-use Rattle.k_tree.specs.declared.tree.expression.Expr.{Expr}
 use Rattle.k_tree.specs.declared.tree.expression.Expr.TheVariants as expr
 use Rattle.k_tree.specs.Bare.{bare_expr, bare_expr_step, nowhere}
 use Rattle.k_tree.specs.Folds.{expr_Cond, expr_Index, expr_Paren, expr_Post}
@@ -15,12 +13,8 @@ use Rattle.k_reader.specs.Operators.{is_question, is_bracket, binding, is_step_m
 use Rattle.k_reader.specs.Level.{plus, above}
 use Rattle.k_reader.specs.Top.{top}
 use Rattle.k_reader.specs.Expressions.{then_ends, paren_ends, index_ends, feed, hole, plug, Opens, goes, level, enclose, enclosed, indexed, posted, conditional, take_operator, is_sizeof_open, operator_opens}
-use Rattle.k_reader.specs.declared.expression.Term.{Term}
-use Rattle.k_reader.specs.declared.expression.Open.{Open}
 use Rattle.k_reader.specs.declared.expression.Open.TheVariants as open_
 use Rattle.k_reader.specs.declared.expression.ExpressionStage.TheVariants as now
-use Rattle.k_reader.specs.declared.expression.Site.{Site}
-use Rattle.k_reader.specs.declared.expression.Reading.{Reading}
 use Rattle.k_reader.specs.declared.expression.plug.Plugged.TheVariants as plugged
 use Rattle.k_reader.proofs.CompleteLeads.{token_at, leads-then, leads-more}
 use Rattle.k_reader.proofs.CompleteHolds.{Feeds, reading, awaits, kept, Below, Holds, Guards, Reads, parted, taken, taken_by, below_by, below_none}

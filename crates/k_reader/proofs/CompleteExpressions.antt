@@ -1,14 +1,11 @@
 -- Each ranked expression is read as itself, up to places, wherever its rank serves; so its spelling tells it.
 use Rattle.std.proofs.Common.{ℕ, ◌≡◌, ◌+◌, ◌≤◌, List, [], length, ◌∙◌, refl, arith}
-use Rattle.k_tree.specs.declared.tokens.Token.{Token}
-use Rattle.k_tree.specs.declared.tree.expression.Expr.{Expr}
+use Rattle.k_reader.specs.Types.{Token, Expr, Site, Reading}
 use Rattle.k_tree.specs.Bare.{bare_expr}
 use Rattle.k_tree.specs.Nesting.{expr_depth}
 use Rattle.k_tree.specs.Ranked.{Ranked, RankedArgs, no_args, more_args, comma, assignment, conditional, binary, cast, unary, prefix, sizeof_expr, sizeof_type, index, postfix, call, name, number, character, string, paren}
 use Rattle.k_tree.specs.Spelling.{spell_expr}
 use Rattle.k_reader.specs.Expressions.{feed, begin, hole}
-use Rattle.k_reader.specs.declared.expression.Site.{Site}
-use Rattle.k_reader.specs.declared.expression.Reading.{Reading}
 use Rattle.k_reader.specs.declared.expression.Fed.TheVariants as fed
 use Rattle.k_reader.proofs.CompleteLeads.{Leads, leads-more}
 use Rattle.k_reader.proofs.CompleteHolds.{Feeds, awaits, Below, Holds, Reads, ended}

@@ -1,24 +1,14 @@
 -- A value that is read, around which constructs may still be open: what the next token does there.
 use Rattle.std.proofs.Common.{ℕ, ◌≡◌, ◌+◌, ◌-◌, ◌^◌, ◌<◌, ◌≤◌, min, true, false, cond, ◌&&◌, nat_le, [], ◌∷◌, length, Some, None, ap, ◌∙◌, arith, le-leb}
 use Rattle.std.proofs.lemmas.Bool.{lt-leb}
-use Rattle.k_num.specs.declared.place.Place.{Place}
-use Rattle.k_tree.specs.declared.tokens.Token.{Token}
-use Rattle.k_tree.specs.declared.tokens.TokenKind.{TokenKind}
+use Rattle.k_reader.specs.Types.{Place, Token, TokenKind, Mark, Expr, Binding, Term, Open, ExpressionStage, Site, Reading}
 use Rattle.k_tree.specs.declared.tokens.TokenKind.TheVariants as token
-use Rattle.k_tree.specs.declared.tokens.mark.Mark.{Mark}
-use Rattle.k_tree.specs.declared.tree.expression.Expr.{Expr}
 use Rattle.k_tree.specs.Bare.{bare_expr}
 use Rattle.k_tree.specs.Nesting.{expr_depth}
 use Rattle.k_tree.specs.Spelling.{spell_expr}
 use Rattle.k_reader.specs.Operators.{binding, takes, takes_by}
-use Rattle.k_reader.specs.declared.operators.Binding.{Binding}
 use Rattle.k_reader.specs.Expressions.{feed, value, hole, plug, Opens, takes_token, is_left_paren, take_operator, enclose_by, closed_by, take_token}
-use Rattle.k_reader.specs.declared.expression.Term.{Term}
-use Rattle.k_reader.specs.declared.expression.Open.{Open}
-use Rattle.k_reader.specs.declared.expression.ExpressionStage.{ExpressionStage}
 use Rattle.k_reader.specs.declared.expression.ExpressionStage.TheVariants as now
-use Rattle.k_reader.specs.declared.expression.Site.{Site}
-use Rattle.k_reader.specs.declared.expression.Reading.{Reading}
 use Rattle.k_reader.specs.declared.expression.Fed.TheVariants as fed
 use Rattle.k_reader.specs.declared.expression.plug.Plugged.TheVariants as plugged
 use Rattle.k_reader.proofs.CompleteLeads.{token_at, Moves, Leads}

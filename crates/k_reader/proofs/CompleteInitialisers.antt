@@ -2,15 +2,10 @@
 use Rattle.std.proofs.Common.{ℕ, ◌≡◌, ◌+◌, ◌<◌, ◌≤◌, max, Bool, true, false, cond, nat_eq, List, [], ◌∷◌, ◌++◌, map, length, Some, None, sym, ap, ◌∙◌, subst, refl, arith, append_assoc}
 use Rattle.std.proofs.lemmas.Bool.{ne_eqb}
 use Rattle.std.proofs.lemmas.List.{map-append}
-use Rattle.k_num.specs.declared.place.Place.{Place}
-use Rattle.k_tree.specs.declared.tokens.Token.{Token}
-use Rattle.k_tree.specs.declared.tokens.TokenKind.{TokenKind}
+use Rattle.k_reader.specs.Types.{Place, Token, TokenKind, Expr, Init, Declarator, Brace, Opened, Front, Declaration, Reading}
 use Rattle.k_tree.specs.declared.tokens.TokenKind.TheVariants as token
 use Rattle.k_tree.specs.declared.tokens.mark.Mark.TheVariants as mark
-use Rattle.k_tree.specs.declared.tree.expression.Expr.{Expr}
-use Rattle.k_tree.specs.declared.tree.declaration.Init.{Init}
 use Rattle.k_tree.specs.declared.tree.declaration.Init.TheVariants as init
-use Rattle.k_tree.specs.declared.tree.declaration.Declarator.{Declarator}
 use Rattle.k_tree.specs.Bare.{bare_init, bare_init_step, nowhere}
 use Rattle.k_tree.specs.Begins.{Begins, begins_expr}
 use Rattle.k_tree.specs.Folds.{init_One, init_List}
@@ -23,13 +18,8 @@ use Rattle.k_reader.specs.Level.{plus}
 use Rattle.k_reader.specs.Expressions.{feed, begin}
 use Rattle.k_reader.specs.Initialisers as inits
 use Rattle.k_reader.specs.Declarations.{mark_starts, feed_declaration, declaration_at, starts, kind_starts, first_token, first_by, value, value_by, after, brace, last_comma, last_comma_by, inner_level}
-use Rattle.k_reader.specs.declared.declaration.initialiser.Brace.{Brace}
-use Rattle.k_reader.specs.declared.declaration.initialiser.Opened.{Opened}
-use Rattle.k_reader.specs.declared.declaration.Front.{Front}
 use Rattle.k_reader.specs.declared.declaration.DeclarationStage.TheVariants as stage
-use Rattle.k_reader.specs.declared.declaration.Declaration.{Declaration}
 use Rattle.k_reader.specs.declared.declaration.Declared.TheVariants as declared_
-use Rattle.k_reader.specs.declared.expression.Reading.{Reading}
 use Rattle.k_reader.specs.declared.expression.Fed.TheVariants as fed
 use Rattle.k_reader.proofs.CompleteLeads.{token_at, Moves, Step, Leads, leads-then, leads-in}
 use Rattle.k_reader.proofs.CompleteHolds.{Feeds, Below, below_by, below_none}

@@ -2,17 +2,9 @@
 use Rattle.std.proofs.Common.{ℕ, ◌≡◌, ◌+◌, ◌≤◌, Bool, true, false, cond, ◌&&◌, IsTrue, List, [], ◌∷◌, ◌++◌, map, sym, ap, ◌∙◌, subst, refl, arith, append_assoc, ⊎_elim}
 use Rattle.std.proofs.lemmas.Bool.{and_parts, cases_Bool}
 use Rattle.std.proofs.lemmas.List.Elements.{All-head}
-use Rattle.k_num.specs.declared.place.Place.{Place}
-use Rattle.k_tree.specs.declared.tokens.Token.{Token}
-use Rattle.k_tree.specs.declared.tokens.TokenKind.{TokenKind}
+use Rattle.k_reader.specs.Types.{Place, Token, TokenKind, Word, Declarator, Params, Stmt, Head, Item, Front, DeclarationStage, Declaration, Declared, Parameters, Body, Title, SourceStage, Source}
 use Rattle.k_tree.specs.declared.tokens.TokenKind.TheVariants as token
 use Rattle.k_tree.specs.declared.tokens.mark.Mark.TheVariants as mark
-use Rattle.k_tree.specs.declared.tokens.word.Word.{Word}
-use Rattle.k_tree.specs.declared.tree.declaration.Declarator.{Declarator}
-use Rattle.k_tree.specs.declared.tree.declaration.Params.{Params}
-use Rattle.k_tree.specs.declared.tree.statement.Stmt.{Stmt}
-use Rattle.k_tree.specs.declared.tree.unit.Head.{Head}
-use Rattle.k_tree.specs.declared.tree.unit.Item.{Item}
 use Rattle.k_tree.specs.declared.tree.unit.Item.TheVariants as item
 use Rattle.k_tree.specs.Bare.{bare_head, bare_stmt, bare_item, nowhere}
 use Rattle.k_tree.specs.Nesting.{declarators_depth, params_depth, stmt_depth, item_depth, deepest}
@@ -25,19 +17,10 @@ use Rattle.k_reader.specs.Stars.{no_stars}
 use Rattle.k_reader.specs.Parameters.{begin_parameters}
 use Rattle.k_reader.specs.Statements.{mark_begins, feed_body, begin_body, begins, block_ends, is_in_block, behind}
 use Rattle.k_reader.specs.Sources.{mark_headed, feed_source, goes_on, starts, declares, declares_by, titled, titled_by, is_titled, parameters, parameters_by, headed, in_body, body_by}
-use Rattle.k_reader.specs.declared.declaration.Front.{Front}
-use Rattle.k_reader.specs.declared.declaration.DeclarationStage.{DeclarationStage}
 use Rattle.k_reader.specs.declared.declaration.DeclarationStage.TheVariants as stage
-use Rattle.k_reader.specs.declared.declaration.Declaration.{Declaration}
-use Rattle.k_reader.specs.declared.declaration.Declared.{Declared}
 use Rattle.k_reader.specs.declared.declaration.Declared.TheVariants as declared_
-use Rattle.k_reader.specs.declared.parameter.Parameters.{Parameters}
-use Rattle.k_reader.specs.declared.statement.Body.{Body}
 use Rattle.k_reader.specs.declared.statement.Stepped.TheVariants as stepped
-use Rattle.k_reader.specs.declared.source.Title.{Title}
-use Rattle.k_reader.specs.declared.source.SourceStage.{SourceStage}
 use Rattle.k_reader.specs.declared.source.SourceStage.TheVariants as phase
-use Rattle.k_reader.specs.declared.source.Source.{Source}
 use Rattle.k_reader.specs.declared.source.Sourced.TheVariants as sourced
 use Rattle.k_reader.proofs.CompleteLeads.{token_at, Moves, Leads, leads-then, leads-in}
 use Rattle.k_reader.proofs.CompleteInitialisers.{Declares}

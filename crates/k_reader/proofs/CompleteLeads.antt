@@ -1,8 +1,6 @@
 -- Tokens that lead a machine from one state to another, none of which is refused, and none of which reaches too deep.
 use Rattle.std.proofs.Common.{ℕ, ◌≡◌, ◌<◌, ◌≤◌, List, [], ◌∷◌, ◌++◌, sym, subst, arith}
-use Rattle.k_num.specs.declared.place.Place.{Place}
-use Rattle.k_tree.specs.declared.tokens.Token.{Token}
-use Rattle.k_tree.specs.declared.tokens.TokenKind.{TokenKind}
+use Rattle.k_reader.specs.Types.{Place, Token, TokenKind}
 use Rattle.k_tree.specs.Spelling.{Spelled}
 
 abbrev pub token_at : Place → TokenKind → Token

@@ -1,12 +1,9 @@
 -- Operands of one token, and operators: each is read where its operands are.
 use Rattle.std.proofs.Common.{ℕ, zero, suc, ℤ, ◌≡◌, ◌+◌, ◌≤◌, max, false, cond, IsTrue, List, [], ◌∷◌, ◌++◌, length, Some, sym, ap, ◌∙◌, subst₂, refl, arith}
 use Rattle.k_num.specs.declared.numbers.Kind.{Kind}
-use Rattle.k_num.specs.declared.place.Place.{Place}
-use Rattle.k_tree.specs.declared.tokens.Token.{Token}
+use Rattle.k_reader.specs.Types.{Place, Token, Mark, Expr, Binding, Term, Open, Site, Reading}
 use Rattle.k_tree.specs.declared.tokens.TokenKind.TheVariants as token
-use Rattle.k_tree.specs.declared.tokens.mark.Mark.{Mark}
 use Rattle.k_tree.specs.declared.tokens.mark.Mark.TheVariants as mark
-use Rattle.k_tree.specs.declared.tree.expression.Expr.{Expr}
 use Rattle.k_tree.specs.declared.tree.expression.Expr.TheVariants as expr
 use Rattle.k_tree.specs.Bare.{bare_expr, bare_expr_step, nowhere}
 use Rattle.k_tree.specs.Folds.{expr_Assign, expr_Binary, expr_Char, expr_Comma, expr_Name, expr_Number, expr_Str}
@@ -14,15 +11,10 @@ use Rattle.k_tree.specs.Nesting.{expr_depth, expr_depth_step}
 use Rattle.k_tree.specs.Ranked.{binary_rank, is_assignment}
 use Rattle.k_tree.specs.Spelling.{Spelled, spell_expr, spell_expr_step, the_mark}
 use Rattle.k_reader.specs.Operators.{binding, own_rank}
-use Rattle.k_reader.specs.declared.operators.Binding.{Binding}
 use Rattle.k_reader.specs.Level.{plus}
 use Rattle.k_reader.specs.Expressions.{feed, operand, named, value, hole, plug, Opens, goes, level, leaf, term, is_left_paren, infix_made, infix_tree}
-use Rattle.k_reader.specs.declared.expression.Term.{Term}
-use Rattle.k_reader.specs.declared.expression.Open.{Open}
 use Rattle.k_reader.specs.declared.expression.Open.TheVariants as open_
 use Rattle.k_reader.specs.declared.expression.ExpressionStage.TheVariants as now
-use Rattle.k_reader.specs.declared.expression.Site.{Site}
-use Rattle.k_reader.specs.declared.expression.Reading.{Reading}
 use Rattle.k_reader.specs.declared.expression.plug.Plugged.TheVariants as plugged
 use Rattle.k_reader.proofs.CompleteLeads.{token_at, Leads, Step, leads-then, leads-more}
 use Rattle.k_reader.proofs.CompleteHolds.{Feeds, reading, awaits, kept, Holds, Guards, Reads, closed, taken, taken_by, below_by}

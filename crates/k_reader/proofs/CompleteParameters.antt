@@ -3,15 +3,10 @@ use Rattle.std.proofs.Common.{ℕ, ◌≡◌, ◌+◌, ◌≤◌, Bool, true, fa
 use Rattle.std.proofs.lemmas.Bool.{and_parts, eqb-true, ne_eqb, false_from_ne_true}
 use Rattle.std.proofs.lemmas.List.{map-append, length-map}
 use Rattle.std.proofs.lemmas.List.Elements.{All-head, All-tail, All-nil}
-use Rattle.k_num.specs.declared.place.Place.{Place}
-use Rattle.k_tree.specs.declared.tokens.Token.{Token}
+use Rattle.k_reader.specs.Types.{Place, Token, Word, Expr, Param, Params, Stars, ParameterStage, Parameters, Reading}
 use Rattle.k_tree.specs.declared.tokens.TokenKind.TheVariants as token
 use Rattle.k_tree.specs.declared.tokens.mark.Mark.TheVariants as mark
-use Rattle.k_tree.specs.declared.tokens.word.Word.{Word}
 use Rattle.k_tree.specs.declared.tokens.word.Word.TheVariants as word_
-use Rattle.k_tree.specs.declared.tree.expression.Expr.{Expr}
-use Rattle.k_tree.specs.declared.tree.declaration.Param.{Param}
-use Rattle.k_tree.specs.declared.tree.declaration.Params.{Params}
 use Rattle.k_tree.specs.declared.tree.declaration.Params.TheVariants as params
 use Rattle.k_tree.specs.Bare.{bare_expr, bare_dims, bare_param, bare_params, where_given, nowhere}
 use Rattle.k_tree.specs.Nesting.{dims_depth, param_depth, params_depth, deepest}
@@ -19,16 +14,12 @@ use Rattle.k_tree.specs.Ranked.{Specs, RankedDims, RankedParam, RankedParams, Is
 use Rattle.k_tree.specs.Spelling.{spell_dims, spell_stars, spell_specs, spell_optional_name, spell_param, spell_params, behind_commas}
 use Rattle.k_reader.specs.Operators.{is_star, is_bracket, is_spec_word}
 use Rattle.k_reader.specs.Stars.{no_stars, all_stars, star, constant}
-use Rattle.k_reader.specs.declared.stars.Stars.{Stars}
 use Rattle.k_reader.specs.Expressions.{begin}
 use Rattle.k_reader.specs.Readings.{read_maybe, is_fresh, closes}
 use Rattle.k_reader.specs.declared.reading.Closer.TheVariants as closer
 use Rattle.k_reader.specs.Parameters.{mark_typed, mark_first, feed_parameters, begin_parameters, follows, first_token, starts, none, typed, word, name, named, end, size, size_by, is_void, is_void_list, is_void_alone}
-use Rattle.k_reader.specs.declared.parameter.ParameterStage.{ParameterStage}
 use Rattle.k_reader.specs.declared.parameter.ParameterStage.TheVariants as part_
-use Rattle.k_reader.specs.declared.parameter.Parameters.{Parameters}
 use Rattle.k_reader.specs.declared.parameter.Parametric.TheVariants as parametric
-use Rattle.k_reader.specs.declared.expression.Reading.{Reading}
 use Rattle.k_reader.proofs.CompleteLeads.{token_at, Moves, Leads, leads-then, leads-more}
 use Rattle.k_reader.proofs.CompleteHolds.{Feeds}
 use Rattle.k_reader.proofs.CompleteExpressions.{Whole}

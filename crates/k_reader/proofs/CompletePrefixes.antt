@@ -1,13 +1,10 @@
 -- Operators before an operand, and `sizeof` of an expression.
 use Rattle.std.proofs.Common.{ℕ, ◌≡◌, ◌+◌, ◌<◌, ◌≤◌, true, false, cond, IsTrue, ◌∷◌, length, sym, ap, ◌∙◌, subst, refl, arith}
 use Rattle.std.proofs.lemmas.Bool.{or_left, or_right}
-use Rattle.k_num.specs.declared.place.Place.{Place}
-use Rattle.k_tree.specs.declared.tokens.TokenKind.{TokenKind}
+use Rattle.k_reader.specs.Types.{Place, TokenKind, Mark, Expr, Term, Open, Site}
 use Rattle.k_tree.specs.declared.tokens.TokenKind.TheVariants as token
-use Rattle.k_tree.specs.declared.tokens.mark.Mark.{Mark}
 use Rattle.k_tree.specs.declared.tokens.mark.Mark.TheVariants as mark
 use Rattle.k_tree.specs.declared.tokens.word.Word.TheVariants as word
-use Rattle.k_tree.specs.declared.tree.expression.Expr.{Expr}
 use Rattle.k_tree.specs.declared.tree.expression.Expr.TheVariants as expr
 use Rattle.k_tree.specs.Bare.{bare_expr, bare_expr_step, nowhere}
 use Rattle.k_tree.specs.Folds.{expr_Pre, expr_SizeofExpr, expr_Unary}
@@ -17,10 +14,7 @@ use Rattle.k_tree.specs.Spelling.{Spelled, spell_expr, spell_expr_step}
 use Rattle.k_reader.specs.Operators.{is_step_mark, is_prefix_mark}
 use Rattle.k_reader.specs.Level.{plus, above}
 use Rattle.k_reader.specs.Expressions.{hole, plug, Opens, level, term, prefix_rank, prefixed}
-use Rattle.k_reader.specs.declared.expression.Term.{Term}
-use Rattle.k_reader.specs.declared.expression.Open.{Open}
 use Rattle.k_reader.specs.declared.expression.Open.TheVariants as open_
-use Rattle.k_reader.specs.declared.expression.Site.{Site}
 use Rattle.k_reader.specs.declared.expression.plug.Plugged.TheVariants as plugged
 use Rattle.k_reader.proofs.CompleteLeads.{token_at, Leads, Step, leads-more}
 use Rattle.k_reader.proofs.CompleteHolds.{Feeds, awaits, kept, Holds, Guards, Reads}

@@ -2,25 +2,16 @@
 use Rattle.std.proofs.Common.{ℕ, ◌≡◌, true, false, cond, ◌&&◌, [], ◌∷◌, length, Some, None, sym, ap, ◌∙◌, refl, arith}
 use Rattle.std.proofs.lemmas.Bool.{and_parts, eqb-true, cases_Bool}
 use Rattle.std.proofs.Common.{⊎_elim}
-use Rattle.k_num.specs.declared.place.Place.{Place}
-use Rattle.k_tree.specs.declared.tokens.Token.{Token}
-use Rattle.k_tree.specs.declared.tokens.TokenKind.{TokenKind}
+use Rattle.k_reader.specs.Types.{Place, Token, TokenKind, Mark, Expr, ExpressionStage, Site, Reading, Fed, Closer}
 use Rattle.k_tree.specs.declared.tokens.TokenKind.TheVariants as token
-use Rattle.k_tree.specs.declared.tokens.mark.Mark.{Mark}
 use Rattle.k_tree.specs.declared.tokens.mark.Mark.TheVariants as mark
-use Rattle.k_tree.specs.declared.tree.expression.Expr.{Expr}
 use Rattle.k_reader.specs.Operators.{is_open, is_close, binding, is_prefix_mark}
 use Rattle.k_reader.specs.Expressions.{feed, operand, mark_operand, no_arguments, Opens}
 use Rattle.k_reader.specs.Readings.{read_needed, read_maybe, read_by, maybe_by, is_fresh, closes, mark_closes, kind_closes}
-use Rattle.k_reader.specs.declared.expression.ExpressionStage.{ExpressionStage}
 use Rattle.k_reader.specs.declared.expression.ExpressionStage.TheVariants as now
-use Rattle.k_reader.specs.declared.expression.Site.{Site}
-use Rattle.k_reader.specs.declared.expression.Reading.{Reading}
-use Rattle.k_reader.specs.declared.expression.Fed.{Fed}
 use Rattle.k_reader.specs.declared.expression.Fed.TheVariants as fed
 use Rattle.k_reader.specs.declared.reading.Read.TheVariants as read_
 use Rattle.k_reader.specs.declared.reading.Maybe.TheVariants as maybe_
-use Rattle.k_reader.specs.declared.reading.Closer.{Closer}
 use Rattle.k_reader.specs.declared.reading.Closer.TheVariants as closer
 use Rattle.k_reader.proofs.CompleteLeads.{token_at}
 use Rattle.k_reader.proofs.CompleteHolds.{Feeds, reading, awaits, Below, below_none}

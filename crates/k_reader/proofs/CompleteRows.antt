@@ -1,21 +1,16 @@
 -- Specifiers, stars and dimensions, one behind another, in any machine that reads them.
 use Rattle.std.proofs.Common.{ℕ, ◌≡◌, ◌+◌, ◌≤◌, Bool, true, false, IsTrue, All, List, [], ◌∷◌, ◌++◌, Option, Some, None, sym, ap, ◌∙◌, subst, refl, arith, append_assoc, append-nil}
 use Rattle.std.proofs.lemmas.List.Elements.{All-head, All-tail}
-use Rattle.k_tree.specs.declared.tokens.Token.{Token}
-use Rattle.k_num.specs.declared.place.Place.{Place}
+use Rattle.k_reader.specs.Types.{Token, Place, Word, Expr, Stars, Reading}
 use Rattle.k_tree.specs.declared.tokens.TokenKind.TheVariants as token
 use Rattle.k_tree.specs.declared.tokens.mark.Mark.TheVariants as mark
-use Rattle.k_tree.specs.declared.tokens.word.Word.{Word}
 use Rattle.k_tree.specs.declared.tokens.word.Word.TheVariants as word
-use Rattle.k_tree.specs.declared.tree.expression.Expr.{Expr}
 use Rattle.k_tree.specs.Bare.{bare_expr, bare_dims, where_given}
 use Rattle.k_tree.specs.Nesting.{expr_depth, dims_depth}
 use Rattle.k_tree.specs.Ranked.{Ranked, IfGiven, RankedDims, is_spec}
 use Rattle.k_tree.specs.Spelling.{spell_expr, spell_specs, spell_stars, spell_dims, the_mark}
 use Rattle.k_reader.specs.Stars.{all_stars, star, constant}
-use Rattle.k_reader.specs.declared.stars.Stars.{Stars}
 use Rattle.k_reader.specs.Expressions.{begin}
-use Rattle.k_reader.specs.declared.expression.Reading.{Reading}
 use Rattle.k_reader.proofs.CompleteLeads.{token_at, Moves, Leads, leads-then, leads-more, leads-in}
 use Rattle.k_reader.proofs.CompleteHolds.{Feeds}
 use Rattle.k_reader.proofs.CompleteExpressions.{Whole, whole}

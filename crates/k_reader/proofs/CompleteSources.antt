@@ -2,19 +2,14 @@
 use Rattle.std.proofs.Common.{ℕ, ◌≡◌, ◌+◌, ◌≤◌, All, List, [], ◌∷◌, ◌++◌, map, sym, ap, ◌∙◌, subst, refl, arith, append_assoc, append-nil}
 use Rattle.std.proofs.lemmas.List.{map-append}
 use Rattle.std.proofs.lemmas.List.Elements.{All-head, All-tail}
-use Rattle.k_num.specs.declared.place.Place.{Place}
-use Rattle.k_tree.specs.declared.tokens.Token.{Token}
-use Rattle.k_tree.specs.declared.tokens.TokenKind.{TokenKind}
+use Rattle.k_reader.specs.Types.{Place, Token, TokenKind, Item, Source, Sourced}
 use Rattle.k_tree.specs.declared.tokens.TokenKind.TheVariants as token
-use Rattle.k_tree.specs.declared.tree.unit.Item.{Item}
 use Rattle.k_tree.specs.declared.tree.unit.Unit as source
 use Rattle.k_tree.specs.Bare.{bare, bare_item, nowhere}
 use Rattle.k_tree.specs.Nesting.{item_depth, nesting, deepest}
 use Rattle.k_tree.specs.Ranked.{RankedItem, RankedUnit}
 use Rattle.k_tree.specs.Spelling.{Spelled, spell_item, spelling, in_row}
 use Rattle.k_reader.specs.Sources.{feed_source, begin_source, starts}
-use Rattle.k_reader.specs.declared.source.Source.{Source}
-use Rattle.k_reader.specs.declared.source.Sourced.{Sourced}
 use Rattle.k_reader.specs.declared.source.Sourced.TheVariants as sourced
 use Rattle.k_reader.proofs.CompleteLeads.{token_at, Leads, leads-then, leads-once}
 use Rattle.k_reader.proofs.CompleteItems.{Sources, starts_at, ItemRead, item_complete}

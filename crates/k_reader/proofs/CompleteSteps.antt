@@ -1,21 +1,17 @@
 -- What one token does, construct by construct.
 use Rattle.std.proofs.Common.{ℕ, ◌≡◌, ◌+◌, ◌≤◌, max, Bool, true, false, cond, ◌&&◌, nat_le, IsTrue, ◌∷◌, length, Option, Some, None, sym, ap, ◌∙◌, refl, arith}
 use Rattle.std.proofs.lemmas.Bool.{and_parts, leb-true, cond-true}
-use Rattle.k_num.specs.declared.place.Place.{Place}
+use Rattle.k_reader.specs.Types.{Place, Mark, Binding, Term, Site}
 use Rattle.k_tree.specs.declared.tokens.TokenKind.TheVariants as token
-use Rattle.k_tree.specs.declared.tokens.mark.Mark.{Mark}
 use Rattle.k_tree.specs.declared.tokens.mark.Mark.TheVariants as mark
 use Rattle.k_tree.specs.declared.tokens.word.Word.TheVariants as word
 use Rattle.k_tree.specs.Ranked.{binary_rank, is_assignment, is_step}
 use Rattle.k_reader.specs.Operators.{is_question, is_open, is_close, is_bracket, binding, binding_by, other_binding, own_rank, own_of, right_rank, right_of, is_step_mark, is_prefix_mark}
-use Rattle.k_reader.specs.declared.operators.Binding.{Binding}
 use Rattle.k_reader.specs.Level.{plus, above}
 use Rattle.k_reader.specs.Top.{top}
 use Rattle.k_reader.specs.Expressions.{feed, operand, opened, mark_operand, prefix_operator, word_operand, hole, plug, Opens, goes, level, is_left_paren, take_operator, operator_opens, is_sizeof_open, posted, infix_made}
-use Rattle.k_reader.specs.declared.expression.Term.{Term}
 use Rattle.k_reader.specs.declared.expression.Open.TheVariants as open_
 use Rattle.k_reader.specs.declared.expression.ExpressionStage.TheVariants as now
-use Rattle.k_reader.specs.declared.expression.Site.{Site}
 use Rattle.k_reader.specs.declared.expression.Fed.TheVariants as fed
 use Rattle.k_reader.specs.declared.expression.plug.Plugged.TheVariants as plugged
 use Rattle.k_reader.proofs.CompleteLeads.{token_at}

@@ -1,16 +1,11 @@
 -- `switch`, with the parts of its braces.
 use Rattle.std.proofs.Common.{ℕ, ◌≡◌, ◌≢◌, ◌+◌, ◌≤◌, max, true, false, List, [], ◌∷◌, ◌++◌, map, length, sym, ap, ◌∙◌, subst, refl, arith, append_assoc, append-nil}
 use Rattle.std.proofs.lemmas.List.{map-append}
-use Rattle.k_num.specs.declared.place.Place.{Place}
-use Rattle.k_tree.specs.declared.tokens.Token.{Token}
-use Rattle.k_tree.specs.declared.tokens.TokenKind.{TokenKind}
+use Rattle.k_reader.specs.Types.{Place, Token, TokenKind, Expr, Stmt, Part, Reading, Body}
 use Rattle.k_tree.specs.declared.tokens.TokenKind.TheVariants as token
 use Rattle.k_tree.specs.declared.tokens.mark.Mark.TheVariants as mark
 use Rattle.k_tree.specs.declared.tokens.word.Word.TheVariants as word
-use Rattle.k_tree.specs.declared.tree.expression.Expr.{Expr}
-use Rattle.k_tree.specs.declared.tree.statement.Stmt.{Stmt}
 use Rattle.k_tree.specs.declared.tree.statement.Stmt.TheVariants as stmt
-use Rattle.k_tree.specs.declared.tree.statement.Part.{Part}
 use Rattle.k_tree.specs.declared.tree.statement.Part.TheVariants as part_
 use Rattle.k_tree.specs.Bare.{bare_expr, bare_part, bare_part_step, bare_stmt_step, nowhere}
 use Rattle.k_tree.specs.Folds.{stmt_Switch, part_Case, part_Default, part_Does}
@@ -23,11 +18,9 @@ use Rattle.k_reader.specs.Expressions.{begin}
 use Rattle.k_reader.specs.Readings.{closes}
 use Rattle.k_reader.specs.declared.reading.Closer.TheVariants as closer
 use Rattle.k_reader.specs.Statements.{mark_begins, jump, Parts, Frames, feed_body, begins, keyword, test_done, behind, close, part, more_switched, block_ends, case_begins, default_begins, is_in_switch, in_for, in_switch, braces, case_value, case_by, default_label, labelled, is_else, level, inner}
-use Rattle.k_reader.specs.declared.expression.Reading.{Reading}
 use Rattle.k_reader.specs.declared.statement.Frame.TheVariants as frame
 use Rattle.k_reader.specs.declared.statement.Tested.TheVariants as tested
 use Rattle.k_reader.specs.declared.statement.BlockStage.TheVariants as step
-use Rattle.k_reader.specs.declared.statement.Body.{Body}
 use Rattle.k_reader.specs.declared.statement.Stepped.TheVariants as stepped
 use Rattle.k_reader.proofs.CompleteLeads.{token_at, Leads, leads-then, leads-more, leads-in}
 use Rattle.k_reader.proofs.CompleteHolds.{Feeds}

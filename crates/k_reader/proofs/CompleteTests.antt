@@ -1,13 +1,9 @@
 -- `if`, `while` and `do`: statements with a test in parentheses.
 use Rattle.std.proofs.Common.{ℕ, ◌≡◌, ◌+◌, ◌≤◌, max, Bool, true, false, [], ◌∷◌, ◌++◌, length, Some, None, sym, ap, ◌∙◌, subst, refl, arith}
-use Rattle.k_num.specs.declared.place.Place.{Place}
-use Rattle.k_tree.specs.declared.tokens.Token.{Token}
+use Rattle.k_reader.specs.Types.{Place, Token, Expr, Stmt, Part, Reading, Tested, Body}
 use Rattle.k_tree.specs.declared.tokens.TokenKind.TheVariants as token
 use Rattle.k_tree.specs.declared.tokens.mark.Mark.TheVariants as mark
 use Rattle.k_tree.specs.declared.tokens.word.Word.TheVariants as word
-use Rattle.k_tree.specs.declared.tree.expression.Expr.{Expr}
-use Rattle.k_tree.specs.declared.tree.statement.Stmt.{Stmt}
-use Rattle.k_tree.specs.declared.tree.statement.Part.{Part}
 use Rattle.k_tree.specs.declared.tree.statement.Stmt.TheVariants as stmt
 use Rattle.k_tree.specs.Bare.{bare_expr, bare_stmt, bare_part_step, bare_stmt_step, nowhere}
 use Rattle.k_tree.specs.Folds.{if_alone, if_else, stmt_While, stmt_DoWhile}
@@ -19,12 +15,9 @@ use Rattle.k_reader.specs.Expressions.{begin}
 use Rattle.k_reader.specs.Readings.{closes}
 use Rattle.k_reader.specs.declared.reading.Closer.TheVariants as closer
 use Rattle.k_reader.specs.Statements.{mark_begins, jump, Parts, Frames, feed_body, begins, keyword, opened, test, test_by, test_done, behind, close, closed_by, part, do_while, is_else, inner}
-use Rattle.k_reader.specs.declared.expression.Reading.{Reading}
 use Rattle.k_reader.specs.declared.statement.Frame.TheVariants as frame
-use Rattle.k_reader.specs.declared.statement.Tested.{Tested}
 use Rattle.k_reader.specs.declared.statement.Tested.TheVariants as tested
 use Rattle.k_reader.specs.declared.statement.BlockStage.TheVariants as step
-use Rattle.k_reader.specs.declared.statement.Body.{Body}
 use Rattle.k_reader.specs.declared.statement.Stepped.TheVariants as stepped
 use Rattle.k_reader.proofs.CompleteLeads.{token_at, Leads, leads-then, leads-more, leads-in}
 use Rattle.k_reader.proofs.CompleteHolds.{Feeds}

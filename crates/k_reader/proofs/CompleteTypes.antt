@@ -1,12 +1,10 @@
 -- The name of a type in parentheses: a cast, and `sizeof` of a type.
 use Rattle.std.proofs.Common.{ℕ, ◌≡◌, ◌+◌, ◌≤◌, Bool, true, false, cond, ◌&&◌, nat_le, IsTrue, All, List, [], ◌∷◌, ◌++◌, length, sym, ap, ◌∙◌, subst, refl, arith, append_assoc, append-nil, le-leb}
 use Rattle.std.proofs.lemmas.List.Elements.{All-head, All-tail}
-use Rattle.k_num.specs.declared.place.Place.{Place}
+use Rattle.k_reader.specs.Types.{Place, Word, Expr, Stars, Term, Site, Reading}
 use Rattle.k_tree.specs.declared.tokens.TokenKind.TheVariants as token
 use Rattle.k_tree.specs.declared.tokens.mark.Mark.TheVariants as mark
-use Rattle.k_tree.specs.declared.tokens.word.Word.{Word}
 use Rattle.k_tree.specs.declared.tokens.word.Word.TheVariants as word
-use Rattle.k_tree.specs.declared.tree.expression.Expr.{Expr}
 use Rattle.k_tree.specs.declared.tree.expression.Expr.TheVariants as expr
 use Rattle.k_tree.specs.Bare.{bare_expr_step, nowhere}
 use Rattle.k_tree.specs.Folds.{expr_Cast, expr_SizeofType}
@@ -18,12 +16,8 @@ use Rattle.k_reader.specs.Level.{plus, above}
 use Rattle.k_reader.specs.Top.{top}
 use Rattle.k_reader.specs.Stars.{no_stars, all_stars, star, constant}
 use Rattle.k_reader.specs.Expressions.{mark_of_type, feed, operand, hole, plug, Opens, goes, level, term, word_operand, is_before_type, is_sizeof, is_sizeof_open, type_begun, in_type, word_of_type, close_type, close_over}
-use Rattle.k_reader.specs.declared.stars.Stars.{Stars}
-use Rattle.k_reader.specs.declared.expression.Term.{Term}
 use Rattle.k_reader.specs.declared.expression.Open.TheVariants as open_
 use Rattle.k_reader.specs.declared.expression.ExpressionStage.TheVariants as now
-use Rattle.k_reader.specs.declared.expression.Site.{Site}
-use Rattle.k_reader.specs.declared.expression.Reading.{Reading}
 use Rattle.k_reader.specs.declared.expression.Fed.TheVariants as fed
 use Rattle.k_reader.specs.declared.expression.plug.Plugged.TheVariants as plugged
 use Rattle.k_reader.proofs.CompleteLeads.{token_at, Leads, leads-then, leads-more}

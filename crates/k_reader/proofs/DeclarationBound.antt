@@ -1,34 +1,21 @@
 -- How far a token of a declaration reaches at most, where what was read is within a limit.
 use Rattle.std.proofs.Common.{ℕ, ◌≡◌, ◌≤◌, ◌+◌, Bool, true, false, ◌&&◌, cond, nat_eq, List, [], ◌∷◌, ◌++◌, length, Some, None, arith}
 use Rattle.std.proofs.lemmas.Bool.{cond_both}
-use Rattle.k_num.specs.declared.place.Place.{Place}
-use Rattle.k_tree.specs.declared.tokens.Token.{Token}
-use Rattle.k_tree.specs.declared.tokens.TokenKind.{TokenKind}
+use Rattle.k_reader.specs.Types.{Place, Token, TokenKind, Mark, Declarator, Stars, Fed, Maybe, Brace, Opened, Front, DeclarationStage, Declaration, Declared}
 use Rattle.k_tree.specs.declared.tokens.TokenKind.TheVariants as token
-use Rattle.k_tree.specs.declared.tokens.mark.Mark.{Mark}
 use Rattle.k_tree.specs.declared.tokens.mark.Mark.TheVariants as mark
 use Rattle.k_tree.specs.declared.tree.declaration.Init.TheVariants as init
-use Rattle.k_tree.specs.declared.tree.declaration.Declarator.{Declarator}
 use Rattle.k_reader.specs.Level.{plus}
 use Rattle.k_reader.specs.Operators.{is_spec_word, is_bracket, is_equal, is_left_brace, is_right_brace}
 use Rattle.k_reader.specs.Stars.{constant}
-use Rattle.k_reader.specs.declared.stars.Stars.{Stars}
 use Rattle.k_reader.specs.Expressions.{begin, feed, is_const}
-use Rattle.k_reader.specs.declared.expression.Fed.{Fed}
 use Rattle.k_reader.specs.declared.expression.Fed.TheVariants as fed
 use Rattle.k_reader.specs.Readings.{read_maybe}
 use Rattle.k_reader.specs.declared.reading.Closer.TheVariants as closer
-use Rattle.k_reader.specs.declared.reading.Maybe.{Maybe}
 use Rattle.k_reader.specs.declared.reading.Maybe.TheVariants as maybe
 use Rattle.k_reader.specs.Initialisers as inits
 use Rattle.k_reader.specs.Declarations as spec
-use Rattle.k_reader.specs.declared.declaration.initialiser.Brace.{Brace}
-use Rattle.k_reader.specs.declared.declaration.initialiser.Opened.{Opened}
-use Rattle.k_reader.specs.declared.declaration.Front.{Front}
-use Rattle.k_reader.specs.declared.declaration.DeclarationStage.{DeclarationStage}
 use Rattle.k_reader.specs.declared.declaration.DeclarationStage.TheVariants as stage
-use Rattle.k_reader.specs.declared.declaration.Declaration.{Declaration}
-use Rattle.k_reader.specs.declared.declaration.Declared.{Declared}
 use Rattle.k_reader.specs.declared.declaration.Declared.TheVariants as declared_
 use Rattle.k_reader.proofs.DeclarationReach.{begin_begun, StageReached}
 use Rattle.k_reader.proofs.DeclarationState.{OkFront, OkBraces, OkStage, OkDeclaration}

@@ -1,39 +1,22 @@
 -- The levels that the tokens of a declaration make sure are within the limit.
 use Rattle.std.proofs.Common.{ℕ, ◌≡◌, ◌≢◌, ◌≤◌, ◌+◌, Bool, true, false, ◌&&◌, cond, nat_eq, List, [], ◌∷◌, ◌++◌, length, Some, None, refl, arith}
 use Rattle.std.proofs.lemmas.Bool.{cond_both, true≢false}
-use Rattle.k_num.specs.declared.place.Place.{Place}
-use Rattle.k_tree.specs.declared.tokens.Token.{Token}
-use Rattle.k_tree.specs.declared.tokens.TokenKind.{TokenKind}
+use Rattle.k_reader.specs.Types.{Place, Token, TokenKind, Mark, Init, Declarator, Stars, Reading, Fed, Closer, Read, Maybe, Brace, Opened, Front, DeclarationStage, Declaration, Declared}
 use Rattle.k_tree.specs.declared.tokens.TokenKind.TheVariants as token
-use Rattle.k_tree.specs.declared.tokens.mark.Mark.{Mark}
 use Rattle.k_tree.specs.declared.tokens.mark.Mark.TheVariants as mark
-use Rattle.k_tree.specs.declared.tree.declaration.Init.{Init}
 use Rattle.k_tree.specs.declared.tree.declaration.Init.TheVariants as init
-use Rattle.k_tree.specs.declared.tree.declaration.Declarator.{Declarator}
 use Rattle.k_reader.specs.Level.{plus}
 use Rattle.k_reader.specs.Operators.{is_spec_word, is_bracket, is_equal, is_left_brace, is_right_brace}
 use Rattle.k_reader.specs.Stars.{constant}
-use Rattle.k_reader.specs.declared.stars.Stars.{Stars}
 use Rattle.k_reader.specs.Expressions.{begin, feed, is_const}
-use Rattle.k_reader.specs.declared.expression.Reading.{Reading}
-use Rattle.k_reader.specs.declared.expression.Fed.{Fed}
 use Rattle.k_reader.specs.declared.expression.Fed.TheVariants as fed
 use Rattle.k_reader.specs.Readings.{is_fresh, closes, read_by, read_needed, maybe_by, read_maybe}
-use Rattle.k_reader.specs.declared.reading.Closer.{Closer}
 use Rattle.k_reader.specs.declared.reading.Closer.TheVariants as closer
-use Rattle.k_reader.specs.declared.reading.Read.{Read}
 use Rattle.k_reader.specs.declared.reading.Read.TheVariants as read
-use Rattle.k_reader.specs.declared.reading.Maybe.{Maybe}
 use Rattle.k_reader.specs.declared.reading.Maybe.TheVariants as maybe
 use Rattle.k_reader.specs.Initialisers as inits
 use Rattle.k_reader.specs.Declarations as spec
-use Rattle.k_reader.specs.declared.declaration.initialiser.Brace.{Brace}
-use Rattle.k_reader.specs.declared.declaration.initialiser.Opened.{Opened}
-use Rattle.k_reader.specs.declared.declaration.Front.{Front}
-use Rattle.k_reader.specs.declared.declaration.DeclarationStage.{DeclarationStage}
 use Rattle.k_reader.specs.declared.declaration.DeclarationStage.TheVariants as stage
-use Rattle.k_reader.specs.declared.declaration.Declaration.{Declaration}
-use Rattle.k_reader.specs.declared.declaration.Declared.{Declared}
 use Rattle.k_reader.specs.declared.declaration.Declared.TheVariants as declared_
 use Rattle.k_reader.proofs.Commas.{not_none}
 use Rattle.k_reader.proofs.ExpressionState.{IsLimit}

@@ -4,17 +4,11 @@ use Rattle.std.specs.Prelude.{max}
 use Rattle.std.proofs.lemmas.Bool.{eqb-true, eqb-false}
 use Rattle.std.proofs.lemmas.List.{append-nil, map-append}
 use Rattle.std.proofs.lemmas.List.Elements.{All-nil, All-push}
-use Rattle.k_num.specs.declared.place.Place.{Place}
-use Rattle.k_tree.specs.declared.tokens.Token.{Token}
-use Rattle.k_tree.specs.declared.tokens.TokenKind.{TokenKind}
+use Rattle.k_reader.specs.Types.{Place, Token, TokenKind, Mark, Word, Expr, Declarator, Stars, Reading, Fed, Maybe, Brace, Front, DeclarationStage, Declaration, Declared}
 use Rattle.k_tree.specs.declared.tokens.TokenKind.TheVariants as token
-use Rattle.k_tree.specs.declared.tokens.mark.Mark.{Mark}
 use Rattle.k_tree.specs.declared.tokens.mark.Mark.TheVariants as mark
-use Rattle.k_tree.specs.declared.tokens.word.Word.{Word}
 use Rattle.k_tree.specs.declared.tokens.word.Word.TheVariants as word_
-use Rattle.k_tree.specs.declared.tree.expression.Expr.{Expr}
 use Rattle.k_tree.specs.declared.tree.declaration.Init.TheVariants as init
-use Rattle.k_tree.specs.declared.tree.declaration.Declarator.{Declarator}
 use Rattle.k_tree.specs.Folds.{init_One}
 use Rattle.k_tree.specs.Nesting.{expr_depth, option_depth, dims_depth, init_depth_step, initialised_depth, declarator_depth}
 use Rattle.k_tree.specs.Places.{Pieces, plain, at, lay_dim, lay_dims, lay_option, lay_expr, lay_init, lay_init_step, lay_initialised, lay_declarator, Stand}
@@ -25,23 +19,14 @@ use Rattle.k_reader.specs.Level.{plus}
 use Rattle.k_reader.specs.Operators.{is_spec_word, is_bracket, is_equal, is_left_brace, is_right_brace}
 use Rattle.k_reader.proofs.Marks.{is_bracket_mark, is_equal_mark, is_left_brace_mark, is_right_brace_mark}
 use Rattle.k_reader.specs.Stars.{all_stars, star, constant}
-use Rattle.k_reader.specs.declared.stars.Stars.{Stars}
 use Rattle.k_reader.specs.Expressions.{begin, feed, is_const}
-use Rattle.k_reader.specs.declared.expression.Reading.{Reading}
-use Rattle.k_reader.specs.declared.expression.Fed.{Fed}
 use Rattle.k_reader.specs.declared.expression.Fed.TheVariants as fed
 use Rattle.k_reader.specs.Readings.{read_maybe}
 use Rattle.k_reader.specs.declared.reading.Closer.TheVariants as closer
-use Rattle.k_reader.specs.declared.reading.Maybe.{Maybe}
 use Rattle.k_reader.specs.declared.reading.Maybe.TheVariants as maybe
 use Rattle.k_reader.specs.Initialisers as inits
-use Rattle.k_reader.specs.declared.declaration.initialiser.Brace.{Brace}
 use Rattle.k_reader.specs.Declarations as spec
-use Rattle.k_reader.specs.declared.declaration.Front.{Front}
-use Rattle.k_reader.specs.declared.declaration.DeclarationStage.{DeclarationStage}
 use Rattle.k_reader.specs.declared.declaration.DeclarationStage.TheVariants as stage
-use Rattle.k_reader.specs.declared.declaration.Declaration.{Declaration}
-use Rattle.k_reader.specs.declared.declaration.Declared.{Declared}
 use Rattle.k_reader.specs.declared.declaration.Declared.TheVariants as declared_
 use Rattle.k_reader.proofs.Commas.{comma, lay_each, each_push, with_last, not_none}
 use Rattle.k_reader.proofs.Rows.{row_push, deepest_more, StartsAt, starts-more, at_stands}

@@ -1,22 +1,15 @@
 -- What has been read of a declaration: its pieces, and what holds of them.
 use Rattle.std.proofs.Common.{ℕ, ◌≡◌, ◌≢◌, ◌+◌, ◌≤◌, List, [], ◌∷◌, ◌++◌, map, length, None}
 use Rattle.std.specs.Prelude.{All}
-use Rattle.k_tree.specs.declared.tokens.Token.{Token}
+use Rattle.k_reader.specs.Types.{Token, Word, Declarator, Brace, Front, DeclarationStage, Declaration, Declared}
 use Rattle.k_tree.specs.declared.tokens.mark.Mark.TheVariants as mark
-use Rattle.k_tree.specs.declared.tokens.word.Word.{Word}
-use Rattle.k_tree.specs.declared.tree.declaration.Declarator.{Declarator}
 use Rattle.k_tree.specs.Nesting.{deepest, dims_depth, init_depth, declarator_depth, declarators_depth}
 use Rattle.k_tree.specs.Places.{Pieces, plain, at, lay_dims, lay_init, lay_declarator, lay_declaration, lay_with_commas, Stand}
 use Rattle.k_tree.specs.Ranked.{Specs, RankedDims, RankedInits, RankedDeclarator, RankedDeclaration}
 use Rattle.k_tree.specs.Spelling.{the_mark, the_name, spell_specs, spell_stars}
 use Rattle.k_reader.specs.Stars.{all_stars}
 use Rattle.k_reader.specs.Level.{plus}
-use Rattle.k_reader.specs.declared.declaration.initialiser.Brace.{Brace}
-use Rattle.k_reader.specs.declared.declaration.Front.{Front}
-use Rattle.k_reader.specs.declared.declaration.DeclarationStage.{DeclarationStage}
 use Rattle.k_reader.specs.declared.declaration.DeclarationStage.TheVariants as stage
-use Rattle.k_reader.specs.declared.declaration.Declaration.{Declaration}
-use Rattle.k_reader.specs.declared.declaration.Declared.{Declared}
 use Rattle.k_reader.specs.declared.declaration.Declared.TheVariants as declared_
 use Rattle.k_reader.proofs.Commas.{lay_each}
 use Rattle.k_reader.proofs.ReadingSound.{At, site, Behind}

@@ -1,32 +1,21 @@
 -- Viable: a declaration that has been read so far can be ended within the limit.
 use Rattle.std.proofs.Common.{ℕ, suc, ◌≡◌, ◌≤◌, ◌+◌, true, false, nat_eq, List, [], ◌∷◌, ◌++◌, length, Some, None, sym, ap, subst, refl, arith}
 use Rattle.std.proofs.lemmas.Bool.{cond-false, ne_eqb}
-use Rattle.k_num.specs.declared.place.Place.{Place}
+use Rattle.k_reader.specs.Types.{Place, Token, Word, Init, Declarator, Stars, Site, Reading, Brace, Front, DeclarationStage, Declaration}
 use Rattle.k_tree.specs.Bare.{nowhere}
-use Rattle.k_tree.specs.declared.tokens.Token.{Token}
 use Rattle.k_tree.specs.declared.tokens.TokenKind.TheVariants as token
 use Rattle.k_tree.specs.declared.tokens.mark.Mark.TheVariants as mark
-use Rattle.k_tree.specs.declared.tokens.word.Word.{Word}
-use Rattle.k_tree.specs.declared.tree.declaration.Init.{Init}
 use Rattle.k_tree.specs.declared.tree.declaration.Init.TheVariants as init
-use Rattle.k_tree.specs.declared.tree.declaration.Declarator.{Declarator}
 use Rattle.k_reader.specs.Level.{plus}
 use Rattle.k_reader.specs.Operators.{binding, is_bracket, is_equal, is_left_brace, is_right_brace}
 use Rattle.k_reader.specs.Stars.{all_stars}
-use Rattle.k_reader.specs.declared.stars.Stars.{Stars}
 use Rattle.k_reader.specs.Expressions.{level, begin, operand, feed}
 use Rattle.k_reader.specs.declared.expression.ExpressionStage.TheVariants as now
-use Rattle.k_reader.specs.declared.expression.Site.{Site}
-use Rattle.k_reader.specs.declared.expression.Reading.{Reading}
 use Rattle.k_reader.specs.declared.expression.Fed.TheVariants as fed
 use Rattle.k_reader.specs.declared.reading.Closer.TheVariants as closer
 use Rattle.k_reader.specs.Initialisers as inits
 use Rattle.k_reader.specs.Declarations as spec
-use Rattle.k_reader.specs.declared.declaration.initialiser.Brace.{Brace}
-use Rattle.k_reader.specs.declared.declaration.Front.{Front}
-use Rattle.k_reader.specs.declared.declaration.DeclarationStage.{DeclarationStage}
 use Rattle.k_reader.specs.declared.declaration.DeclarationStage.TheVariants as stage
-use Rattle.k_reader.specs.declared.declaration.Declaration.{Declaration}
 use Rattle.k_reader.specs.declared.declaration.Declared.TheVariants as declared_
 use Rattle.k_reader.proofs.DeclarationReach.{StageReached}
 use Rattle.k_reader.proofs.DeclarationState.{OkDeclaration, OkStage}

@@ -2,31 +2,19 @@
 use Rattle.std.proofs.Common.{ℕ, ◌≡◌, ◌≤◌, ◌+◌, Bool, true, false, ◌&&◌, cond, nat_eq, List, [], ◌∷◌, ◌++◌, length, sym, subst, arith}
 use Rattle.std.specs.Prelude.{max}
 use Rattle.std.proofs.lemmas.Bool.{cond_both, eqb-true, false_from_ne_true}
-use Rattle.k_num.specs.declared.place.Place.{Place}
-use Rattle.k_tree.specs.declared.tokens.Token.{Token}
-use Rattle.k_tree.specs.declared.tokens.TokenKind.{TokenKind}
+use Rattle.k_reader.specs.Types.{Place, Token, TokenKind, Mark, Word, Stars, Term, Open, ExpressionStage, Site, Reading, Fed, Called}
 use Rattle.k_tree.specs.declared.tokens.TokenKind.TheVariants as token
-use Rattle.k_tree.specs.declared.tokens.mark.Mark.{Mark}
 use Rattle.k_tree.specs.declared.tokens.mark.Mark.TheVariants as mark
-use Rattle.k_tree.specs.declared.tokens.word.Word.{Word}
 use Rattle.k_tree.specs.declared.tree.expression.Expr.TheVariants as expr
 use Rattle.k_reader.specs.Level.{plus, above}
 use Rattle.k_reader.specs.Top.{top}
 use Rattle.k_reader.specs.Operators.{is_step_mark, is_prefix_mark, is_spec_word, is_open, is_close}
 use Rattle.k_reader.specs.Stars.{all_stars, constant}
-use Rattle.k_reader.specs.declared.stars.Stars.{Stars}
 use Rattle.k_reader.specs.Expressions.{Opens, goes, level, hole, term, valued, conditional, infix_made, prefixed, posted, plug, is_sizeof, is_sizeof_open, opened, no_arguments, prefix_operator, mark_operand, is_before_type, type_begun, word_operand, operand_at, operand, close_over, close_type, is_const, word_of_type, mark_of_type, in_type_at, in_type, operator_opens, take_operator, argued, then_ends, paren_ends, index_ends, enclose, enclose_by, takes_token, take_token, closed_by, value, is_left_paren, named, feed_at, feed}
 use Rattle.k_reader.specs.Readings.{is_operand, is_fresh}
-use Rattle.k_reader.specs.declared.expression.Term.{Term}
-use Rattle.k_reader.specs.declared.expression.Open.{Open}
 use Rattle.k_reader.specs.declared.expression.Open.TheVariants as open_
-use Rattle.k_reader.specs.declared.expression.ExpressionStage.{ExpressionStage}
 use Rattle.k_reader.specs.declared.expression.ExpressionStage.TheVariants as now
-use Rattle.k_reader.specs.declared.expression.Site.{Site}
-use Rattle.k_reader.specs.declared.expression.Reading.{Reading}
-use Rattle.k_reader.specs.declared.expression.Fed.{Fed}
 use Rattle.k_reader.specs.declared.expression.Fed.TheVariants as fed
-use Rattle.k_reader.specs.declared.expression.call.Called.{Called}
 use Rattle.k_reader.proofs.ExpressionState.{Fits, OkOpen, ok_infix, ok_then, ok_other, ok_cast, ok_prefix, ok_sizeof, ok_paren, ok_index, ok_call, lev, Valid, ValidNow, Inv}
 use Rattle.k_reader.proofs.ExpressionReach.{Room, Reached}
 use Rattle.k_reader.proofs.ReadingReach.{Begun}

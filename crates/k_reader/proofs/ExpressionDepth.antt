@@ -1,6 +1,6 @@
 -- No expression has no level.
 use Rattle.std.proofs.Common.{ℕ, ◌≤◌, sym, subst, arith}
-use Rattle.k_tree.specs.declared.tree.expression.Expr.{Expr}
+use Rattle.k_reader.specs.Types.{Expr}
 use Rattle.k_tree.specs.Folds.{expr_Assign, expr_Binary, expr_Call, expr_Cast, expr_Char, expr_Comma, expr_Cond, expr_Index, expr_Name, expr_Number, expr_Paren, expr_Post, expr_Pre, expr_SizeofExpr, expr_SizeofType, expr_Str, expr_Unary}
 use Rattle.k_tree.specs.Nesting.{expr_depth, expr_depth_step}
 use Rattle.k_tree.specs.Ranked.{Ranked, comma, assignment, conditional, binary, cast, unary, prefix, sizeof_expr, sizeof_type, index, postfix, call, name, number, character, string, paren}

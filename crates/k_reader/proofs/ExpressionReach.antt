@@ -1,32 +1,19 @@
 -- The levels that the tokens of an expression make sure are within the limit.
 use Rattle.std.proofs.Common.{ℕ, ◌≡◌, ◌≤◌, ◌+◌, Bool, true, false, ◌&&◌, cond, nat_eq, List, [], ◌∷◌, ◌++◌, length, refl, arith}
 use Rattle.std.proofs.lemmas.Bool.{cond_both}
-use Rattle.k_num.specs.declared.place.Place.{Place}
-use Rattle.k_tree.specs.declared.tokens.Token.{Token}
-use Rattle.k_tree.specs.declared.tokens.TokenKind.{TokenKind}
+use Rattle.k_reader.specs.Types.{Place, Token, TokenKind, Mark, Word, Stars, Term, Open, ExpressionStage, Site, Reading, Fed, Plugged, Called}
 use Rattle.k_tree.specs.declared.tokens.TokenKind.TheVariants as token
-use Rattle.k_tree.specs.declared.tokens.mark.Mark.{Mark}
 use Rattle.k_tree.specs.declared.tokens.mark.Mark.TheVariants as mark
-use Rattle.k_tree.specs.declared.tokens.word.Word.{Word}
 use Rattle.k_tree.specs.declared.tree.expression.Expr.TheVariants as expr
 use Rattle.k_reader.specs.Level.{plus}
 use Rattle.k_reader.specs.Top.{top}
 use Rattle.k_reader.specs.Operators.{is_step_mark, is_prefix_mark, is_spec_word, is_open, is_close, is_bracket, is_question}
 use Rattle.k_reader.specs.Stars.{all_stars, constant}
-use Rattle.k_reader.specs.declared.stars.Stars.{Stars}
 use Rattle.k_reader.specs.Expressions.{Opens, goes, level, hole, term, valued, posted, plug, is_sizeof, is_sizeof_open, opened, no_arguments, prefix_operator, mark_operand, is_before_type, type_begun, word_operand, operand_at, operand, close_over, close_type, is_const, word_of_type, mark_of_type, in_type_at, in_type, operator_opens, take_operator, argued, then_ends, paren_ends, index_ends, enclose, takes_token, take_token, closed_by, value, is_left_paren, named, feed_at, feed}
-use Rattle.k_reader.specs.declared.expression.Term.{Term}
-use Rattle.k_reader.specs.declared.expression.Open.{Open}
 use Rattle.k_reader.specs.declared.expression.Open.TheVariants as open_
-use Rattle.k_reader.specs.declared.expression.ExpressionStage.{ExpressionStage}
 use Rattle.k_reader.specs.declared.expression.ExpressionStage.TheVariants as now
-use Rattle.k_reader.specs.declared.expression.Site.{Site}
-use Rattle.k_reader.specs.declared.expression.Reading.{Reading}
-use Rattle.k_reader.specs.declared.expression.Fed.{Fed}
 use Rattle.k_reader.specs.declared.expression.Fed.TheVariants as fed
-use Rattle.k_reader.specs.declared.expression.plug.Plugged.{Plugged}
 use Rattle.k_reader.specs.declared.expression.plug.Plugged.TheVariants as plugged
-use Rattle.k_reader.specs.declared.expression.call.Called.{Called}
 use Rattle.k_reader.proofs.ExpressionState.{IsLimit, lev}
 
 -- what a cast, a prefix operator or a parenthesis with its node at level l makes sure: an operand one level down;

@@ -1,11 +1,8 @@
 -- Each token of an expression keeps what was read true.
 use Rattle.std.proofs.Common.{ℕ, List}
-use Rattle.k_tree.specs.declared.tokens.Token.{Token}
+use Rattle.k_reader.specs.Types.{Token, ExpressionStage, Reading, Site}
 use Rattle.k_reader.specs.Expressions.{Opens, feed, feed_at}
-use Rattle.k_reader.specs.declared.expression.ExpressionStage.{ExpressionStage}
 use Rattle.k_reader.specs.declared.expression.ExpressionStage.TheVariants as now
-use Rattle.k_reader.specs.declared.expression.Reading.{Reading}
-use Rattle.k_reader.specs.declared.expression.Site.{Site}
 use Rattle.k_reader.proofs.ExpressionState.{IsLimit, Inv, Keeps}
 use Rattle.k_reader.proofs.OperandSound.{operand_keeps}
 use Rattle.k_reader.proofs.TypeSound.{type_keeps}

@@ -1,12 +1,8 @@
 -- What has been read of an expression: its pieces, and what holds of them.
 use Rattle.std.proofs.Common.{ℕ, ◌≡◌, ◌+◌, ◌≤◌, ◌^◌, ◌<◌, Bool, ◌||◌, IsTrue, List, [], ◌∷◌, ◌++◌, map, length}
-use Rattle.k_num.specs.declared.place.Place.{Place}
-use Rattle.k_tree.specs.declared.tokens.Token.{Token}
-use Rattle.k_tree.specs.declared.tokens.mark.Mark.{Mark}
+use Rattle.k_reader.specs.Types.{Place, Token, Mark, Word, Expr, Term, Open, ExpressionStage, Site, Fed}
 use Rattle.k_tree.specs.declared.tokens.mark.Mark.TheVariants as mark
-use Rattle.k_tree.specs.declared.tokens.word.Word.{Word}
 use Rattle.k_tree.specs.declared.tokens.word.Word.TheVariants as word
-use Rattle.k_tree.specs.declared.tree.expression.Expr.{Expr}
 use Rattle.k_tree.specs.Nesting.{deepest, expr_depth}
 use Rattle.k_tree.specs.Places.{Pieces, plain, at, lay_expr, Stand}
 use Rattle.k_tree.specs.Ranked.{Ranked, RankedArgs, Specs, is_step, is_unary}
@@ -14,13 +10,8 @@ use Rattle.k_tree.specs.Spelling.{the_mark, the_word, the_name, in_parens, spell
 use Rattle.k_reader.specs.Operators.{right_rank, own_rank}
 use Rattle.k_reader.specs.Stars.{all_stars}
 use Rattle.k_reader.specs.Expressions.{Opens, hole, is_before_type}
-use Rattle.k_reader.specs.declared.expression.Term.{Term}
-use Rattle.k_reader.specs.declared.expression.Open.{Open}
 use Rattle.k_reader.specs.declared.expression.Open.TheVariants as open_
-use Rattle.k_reader.specs.declared.expression.ExpressionStage.{ExpressionStage}
 use Rattle.k_reader.specs.declared.expression.ExpressionStage.TheVariants as now
-use Rattle.k_reader.specs.declared.expression.Site.{Site}
-use Rattle.k_reader.specs.declared.expression.Fed.{Fed}
 use Rattle.k_reader.specs.declared.expression.Fed.TheVariants as fed
 use Rattle.k_reader.proofs.Marks.{Infix}
 

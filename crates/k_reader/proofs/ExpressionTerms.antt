@@ -2,11 +2,7 @@
 use Rattle.std.proofs.Common.{ℕ, suc, ◌≡◌, ◌+◌, ◌≤◌, Bool, true, false, ◌&&◌, List, [], ◌∷◌, ◌++◌, refl, sym, ◌∙◌, ap, subst, arith, append_assoc}
 use Rattle.std.specs.Prelude.{max}
 use Rattle.std.proofs.lemmas.List.Elements.{All-nil, All-cons}
-use Rattle.k_num.specs.declared.place.Place.{Place}
-use Rattle.k_tree.specs.declared.tokens.Token.{Token}
-use Rattle.k_tree.specs.declared.tokens.TokenKind.{TokenKind}
-use Rattle.k_tree.specs.declared.tokens.mark.Mark.{Mark}
-use Rattle.k_tree.specs.declared.tree.expression.Expr.{Expr}
+use Rattle.k_reader.specs.Types.{Place, Token, TokenKind, Mark, Expr, Term}
 use Rattle.k_tree.specs.Folds.{expr_Assign, expr_Binary, expr_Comma}
 use Rattle.k_tree.specs.Nesting.{expr_depth, expr_depth_step}
 use Rattle.k_tree.specs.Places.{Pieces, plain, at, lay_expr, lay_expr_step, Stand}
@@ -16,7 +12,6 @@ use Rattle.k_tree.proofs.Ranks.{lower}
 use Rattle.k_tree.proofs.Standing.{stand-append}
 use Rattle.k_reader.specs.Level.{plus, above}
 use Rattle.k_reader.specs.Expressions.{infix_tree, term}
-use Rattle.k_reader.specs.declared.expression.Term.{Term}
 use Rattle.k_reader.proofs.Marks.{Infix, is_comma, is_assign, is_binary}
 use Rattle.k_reader.proofs.ExpressionState.{IsLimit, Fits}
 

@@ -2,30 +2,20 @@
 use Rattle.std.proofs.Common.{ℕ, suc, ◌≡◌, ◌≤◌, ◌+◌, true, false, List, [], ◌∷◌, ◌++◌, map, length, None, ◌∙◌, ap, refl, arith}
 use Rattle.std.specs.Prelude.{max}
 use Rattle.std.proofs.lemmas.Bool.{cond-false, false≢true}
-use Rattle.k_num.specs.declared.place.Place.{Place}
+use Rattle.k_reader.specs.Types.{Place, Token, Mark, Word, Expr, Stars, Term, Open, ExpressionStage, Site, Reading}
 use Rattle.k_tree.specs.Bare.{nowhere}
 use Rattle.k_tree.specs.Nesting.{deepest, expr_depth}
 use Rattle.k_tree.specs.Ranked.{RankedArgs, more_args}
-use Rattle.k_tree.specs.declared.tokens.Token.{Token}
 use Rattle.k_tree.specs.declared.tokens.TokenKind.TheVariants as token
-use Rattle.k_tree.specs.declared.tokens.mark.Mark.{Mark}
 use Rattle.k_tree.specs.declared.tokens.mark.Mark.TheVariants as mark
-use Rattle.k_tree.specs.declared.tokens.word.Word.{Word}
 use Rattle.k_tree.specs.declared.tokens.word.Word.TheVariants as word
-use Rattle.k_tree.specs.declared.tree.expression.Expr.{Expr}
 use Rattle.k_tree.specs.declared.tree.expression.Expr.TheVariants as expr
 use Rattle.k_reader.specs.Level.{plus, above}
 use Rattle.k_reader.specs.Operators.{binding, takes_by, takes, is_spec_word, is_open, is_close}
 use Rattle.k_reader.specs.Stars.{no_stars, all_stars}
-use Rattle.k_reader.specs.declared.stars.Stars.{Stars}
 use Rattle.k_reader.specs.Expressions.{Opens, goes, level, hole, term, opened, no_arguments, mark_operand, is_before_type, word_operand, operand, close_over, close_type, mark_of_type, in_type, infix_made, conditional, prefixed, enclosed, indexed, plug, argued, then_ends, paren_ends, index_ends, enclose, closed_by, value, is_left_paren, named, feed}
-use Rattle.k_reader.specs.declared.expression.Term.{Term}
-use Rattle.k_reader.specs.declared.expression.Open.{Open}
 use Rattle.k_reader.specs.declared.expression.Open.TheVariants as open_
-use Rattle.k_reader.specs.declared.expression.ExpressionStage.{ExpressionStage}
 use Rattle.k_reader.specs.declared.expression.ExpressionStage.TheVariants as now
-use Rattle.k_reader.specs.declared.expression.Site.{Site}
-use Rattle.k_reader.specs.declared.expression.Reading.{Reading}
 use Rattle.k_reader.specs.declared.expression.Fed.TheVariants as fed
 use Rattle.k_reader.proofs.ExpressionState.{IsLimit, Fits, OkOpen, ok_infix, ok_then, ok_other, ok_index, ok_call, lev, Valid, ValidNow}
 use Rattle.k_reader.proofs.ExpressionReach.{Reached}

@@ -3,10 +3,8 @@ use Rattle.std.proofs.Common.{ℕ, ◌≡◌, ◌+◌, ◌<◌, ◌≤◌, Bool,
 use Rattle.std.specs.Prelude.{◌⊎◌, Ok, Err}
 use Rattle.std.proofs.lemmas.Bool.{leb-true, leb-false}
 use Rattle.std.proofs.lemmas.List.{map-append}
-use Rattle.k_tree.specs.declared.tokens.Token.{Token}
-use Rattle.k_tree.specs.declared.tokens.TokenKind.{TokenKind}
+use Rattle.k_reader.specs.Types.{Token, TokenKind, Item, Source, Sourced, ParseFault}
 use Rattle.k_tree.specs.declared.tokens.TokenKind.TheVariants as token
-use Rattle.k_tree.specs.declared.tree.unit.Item.{Item}
 use Rattle.k_tree.specs.declared.tree.unit.Unit as source
 use Rattle.k_tree.specs.Nesting.{nesting}
 use Rattle.k_tree.specs.Places.{lay_unit}
@@ -16,10 +14,7 @@ use Rattle.k_tree.proofs.Standing.{stand-kinds}
 use Rattle.k_reader.specs.Beginnings.{kinds, Begins, IsRefusalAt, IsFirstWrong}
 use Rattle.k_reader.specs.Runs.{Outcome, next, runs}
 use Rattle.k_reader.specs.Sources.{begin_source, feed_source}
-use Rattle.k_reader.specs.declared.source.Source.{Source}
-use Rattle.k_reader.specs.declared.source.Sourced.{Sourced}
 use Rattle.k_reader.specs.declared.source.Sourced.TheVariants as sourced
-use Rattle.k_reader.specs.declared.whole.ParseFault.{ParseFault}
 use Rattle.k_reader.specs.declared.whole.ParseFault.TheVariants as fault
 use Rattle.k_reader.proofs.ExpressionBound.{furthest}
 use Rattle.k_reader.proofs.ExpressionState.{IsLimit}

@@ -1,13 +1,10 @@
 -- Initialisers keep what was read of a declaration true.
 use Rattle.std.proofs.Common.{ℕ, ◌≡◌, ◌≢◌, ◌+◌, ◌≤◌, Bool, true, false, List, [], ◌∷◌, ◌++◌, map, length, Some, refl, sym, ◌∙◌, ap, subst, arith, append_assoc}
 use Rattle.std.proofs.lemmas.List.{append-nil}
-use Rattle.k_num.specs.declared.place.Place.{Place}
-use Rattle.k_tree.specs.declared.tokens.Token.{Token}
+use Rattle.k_reader.specs.Types.{Place, Token, Init, Declarator, Brace, Front}
 use Rattle.k_tree.specs.declared.tokens.TokenKind.TheVariants as token
 use Rattle.k_tree.specs.declared.tokens.mark.Mark.TheVariants as mark
-use Rattle.k_tree.specs.declared.tree.declaration.Init.{Init}
 use Rattle.k_tree.specs.declared.tree.declaration.Init.TheVariants as init
-use Rattle.k_tree.specs.declared.tree.declaration.Declarator.{Declarator}
 use Rattle.k_tree.specs.Folds.{init_List}
 use Rattle.k_tree.specs.Nesting.{init_depth, init_depth_step}
 use Rattle.k_tree.specs.Places.{Pieces, plain, at, lay_dims, lay_init, lay_init_step, lay_declarator, lay_with_commas, Stand}
@@ -15,8 +12,6 @@ use Rattle.k_tree.specs.Ranked.{RankedInit, RankedInits, braces, no_inits, more_
 use Rattle.k_tree.specs.Spelling.{the_mark, the_name, spell_stars}
 use Rattle.k_tree.proofs.Standing.{stand-append}
 use Rattle.k_reader.specs.Initialisers.{plug_into, listed}
-use Rattle.k_reader.specs.declared.declaration.initialiser.Brace.{Brace}
-use Rattle.k_reader.specs.declared.declaration.Front.{Front}
 use Rattle.k_reader.proofs.Commas.{comma, lay_each, each_with, with_last, not_none}
 use Rattle.k_reader.proofs.Rows.{deepest_more}
 use Rattle.k_reader.proofs.ExpressionTerms.{one, three, four}

@@ -1,12 +1,10 @@
 -- Which operators there are behind an operand, and what each makes.
 use Rattle.std.proofs.Common.{ℕ, suc, ◌≡◌, ◌+◌, ◌≤◌, true, false, IsTrue, Some, None, refl, ◌∙◌, ap, arith}
-use Rattle.k_num.specs.declared.place.Place.{Place}
-use Rattle.k_tree.specs.declared.tokens.mark.Mark.{Mark}
+use Rattle.k_reader.specs.Types.{Place, Mark, Term}
 use Rattle.k_tree.specs.declared.tokens.mark.Mark.TheVariants as mark
 use Rattle.k_tree.specs.Ranked.{binary_rank, is_assignment, is_step}
 use Rattle.k_reader.specs.Operators.{binding, binding_by, other_binding, is_step_mark, is_open, is_close, is_bracket, is_question, is_equal, is_left_brace, is_right_brace, is_star, is_semicolon}
 use Rattle.k_reader.specs.declared.expression.Open.TheVariants as open_
-use Rattle.k_reader.specs.declared.expression.Term.{Term}
 use Rattle.k_reader.specs.Expressions.{operator_opens}
 
 -- a binary, assignment or comma operator, by the least rank of its left operand, the rank of what it makes, and the least

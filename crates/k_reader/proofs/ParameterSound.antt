@@ -4,16 +4,10 @@ use Rattle.std.specs.Prelude.{All, is_none}
 use Rattle.std.proofs.lemmas.Bool.{eqb-true}
 use Rattle.std.proofs.lemmas.List.{append-nil, map-append}
 use Rattle.std.proofs.lemmas.List.Elements.{All-nil, All-push, All-head}
-use Rattle.k_tree.specs.declared.tokens.Token.{Token}
-use Rattle.k_tree.specs.declared.tokens.TokenKind.{TokenKind}
+use Rattle.k_reader.specs.Types.{Token, TokenKind, Mark, Word, Expr, Param, Params, Stars, Reading, Maybe, ParameterStage, Parameters, Parametric}
 use Rattle.k_tree.specs.declared.tokens.TokenKind.TheVariants as token
-use Rattle.k_tree.specs.declared.tokens.mark.Mark.{Mark}
 use Rattle.k_tree.specs.declared.tokens.mark.Mark.TheVariants as mark
-use Rattle.k_tree.specs.declared.tokens.word.Word.{Word}
 use Rattle.k_tree.specs.declared.tokens.word.Word.TheVariants as word_
-use Rattle.k_tree.specs.declared.tree.expression.Expr.{Expr}
-use Rattle.k_tree.specs.declared.tree.declaration.Param.{Param}
-use Rattle.k_tree.specs.declared.tree.declaration.Params.{Params}
 use Rattle.k_tree.specs.declared.tree.declaration.Params.TheVariants as params
 use Rattle.k_tree.specs.Nesting.{deepest, option_depth, dims_depth, param_depth, params_depth}
 use Rattle.k_tree.specs.Places.{Pieces, plain, lay_dim, lay_dims, lay_option, lay_param, lay_params, Stand}
@@ -23,18 +17,12 @@ use Rattle.k_tree.proofs.Standing.{stand-append}
 use Rattle.k_reader.specs.Operators.{is_spec_word, is_bracket, is_star}
 use Rattle.k_reader.proofs.Marks.{is_bracket_mark, is_star_mark}
 use Rattle.k_reader.specs.Stars.{all_stars, star, constant}
-use Rattle.k_reader.specs.declared.stars.Stars.{Stars}
 use Rattle.k_reader.specs.Expressions.{begin, is_const}
-use Rattle.k_reader.specs.declared.expression.Reading.{Reading}
 use Rattle.k_reader.specs.Readings.{read_maybe}
 use Rattle.k_reader.specs.declared.reading.Closer.TheVariants as closer
-use Rattle.k_reader.specs.declared.reading.Maybe.{Maybe}
 use Rattle.k_reader.specs.declared.reading.Maybe.TheVariants as maybe
 use Rattle.k_reader.specs.Parameters as spec
-use Rattle.k_reader.specs.declared.parameter.ParameterStage.{ParameterStage}
 use Rattle.k_reader.specs.declared.parameter.ParameterStage.TheVariants as part_
-use Rattle.k_reader.specs.declared.parameter.Parameters.{Parameters}
-use Rattle.k_reader.specs.declared.parameter.Parametric.{Parametric}
 use Rattle.k_reader.specs.declared.parameter.Parametric.TheVariants as parametric
 use Rattle.k_reader.proofs.Commas.{comma, lay_each, each_push, with_last, not_none}
 use Rattle.k_reader.proofs.Rows.{row_push, deepest_more, StartsAt, starts-more, at_stands}

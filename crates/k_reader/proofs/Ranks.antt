@@ -1,7 +1,7 @@
 -- The ranks of the binary operators are those of their marks.
 use Rattle.std.proofs.Common.{ℕ, ◌≡◌, ◌+◌, refl, Some, None, ◌∙◌, sym, ap, subst}
 use Rattle.k_num.specs.declared.numbers.Bin.{Bin}
-use Rattle.k_tree.specs.declared.tokens.mark.Mark.{Mark}
+use Rattle.k_reader.specs.Types.{Mark}
 use Rattle.k_tree.specs.declared.tokens.mark.Mark.TheVariants as mark
 use Rattle.k_tree.specs.Ranked.{binary_rank, is_assignment}
 use Rattle.k_reader.specs.Operators.{binding, binding_by, other_binding}

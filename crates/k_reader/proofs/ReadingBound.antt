@@ -1,17 +1,11 @@
 -- How far a token of an expression up to a mark reaches at most.
 use Rattle.std.proofs.Common.{ℕ, ◌≤◌, ◌+◌, Bool, true, false, ◌&&◌, List, None}
 use Rattle.std.proofs.lemmas.Bool.{cond_both}
-use Rattle.k_tree.specs.declared.tokens.Token.{Token}
+use Rattle.k_reader.specs.Types.{Token, Reading, Site, Fed, Closer, Read, Maybe}
 use Rattle.k_reader.specs.Expressions.{feed}
 use Rattle.k_reader.specs.Readings.{is_fresh, closes, read_by, read_needed, maybe_by, read_maybe}
-use Rattle.k_reader.specs.declared.expression.Reading.{Reading}
-use Rattle.k_reader.specs.declared.expression.Site.{Site}
-use Rattle.k_reader.specs.declared.expression.Fed.{Fed}
 use Rattle.k_reader.specs.declared.expression.Fed.TheVariants as fed
-use Rattle.k_reader.specs.declared.reading.Closer.{Closer}
-use Rattle.k_reader.specs.declared.reading.Read.{Read}
 use Rattle.k_reader.specs.declared.reading.Read.TheVariants as read
-use Rattle.k_reader.specs.declared.reading.Maybe.{Maybe}
 use Rattle.k_reader.specs.declared.reading.Maybe.TheVariants as maybe
 use Rattle.k_reader.proofs.ExpressionBound.{furthest, FedBound, feed_bound}
 use Rattle.k_reader.proofs.ReadingReach.{Begun}

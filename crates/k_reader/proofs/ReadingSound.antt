@@ -1,28 +1,18 @@
 -- An expression up to the mark that closes it.
 use Rattle.std.proofs.Common.{ℕ, ◌≡◌, ◌+◌, ◌≤◌, Bool, true, false, ◌&&◌, cond, List, [], ◌∷◌, ◌++◌, length, Option, None, refl, subst, arith, nat_eq}
 use Rattle.std.proofs.lemmas.Bool.{eqb-true}
-use Rattle.k_tree.specs.declared.tokens.Token.{Token}
-use Rattle.k_tree.specs.declared.tokens.TokenKind.{TokenKind}
+use Rattle.k_reader.specs.Types.{Token, TokenKind, Mark, Expr, ExpressionStage, Reading, Site, Fed, Closer, Read, Maybe}
 use Rattle.k_tree.specs.declared.tokens.TokenKind.TheVariants as token
-use Rattle.k_tree.specs.declared.tokens.mark.Mark.{Mark}
 use Rattle.k_tree.specs.declared.tokens.mark.Mark.TheVariants as mark
-use Rattle.k_tree.specs.declared.tree.expression.Expr.{Expr}
 use Rattle.k_tree.specs.Nesting.{option_depth}
 use Rattle.k_tree.specs.Places.{Pieces, lay_option, Stand}
 use Rattle.k_tree.specs.Ranked.{Ranked, IfGiven}
 use Rattle.k_reader.specs.Expressions.{Opens, begin, feed}
 use Rattle.k_reader.specs.Readings.{mark_closes, kind_closes, closes, is_operand, is_fresh, read_by, read_needed, maybe_by, read_maybe}
-use Rattle.k_reader.specs.declared.expression.ExpressionStage.{ExpressionStage}
 use Rattle.k_reader.specs.declared.expression.ExpressionStage.TheVariants as now
-use Rattle.k_reader.specs.declared.expression.Reading.{Reading}
-use Rattle.k_reader.specs.declared.expression.Site.{Site}
-use Rattle.k_reader.specs.declared.expression.Fed.{Fed}
 use Rattle.k_reader.specs.declared.expression.Fed.TheVariants as fed
-use Rattle.k_reader.specs.declared.reading.Closer.{Closer}
 use Rattle.k_reader.specs.declared.reading.Closer.TheVariants as closer
-use Rattle.k_reader.specs.declared.reading.Read.{Read}
 use Rattle.k_reader.specs.declared.reading.Read.TheVariants as read
-use Rattle.k_reader.specs.declared.reading.Maybe.{Maybe}
 use Rattle.k_reader.specs.declared.reading.Maybe.TheVariants as maybe
 use Rattle.k_reader.proofs.ExpressionState.{IsLimit, laid, Inv, IsRead, Keeps}
 use Rattle.k_reader.proofs.ExpressionTerms.{and_left, and_right}

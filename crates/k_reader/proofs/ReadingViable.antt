@@ -1,21 +1,14 @@
 -- An expression inside another construct can be ended, up to the mark that closes it.
 use Rattle.std.proofs.Common.{ℕ, ◌≡◌, Bool, true, false, ◌&&◌, cond, List, [], ◌∷◌, ◌++◌, Option, Some, None, sym, ◌∙◌, ap, subst, refl, arith}
 use Rattle.std.proofs.lemmas.Bool.{cond-true, cond_both, and_parts, and_from, false≢true}
-use Rattle.k_num.specs.declared.place.Place.{Place}
-use Rattle.k_tree.specs.declared.tokens.Token.{Token}
-use Rattle.k_tree.specs.declared.tokens.TokenKind.{TokenKind}
+use Rattle.k_reader.specs.Types.{Place, Token, TokenKind, Mark, Expr, Site, Reading, Closer}
 use Rattle.k_tree.specs.declared.tokens.TokenKind.TheVariants as token
-use Rattle.k_tree.specs.declared.tokens.mark.Mark.{Mark}
 use Rattle.k_tree.specs.declared.tokens.mark.Mark.TheVariants as mark
-use Rattle.k_tree.specs.declared.tree.expression.Expr.{Expr}
 use Rattle.k_reader.specs.Operators.{binding, is_prefix_mark, is_open, is_close}
 use Rattle.k_reader.specs.Expressions.{mark_operand, no_arguments, operand_at, operand, feed_at, feed}
 use Rattle.k_reader.specs.Readings.{mark_closes, kind_closes, closes, is_fresh, read_by, read_needed, maybe_by, read_maybe}
 use Rattle.k_reader.specs.declared.expression.ExpressionStage.TheVariants as now
-use Rattle.k_reader.specs.declared.expression.Site.{Site}
-use Rattle.k_reader.specs.declared.expression.Reading.{Reading}
 use Rattle.k_reader.specs.declared.expression.Fed.TheVariants as fed
-use Rattle.k_reader.specs.declared.reading.Closer.{Closer}
 use Rattle.k_reader.specs.declared.reading.Closer.TheVariants as closer
 use Rattle.k_reader.specs.declared.reading.Read.TheVariants as read
 use Rattle.k_reader.specs.declared.reading.Maybe.TheVariants as maybe

@@ -2,8 +2,7 @@
 use Rattle.std.proofs.Common.{ℕ, ◌≡◌, List, [], ◌∷◌, ◌++◌, map, sym, ◌∙◌, ap, arith, append_assoc}
 use Rattle.std.specs.Prelude.{max}
 use Rattle.std.proofs.lemmas.List.{append-nil}
-use Rattle.k_num.specs.declared.place.Place.{Place}
-use Rattle.k_tree.specs.declared.tokens.Token.{Token}
+use Rattle.k_reader.specs.Types.{Place, Token}
 use Rattle.k_tree.specs.Nesting.{deepest}
 use Rattle.k_tree.specs.Places.{Pieces, at, lay_row, Stand}
 use Rattle.std.proofs.lemmas.List.Elements.{All-cons}

@@ -2,16 +2,13 @@
 use Rattle.std.proofs.Common.{ℕ, ◌≡◌, ◌≤◌, Bool, true, false, cond, List, [], ◌∷◌, ◌++◌, Some, None, refl, sym, subst, arith, append_assoc, nat_le}
 use Rattle.std.specs.Prelude.{Ok, Err}
 use Rattle.std.proofs.lemmas.Bool.{leb-true}
-use Rattle.k_tree.specs.declared.tokens.Token.{Token}
+use Rattle.k_reader.specs.Types.{Token, Source, Sourced, ParseFault}
 use Rattle.k_tree.specs.declared.tokens.TokenKind.TheVariants as token
 use Rattle.k_tree.specs.declared.tree.unit.Unit as source
 use Rattle.k_tree.specs.Closed.{EndsOnce}
 use Rattle.k_reader.specs.Runs.{Outcome, next, runs}
 use Rattle.k_reader.specs.Sources.{begin_source, feed_source}
-use Rattle.k_reader.specs.declared.source.Source.{Source}
-use Rattle.k_reader.specs.declared.source.Sourced.{Sourced}
 use Rattle.k_reader.specs.declared.source.Sourced.TheVariants as sourced
-use Rattle.k_reader.specs.declared.whole.ParseFault.{ParseFault}
 use Rattle.k_reader.specs.declared.whole.ParseFault.TheVariants as fault
 use Rattle.k_reader.proofs.ExpressionState.{IsLimit}
 use Rattle.k_reader.proofs.SourceSound.{OkSource, IsUnit, KeepsSourced, source_keeps, begin_source_ok}

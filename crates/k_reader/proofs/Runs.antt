@@ -1,6 +1,6 @@
 -- Machines that are fed one token at a time: tokens that lead to an end, each within the limit.
 use Rattle.std.proofs.Common.{ℕ, ◌≤◌, List, [], ◌∷◌, ◌++◌, append_assoc, subst, arith}
-use Rattle.k_tree.specs.declared.tokens.Token.{Token}
+use Rattle.k_reader.specs.Types.{Token}
 
 module _ (R O : Type 0) (Goes : R → Token → R → ℕ → Type 0) (Ends : R → Token → O → Type 0) (lim : ℕ) where
   -- from a state the tokens go on, and the last one ends with an outcome

@@ -1,20 +1,12 @@
 -- Each token of a function's block keeps what was read true.
 use Rattle.std.proofs.Common.{ℕ, ◌≡◌, ◌+◌, ◌≤◌, ◌⊎◌, inl, inr, Bool, true, false, ◌&&◌, cond, List, [], ◌∷◌, ◌++◌, length, Option, Some, None, refl, sym, ◌∙◌, ap, subst, arith, append_assoc}
 use Rattle.std.proofs.lemmas.List.{append-nil}
-use Rattle.k_num.specs.declared.place.Place.{Place}
-use Rattle.k_tree.specs.declared.tokens.Token.{Token}
-use Rattle.k_tree.specs.declared.tokens.TokenKind.{TokenKind}
+use Rattle.k_reader.specs.Types.{Place, Token, TokenKind, Mark, Word, Expr, First, Stmt, Part, Reading, Fed, Read, Maybe, Declaration, Declared, Frame, Tested, BlockStage, Body, Stepped}
 use Rattle.k_tree.specs.declared.tokens.TokenKind.TheVariants as token
-use Rattle.k_tree.specs.declared.tokens.mark.Mark.{Mark}
 use Rattle.k_tree.specs.declared.tokens.mark.Mark.TheVariants as mark
-use Rattle.k_tree.specs.declared.tokens.word.Word.{Word}
 use Rattle.k_tree.specs.declared.tokens.word.Word.TheVariants as word
-use Rattle.k_tree.specs.declared.tree.expression.Expr.{Expr}
-use Rattle.k_tree.specs.declared.tree.statement.First.{First}
 use Rattle.k_tree.specs.declared.tree.statement.First.TheVariants as first
-use Rattle.k_tree.specs.declared.tree.statement.Stmt.{Stmt}
 use Rattle.k_tree.specs.declared.tree.statement.Stmt.TheVariants as stmt
-use Rattle.k_tree.specs.declared.tree.statement.Part.{Part}
 use Rattle.k_tree.specs.declared.tree.statement.Part.TheVariants as part_
 use Rattle.k_tree.specs.Folds.{stmt_Expr, stmt_Empty, stmt_Block, if_alone as if_alone_folds, if_else as if_else_folds, stmt_While, stmt_DoWhile, stmt_For, stmt_Switch, part_Case, part_Default, part_Does, stmt_Break, stmt_Continue, stmt_Return, stmt_Declare}
 use Rattle.k_tree.specs.Nesting.{expr_depth, option_depth, first_depth, declarators_depth, stmt_depth, part_depth, part_depth_step, stmt_depth_step}
@@ -25,29 +17,18 @@ use Rattle.k_tree.proofs.Standing.{stand-append}
 use Rattle.k_reader.specs.Operators.{is_spec_word, is_semicolon, is_left_brace, is_right_brace}
 use Rattle.k_reader.proofs.Marks.{is_semicolon_mark, is_left_brace_mark, is_right_brace_mark}
 use Rattle.k_reader.specs.Expressions.{begin, is_left_paren, is_sizeof}
-use Rattle.k_reader.specs.declared.expression.Reading.{Reading}
-use Rattle.k_reader.specs.declared.expression.Fed.{Fed}
 use Rattle.k_reader.specs.declared.expression.Fed.TheVariants as fed
 use Rattle.k_reader.specs.Readings.{closes, is_fresh}
 use Rattle.k_reader.specs.declared.reading.Closer.TheVariants as closer
-use Rattle.k_reader.specs.declared.reading.Read.{Read}
 use Rattle.k_reader.specs.declared.reading.Read.TheVariants as read
-use Rattle.k_reader.specs.declared.reading.Maybe.{Maybe}
 use Rattle.k_reader.specs.declared.reading.Maybe.TheVariants as maybe
 use Rattle.k_reader.specs.Declarations.{begin_declaration}
-use Rattle.k_reader.specs.declared.declaration.Declaration.{Declaration}
-use Rattle.k_reader.specs.declared.declaration.Declared.{Declared}
 use Rattle.k_reader.specs.declared.declaration.Declared.TheVariants as declared_
 use Rattle.k_reader.specs.Statements as spec
 use Rattle.k_reader.specs.Statements.{Parts, Frames, inner, level, is_in_block, is_in_switch}
-use Rattle.k_reader.specs.declared.statement.Frame.{Frame}
 use Rattle.k_reader.specs.declared.statement.Frame.TheVariants as frame
-use Rattle.k_reader.specs.declared.statement.Tested.{Tested}
 use Rattle.k_reader.specs.declared.statement.Tested.TheVariants as tested
-use Rattle.k_reader.specs.declared.statement.BlockStage.{BlockStage}
 use Rattle.k_reader.specs.declared.statement.BlockStage.TheVariants as step
-use Rattle.k_reader.specs.declared.statement.Body.{Body}
-use Rattle.k_reader.specs.declared.statement.Stepped.{Stepped}
 use Rattle.k_reader.specs.declared.statement.Stepped.TheVariants as stepped
 use Rattle.k_reader.proofs.Rows.{row_push, deepest_more, StartsAt, starts-more, at_stands}
 use Rattle.k_reader.proofs.ExpressionState.{IsLimit, Keeps}

@@ -1,28 +1,18 @@
 -- What has been read of a function's block: its pieces, and what holds of them.
 use Rattle.std.proofs.Common.{ℕ, ◌≡◌, ◌+◌, ◌≤◌, ◌⊎◌, true, false, List, [], ◌∷◌, ◌++◌, map, length}
-use Rattle.k_num.specs.declared.place.Place.{Place}
-use Rattle.k_tree.specs.declared.tokens.Token.{Token}
+use Rattle.k_reader.specs.Types.{Place, Token, Word, Expr, Declarator, Stmt, Frame, Tested, BlockStage, Body, Stepped}
 use Rattle.k_tree.specs.declared.tokens.TokenKind.TheVariants as token
 use Rattle.k_tree.specs.declared.tokens.mark.Mark.TheVariants as mark
-use Rattle.k_tree.specs.declared.tokens.word.Word.{Word}
 use Rattle.k_tree.specs.declared.tokens.word.Word.TheVariants as word
-use Rattle.k_tree.specs.declared.tree.expression.Expr.{Expr}
-use Rattle.k_tree.specs.declared.tree.declaration.Declarator.{Declarator}
-use Rattle.k_tree.specs.declared.tree.statement.Stmt.{Stmt}
 use Rattle.k_tree.specs.declared.tree.statement.Stmt.TheVariants as stmt
 use Rattle.k_tree.specs.Nesting.{deepest, expr_depth, option_depth, first_depth, stmt_depth, part_depth}
 use Rattle.k_tree.specs.Places.{Pieces, plain, at, lay_expr, lay_option, lay_first, lay_for, lay_in_parens, lay_stmt, lay_stmts, lay_switched, Stand}
 use Rattle.k_tree.specs.Ranked.{Ranked, IfGiven, RankedFirst, RankedStmt, RankedParts, RankedSwitch, RankedDeclaration, ends_open}
 use Rattle.k_tree.specs.Spelling.{the_mark, the_word}
 use Rattle.k_reader.specs.Statements.{Parts, Frames, inner, level, is_in_block, is_in_switch}
-use Rattle.k_reader.specs.declared.statement.Frame.{Frame}
 use Rattle.k_reader.specs.declared.statement.Frame.TheVariants as frame
-use Rattle.k_reader.specs.declared.statement.Tested.{Tested}
 use Rattle.k_reader.specs.declared.statement.Tested.TheVariants as tested
-use Rattle.k_reader.specs.declared.statement.BlockStage.{BlockStage}
 use Rattle.k_reader.specs.declared.statement.BlockStage.TheVariants as step
-use Rattle.k_reader.specs.declared.statement.Body.{Body}
-use Rattle.k_reader.specs.declared.statement.Stepped.{Stepped}
 use Rattle.k_reader.specs.declared.statement.Stepped.TheVariants as stepped
 use Rattle.k_reader.proofs.ReadingSound.{At, site, Behind}
 use Rattle.k_reader.proofs.Rows.{StartsAt}

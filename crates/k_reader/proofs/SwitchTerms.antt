@@ -1,20 +1,15 @@
 -- The braces of a `switch`: which constructs they are, and how one more part stands in them.
 use Rattle.std.proofs.Common.{◌≡◌, true, false, List, [], ◌∷◌, ◌++◌, Some, None, sym, ◌∙◌, ap, subst, append_assoc}
 use Rattle.std.proofs.lemmas.List.Elements.{All-head, All-cons}
-use Rattle.k_num.specs.declared.place.Place.{Place}
-use Rattle.k_tree.specs.declared.tokens.Token.{Token}
+use Rattle.k_reader.specs.Types.{Place, Token, Expr, Stmt, Part, Frame}
 use Rattle.k_tree.specs.declared.tokens.word.Word.TheVariants as word
-use Rattle.k_tree.specs.declared.tree.expression.Expr.{Expr}
-use Rattle.k_tree.specs.declared.tree.statement.Stmt.{Stmt}
 use Rattle.k_tree.specs.declared.tree.statement.Stmt.TheVariants as stmt
-use Rattle.k_tree.specs.declared.tree.statement.Part.{Part}
 use Rattle.k_tree.specs.declared.tree.statement.Part.TheVariants as part
 use Rattle.k_tree.specs.Folds.{stmt_Expr, stmt_Empty, stmt_Block, if_alone as if_alone_folds, if_else as if_else_folds, stmt_While, stmt_DoWhile, stmt_For, stmt_Switch, part_Does, stmt_Break, stmt_Continue, stmt_Return}
 use Rattle.k_tree.specs.Places.{Pieces, plain, at, lay_expr, lay_option, lay_for, lay_in_parens, lay_in_braces, lay_stmt, lay_part, lay_part_step, lay_stmt_step, lay_stmts, lay_switched, lay_else, stmt_place, part_place_step, stmt_place_step, Stand}
 use Rattle.k_tree.specs.Ranked.{RankedStmt, RankedSwitch, no_labels, case_label, default_label, does, value, empty, block, if_alone, if_else, while_loop, do_loop, for_loop, switch_stmt, break_loop, continue_loop, return_value}
 use Rattle.k_tree.specs.Spelling.{the_word}
 use Rattle.k_reader.specs.Statements.{Parts, Frames, is_in_switch}
-use Rattle.k_reader.specs.declared.statement.Frame.{Frame}
 use Rattle.k_reader.specs.declared.statement.Frame.TheVariants as frame
 use Rattle.k_reader.proofs.Rows.{row_push}
 use Rattle.k_reader.proofs.ExpressionTerms.{five}

@@ -3,13 +3,9 @@ use Rattle.std.proofs.Common.{ℕ, ◌≡◌, ◌≢◌, ◌≤◌, Bool, true, 
 use Rattle.std.proofs.lemmas.List.{map-append, append-nil}
 use Rattle.std.proofs.lemmas.Bool.{eqb-true, leb-true}
 use Rattle.std.proofs.lemmas.List.Elements.{All-nil, All-push}
-use Rattle.k_num.specs.declared.place.Place.{Place}
-use Rattle.k_tree.specs.declared.tokens.Token.{Token}
-use Rattle.k_tree.specs.declared.tokens.TokenKind.{TokenKind}
+use Rattle.k_reader.specs.Types.{Place, Token, TokenKind, Mark, Word, Stars, Site}
 use Rattle.k_tree.specs.declared.tokens.TokenKind.TheVariants as token
-use Rattle.k_tree.specs.declared.tokens.mark.Mark.{Mark}
 use Rattle.k_tree.specs.declared.tokens.mark.Mark.TheVariants as mark
-use Rattle.k_tree.specs.declared.tokens.word.Word.{Word}
 use Rattle.k_tree.specs.declared.tokens.word.Word.TheVariants as word
 use Rattle.k_tree.specs.declared.tree.expression.Expr.TheVariants as expr
 use Rattle.k_tree.specs.Folds.{expr_SizeofType}
@@ -19,11 +15,9 @@ use Rattle.k_tree.specs.Ranked.{Specs, is_spec, sizeof_type}
 use Rattle.k_tree.specs.Spelling.{Spelled, the_mark, the_word, in_parens, spell_specs, spell_star, spell_stars, spell_type}
 use Rattle.k_reader.specs.Operators.{is_spec_word}
 use Rattle.k_reader.specs.Stars.{all_stars, star, constant}
-use Rattle.k_reader.specs.declared.stars.Stars.{Stars}
 use Rattle.k_reader.specs.Expressions.{Opens, goes, hole, term, valued, is_before_type, cast_opened, close_over, close_type, is_const, word_of_type, mark_of_type, in_type_at, in_type}
 use Rattle.k_reader.specs.declared.expression.Open.TheVariants as open_
 use Rattle.k_reader.specs.declared.expression.ExpressionStage.TheVariants as now
-use Rattle.k_reader.specs.declared.expression.Site.{Site}
 use Rattle.k_reader.specs.declared.expression.Fed.TheVariants as fed
 use Rattle.k_reader.proofs.ExpressionState.{IsLimit, lay_opens, OkOpen, ok_cast, ok_sizeof, lev, ValidNow, Inv, Keeps}
 use Rattle.k_reader.proofs.ExpressionTerms.{one, stand-more, regroup, and_left, and_right}

@@ -3,14 +3,9 @@ use Rattle.std.proofs.Common.{ℕ, ◌≡◌, ◌+◌, ◌≤◌, Bool, true, fa
 use Rattle.std.specs.Prelude.{max}
 use Rattle.std.proofs.lemmas.List.{append-nil}
 use Rattle.std.proofs.lemmas.Bool.{leb-true}
-use Rattle.k_num.specs.declared.place.Place.{Place}
-use Rattle.k_tree.specs.declared.tokens.Token.{Token}
-use Rattle.k_tree.specs.declared.tokens.TokenKind.{TokenKind}
+use Rattle.k_reader.specs.Types.{Place, Token, TokenKind, Mark, Word, Expr, Term, Open, Site}
 use Rattle.k_tree.specs.declared.tokens.TokenKind.TheVariants as token
-use Rattle.k_tree.specs.declared.tokens.mark.Mark.{Mark}
 use Rattle.k_tree.specs.declared.tokens.mark.Mark.TheVariants as mark
-use Rattle.k_tree.specs.declared.tokens.word.Word.{Word}
-use Rattle.k_tree.specs.declared.tree.expression.Expr.{Expr}
 use Rattle.k_tree.specs.declared.tree.expression.Expr.TheVariants as expr
 use Rattle.k_tree.specs.Folds.{expr_Paren, expr_Index, expr_Call, expr_Post, expr_Pre, expr_Unary, expr_SizeofExpr, expr_Cast, expr_Cond, expr_Name}
 use Rattle.k_tree.specs.Nesting.{deepest, expr_depth, expr_depth_step}
@@ -21,11 +16,8 @@ use Rattle.k_reader.specs.Level.{plus, above}
 use Rattle.k_reader.specs.Operators.{is_bracket, is_question, binding, takes, takes_by, right_of, right_rank, own_of, own_rank, is_step_mark}
 use Rattle.k_reader.specs.Expressions.{Opens, goes, level, hole, term, valued, take_operator, plug, closed_by, take_token, takes_token, enclose, enclose_by, argued, colon, posted, enclosed, indexed, infix_tree, infix_made, value, named, is_left_paren}
 use Rattle.k_reader.specs.Expressions as spec
-use Rattle.k_reader.specs.declared.expression.Term.{Term}
-use Rattle.k_reader.specs.declared.expression.Open.{Open}
 use Rattle.k_reader.specs.declared.expression.Open.TheVariants as open_
 use Rattle.k_reader.specs.declared.expression.ExpressionStage.TheVariants as now
-use Rattle.k_reader.specs.declared.expression.Site.{Site}
 use Rattle.k_reader.proofs.Marks.{Infix, Kind, kind_of, infix_kind, question, bracket, step, no_operator}
 use Rattle.k_reader.proofs.ExpressionState.{IsLimit, lay_args, lay_open, lay_opens, Fits, OkOpen, ok_infix, ok_then, ok_other, ok_cast, ok_prefix, ok_sizeof, ok_paren, ok_index, ok_call, lev, Valid, Inv, IsRead, Keeps}
 use Rattle.k_reader.proofs.ExpressionTerms.{one_at, one, stand-more, regroup, three, four, five, fits_two, fits_one, ranked_as, infix_ranked, infix_laid, infix_deep, and_left, and_right}

@@ -1,32 +1,18 @@
 -- How an expression is read, token by token (C17 6.5).
 use Rattle.std.specs.Prelude.{ℕ, zero, suc, Bool, true, false, ◌&&◌, cond, nat_le, nat_eq, max, List, [], ◌∷◌, ◌++◌, length, Option, Some, None}
-use Rattle.k_num.specs.declared.place.Place.{Place}
-use Rattle.k_tree.specs.declared.tokens.Token.{Token}
-use Rattle.k_tree.specs.declared.tokens.TokenKind.{TokenKind}
+use Rattle.k_reader.specs.Types.{Place, Token, TokenKind, Mark, Word, Expr, Stars, Term, Open, ExpressionStage, Site, Reading, Fed, Plugged, Called}
 use Rattle.k_tree.specs.declared.tokens.TokenKind.TheVariants as token
-use Rattle.k_tree.specs.declared.tokens.mark.Mark.{Mark}
 use Rattle.k_tree.specs.declared.tokens.mark.Mark.TheVariants as mark
-use Rattle.k_tree.specs.declared.tokens.word.Word.{Word}
 use Rattle.k_tree.specs.declared.tokens.word.Word.TheVariants as word
-use Rattle.k_tree.specs.declared.tree.expression.Expr.{Expr}
 use Rattle.k_tree.specs.declared.tree.expression.Expr.TheVariants as expr
 use Rattle.k_reader.specs.Top.{top}
 use Rattle.k_reader.specs.Level.{plus, above}
 use Rattle.k_reader.specs.Operators.{own_rank, right_rank, takes, is_prefix_mark, is_step_mark, is_spec_word, is_open, is_close, is_bracket, is_question}
 use Rattle.k_reader.specs.Stars.{no_stars, all_stars, star, constant}
-use Rattle.k_reader.specs.declared.stars.Stars.{Stars}
-use Rattle.k_reader.specs.declared.expression.Term.{Term}
-use Rattle.k_reader.specs.declared.expression.Open.{Open}
 use Rattle.k_reader.specs.declared.expression.Open.TheVariants as open_
-use Rattle.k_reader.specs.declared.expression.ExpressionStage.{ExpressionStage}
 use Rattle.k_reader.specs.declared.expression.ExpressionStage.TheVariants as now
-use Rattle.k_reader.specs.declared.expression.Site.{Site}
-use Rattle.k_reader.specs.declared.expression.Reading.{Reading}
-use Rattle.k_reader.specs.declared.expression.Fed.{Fed}
 use Rattle.k_reader.specs.declared.expression.Fed.TheVariants as fed
-use Rattle.k_reader.specs.declared.expression.plug.Plugged.{Plugged}
 use Rattle.k_reader.specs.declared.expression.plug.Plugged.TheVariants as plugged
-use Rattle.k_reader.specs.declared.expression.call.Called.{Called}
 
 -- the constructs of which an operand is awaited, the innermost first
 abbrev pub Opens : Type 0

@@ -1,13 +1,8 @@
 -- How initialisers are read (C17 6.7.9).
 use Rattle.std.specs.Prelude.{Bool, true, false, cond, nat_eq, List, [], ◌∷◌, ◌++◌, length, Option, Some, None}
-use Rattle.k_tree.specs.declared.tokens.mark.Mark.{Mark}
+use Rattle.k_reader.specs.Types.{Mark, Init, Declarator, Brace, Opened, After}
 use Rattle.k_tree.specs.declared.tokens.mark.Mark.TheVariants as mark
-use Rattle.k_tree.specs.declared.tree.declaration.Init.{Init}
 use Rattle.k_tree.specs.declared.tree.declaration.Init.TheVariants as init
-use Rattle.k_tree.specs.declared.tree.declaration.Declarator.{Declarator}
-use Rattle.k_reader.specs.declared.declaration.initialiser.Brace.{Brace}
-use Rattle.k_reader.specs.declared.declaration.initialiser.Opened.{Opened}
-use Rattle.k_reader.specs.declared.declaration.initialiser.After.{After}
 use Rattle.k_reader.specs.declared.declaration.initialiser.After.TheVariants as after_
 
 -- a declarator with the braces that are open in its initialiser, the innermost first

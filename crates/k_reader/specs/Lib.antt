@@ -13,3 +13,4 @@ pub mod Statements
 pub mod Top
 pub mod Laws
 pub mod Beginnings
+pub mod Types

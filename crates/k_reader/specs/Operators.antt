@@ -1,10 +1,8 @@
 -- How operators bind (C17 6.5.2 to 6.5.17).
 use Rattle.std.specs.Prelude.{ℕ, ◌+◌, Bool, true, false, ◌&&◌, ◌||◌, nat_le, Option, Some, None}
-use Rattle.k_tree.specs.declared.tokens.mark.Mark.{Mark}
+use Rattle.k_reader.specs.Types.{Mark, Word, Binding}
 use Rattle.k_tree.specs.declared.tokens.mark.Mark.TheVariants as mark
-use Rattle.k_tree.specs.declared.tokens.word.Word.{Word}
 use Rattle.k_tree.specs.Ranked.{binary_rank, is_assignment, is_spec, is_step, is_unary}
-use Rattle.k_reader.specs.declared.operators.Binding.{Binding}
 
 -- how an operator binds that is neither binary nor an assignment: `,`, `?`, `[`, `++` and `--` (C17 6.5.2, 6.5.15, 6.5.17)
 abbrev pub other_binding : Mark → Option Binding

@@ -1,28 +1,17 @@
 -- How parameters are read, token by token, from behind the opening parenthesis (C17 6.7.6.3).
 use Rattle.std.specs.Prelude.{ℕ, Bool, true, false, ◌&&◌, cond, nat_eq, is_none, List, [], ◌∷◌, ◌++◌, length, Some, None}
-use Rattle.k_num.specs.declared.place.Place.{Place}
-use Rattle.k_tree.specs.declared.tokens.Token.{Token}
-use Rattle.k_tree.specs.declared.tokens.TokenKind.{TokenKind}
+use Rattle.k_reader.specs.Types.{Place, Token, TokenKind, Mark, Word, Param, Stars, Reading, Maybe, ParameterStage, Parameters, Parametric}
 use Rattle.k_tree.specs.declared.tokens.TokenKind.TheVariants as token
-use Rattle.k_tree.specs.declared.tokens.mark.Mark.{Mark}
 use Rattle.k_tree.specs.declared.tokens.mark.Mark.TheVariants as mark
-use Rattle.k_tree.specs.declared.tokens.word.Word.{Word}
 use Rattle.k_tree.specs.declared.tokens.word.Word.TheVariants as word_
-use Rattle.k_tree.specs.declared.tree.declaration.Param.{Param}
 use Rattle.k_tree.specs.declared.tree.declaration.Params.TheVariants as params
 use Rattle.k_reader.specs.Operators.{is_spec_word, is_bracket, is_star}
 use Rattle.k_reader.specs.Stars.{no_stars, all_stars, star, constant}
-use Rattle.k_reader.specs.declared.stars.Stars.{Stars}
 use Rattle.k_reader.specs.Expressions.{begin, is_const}
-use Rattle.k_reader.specs.declared.expression.Reading.{Reading}
 use Rattle.k_reader.specs.Readings.{read_maybe}
 use Rattle.k_reader.specs.declared.reading.Closer.TheVariants as closer
-use Rattle.k_reader.specs.declared.reading.Maybe.{Maybe}
 use Rattle.k_reader.specs.declared.reading.Maybe.TheVariants as maybe
-use Rattle.k_reader.specs.declared.parameter.ParameterStage.{ParameterStage}
 use Rattle.k_reader.specs.declared.parameter.ParameterStage.TheVariants as part_
-use Rattle.k_reader.specs.declared.parameter.Parameters.{Parameters}
-use Rattle.k_reader.specs.declared.parameter.Parametric.{Parametric}
 use Rattle.k_reader.specs.declared.parameter.Parametric.TheVariants as parametric
 
 -- the parameters go on in this part, and the token makes sure that a node lies at this level

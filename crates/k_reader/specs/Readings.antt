@@ -1,21 +1,13 @@
 -- How an expression is read up to the mark that closes it.
 use Rattle.std.specs.Prelude.{Bool, true, false, ◌&&◌, cond, nat_eq, length, Some, None}
-use Rattle.k_tree.specs.declared.tokens.Token.{Token}
-use Rattle.k_tree.specs.declared.tokens.TokenKind.{TokenKind}
+use Rattle.k_reader.specs.Types.{Token, TokenKind, Mark, ExpressionStage, Reading, Fed, Read, Maybe, Closer}
 use Rattle.k_tree.specs.declared.tokens.TokenKind.TheVariants as token
-use Rattle.k_tree.specs.declared.tokens.mark.Mark.{Mark}
 use Rattle.k_tree.specs.declared.tokens.mark.Mark.TheVariants as mark
-use Rattle.k_reader.specs.declared.expression.ExpressionStage.{ExpressionStage}
 use Rattle.k_reader.specs.declared.expression.ExpressionStage.TheVariants as now
-use Rattle.k_reader.specs.declared.expression.Reading.{Reading}
-use Rattle.k_reader.specs.declared.expression.Fed.{Fed}
 use Rattle.k_reader.specs.declared.expression.Fed.TheVariants as fed
-use Rattle.k_reader.specs.declared.reading.Read.{Read}
 use Rattle.k_reader.specs.declared.reading.Read.TheVariants as read_
-use Rattle.k_reader.specs.declared.reading.Maybe.{Maybe}
 use Rattle.k_reader.specs.declared.reading.Maybe.TheVariants as maybe_
 use Rattle.k_reader.specs.Expressions.{feed}
-use Rattle.k_reader.specs.declared.reading.Closer.{Closer}
 use Rattle.k_reader.specs.declared.reading.Closer.TheVariants as closer
 
 -- is the mark the one that closes the expression?

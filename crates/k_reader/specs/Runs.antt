@@ -1,13 +1,9 @@
 -- How a whole token list is read: to the tree at its end, or to the first token that can't stand.
 use Rattle.std.specs.Prelude.{ℕ, cond, nat_le, List, [], ◌∷◌, Option, Some, None, Ok, Err}
 use Rattle.std.specs.declared.result.Result.{Result}
-use Rattle.k_num.specs.declared.place.Place.{Place}
-use Rattle.k_tree.specs.declared.tokens.Token.{Token}
+use Rattle.k_reader.specs.Types.{Place, Token, Source, Sourced, ParseFault}
 use Rattle.k_tree.specs.declared.tree.unit.Unit as source
-use Rattle.k_reader.specs.declared.source.Source.{Source}
-use Rattle.k_reader.specs.declared.source.Sourced.{Sourced}
 use Rattle.k_reader.specs.declared.source.Sourced.TheVariants as sourced
-use Rattle.k_reader.specs.declared.whole.ParseFault.{ParseFault}
 use Rattle.k_reader.specs.declared.whole.ParseFault.TheVariants as fault
 use Rattle.k_reader.specs.Sources.{feed_source}
 

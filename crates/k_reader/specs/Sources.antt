@@ -1,38 +1,19 @@
 -- How a source is read, token by token (C17 6.9).
 use Rattle.std.specs.Prelude.{ℕ, Bool, false, ◌&&◌, cond, nat_eq, List, [], ◌∷◌, ◌++◌, length}
-use Rattle.k_num.specs.declared.place.Place.{Place}
-use Rattle.k_tree.specs.declared.tokens.Token.{Token}
-use Rattle.k_tree.specs.declared.tokens.TokenKind.{TokenKind}
+use Rattle.k_reader.specs.Types.{Place, Token, TokenKind, Mark, Declarator, Params, Head, Item, Front, DeclarationStage, Declaration, Declared, Parameters, Parametric, Body, Stepped, Title, SourceStage, Source, Sourced}
 use Rattle.k_tree.specs.declared.tokens.TokenKind.TheVariants as token
-use Rattle.k_tree.specs.declared.tokens.mark.Mark.{Mark}
 use Rattle.k_tree.specs.declared.tokens.mark.Mark.TheVariants as mark
-use Rattle.k_tree.specs.declared.tree.declaration.Declarator.{Declarator}
-use Rattle.k_tree.specs.declared.tree.declaration.Params.{Params}
-use Rattle.k_tree.specs.declared.tree.unit.Head.{Head}
-use Rattle.k_tree.specs.declared.tree.unit.Item.{Item}
 use Rattle.k_tree.specs.declared.tree.unit.Item.TheVariants as item
 use Rattle.k_reader.specs.Operators.{is_spec_word}
 use Rattle.k_reader.specs.Expressions.{is_left_paren}
 use Rattle.k_reader.specs.Declarations.{begin_declaration, feed_declaration}
-use Rattle.k_reader.specs.declared.declaration.Front.{Front}
-use Rattle.k_reader.specs.declared.declaration.DeclarationStage.{DeclarationStage}
 use Rattle.k_reader.specs.declared.declaration.DeclarationStage.TheVariants as stage
-use Rattle.k_reader.specs.declared.declaration.Declaration.{Declaration}
-use Rattle.k_reader.specs.declared.declaration.Declared.{Declared}
 use Rattle.k_reader.specs.declared.declaration.Declared.TheVariants as declared_
 use Rattle.k_reader.specs.Parameters.{begin_parameters, feed_parameters}
-use Rattle.k_reader.specs.declared.parameter.Parameters.{Parameters}
-use Rattle.k_reader.specs.declared.parameter.Parametric.{Parametric}
 use Rattle.k_reader.specs.declared.parameter.Parametric.TheVariants as parametric
 use Rattle.k_reader.specs.Statements.{begin_body, feed_body}
-use Rattle.k_reader.specs.declared.statement.Body.{Body}
-use Rattle.k_reader.specs.declared.statement.Stepped.{Stepped}
 use Rattle.k_reader.specs.declared.statement.Stepped.TheVariants as stepped
-use Rattle.k_reader.specs.declared.source.Title.{Title}
-use Rattle.k_reader.specs.declared.source.SourceStage.{SourceStage}
 use Rattle.k_reader.specs.declared.source.SourceStage.TheVariants as phase
-use Rattle.k_reader.specs.declared.source.Source.{Source}
-use Rattle.k_reader.specs.declared.source.Sourced.{Sourced}
 use Rattle.k_reader.specs.declared.source.Sourced.TheVariants as sourced
 
 -- the source goes on in this phase, and the token makes sure that a node lies at this level

@@ -1,6 +1,6 @@
 -- Stars before a name, each with `const` behind it or not (C17 6.7.6.1).
 use Rattle.std.specs.Prelude.{Bool, true, false, List, [], ◌∷◌, ◌++◌, cond}
-use Rattle.k_reader.specs.declared.stars.Stars.{Stars}
+use Rattle.k_reader.specs.Types.{Stars}
 
 -- no star was read yet
 abbrev pub no_stars : Stars
