@@ -3,7 +3,6 @@ pub mod Expressions
 pub mod Initialisers
 pub mod Level
 pub mod Operators
-pub mod Ranks
 pub mod Parameters
 pub mod Readings
 pub mod Runs

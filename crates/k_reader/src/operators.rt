@@ -1,11 +1,9 @@
 //! Ranks of operators (C17 6.5.2 to 6.5.17).
-ghost use Rattle.std.specs.Prelude.{◌≡◌, ◌≤◌};
-ghost use Rattle.k_tree.specs.Ranked.{is_assignment};
+ghost use Rattle.std.specs.Prelude.{◌≡◌, ◌≤◌, IfSome};
+ghost use Rattle.k_tree.specs.Ranked.{binary_rank, is_assignment};
 ghost use Rattle.k_reader.specs.Operators as spec;
-ghost use Rattle.k_reader.specs.Ranks as ranks;
 
-use k_num::Bin;
-use k_tree::{Mark, Word, operator_of};
+use k_tree::{Mark, Word};
 
 /// An operator behind an operand: the least rank of that operand, the rank of what it makes, and the least rank of an
 /// operand behind it.
@@ -16,23 +14,25 @@ pub struct Binding {
     pub right: u8,
 }
 
-/// The rank of a binary operator.
-fn rank_of(operator: Bin) -> u8
-    ensures rank { result ≡ ranks.rank_of operator }
-    ensures small { result ≤ 12 }
+/// The rank of a binary operator (C17 6.5.5 to 6.5.14).
+fn binary_rank(mark: Mark) -> Option<u8>
+    ensures rank { result ≡ binary_rank mark }
+    ensures small { IfSome result (λ rank. rank ≤ 12) }
 {
-    match operator {
-        Bin::Mul | Bin::Div | Bin::Rem => 12,
-        Bin::Add | Bin::Sub => 11,
-        Bin::Shl | Bin::Shr => 10,
-        Bin::Lt | Bin::Le | Bin::Gt | Bin::Ge => 9,
-        Bin::Eq | Bin::Ne => 8,
-        Bin::And => 7,
-        Bin::Xor => 6,
-        Bin::Or => 5,
-        Bin::LogAnd => 4,
-        Bin::LogOr => 3,
-    }
+    let rank = match mark {
+        Mark::Star | Mark::Slash | Mark::Percent => 12,
+        Mark::Plus | Mark::Minus => 11,
+        Mark::ShiftLeft | Mark::ShiftRight => 10,
+        Mark::Less | Mark::Greater | Mark::LessEqual | Mark::GreaterEqual => 9,
+        Mark::EqualEqual | Mark::ExclaimEqual => 8,
+        Mark::Ampersand => 7,
+        Mark::Caret => 6,
+        Mark::Bar => 5,
+        Mark::AmpersandAmpersand => 4,
+        Mark::BarBar => 3,
+        _ => return None,
+    };
+    Some(rank)
 }
 
 /// Is it an operator of assignment (C17 6.5.16)?
@@ -72,8 +72,7 @@ fn other_binding(mark: Mark) -> Option<Binding>
 pub fn binding_of(mark: Mark) -> Option<Binding>
     ensures { result ≡ spec.binding mark }
 {
-    if let Some(operator) = operator_of(mark) {
-        let rank = rank_of(operator);
+    if let Some(rank) = binary_rank(mark) {
         return Some(Binding {
             left: rank,
             own: rank,
