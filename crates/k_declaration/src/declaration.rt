@@ -4,11 +4,11 @@ mod initialiser;
 ghost use Rattle.std.specs.Prelude.{◌≡◌, IfOk};
 ghost use Rattle.k_reader.specs.Declarations as spec;
 
-use k_expression::expression::{begin, feed};
-use k_expression::reading::read_maybe;
-use k_num::{NoMemory, Place, Seq, Text};
+use k_expression::expression::{begin, begin_boxed, feed};
+use k_expression::reading::{read_maybe, unboxed};
+use k_num::{Box, NoMemory, Place, Seq, Text};
 use k_reader::declaration::initialiser::{After, Brace, Opened};
-use k_reader::declaration::{Declaration, Declared, Front, DeclarationStage};
+use k_reader::declaration::{Declaration, DeclarationStage, Declared, Front};
 use k_reader::expression::{Fed, Reading};
 use k_reader::level::plus;
 use k_reader::operators::{is_bracket, is_equal, is_left_brace, is_right_brace, is_spec};
@@ -152,7 +152,13 @@ fn named(
     ensures { IfOk result (λ fed. fed ≡ spec.named front declarator mark) }
 {
     if is_bracket(mark) {
-        let reading = begin(alloc, 2, front.level);
+        let reading = match begin_boxed(alloc, 2, front.level) {
+            Ok(reading) => reading,
+            Err(NoMemory) => {
+                drop(declarator);
+                return Err(NoMemory);
+            }
+        };
         Ok(declares(
             front,
             DeclarationStage::Size {
@@ -164,7 +170,11 @@ fn named(
     } else if is_equal(mark) {
         let reach = plus(front.level, 1);
         let braces = Stack::new(alloc);
-        Ok(declares(front, DeclarationStage::Starts { declarator, braces }, reach))
+        Ok(declares(
+            front,
+            DeclarationStage::Starts { declarator, braces },
+            reach,
+        ))
     } else {
         end(alloc, front, declarator, mark)
     }
@@ -194,7 +204,7 @@ fn size(
     alloc: Global,
     front: Front,
     mut declarator: Declarator,
-    reading: Reading,
+    reading: Box<Reading>,
     token: &Token,
 ) -> Result<Declared, NoMemory>
     ensures { IfOk result (λ fed. fed ≡ spec.size front declarator reading token.now) }
@@ -218,7 +228,7 @@ fn size(
             ))
         }
         Maybe::Done { value } => {
-            if let Err(NoMemory) = declarator.dims.push(value) {
+            if let Err(NoMemory) = declarator.dims.push(unboxed(value)) {
                 drop(declarator);
                 return Err(NoMemory);
             }
@@ -305,7 +315,11 @@ fn open_brace(
         drop(declarator);
         return Err(NoMemory);
     }
-    Ok(declares(front, DeclarationStage::Starts { declarator, braces }, reach))
+    Ok(declares(
+        front,
+        DeclarationStage::Starts { declarator, braces },
+        reach,
+    ))
 }
 
 /// A brace closes behind a comma.
@@ -338,6 +352,13 @@ fn first(alloc: Global, front: Front, opened: Opened, token: &Token) -> Result<D
     };
     match fed {
         Fed::Goes { reading, reach } => {
+            let reading = match Box::new(alloc, reading) {
+                Ok(reading) => reading,
+                Err(NoMemory) => {
+                    drop(declarator);
+                    return Err(NoMemory);
+                }
+            };
             let place = token.place;
             let stage = DeclarationStage::Value {
                 declarator,
@@ -366,12 +387,12 @@ fn value(
     front: Front,
     opened: Opened,
     place: Place,
-    reading: Reading,
+    reading: Box<Reading>,
     token: &Token,
 ) -> Result<Declared, NoMemory>
     ensures { IfOk result (λ fed. fed ≡ spec.value front opened place reading token.now) }
 {
-    let fed = match feed(alloc, reading, token) {
+    let fed = match feed(alloc, reading.into_inner(), token) {
         Ok(fed) => fed,
         Err(NoMemory) => {
             drop(opened);
@@ -380,6 +401,13 @@ fn value(
     };
     match fed {
         Fed::Goes { reading, reach } => {
+            let reading = match Box::new(alloc, reading) {
+                Ok(reading) => reading,
+                Err(NoMemory) => {
+                    drop(opened);
+                    return Err(NoMemory);
+                }
+            };
             let Opened { declarator, braces } = opened;
             let stage = DeclarationStage::Value {
                 declarator,

@@ -2,12 +2,12 @@
 ghost use Rattle.std.specs.Prelude.{◌≡◌, IfOk};
 ghost use Rattle.k_reader.specs.Parameters as spec;
 
-use k_expression::expression::begin;
-use k_expression::reading::read_maybe;
-use k_num::{NoMemory, Place, Seq, Text};
+use k_expression::expression::begin_boxed;
+use k_expression::reading::{read_maybe, unboxed};
+use k_num::{Box, NoMemory, Place, Seq, Text};
 use k_reader::expression::Reading;
 use k_reader::operators::{is_bracket, is_spec, is_star};
-use k_reader::parameter::{Parameters, Parametric, ParameterStage};
+use k_reader::parameter::{ParameterStage, Parameters, Parametric};
 use k_reader::reading::{Closer, Maybe};
 use k_reader::stars::{Stars, all_stars, constant, no_stars, star};
 use k_tree::{Mark, Param, Params, Token, TokenKind, Word};
@@ -135,7 +135,13 @@ fn named(alloc: Global, list: Seq<Param>, param: Param, mark: Mark) -> Result<Pa
     ensures { IfOk result (λ fed. fed ≡ spec.named list param mark) }
 {
     if is_bracket(mark) {
-        let reading = begin(alloc, 2, 1);
+        let reading = match begin_boxed(alloc, 2, 1) {
+            Ok(reading) => reading,
+            Err(NoMemory) => {
+                drop(param);
+                return Err(NoMemory);
+            }
+        };
         Ok(follows(list, ParameterStage::Size { param, reading }, 0))
     } else {
         end(list, param, mark)
@@ -288,7 +294,7 @@ fn size(
     alloc: Global,
     list: Seq<Param>,
     mut param: Param,
-    reading: Reading,
+    reading: Box<Reading>,
     token: &Token,
 ) -> Result<Parametric, NoMemory>
     ensures { IfOk result (λ fed. fed ≡ spec.size list param reading token.now) }
@@ -301,9 +307,13 @@ fn size(
         }
     };
     match read {
-        Maybe::Goes { reading, reach } => Ok(follows(list, ParameterStage::Size { param, reading }, reach)),
+        Maybe::Goes { reading, reach } => Ok(follows(
+            list,
+            ParameterStage::Size { param, reading },
+            reach,
+        )),
         Maybe::Done { value } => {
-            if let Err(NoMemory) = param.dims.push(value) {
+            if let Err(NoMemory) = param.dims.push(unboxed(value)) {
                 drop(param);
                 return Err(NoMemory);
             }

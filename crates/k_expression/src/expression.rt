@@ -10,8 +10,8 @@ ghost use Rattle.k_reader.specs.Expressions as spec;
 ghost use Rattle.k_reader.specs.declared.expression.Fed.TheVariants as feds;
 
 use crate::reading::is_left_paren;
-use k_num::{NoMemory, Place, Seq, Text};
-use k_reader::expression::{Fed, ExpressionStage, Open, Reading, Site, Term};
+use k_num::{Box, NoMemory, Place, Seq, Text};
+use k_reader::expression::{ExpressionStage, Fed, Open, Reading, Site, Term};
 use k_reader::level::plus;
 use k_reader::operators::right_rank;
 use k_reader::stack::Stack;
@@ -122,4 +122,11 @@ pub fn begin(alloc: Global, rank: u8, level: usize) -> Reading
         opens: Stack::new(alloc),
         state: ExpressionStage::Operand,
     }
+}
+
+/// The same, in a box.
+pub fn begin_boxed(alloc: Global, rank: u8, level: usize) -> Result<Box<Reading>, NoMemory>
+    ensures { IfOk result (λ reading. reading ≡ spec.begin rank level) }
+{
+    Box::new(alloc, begin(alloc, rank, level))
 }

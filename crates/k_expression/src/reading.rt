@@ -6,10 +6,10 @@ ghost use Rattle.k_reader.specs.declared.reading.Closer.TheVariants as closers;
 ghost use Rattle.k_tree.specs.declared.tokens.TokenKind.TheVariants as kinds;
 
 use crate::expression::feed;
-use k_num::NoMemory;
-use k_reader::expression::{Fed, ExpressionStage, Reading};
+use k_num::{Box, NoMemory};
+use k_reader::expression::{ExpressionStage, Fed, Reading};
 use k_reader::reading::{Closer, Maybe, Read};
-use k_tree::{Mark, Token, TokenKind};
+use k_tree::{Expr, Mark, Token, TokenKind};
 use std::alloc::Global;
 
 /// Is a token this mark?
@@ -91,16 +91,20 @@ pub fn is_fresh(reading: &Reading) -> bool
 #[tactic(auto, unfolding(k_reader::specs::Readings::read_needed))]
 pub fn read_needed(
     alloc: Global,
-    reading: Reading,
+    reading: Box<Reading>,
     token: &Token,
     closer: Closer,
 ) -> Result<Read, NoMemory>
     ensures { IfOk result (λ read. read ≡ spec.read_needed reading token.now closer) }
 {
-    match feed(alloc, reading, token)? {
-        Fed::Goes { reading, reach } => Ok(Read::Goes { reading, reach }),
+    match feed(alloc, reading.into_inner(), token)? {
+        Fed::Goes { reading, reach } => {
+            let reading = Box::new(alloc, reading)?;
+            Ok(Read::Goes { reading, reach })
+        }
         Fed::Ends { value } => {
             if closes(token, closer) {
+                let value = Box::new(alloc, value)?;
                 return Ok(Read::Done { value });
             }
             drop(value);
@@ -121,19 +125,28 @@ fn is_left_out(reading: &Reading, token: &Token, closer: Closer) -> bool
 #[tactic(auto, unfolding(k_reader::specs::Readings::read_maybe))]
 pub fn read_maybe(
     alloc: Global,
-    reading: Reading,
+    reading: Box<Reading>,
     token: &Token,
     closer: Closer,
 ) -> Result<Maybe, NoMemory>
     ensures { IfOk result (λ read. read ≡ spec.read_maybe reading token.now closer) }
 {
-    if is_left_out(&reading, token, closer) {
-        drop(reading);
+    if is_left_out(reading.get(), token, closer) {
         return Ok(Maybe::Done { value: None });
     }
     match read_needed(alloc, reading, token, closer)? {
         Read::Goes { reading, reach } => Ok(Maybe::Goes { reading, reach }),
         Read::Done { value } => Ok(Maybe::Done { value: Some(value) }),
         Read::Refused => Ok(Maybe::Refused),
+    }
+}
+
+/// A value that may be left out, without its box.
+pub fn unboxed(value: Option<Box<Expr>>) -> Option<Expr>
+    ensures { result ≡ value }
+{
+    match value {
+        None => None,
+        Some(value) => Some(value.into_inner()),
     }
 }

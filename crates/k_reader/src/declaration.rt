@@ -5,7 +5,7 @@ use crate::declaration::initialiser::{After, Brace};
 use crate::expression::Reading;
 use crate::stack::Stack;
 use crate::stars::Stars;
-use k_num::{Place, Seq};
+use k_num::{Box, Place, Seq};
 use k_tree::{Declarator, Word};
 
 /// What stands before the declarator that is read: the specifiers, and the declarators so far. `level` is that of a node
@@ -31,7 +31,7 @@ pub enum DeclarationStage {
     /// In a dimension.
     Size {
         declarator: Declarator,
-        reading: Reading,
+        reading: Box<Reading>,
     },
     /// Before an initialiser.
     Starts {
@@ -43,7 +43,7 @@ pub enum DeclarationStage {
         declarator: Declarator,
         braces: Stack<Brace>,
         place: Place,
-        reading: Reading,
+        reading: Box<Reading>,
     },
     /// Behind an initialiser.
     After {

@@ -2,7 +2,7 @@
 
 use crate::expression::Reading;
 use crate::stars::Stars;
-use k_num::Seq;
+use k_num::{Box, Seq};
 use k_tree::{Param, Params};
 
 /// Where the reading of parameters stands.
@@ -15,7 +15,7 @@ pub enum ParameterStage {
     /// Behind the name of a parameter, or behind a dimension.
     Named { param: Param },
     /// In a dimension.
-    Size { param: Param, reading: Reading },
+    Size { param: Param, reading: Box<Reading> },
 }
 
 /// The parameters so far, and where their reading stands.

@@ -1,15 +1,16 @@
 //! An expression up to the mark that closes it.
 
 use crate::expression::Reading;
+use k_num::Box;
 use k_tree::Expr;
 
 /// What a token does in an expression that a mark closes.
 #[derive(Drop)]
 pub enum Read {
     /// The expression goes on; `reach` is the deepest level that the token makes sure.
-    Goes { reading: Reading, reach: usize },
+    Goes { reading: Box<Reading>, reach: usize },
     /// The token is the mark.
-    Done { value: Expr },
+    Done { value: Box<Expr> },
     /// The token can't stand here.
     Refused,
 }
@@ -18,9 +19,9 @@ pub enum Read {
 #[derive(Drop)]
 pub enum Maybe {
     /// The expression goes on; `reach` is the deepest level that the token makes sure.
-    Goes { reading: Reading, reach: usize },
+    Goes { reading: Box<Reading>, reach: usize },
     /// The token is the mark.
-    Done { value: Option<Expr> },
+    Done { value: Option<Box<Expr>> },
     /// The token can't stand here.
     Refused,
 }

@@ -3,7 +3,7 @@
 use crate::declaration::Declaration;
 use crate::parameter::Parameters;
 use crate::statement::Body;
-use k_num::{Place, Seq, Text};
+use k_num::{Box, Place, Seq, Text};
 use k_tree::{Head, Item, Unit, Word};
 
 /// The head of a function without its parameters.
@@ -23,23 +23,23 @@ pub enum SourceStage {
     /// In an item that may be a declaration or a function.
     Declares {
         place: Place,
-        declaration: Declaration,
+        declaration: Box<Declaration>,
     },
     /// In the parameters of a function.
     Parameters {
         place: Place,
         title: Title,
-        parameters: Parameters,
+        parameters: Box<Parameters>,
     },
     /// Behind the head of a function.
     Headed {
         place: Place,
-        head: Head,
+        head: Box<Head>,
     },
     /// In the block of a function.
     Body {
         place: Place,
-        head: Head,
+        head: Box<Head>,
         body: Body,
     },
 }

@@ -33,7 +33,7 @@ pub enum Frame {
     /// `for ( start test ; step )`
     For {
         place: Place,
-        start: First,
+        start: Box<First>,
         test: Option<Box<Expr>>,
         step: Option<Box<Expr>>,
     },
@@ -57,7 +57,7 @@ pub enum Tested {
     While { place: Place },
     Switch { place: Place },
     /// `do body while`
-    Do { place: Place, body: Stmt },
+    Do { place: Place, body: Box<Stmt> },
 }
 
 /// Where the reading of a block stands.
@@ -67,12 +67,12 @@ pub enum BlockStage {
     Begins,
     /// Behind a statement.
     Whole {
-        stmt: Stmt,
+        stmt: Box<Stmt>,
     },
     /// In a statement that is an expression.
     Value {
         place: Place,
-        reading: Reading,
+        reading: Box<Reading>,
     },
     /// Before the parenthesis of a test.
     Keyword {
@@ -81,11 +81,11 @@ pub enum BlockStage {
     /// In a test.
     Test {
         tested: Tested,
-        reading: Reading,
+        reading: Box<Reading>,
     },
     /// Before the semicolon of a statement.
     Semicolon {
-        stmt: Stmt,
+        stmt: Box<Stmt>,
     },
     /// Before the parenthesis of a `for`.
     For {
@@ -94,25 +94,25 @@ pub enum BlockStage {
     /// In the first part of a `for`.
     Start {
         place: Place,
-        reading: Reading,
+        reading: Box<Reading>,
     },
     /// In the declaration of a `for`.
     Declares {
         place: Place,
-        declaration: Declaration,
+        declaration: Box<Declaration>,
     },
     /// In the second part of a `for`.
     Second {
         place: Place,
-        start: First,
-        reading: Reading,
+        start: Box<First>,
+        reading: Box<Reading>,
     },
     /// In the third part of a `for`.
     Third {
         place: Place,
-        start: First,
-        test: Option<Expr>,
-        reading: Reading,
+        start: Box<First>,
+        test: Option<Box<Expr>>,
+        reading: Box<Reading>,
     },
     /// Before the opening brace of a `switch`.
     Braces {
@@ -122,7 +122,7 @@ pub enum BlockStage {
     /// In the value of a `case`.
     Case {
         place: Place,
-        reading: Reading,
+        reading: Box<Reading>,
     },
     /// Behind `default`.
     Default {
@@ -131,12 +131,12 @@ pub enum BlockStage {
     /// In the value of a `return`.
     Return {
         place: Place,
-        reading: Reading,
+        reading: Box<Reading>,
     },
     /// In a declaration of a block.
     Local {
         place: Place,
-        declaration: Declaration,
+        declaration: Box<Declaration>,
     },
 }
 

@@ -10,11 +10,11 @@ use crate::statement::{begin_body, feed_body};
 use k_declaration::declaration::{begin_declaration, feed_declaration};
 use k_declaration::parameter::{begin_parameters, feed_parameters};
 use k_expression::reading::is_left_paren;
-use k_num::{NoMemory, Place, Seq};
-use k_reader::declaration::{Declaration, Declared, Front, DeclarationStage};
+use k_num::{Box, NoMemory, Place, Seq};
+use k_reader::declaration::{Declaration, DeclarationStage, Declared, Front};
 use k_reader::operators::is_spec;
 use k_reader::parameter::{Parameters, Parametric};
-use k_reader::source::{SourceStage, Source, Sourced, Title};
+use k_reader::source::{Source, SourceStage, Sourced, Title};
 use k_reader::statement::{Body, Stepped};
 use k_tree::{Declarator, Head, Item, Mark, Params, Token, TokenKind, Unit, Word};
 use std::alloc::Global;
@@ -59,6 +59,7 @@ fn starts(alloc: Global, items: Seq<Item>, token: &Token) -> Result<Sourced, NoM
                 return Ok(Sourced::Refused);
             }
             let declaration = begin_declaration(alloc, *word, 1)?;
+            let declaration = Box::new(alloc, declaration)?;
             Ok(goes_on(items, SourceStage::Declares { place, declaration }, 0))
         }
         _ => Ok(Sourced::Refused),
@@ -107,17 +108,23 @@ fn parameters_begin(
     place: Place,
     front: Front,
     declarator: Declarator,
-) -> Sourced
-    ensures { result ≡ spec.goes_on items (phases.Parameters place (spec.title_of front declarator) begin_parameters) 0 }
+) -> Result<Sourced, NoMemory>
+    ensures { IfOk result (λ fed. fed ≡ spec.goes_on items (phases.Parameters place (spec.title_of front declarator) begin_parameters) 0) }
 {
     let title = title_of(front, declarator);
-    let parameters = begin_parameters(alloc);
+    let parameters = match Box::new(alloc, begin_parameters(alloc)) {
+        Ok(parameters) => parameters,
+        Err(NoMemory) => {
+            drop(title);
+            return Err(NoMemory);
+        }
+    };
     let phase = SourceStage::Parameters {
         place,
         title,
         parameters,
     };
-    goes_on(items, phase, 0)
+    Ok(goes_on(items, phase, 0))
 }
 
 /// `(` at a stage where no function's parameters can begin.
@@ -129,21 +136,34 @@ fn refused(stage: DeclarationStage) -> Sourced
 }
 
 /// `(` in an item at this stage.
-fn titled_at(alloc: Global, items: Seq<Item>, place: Place, front: Front, stage: DeclarationStage) -> Sourced
-    ensures { result ≡ spec.titled_at items place front stage }
+fn titled_at(
+    alloc: Global,
+    items: Seq<Item>,
+    place: Place,
+    front: Front,
+    stage: DeclarationStage,
+) -> Result<Sourced, NoMemory>
+    ensures { IfOk result (λ fed. fed ≡ spec.titled_at items place front stage) }
 {
     match stage {
-        DeclarationStage::Named { declarator } => parameters_begin(alloc, items, place, front, declarator),
-        stage => refused(stage),
+        DeclarationStage::Named { declarator } => parameters_begin(
+            alloc, items, place, front, declarator,
+        ),
+        stage => Ok(refused(stage)),
     }
 }
 
 /// `(` in an item of which just the name of the first declarator was read.
 #[tactic(auto, unfolding(k_reader::specs::Sources::titled))]
-fn titled(alloc: Global, items: Seq<Item>, place: Place, declaration: Declaration) -> Sourced
-    ensures { result ≡ spec.titled items place declaration }
+fn titled(
+    alloc: Global,
+    items: Seq<Item>,
+    place: Place,
+    declaration: Box<Declaration>,
+) -> Result<Sourced, NoMemory>
+    ensures { IfOk result (λ fed. fed ≡ spec.titled items place declaration) }
 {
-    let Declaration { front, stage } = declaration;
+    let Declaration { front, stage } = declaration.into_inner();
     titled_at(alloc, items, place, front, stage)
 }
 
@@ -152,13 +172,14 @@ fn declared(
     alloc: Global,
     items: Seq<Item>,
     place: Place,
-    declaration: Declaration,
+    declaration: Box<Declaration>,
     token: &Token,
 ) -> Result<Sourced, NoMemory>
     ensures { IfOk result (λ fed. fed ≡ spec.declares_by items place (feed_declaration declaration token.now)) }
 {
-    match feed_declaration(alloc, declaration, token)? {
+    match feed_declaration(alloc, declaration.into_inner(), token)? {
         Declared::Goes { declaration, reach } => {
+            let declaration = Box::new(alloc, declaration)?;
             Ok(goes_on(items, SourceStage::Declares { place, declaration }, reach))
         }
         Declared::Done { specs, list } => item_done(items, Item::Objects { place, specs, list }),
@@ -172,13 +193,13 @@ fn declares(
     alloc: Global,
     items: Seq<Item>,
     place: Place,
-    declaration: Declaration,
+    declaration: Box<Declaration>,
     token: &Token,
 ) -> Result<Sourced, NoMemory>
     ensures { IfOk result (λ fed. fed ≡ spec.declares items place declaration token.now) }
 {
-    if is_left_paren(token) && is_titled(&declaration) {
-        Ok(titled(alloc, items, place, declaration))
+    if is_left_paren(token) && is_titled(declaration.get()) {
+        titled(alloc, items, place, declaration)
     } else {
         declared(alloc, items, place, declaration, token)
     }
@@ -209,12 +230,12 @@ fn parameters(
     items: Seq<Item>,
     place: Place,
     title: Title,
-    parameters: Parameters,
+    parameters: Box<Parameters>,
     token: &Token,
 ) -> Result<Sourced, NoMemory>
     ensures { IfOk result (λ fed. fed ≡ spec.parameters items place title parameters token.now) }
 {
-    let fed = match feed_parameters(alloc, parameters, token) {
+    let fed = match feed_parameters(alloc, parameters.into_inner(), token) {
         Ok(fed) => fed,
         Err(NoMemory) => {
             drop(title);
@@ -223,6 +244,13 @@ fn parameters(
     };
     match fed {
         Parametric::Goes { parameters, reach } => {
+            let parameters = match Box::new(alloc, parameters) {
+                Ok(parameters) => parameters,
+                Err(NoMemory) => {
+                    drop(title);
+                    return Err(NoMemory);
+                }
+            };
             let phase = SourceStage::Parameters {
                 place,
                 title,
@@ -231,7 +259,7 @@ fn parameters(
             Ok(goes_on(items, phase, reach))
         }
         Parametric::Done { params } => {
-            let head = head_of(title, params);
+            let head = Box::new(alloc, head_of(title, params))?;
             Ok(goes_on(items, SourceStage::Headed { place, head }, 0))
         }
         Parametric::Refused => {
@@ -247,21 +275,24 @@ fn mark_headed(
     alloc: Global,
     items: Seq<Item>,
     place: Place,
-    head: Head,
+    head: Box<Head>,
     mark: Mark,
 ) -> Result<Sourced, NoMemory>
     ensures { IfOk result (λ fed. fed ≡ spec.mark_headed items place head mark) }
 {
     match mark {
-        Mark::Semicolon => item_done(items, Item::Prototype { place, head }),
+        Mark::Semicolon => item_done(
+            items,
+            Item::Prototype {
+                place,
+                head: head.into_inner(),
+            },
+        ),
         Mark::LeftBrace => {
             let body = begin_body(alloc);
             Ok(goes_on(items, SourceStage::Body { place, head, body }, 0))
         }
-        _ => {
-            drop(head);
-            Ok(Sourced::Refused)
-        }
+        _ => Ok(Sourced::Refused),
     }
 }
 
@@ -271,17 +302,14 @@ fn headed(
     alloc: Global,
     items: Seq<Item>,
     place: Place,
-    head: Head,
+    head: Box<Head>,
     token: &Token,
 ) -> Result<Sourced, NoMemory>
     ensures { IfOk result (λ fed. fed ≡ spec.headed items place head token.now) }
 {
     match &token.what {
         TokenKind::Mark(mark) => mark_headed(alloc, items, place, head, *mark),
-        _ => {
-            drop(head);
-            Ok(Sourced::Refused)
-        }
+        _ => Ok(Sourced::Refused),
     }
 }
 
@@ -291,36 +319,26 @@ fn in_body(
     alloc: Global,
     items: Seq<Item>,
     place: Place,
-    head: Head,
+    head: Box<Head>,
     body: Body,
     token: &Token,
 ) -> Result<Sourced, NoMemory>
     ensures { IfOk result (λ fed. fed ≡ spec.in_body items place head body token.now) }
 {
-    let fed = match feed_body(alloc, body, token) {
-        Ok(fed) => fed,
-        Err(NoMemory) => {
-            drop(head);
-            return Err(NoMemory);
-        }
-    };
-    match fed {
+    match feed_body(alloc, body, token)? {
         Stepped::Goes { body, reach } => {
             Ok(goes_on(items, SourceStage::Body { place, head, body }, reach))
         }
         Stepped::Done { parts } => {
             let item = Item::Function {
                 place,
-                head,
+                head: head.into_inner(),
                 body: parts,
                 close: token.place,
             };
             item_done(items, item)
         }
-        Stepped::Refused => {
-            drop(head);
-            Ok(Sourced::Refused)
-        }
+        Stepped::Refused => Ok(Sourced::Refused),
     }
 }
 

@@ -15,8 +15,8 @@ use k_reader::expression::Reading;
 use k_reader::level::plus;
 use k_reader::reading::{Closer, Maybe, Read};
 use k_reader::stack::Stack;
-use k_reader::statement::{Body, Frame, BlockStage, Stepped};
-use k_tree::{Expr, Stmt, Token};
+use k_reader::statement::{BlockStage, Body, Frame, Stepped};
+use k_tree::{Stmt, Token};
 use std::alloc::Global;
 
 /// The block goes on.
@@ -32,10 +32,16 @@ pub fn steps(parts: Seq<Stmt>, frames: Stack<Frame>, step: BlockStage, reach: us
 }
 
 /// A statement ended.
-pub fn whole(parts: Seq<Stmt>, frames: Stack<Frame>, stmt: Stmt) -> Stepped
-    ensures { result ≡ spec.whole parts frames stmt }
+pub fn whole(
+    alloc: Global,
+    parts: Seq<Stmt>,
+    frames: Stack<Frame>,
+    stmt: Stmt,
+) -> Result<Stepped, NoMemory>
+    ensures { IfOk result (λ fed. fed ≡ spec.whole parts frames stmt) }
 {
-    steps(parts, frames, BlockStage::Whole { stmt }, 0)
+    let stmt = Box::new(alloc, stmt)?;
+    Ok(steps(parts, frames, BlockStage::Whole { stmt }, 0))
 }
 
 /// A statement opened, of which a part is awaited.
@@ -76,7 +82,7 @@ fn value(
     parts: Seq<Stmt>,
     frames: Stack<Frame>,
     place: Place,
-    reading: Reading,
+    reading: Box<Reading>,
     token: &Token,
 ) -> Result<Stepped, NoMemory>
     ensures { IfOk result (λ fed. fed ≡ spec.value parts frames place reading token.now) }
@@ -85,21 +91,8 @@ fn value(
         Read::Goes { reading, reach } => {
             Ok(steps(parts, frames, BlockStage::Value { place, reading }, reach))
         }
-        Read::Done { value } => {
-            let value = Box::new(alloc, value)?;
-            Ok(whole(parts, frames, Stmt::Expr { place, value }))
-        }
+        Read::Done { value } => whole(alloc, parts, frames, Stmt::Expr { place, value }),
         Read::Refused => Ok(Stepped::Refused),
-    }
-}
-
-/// A value that may be left out, in its box.
-pub fn boxed(alloc: Global, value: Option<Expr>) -> Result<Option<Box<Expr>>, NoMemory>
-    ensures { IfOk result (λ made. made ≡ value) }
-{
-    match value {
-        None => Ok(None),
-        Some(value) => Ok(Some(Box::new(alloc, value)?)),
     }
 }
 
@@ -110,7 +103,7 @@ fn returned(
     parts: Seq<Stmt>,
     frames: Stack<Frame>,
     place: Place,
-    reading: Reading,
+    reading: Box<Reading>,
     token: &Token,
 ) -> Result<Stepped, NoMemory>
     ensures { IfOk result (λ fed. fed ≡ spec.returned parts frames place reading token.now) }
@@ -119,10 +112,7 @@ fn returned(
         Maybe::Goes { reading, reach } => {
             Ok(steps(parts, frames, BlockStage::Return { place, reading }, reach))
         }
-        Maybe::Done { value } => {
-            let value = boxed(alloc, value)?;
-            Ok(whole(parts, frames, Stmt::Return { place, value }))
-        }
+        Maybe::Done { value } => whole(alloc, parts, frames, Stmt::Return { place, value }),
         Maybe::Refused => Ok(Stepped::Refused),
     }
 }
@@ -134,33 +124,36 @@ fn local(
     parts: Seq<Stmt>,
     frames: Stack<Frame>,
     place: Place,
-    declaration: Declaration,
+    declaration: Box<Declaration>,
     token: &Token,
 ) -> Result<Stepped, NoMemory>
     ensures { IfOk result (λ fed. fed ≡ spec.local parts frames place declaration token.now) }
 {
-    match feed_declaration(alloc, declaration, token)? {
+    match feed_declaration(alloc, declaration.into_inner(), token)? {
         Declared::Goes { declaration, reach } => {
-            Ok(steps(parts, frames, BlockStage::Local { place, declaration }, reach))
+            let declaration = Box::new(alloc, declaration)?;
+            Ok(steps(
+                parts,
+                frames,
+                BlockStage::Local { place, declaration },
+                reach,
+            ))
         }
-        Declared::Done { specs, list } => Ok(whole(
-            parts,
-            frames,
-            Stmt::Declare { place, specs, list },
-        )),
+        Declared::Done { specs, list } => {
+            whole(alloc, parts, frames, Stmt::Declare { place, specs, list })
+        }
         Declared::Refused => Ok(Stepped::Refused),
     }
 }
 
 /// The semicolon of a statement.
 #[tactic(auto, unfolding(k_reader::specs::Statements::semicolon))]
-fn semicolon(parts: Seq<Stmt>, frames: Stack<Frame>, stmt: Stmt, token: &Token) -> Stepped
+fn semicolon(parts: Seq<Stmt>, frames: Stack<Frame>, stmt: Box<Stmt>, token: &Token) -> Stepped
     ensures { result ≡ spec.semicolon parts frames stmt token.now }
 {
     if closes(token, Closer::Semicolon) {
-        whole(parts, frames, stmt)
+        steps(parts, frames, BlockStage::Whole { stmt }, 0)
     } else {
-        drop(stmt);
         Stepped::Refused
     }
 }
@@ -179,12 +172,14 @@ pub fn feed_body(alloc: Global, body: Body, token: &Token) -> Result<Stepped, No
         BlockStage::Begins => begin::begins(alloc, parts, frames, token),
         BlockStage::Whole { stmt } => clause::behind(alloc, parts, frames, stmt, token),
         BlockStage::Value { place, reading } => value(alloc, parts, frames, place, reading, token),
-        BlockStage::Keyword { tested } => Ok(clause::opened(alloc, parts, frames, tested, token)),
+        BlockStage::Keyword { tested } => clause::opened(alloc, parts, frames, tested, token),
         BlockStage::Test { tested, reading } => clause::test(
             alloc, parts, frames, tested, reading, token,
         ),
         BlockStage::Semicolon { stmt } => Ok(semicolon(parts, frames, stmt, token)),
-        BlockStage::Return { place, reading } => returned(alloc, parts, frames, place, reading, token),
+        BlockStage::Return { place, reading } => returned(
+            alloc, parts, frames, place, reading, token,
+        ),
         BlockStage::Local { place, declaration } => {
             local(alloc, parts, frames, place, declaration, token)
         }

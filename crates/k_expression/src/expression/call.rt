@@ -5,7 +5,7 @@ ghost use Rattle.k_reader.specs.Expressions as spec;
 use crate::expression::goes;
 use k_num::NoMemory;
 use k_reader::expression::call::Called;
-use k_reader::expression::{Fed, ExpressionStage, Open, Site, Term};
+use k_reader::expression::{ExpressionStage, Fed, Open, Site, Term};
 use k_reader::level::plus;
 use k_reader::stack::Stack;
 use k_tree::{Expr, Mark};

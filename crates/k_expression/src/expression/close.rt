@@ -8,7 +8,7 @@ use crate::expression::{goes, hole, level, refused};
 use k_num::{Box, NoMemory, Place};
 use k_reader::expression::call::Called;
 use k_reader::expression::plug::Plugged;
-use k_reader::expression::{Fed, ExpressionStage, Open, Site, Term};
+use k_reader::expression::{ExpressionStage, Fed, Open, Site, Term};
 use k_reader::level::{above, plus};
 use k_reader::operators::{is_bracket, is_question, is_step, takes};
 use k_reader::stack::Stack;

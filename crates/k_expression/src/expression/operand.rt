@@ -6,7 +6,7 @@ ghost use Rattle.k_tree.specs.Ranked as ranked;
 
 use crate::expression::{goes, hole, level, refused};
 use k_num::{NoMemory, Place, Seq, Text};
-use k_reader::expression::{Fed, ExpressionStage, Open, Site, Term};
+use k_reader::expression::{ExpressionStage, Fed, Open, Site, Term};
 use k_reader::level::plus;
 use k_reader::operators::{is_close, is_open, is_spec, is_step};
 use k_reader::stack::Stack;

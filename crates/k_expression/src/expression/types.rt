@@ -4,7 +4,7 @@ ghost use Rattle.k_reader.specs.Expressions as spec;
 
 use crate::expression::{goes, refused};
 use k_num::{NoMemory, Place, Seq};
-use k_reader::expression::{Fed, ExpressionStage, Open, Site, Term};
+use k_reader::expression::{ExpressionStage, Fed, Open, Site, Term};
 use k_reader::operators::is_spec;
 use k_reader::stack::Stack;
 use k_reader::stars::{Stars, all_stars, constant, star};

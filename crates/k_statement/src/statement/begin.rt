@@ -5,13 +5,13 @@ ghost use Rattle.k_reader.specs.Statements as spec;
 use crate::statement::switch::{case_begins, default_begins};
 use crate::statement::{await_part, level, steps, whole};
 use k_declaration::declaration::begin_declaration;
-use k_expression::expression::{begin, feed};
-use k_num::{NoMemory, Place, Seq};
+use k_expression::expression::{begin, begin_boxed, feed};
+use k_num::{Box, NoMemory, Place, Seq};
 use k_reader::expression::Fed;
 use k_reader::level::plus;
 use k_reader::operators::{is_left_brace, is_right_brace, is_semicolon, is_spec};
 use k_reader::stack::Stack;
-use k_reader::statement::{Frame, BlockStage, Stepped, Tested};
+use k_reader::statement::{BlockStage, Frame, Stepped, Tested};
 use k_tree::{Mark, Stmt, Token, TokenKind, Word};
 use std::alloc::Global;
 
@@ -25,17 +25,22 @@ fn is_in_block(frames: &Stack<Frame>) -> bool
 
 /// The end of a block or of a `switch`.
 #[tactic(auto, unfolding(k_reader::specs::Statements::block_ends))]
-fn block_ends(parts: Seq<Stmt>, mut frames: Stack<Frame>) -> Stepped
-    ensures { result ≡ spec.block_ends parts frames }
+fn block_ends(
+    alloc: Global,
+    parts: Seq<Stmt>,
+    mut frames: Stack<Frame>,
+) -> Result<Stepped, NoMemory>
+    ensures { IfOk result (λ fed. fed ≡ spec.block_ends parts frames) }
 {
     match frames.pop() {
-        None => Stepped::Done { parts },
+        None => Ok(Stepped::Done { parts }),
         Some(
             Frame::Block {
                 place,
                 parts: inner,
             },
         ) => whole(
+            alloc,
             parts,
             frames,
             Stmt::Block {
@@ -50,6 +55,7 @@ fn block_ends(parts: Seq<Stmt>, mut frames: Stack<Frame>) -> Stepped
                 parts: inner,
             },
         ) => whole(
+            alloc,
             parts,
             frames,
             Stmt::Switch {
@@ -60,7 +66,7 @@ fn block_ends(parts: Seq<Stmt>, mut frames: Stack<Frame>) -> Stepped
         ),
         Some(frame) => {
             drop(frame);
-            Stepped::Refused
+            Ok(Stepped::Refused)
         }
     }
 }
@@ -81,7 +87,13 @@ fn declares(
     }
     let reach = level(&frames);
     let declaration = begin_declaration(alloc, word, plus(reach, 1))?;
-    Ok(steps(parts, frames, BlockStage::Local { place, declaration }, reach))
+    let declaration = Box::new(alloc, declaration)?;
+    Ok(steps(
+        parts,
+        frames,
+        BlockStage::Local { place, declaration },
+        reach,
+    ))
 }
 
 /// A keyword that begins a declaration, a statement or a label.
@@ -130,18 +142,18 @@ fn jump(
             let tested = Tested::Switch { place };
             (BlockStage::Keyword { tested }, inner)
         }
-        Word::Case => return Ok(case_begins(alloc, parts, frames, place)),
+        Word::Case => return case_begins(alloc, parts, frames, place),
         Word::Default => return Ok(default_begins(parts, frames, place)),
         Word::Break => {
-            let stmt = Stmt::Break { place };
+            let stmt = Box::new(alloc, Stmt::Break { place })?;
             (BlockStage::Semicolon { stmt }, own)
         }
         Word::Continue => {
-            let stmt = Stmt::Continue { place };
+            let stmt = Box::new(alloc, Stmt::Continue { place })?;
             (BlockStage::Semicolon { stmt }, own)
         }
         Word::Return => {
-            let reading = begin(alloc, 0, inner);
+            let reading = begin_boxed(alloc, 0, inner)?;
             (BlockStage::Return { place, reading }, own)
         }
         _ => return Ok(Stepped::Refused),
@@ -162,6 +174,7 @@ fn expression(
     let reading = begin(alloc, 0, plus(level(&frames), 1));
     match feed(alloc, reading, token)? {
         Fed::Goes { reading, reach } => {
+            let reading = Box::new(alloc, reading)?;
             let place = token.place;
             Ok(steps(parts, frames, BlockStage::Value { place, reading }, reach))
         }
@@ -174,12 +187,17 @@ fn expression(
 }
 
 /// `;` alone.
-fn empty(parts: Seq<Stmt>, frames: Stack<Frame>, place: Place) -> Stepped
-    ensures { result ≡ spec.empty parts frames place }
+fn empty(
+    alloc: Global,
+    parts: Seq<Stmt>,
+    frames: Stack<Frame>,
+    place: Place,
+) -> Result<Stepped, NoMemory>
+    ensures { IfOk result (λ fed. fed ≡ spec.empty parts frames place) }
 {
     let reach = level(&frames);
-    let stmt = Stmt::Empty { place };
-    steps(parts, frames, BlockStage::Whole { stmt }, reach)
+    let stmt = Box::new(alloc, Stmt::Empty { place })?;
+    Ok(steps(parts, frames, BlockStage::Whole { stmt }, reach))
 }
 
 /// A mark that begins a statement, or ends a block.
@@ -194,11 +212,11 @@ fn mark_begins(
     ensures { IfOk result (λ fed. fed ≡ spec.mark_begins parts frames token.now mark) }
 {
     if is_semicolon(mark) {
-        Ok(empty(parts, frames, token.place))
+        empty(alloc, parts, frames, token.place)
     } else if is_left_brace(mark) {
         block_begins(alloc, parts, frames, token.place)
     } else if is_right_brace(mark) {
-        Ok(block_ends(parts, frames))
+        block_ends(alloc, parts, frames)
     } else {
         expression(alloc, parts, frames, token)
     }

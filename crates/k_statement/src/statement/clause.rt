@@ -5,7 +5,7 @@ ghost use Rattle.k_reader.specs.Statements as spec;
 use crate::statement::begin::begins;
 use crate::statement::switch::more_switched;
 use crate::statement::{await_part, level, steps};
-use k_expression::expression::begin;
+use k_expression::expression::begin_boxed;
 use k_expression::reading::{is_left_paren, read_needed};
 use k_num::{Box, NoMemory, Place, Seq};
 use k_reader::expression::Reading;
@@ -13,7 +13,7 @@ use k_reader::level::plus;
 use k_reader::reading::{Closer, Read};
 use k_reader::stack::Stack;
 use k_reader::statement::clause::Closed;
-use k_reader::statement::{Frame, BlockStage, Stepped, Tested};
+use k_reader::statement::{BlockStage, Frame, Stepped, Tested};
 use k_tree::{Expr, Stmt, Token, TokenKind, Word};
 use std::alloc::Global;
 
@@ -25,15 +25,14 @@ pub fn opened(
     frames: Stack<Frame>,
     tested: Tested,
     token: &Token,
-) -> Stepped
-    ensures { result ≡ spec.opened parts frames tested token.now }
+) -> Result<Stepped, NoMemory>
+    ensures { IfOk result (λ fed. fed ≡ spec.opened parts frames tested token.now) }
 {
     if !is_left_paren(token) {
-        drop(tested);
-        return Stepped::Refused;
+        return Ok(Stepped::Refused);
     }
-    let reading = begin(alloc, 0, plus(level(&frames), 1));
-    steps(parts, frames, BlockStage::Test { tested, reading }, 0)
+    let reading = begin_boxed(alloc, 0, plus(level(&frames), 1))?;
+    Ok(steps(parts, frames, BlockStage::Test { tested, reading }, 0))
 }
 
 /// A test is done.
@@ -43,17 +42,10 @@ fn test_done(
     parts: Seq<Stmt>,
     frames: Stack<Frame>,
     tested: Tested,
-    test: Expr,
+    test: Box<Expr>,
 ) -> Result<Stepped, NoMemory>
     ensures { IfOk result (λ fed. fed ≡ spec.test_done parts frames tested test) }
 {
-    let test = match Box::new(alloc, test) {
-        Ok(test) => test,
-        Err(NoMemory) => {
-            drop(tested);
-            return Err(NoMemory);
-        }
-    };
     match tested {
         Tested::If { place } => await_part(parts, frames, Frame::Then { place, test }, 0),
         Tested::While { place } => await_part(parts, frames, Frame::While { place, test }, 0),
@@ -62,8 +54,7 @@ fn test_done(
             Ok(steps(parts, frames, step, 0))
         }
         Tested::Do { place, body } => {
-            let body = Box::new(alloc, body)?;
-            let stmt = Stmt::DoWhile { place, body, test };
+            let stmt = Box::new(alloc, Stmt::DoWhile { place, body, test })?;
             Ok(steps(parts, frames, BlockStage::Semicolon { stmt }, 0))
         }
     }
@@ -75,27 +66,17 @@ pub fn test(
     parts: Seq<Stmt>,
     frames: Stack<Frame>,
     tested: Tested,
-    reading: Reading,
+    reading: Box<Reading>,
     token: &Token,
 ) -> Result<Stepped, NoMemory>
     ensures { IfOk result (λ fed. fed ≡ spec.test parts frames tested reading token.now) }
 {
-    let read = match read_needed(alloc, reading, token, Closer::Paren) {
-        Ok(read) => read,
-        Err(NoMemory) => {
-            drop(tested);
-            return Err(NoMemory);
-        }
-    };
-    match read {
+    match read_needed(alloc, reading, token, Closer::Paren)? {
         Read::Goes { reading, reach } => {
             Ok(steps(parts, frames, BlockStage::Test { tested, reading }, reach))
         }
         Read::Done { value } => test_done(alloc, parts, frames, tested, value),
-        Read::Refused => {
-            drop(tested);
-            Ok(Stepped::Refused)
-        }
+        Read::Refused => Ok(Stepped::Refused),
     }
 }
 
@@ -115,7 +96,7 @@ fn is_while(token: &Token) -> bool
 
 /// A statement that ends is put into the statement around it; `other` says whether `else` follows.
 #[tactic(auto, unfolding(k_reader::specs::Statements::close))]
-fn close(alloc: Global, frame: Frame, stmt: Stmt, other: bool) -> Result<Fitted, NoMemory>
+fn close(alloc: Global, frame: Frame, stmt: Box<Stmt>, other: bool) -> Result<Fitted, NoMemory>
     ensures { IfOk result (λ made. made ≡ spec.close frame stmt other) }
 {
     let stmt = match frame {
@@ -124,70 +105,53 @@ fn close(alloc: Global, frame: Frame, stmt: Stmt, other: bool) -> Result<Fitted,
                 let frame = Frame::Then { place, test };
                 return Ok(Fitted::Part { frame, stmt });
             }
-            if_alone(alloc, place, test, stmt)?
+            Stmt::If {
+                place,
+                test,
+                then: stmt,
+                other: None,
+            }
         }
         Frame::Else { place, test, then } => Stmt::If {
             place,
             test,
             then,
-            other: Some(Box::new(alloc, stmt)?),
+            other: Some(stmt),
         },
         Frame::While { place, test } => Stmt::While {
             place,
             test,
-            body: Box::new(alloc, stmt)?,
+            body: stmt,
         },
         Frame::For {
             place,
             start,
             test,
             step,
-        } => {
-            let body = match Box::new(alloc, stmt) {
-                Ok(body) => body,
-                Err(NoMemory) => {
-                    drop(start);
-                    return Err(NoMemory);
-                }
-            };
-            Stmt::For {
-                place,
-                first: start,
-                test,
-                step,
-                body,
-            }
-        }
+        } => Stmt::For {
+            place,
+            first: start.into_inner(),
+            test,
+            step,
+            body: stmt,
+        },
         frame => return Ok(Fitted::Part { frame, stmt }),
     };
+    let stmt = Box::new(alloc, stmt)?;
     Ok(Fitted::Whole { stmt })
 }
 
 /// `else` behind the statement of an `if`.
 fn otherwise(
-    alloc: Global,
     parts: Seq<Stmt>,
     frames: Stack<Frame>,
     place: Place,
     test: Box<Expr>,
-    then: Stmt,
+    then: Box<Stmt>,
 ) -> Result<Stepped, NoMemory>
     ensures { IfOk result (λ fed. fed ≡ spec.otherwise parts frames place test «then») }
 {
-    let then = Box::new(alloc, then)?;
     await_part(parts, frames, Frame::Else { place, test, then }, 0)
-}
-
-/// An `if` without `else`.
-fn if_alone(alloc: Global, place: Place, test: Box<Expr>, then: Stmt) -> Result<Stmt, NoMemory>
-    ensures { IfOk result (λ made. made ≡ spec.if_alone place test «then») }
-{
-    Ok(Stmt::If {
-        place,
-        test,
-        then: Box::new(alloc, then)?,
-        other: None,
-    })
 }
 
 /// `while` behind the statement of a `do`.
@@ -196,13 +160,12 @@ fn do_while(
     parts: Seq<Stmt>,
     frames: Stack<Frame>,
     place: Place,
-    body: Stmt,
+    body: Box<Stmt>,
     token: &Token,
 ) -> Stepped
     ensures { result ≡ spec.do_while parts frames place body token.now }
 {
     if !is_while(token) {
-        drop(body);
         return Stepped::Refused;
     }
     let tested = Tested::Do { place, body };
@@ -217,13 +180,13 @@ fn more(
     mut frames: Stack<Frame>,
     place: Place,
     inner: Seq<Stmt>,
-    stmt: Stmt,
+    stmt: Box<Stmt>,
     token: &Token,
 ) -> Result<Stepped, NoMemory>
     ensures { IfOk result (λ fed. fed ≡ spec.more parts frames place inner stmt token.now) }
 {
     let mut inner = inner;
-    inner.push(stmt)?;
+    inner.push(stmt.into_inner())?;
     frames.push(Frame::Block {
         place,
         parts: inner,
@@ -238,13 +201,13 @@ fn part(
     parts: Seq<Stmt>,
     frames: Stack<Frame>,
     frame: Frame,
-    stmt: Stmt,
+    stmt: Box<Stmt>,
     token: &Token,
 ) -> Result<Stepped, NoMemory>
     ensures { IfOk result (λ fed. fed ≡ spec.part parts frames frame stmt token.now) }
 {
     match frame {
-        Frame::Then { place, test } => otherwise(alloc, parts, frames, place, test, stmt),
+        Frame::Then { place, test } => otherwise(parts, frames, place, test, stmt),
         Frame::Do { place } => Ok(do_while(parts, frames, place, stmt, token)),
         Frame::Block {
             place,
@@ -257,7 +220,6 @@ fn part(
         } => more_switched(alloc, parts, frames, place, on, inner, stmt, token),
         frame => {
             drop(frame);
-            drop(stmt);
             Ok(Stepped::Refused)
         }
     }
@@ -269,13 +231,13 @@ pub fn behind(
     alloc: Global,
     mut parts: Seq<Stmt>,
     mut frames: Stack<Frame>,
-    stmt: Stmt,
+    stmt: Box<Stmt>,
     token: &Token,
 ) -> Result<Stepped, NoMemory>
     ensures { IfOk result (λ fed. fed ≡ spec.behind parts frames stmt token.now) }
 {
     let Some(frame) = frames.pop() else {
-        parts.push(stmt)?;
+        parts.push(stmt.into_inner())?;
         return begins(alloc, parts, frames, token);
     };
     match close(alloc, frame, stmt, is_else(token))? {

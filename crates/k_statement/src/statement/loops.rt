@@ -3,18 +3,18 @@ ghost use Rattle.std.specs.Prelude.{◌≡◌, IfOk};
 ghost use Rattle.k_reader.specs.Statements as spec;
 
 use crate::statement::switch::in_switch;
-use crate::statement::{await_part, boxed, level, steps};
+use crate::statement::{await_part, level, steps};
 use k_declaration::declaration::{begin_declaration, feed_declaration};
-use k_expression::expression::begin;
+use k_expression::expression::begin_boxed;
 use k_expression::reading::{is_fresh, is_left_paren, read_maybe};
-use k_num::{NoMemory, Place, Seq};
+use k_num::{Box, NoMemory, Place, Seq};
 use k_reader::declaration::{Declaration, Declared};
 use k_reader::expression::Reading;
 use k_reader::level::plus;
 use k_reader::operators::is_spec;
 use k_reader::reading::{Closer, Maybe};
 use k_reader::stack::Stack;
-use k_reader::statement::{Frame, BlockStage, Stepped};
+use k_reader::statement::{BlockStage, Frame, Stepped};
 use k_tree::{Expr, First, Stmt, Token, TokenKind, Word};
 use std::alloc::Global;
 
@@ -26,14 +26,14 @@ fn opened(
     frames: Stack<Frame>,
     place: Place,
     token: &Token,
-) -> Stepped
-    ensures { result ≡ spec.for_opened parts frames place token.now }
+) -> Result<Stepped, NoMemory>
+    ensures { IfOk result (λ fed. fed ≡ spec.for_opened parts frames place token.now) }
 {
     if !is_left_paren(token) {
-        return Stepped::Refused;
+        return Ok(Stepped::Refused);
     }
-    let reading = begin(alloc, 0, plus(level(&frames), 1));
-    steps(parts, frames, BlockStage::Start { place, reading }, 0)
+    let reading = begin_boxed(alloc, 0, plus(level(&frames), 1))?;
+    Ok(steps(parts, frames, BlockStage::Start { place, reading }, 0))
 }
 
 /// The second part of a `for` begins.
@@ -43,24 +43,25 @@ fn second_begins(
     frames: Stack<Frame>,
     place: Place,
     start: First,
-) -> Stepped
-    ensures { result ≡ spec.second_begins parts frames place start }
+) -> Result<Stepped, NoMemory>
+    ensures { IfOk result (λ fed. fed ≡ spec.second_begins parts frames place start) }
 {
-    let reading = begin(alloc, 0, plus(level(&frames), 1));
+    let start = Box::new(alloc, start)?;
+    let reading = begin_boxed(alloc, 0, plus(level(&frames), 1))?;
     let step = BlockStage::Second {
         place,
         start,
         reading,
     };
-    steps(parts, frames, step, 0)
+    Ok(steps(parts, frames, step, 0))
 }
 
-fn first_of(value: Option<Expr>) -> First
+fn first_of(value: Option<Box<Expr>>) -> First
     ensures { result ≡ spec.first_of value }
 {
     match value {
         None => First::Nothing,
-        Some(value) => First::Value(value),
+        Some(value) => First::Value(value.into_inner()),
     }
 }
 
@@ -88,21 +89,26 @@ fn start(
     parts: Seq<Stmt>,
     frames: Stack<Frame>,
     place: Place,
-    reading: Reading,
+    reading: Box<Reading>,
     token: &Token,
 ) -> Result<Stepped, NoMemory>
     ensures { IfOk result (λ fed. fed ≡ spec.start parts frames place reading token.now) }
 {
-    if let Some(word) = specifier(&reading, token) {
-        drop(reading);
+    if let Some(word) = specifier(reading.get(), token) {
         let declaration = begin_declaration(alloc, word, plus(level(&frames), 1))?;
-        return Ok(steps(parts, frames, BlockStage::Declares { place, declaration }, 0));
+        let declaration = Box::new(alloc, declaration)?;
+        return Ok(steps(
+            parts,
+            frames,
+            BlockStage::Declares { place, declaration },
+            0,
+        ));
     }
     match read_maybe(alloc, reading, token, Closer::Semicolon)? {
         Maybe::Goes { reading, reach } => {
             Ok(steps(parts, frames, BlockStage::Start { place, reading }, reach))
         }
-        Maybe::Done { value } => Ok(second_begins(alloc, parts, frames, place, first_of(value))),
+        Maybe::Done { value } => second_begins(alloc, parts, frames, place, first_of(value)),
         Maybe::Refused => Ok(Stepped::Refused),
     }
 }
@@ -114,18 +120,23 @@ fn declares(
     parts: Seq<Stmt>,
     frames: Stack<Frame>,
     place: Place,
-    declaration: Declaration,
+    declaration: Box<Declaration>,
     token: &Token,
 ) -> Result<Stepped, NoMemory>
     ensures { IfOk result (λ fed. fed ≡ spec.for_declares parts frames place declaration token.now) }
 {
-    match feed_declaration(alloc, declaration, token)? {
+    match feed_declaration(alloc, declaration.into_inner(), token)? {
         Declared::Goes { declaration, reach } => {
-            Ok(steps(parts, frames, BlockStage::Declares { place, declaration }, reach))
+            let declaration = Box::new(alloc, declaration)?;
+            Ok(steps(
+                parts,
+                frames,
+                BlockStage::Declares { place, declaration },
+                reach,
+            ))
         }
         Declared::Done { specs, list } => {
-            let start = First::Declare(specs, list);
-            Ok(second_begins(alloc, parts, frames, place, start))
+            second_begins(alloc, parts, frames, place, First::Declare(specs, list))
         }
         Declared::Refused => Ok(Stepped::Refused),
     }
@@ -138,20 +149,13 @@ fn second(
     parts: Seq<Stmt>,
     frames: Stack<Frame>,
     place: Place,
-    start: First,
-    reading: Reading,
+    start: Box<First>,
+    reading: Box<Reading>,
     token: &Token,
 ) -> Result<Stepped, NoMemory>
     ensures { IfOk result (λ fed. fed ≡ spec.second parts frames place start reading token.now) }
 {
-    let read = match read_maybe(alloc, reading, token, Closer::Semicolon) {
-        Ok(read) => read,
-        Err(NoMemory) => {
-            drop(start);
-            return Err(NoMemory);
-        }
-    };
-    match read {
+    match read_maybe(alloc, reading, token, Closer::Semicolon)? {
         Maybe::Goes { reading, reach } => {
             let step = BlockStage::Second {
                 place,
@@ -161,7 +165,7 @@ fn second(
             Ok(steps(parts, frames, step, reach))
         }
         Maybe::Done { value: test } => {
-            let reading = begin(alloc, 0, plus(level(&frames), 1));
+            let reading = begin_boxed(alloc, 0, plus(level(&frames), 1))?;
             let step = BlockStage::Third {
                 place,
                 start,
@@ -170,41 +174,21 @@ fn second(
             };
             Ok(steps(parts, frames, step, 0))
         }
-        Maybe::Refused => {
-            drop(start);
-            Ok(Stepped::Refused)
-        }
+        Maybe::Refused => Ok(Stepped::Refused),
     }
 }
 
 /// The parts of a `for` are done.
 fn body_begins(
-    alloc: Global,
     parts: Seq<Stmt>,
     frames: Stack<Frame>,
     place: Place,
-    start: First,
-    test: Option<Expr>,
-    step: Option<Expr>,
+    start: Box<First>,
+    test: Option<Box<Expr>>,
+    step: Option<Box<Expr>>,
 ) -> Result<Stepped, NoMemory>
     ensures { IfOk result (λ fed. fed ≡ spec.body_begins parts frames place start test step) }
 {
-    let test = match boxed(alloc, test) {
-        Ok(test) => test,
-        Err(NoMemory) => {
-            drop(start);
-            drop(step);
-            return Err(NoMemory);
-        }
-    };
-    let step = match boxed(alloc, step) {
-        Ok(step) => step,
-        Err(NoMemory) => {
-            drop(start);
-            drop(test);
-            return Err(NoMemory);
-        }
-    };
     let frame = Frame::For {
         place,
         start,
@@ -221,22 +205,14 @@ fn third(
     parts: Seq<Stmt>,
     frames: Stack<Frame>,
     place: Place,
-    start: First,
-    test: Option<Expr>,
-    reading: Reading,
+    start: Box<First>,
+    test: Option<Box<Expr>>,
+    reading: Box<Reading>,
     token: &Token,
 ) -> Result<Stepped, NoMemory>
     ensures { IfOk result (λ fed. fed ≡ spec.third parts frames place start test reading token.now) }
 {
-    let read = match read_maybe(alloc, reading, token, Closer::Paren) {
-        Ok(read) => read,
-        Err(NoMemory) => {
-            drop(start);
-            drop(test);
-            return Err(NoMemory);
-        }
-    };
-    match read {
+    match read_maybe(alloc, reading, token, Closer::Paren)? {
         Maybe::Goes { reading, reach } => {
             let step = BlockStage::Third {
                 place,
@@ -246,12 +222,8 @@ fn third(
             };
             Ok(steps(parts, frames, step, reach))
         }
-        Maybe::Done { value } => body_begins(alloc, parts, frames, place, start, test, value),
-        Maybe::Refused => {
-            drop(start);
-            drop(test);
-            Ok(Stepped::Refused)
-        }
+        Maybe::Done { value } => body_begins(parts, frames, place, start, test, value),
+        Maybe::Refused => Ok(Stepped::Refused),
     }
 }
 
@@ -267,7 +239,7 @@ pub fn in_for(
     ensures { IfOk result (λ fed. fed ≡ spec.in_for parts frames step token.now) }
 {
     match step {
-        BlockStage::For { place } => Ok(opened(alloc, parts, frames, place, token)),
+        BlockStage::For { place } => opened(alloc, parts, frames, place, token),
         BlockStage::Start { place, reading } => start(alloc, parts, frames, place, reading, token),
         BlockStage::Declares { place, declaration } => {
             declares(alloc, parts, frames, place, declaration, token)

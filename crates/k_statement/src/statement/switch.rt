@@ -4,13 +4,13 @@ ghost use Rattle.k_reader.specs.Statements as spec;
 
 use crate::statement::begin::begins;
 use crate::statement::{await_part, level, steps};
-use k_expression::expression::begin;
+use k_expression::expression::begin_boxed;
 use k_expression::reading::{closes, read_needed};
 use k_num::{Box, NoMemory, Place, Seq};
 use k_reader::expression::Reading;
 use k_reader::reading::{Closer, Read};
 use k_reader::stack::Stack;
-use k_reader::statement::{Frame, BlockStage, Stepped};
+use k_reader::statement::{BlockStage, Frame, Stepped};
 use k_tree::{Expr, Mark, Part, Stmt, Token, TokenKind};
 use std::alloc::Global;
 
@@ -24,15 +24,20 @@ fn is_in_switch(frames: &Stack<Frame>) -> bool
 
 /// The value of a `case` begins.
 #[tactic(auto, unfolding(k_reader::specs::Statements::case_begins))]
-pub fn case_begins(alloc: Global, parts: Seq<Stmt>, frames: Stack<Frame>, place: Place) -> Stepped
-    ensures { result ≡ spec.case_begins parts frames place }
+pub fn case_begins(
+    alloc: Global,
+    parts: Seq<Stmt>,
+    frames: Stack<Frame>,
+    place: Place,
+) -> Result<Stepped, NoMemory>
+    ensures { IfOk result (λ fed. fed ≡ spec.case_begins parts frames place) }
 {
     if !is_in_switch(&frames) {
-        return Stepped::Refused;
+        return Ok(Stepped::Refused);
     }
     let reach = level(&frames);
-    let reading = begin(alloc, 2, reach);
-    steps(parts, frames, BlockStage::Case { place, reading }, reach)
+    let reading = begin_boxed(alloc, 2, reach)?;
+    Ok(steps(parts, frames, BlockStage::Case { place, reading }, reach))
 }
 
 /// `default`
@@ -116,7 +121,7 @@ fn case_value(
     parts: Seq<Stmt>,
     frames: Stack<Frame>,
     place: Place,
-    reading: Reading,
+    reading: Box<Reading>,
     token: &Token,
 ) -> Result<Stepped, NoMemory>
     ensures { IfOk result (λ fed. fed ≡ spec.case_value parts frames place reading token.now) }
@@ -125,10 +130,7 @@ fn case_value(
         Read::Goes { reading, reach } => {
             Ok(steps(parts, frames, BlockStage::Case { place, reading }, reach))
         }
-        Read::Done { value } => {
-            let value = Box::new(alloc, value)?;
-            labelled(parts, frames, Part::Case { place, value })
-        }
+        Read::Done { value } => labelled(parts, frames, Part::Case { place, value }),
         Read::Refused => Ok(Stepped::Refused),
     }
 }
@@ -158,13 +160,12 @@ pub fn more_switched(
     place: Place,
     on: Box<Expr>,
     inner: Seq<Part>,
-    stmt: Stmt,
+    stmt: Box<Stmt>,
     token: &Token,
 ) -> Result<Stepped, NoMemory>
     ensures { IfOk result (λ fed. fed ≡ spec.more_switched parts frames place on inner stmt token.now) }
 {
-    let own = stmt.place();
-    let stmt = Box::new(alloc, stmt)?;
+    let own = stmt.get().place();
     let mut inner = inner;
     inner.push(Part::Does { place: own, stmt })?;
     frames.push(Frame::Switch {
@@ -188,7 +189,9 @@ pub fn in_switch(
 {
     match step {
         BlockStage::Braces { place, on } => braces(alloc, parts, frames, place, on, token),
-        BlockStage::Case { place, reading } => case_value(alloc, parts, frames, place, reading, token),
+        BlockStage::Case { place, reading } => case_value(
+            alloc, parts, frames, place, reading, token,
+        ),
         BlockStage::Default { place } => default_label(parts, frames, place, token),
         _step => Ok(Stepped::Refused),
     }
