@@ -1,7 +1,8 @@
 //! Declarations (C17 6.7), token by token, from behind their first specifier.
 mod initialiser;
 
-ghost use Rattle.std.specs.Prelude.{◌≡◌, IfOk};
+ghost use Rattle.std.specs.Prelude.{◌≡◌, IfOk, length};
+ghost use Rattle.k_reader.specs.Level as levels;
 ghost use Rattle.k_reader.specs.Declarations as spec;
 
 use k_expression::expression::{begin, begin_boxed, feed};
@@ -168,7 +169,13 @@ fn named(
             0,
         ))
     } else if is_equal(mark) {
-        let reach = plus(front.level, 1);
+        let reach = match plus(front.level, 1) {
+            Ok(reach) => reach,
+            Err(NoMemory) => {
+                drop(declarator);
+                return Err(NoMemory);
+            }
+        };
         let braces = Stack::new(alloc);
         Ok(declares(
             front,
@@ -295,6 +302,13 @@ fn mark_starts(
     }
 }
 
+/// The level that lies so far below an initialiser that begins in these braces.
+fn below_braces(level: usize, braces: &Stack<Brace>, below: usize) -> Result<usize, NoMemory>
+    ensures { IfOk result (λ sum. sum ≡ levels.plus (levels.plus level (length braces.now)) below) }
+{
+    plus(plus(level, braces.len())?, below)
+}
+
 /// A brace opens.
 #[tactic(auto, unfolding(k_reader::specs::Declarations::brace))]
 fn open_brace(
@@ -309,7 +323,13 @@ fn open_brace(
         declarator,
         mut braces,
     } = opened;
-    let reach = plus(plus(front.level, braces.len()), 2);
+    let reach = match below_braces(front.level, &braces, 2) {
+        Ok(reach) => reach,
+        Err(NoMemory) => {
+            drop(declarator);
+            return Err(NoMemory);
+        }
+    };
     let items = Seq::new(alloc);
     if let Err(NoMemory) = braces.push(Brace { place, items }) {
         drop(declarator);
@@ -342,7 +362,13 @@ fn first(alloc: Global, front: Front, opened: Opened, token: &Token) -> Result<D
     ensures { IfOk result (λ fed. fed ≡ spec.first_token front opened token.now) }
 {
     let Opened { declarator, braces } = opened;
-    let level = plus(plus(front.level, braces.len()), 1);
+    let level = match below_braces(front.level, &braces, 1) {
+        Ok(level) => level,
+        Err(NoMemory) => {
+            drop(declarator);
+            return Err(NoMemory);
+        }
+    };
     let fed = match feed(alloc, begin(alloc, 1, level), token) {
         Ok(fed) => fed,
         Err(NoMemory) => {

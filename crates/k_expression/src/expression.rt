@@ -35,8 +35,8 @@ fn refused(around: Open) -> Fed
 }
 
 /// The level of a node that stands in the innermost open construct.
-fn level(site: Site, opens: &Stack<Open>) -> usize
-    ensures { result ≡ spec.level site opens.now }
+fn level(site: Site, opens: &Stack<Open>) -> Result<usize, NoMemory>
+    ensures { IfOk result (λ level. level ≡ spec.level site opens.now) }
 {
     plus(site.level, opens.len())
 }

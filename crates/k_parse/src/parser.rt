@@ -3,7 +3,7 @@ ghost use Rattle.std.specs.Prelude.{◌≡◌, ◌⊎◌, IfOk, IfErr, Some, Ok,
 ghost use Rattle.k_tree.specs.Closed.{EndsOnce};
 ghost use Rattle.k_reader.specs.Runs.{runs};
 ghost use Rattle.k_reader.specs.Sources.{begin_source};
-ghost use Rattle.k_parse.specs.Parse.{IsParse, IsOne, IsOnly};
+ghost use Rattle.k_parse.specs.Parse.{IsParse, IsOne, IsOnly, nesting_limit};
 
 use k_num::{NoMemory, Seq};
 use k_reader::source::Sourced;
@@ -22,9 +22,9 @@ const NODES: u64 = 262_144;
 fn read(alloc: Global, tokens: &[Token]) -> Result<Unit, ParseFault>
     requires { EndsOnce tokens.now }
     // The tree is that of the definition.
-    ensures tree { IfOk result (λ u. runs 200 begin_source tokens.now ≡ Some (Ok u)) }
+    ensures tree { IfOk result (λ u. runs nesting_limit begin_source tokens.now ≡ Some (Ok u)) }
     // Every refusal but want of memory is that of the definition.
-    ensures refused { IfErr result (λ f. (f ≡ ParseFault.Memory) ⊎ (runs 200 begin_source tokens.now ≡ Some (Err f))) }
+    ensures refused { IfErr result (λ f. (f ≡ ParseFault.Memory) ⊎ (runs nesting_limit begin_source tokens.now ≡ Some (Err f))) }
 {
     let mut source = begin_source(alloc);
     for token in tokens {

@@ -16,7 +16,7 @@ use Rattle.k_reader.specs.declared.expression.Open.TheVariants as open_
 use Rattle.k_reader.specs.declared.expression.ExpressionStage.TheVariants as now
 use Rattle.k_reader.specs.declared.expression.plug.Plugged.TheVariants as plugged
 use Rattle.k_reader.proofs.CompleteLeads.{token_at, Leads, leads-then}
-use Rattle.k_reader.proofs.CompleteHolds.{Feeds, reading, awaits, kept, Below, Holds, Guards, Reads, below_by}
+use Rattle.k_reader.proofs.CompleteHolds.{Feeds, reading, awaits, Below, Holds, Guards, Reads, below_by}
 use Rattle.k_reader.proofs.CompleteSteps.{bind}
 use Rattle.k_reader.proofs.CompleteOperators.{reads_by, holds_value}
 use Rattle.k_reader.proofs.CompleteEnclosed.{encloses, right_paren_below}
@@ -76,15 +76,15 @@ one_more done seen b a e h =
     ∙ (ap (λ t. map bare_expr seen ++ t ∷ []) h
     ∙ sym (map-append bare_expr seen (a ∷ []))))
 
-higher : (height h d e f : ℕ) → height ≡ kept d → h ≡ kept e → f ≡ max d (max e 0) → max height h ≡ kept f
+higher : (height h d e f : ℕ) → height ≡ d → h ≡ e → f ≡ max d (max e 0) → max height h ≡ f
 higher height h d e f x y z = omega arith
 
-highest : (height f : ℕ) → height ≡ kept f → plus height 1 ≡ kept (1 + f)
+highest : (height f : ℕ) → height ≡ f → plus height 1 ≡ (1 + f)
 highest height f x = omega arith
 
 arguments_lead : (bound least k : ℕ) (g : Site) (s : Opens) (p at : Place) (x : List ℕ) (args : List Expr) → EachReads args → k ≤ 15
     → g.level + length s + (1 + deepest (map expr_depth args)) ≤ bound
-    → (a : Expr) (seen done : List Expr) (height : ℕ) → map bare_expr done ≡ map bare_expr seen → height ≡ kept (deepest (map expr_depth seen))
+    → (a : Expr) (seen done : List Expr) (height : ℕ) → map bare_expr done ≡ map bare_expr seen → height ≡ (deepest (map expr_depth seen))
     → (r : Reading) → Holds 1 g (open_.Call at x done height ∷ s) 1 a r
     → Leads Feeds bound (behind_commas (map spell_expr args) ++ the_mark mark.RightParen) r (Holds least g s k (expr.Call p x (seen ++ a ∷ args)))
 arguments_lead bound least k g s p at x [] f le low a seen done height same high r h = λ to.
@@ -99,7 +99,7 @@ arguments_lead bound least k g s p at x [] f le low a seen done height same high
       there = holds_value least g s k (expr.Call p x (seen ++ a ∷ [])) (called at x done height h.a) le
           (highest (max height h.a.height) (deepest (map expr_depth (seen ++ a ∷ [])))
           (higher height h.a.height (deepest (map expr_depth seen)) (expr_depth a) (deepest (map expr_depth (seen ++ a ∷ []))) high h.high d)
-          ∙ sym (ap kept (expr_Call ℕ expr_depth_step p x (seen ++ a ∷ []))))
+          ∙ sym (expr_Call ℕ expr_depth_step p x (seen ++ a ∷ [])))
           (expr_Call Expr bare_expr_step at x (done ++ h.a.tree ∷ [])
           ∙ (ap (λ t. expr.Call nowhere x t) (one_more done seen h.a.tree a same h.same)
           ∙ sym (expr_Call Expr bare_expr_step p x (seen ++ a ∷ []))));
@@ -140,7 +140,7 @@ between bound least k g s p at x [] f le low = λ to. record {
   goes = call_empty g s at x to;
   low = omega arith;
   there = holds_value least g s k (expr.Call p x []) (term (expr.Call at x []) 15 1) le
-      (sym (ap kept (expr_Call ℕ expr_depth_step p x [])))
+      (sym (expr_Call ℕ expr_depth_step p x []))
       (expr_Call Expr bare_expr_step at x [] ∙ sym (expr_Call Expr bare_expr_step p x []));
 }
 between bound least k g s p at x (a ∷ args) f le low =

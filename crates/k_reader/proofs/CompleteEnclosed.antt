@@ -17,8 +17,8 @@ use Rattle.k_reader.specs.declared.expression.Open.TheVariants as open_
 use Rattle.k_reader.specs.declared.expression.ExpressionStage.TheVariants as now
 use Rattle.k_reader.specs.declared.expression.plug.Plugged.TheVariants as plugged
 use Rattle.k_reader.proofs.CompleteLeads.{token_at, leads-then, leads-more}
-use Rattle.k_reader.proofs.CompleteHolds.{Feeds, reading, awaits, kept, Below, Holds, Guards, Reads, parted, taken, taken_by, below_by, below_none}
-use Rattle.k_reader.proofs.CompleteSteps.{reach_low, above-kept, above-one, bind, paren_opens, step_binding, step_is_no_paren}
+use Rattle.k_reader.proofs.CompleteHolds.{Feeds, reading, awaits, Below, Holds, Guards, Reads, parted, taken, taken_by, below_by, below_none}
+use Rattle.k_reader.proofs.CompleteSteps.{reach_low, above-both, above-one, bind, paren_opens, step_binding, step_is_no_paren}
 use Rattle.k_reader.proofs.CompleteOperators.{reads_by, holds_value, holds_over}
 
 -- the construct around a value meets a mark that no operand goes on with
@@ -81,7 +81,7 @@ reads_paren k p a le positive f =
             goes = encloses 0 g (open_.Paren at) s 0 a r h mark.RightParen to (right_paren_below 0) (omega arith) (paren_parts at h.a) ∙ paren_closes g s at h.a;
             low = omega arith;
             there = holds_value least g s k (expr.Paren p a) (enclosed at h.a) le
-                (above-one h.a.height (expr_depth a) h.high ∙ sym (ap kept (expr_Paren ℕ expr_depth_step p a)))
+                (above-one h.a.height (expr_depth a) h.high ∙ sym (expr_Paren ℕ expr_depth_step p a))
                 (expr_Paren Expr bare_expr_step at h.a.tree ∙ (ap (λ t. expr.Paren nowhere t) h.same ∙ sym (expr_Paren Expr bare_expr_step p a)));
           });
     })
@@ -136,7 +136,7 @@ reads_index k p a b le f n =
             goes = encloses 0 g (open_.Index at h.a) s 0 b z i mark.RightBracket to (right_bracket_below 0) (omega arith) (index_parts at h.a i.a) ∙ index_closes g s at h.a i.a;
             low = omega arith;
             there = holds_value least g s k (expr.Index p a b) (indexed at h.a i.a) le
-                (above-kept h.a.height i.a.height (expr_depth a) (expr_depth b) h.high i.high ∙ sym (ap kept (expr_Index ℕ expr_depth_step p a b)))
+                (above-both h.a.height i.a.height (expr_depth a) (expr_depth b) h.high i.high ∙ sym (expr_Index ℕ expr_depth_step p a b))
                 (expr_Index Expr bare_expr_step at h.a.tree i.a.tree
                 ∙ (ap (λ t. expr.Index nowhere t (bare_expr i.a.tree)) h.same
                 ∙ (ap (λ t. expr.Index nowhere (bare_expr a) t) i.same
@@ -166,7 +166,7 @@ reads_postfix k p op a le step f =
           ∙ post_goes g s h.a op at step);
       low = let m : plus (level g s) h.a.height ≤ g.level + length s + expr_depth a = reach_low g s h.a.height (expr_depth a) h.high in omega arith;
       there = holds_value least g s k (expr.Post p op a) (posted at op h.a) le
-          (above-one h.a.height (expr_depth a) h.high ∙ sym (ap kept (expr_Post ℕ expr_depth_step p op a)))
+          (above-one h.a.height (expr_depth a) h.high ∙ sym (expr_Post ℕ expr_depth_step p op a))
           (expr_Post Expr bare_expr_step at op h.a.tree ∙ (ap (λ t. expr.Post nowhere op t) h.same ∙ sym (expr_Post Expr bare_expr_step p op a)));
     }))
 
@@ -201,7 +201,7 @@ other_plugs : (p : Place) (a b v : Term) → plug (open_.Other p a b) v ≡ plug
 unfolding plug
 other_plugs p a b v = refl
 
-conditional_high : (h i j d e f : ℕ) → h ≡ kept d → i ≡ kept e → j ≡ kept f → above h (max i j) ≡ kept (1 + max d (max e f))
+conditional_high : (h i j d e f : ℕ) → h ≡ d → i ≡ e → j ≡ f → above h (max i j) ≡ (1 + max d (max e f))
 conditional_high h i j d e f x y z = omega arith
 
 pub reads_conditional : (k : ℕ) (p : Place) (a b c : Expr) → k ≤ 2 → Reads 3 a → Reads 0 b → Reads 2 c → Reads k (expr.Cond p a b c)
@@ -237,7 +237,7 @@ reads_conditional k p a b c le f n m =
                 (λ y j. holds_over least g (open_.Other at h.a i.a) s 2 k c (expr.Cond p a b c) y j (conditional at h.a i.a j.a) (other_plugs at h.a i.a j.a)
                 (omega arith) le
                 (conditional_high h.a.height i.a.height j.a.height (expr_depth a) (expr_depth b) (expr_depth c) h.high i.high j.high
-                ∙ sym (ap kept (expr_Cond ℕ expr_depth_step p a b c)))
+                ∙ sym (expr_Cond ℕ expr_depth_step p a b c))
                 (expr_Cond Expr bare_expr_step at h.a.tree i.a.tree j.a.tree
                 ∙ (ap (λ t. expr.Cond nowhere t (bare_expr i.a.tree) (bare_expr j.a.tree)) h.same
                 ∙ (ap (λ t. expr.Cond nowhere (bare_expr a) t (bare_expr j.a.tree)) i.same

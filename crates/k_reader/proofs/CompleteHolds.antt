@@ -1,5 +1,5 @@
 -- A value that is read, around which constructs may still be open: what the next token does there.
-use Rattle.std.proofs.Common.{ℕ, ◌≡◌, ◌+◌, ◌-◌, ◌^◌, ◌<◌, ◌≤◌, min, true, false, cond, ◌&&◌, nat_le, [], ◌∷◌, length, Some, None, ap, ◌∙◌, arith, le-leb}
+use Rattle.std.proofs.Common.{ℕ, ◌≡◌, ◌+◌, ◌-◌, ◌<◌, ◌≤◌, true, false, cond, ◌&&◌, nat_le, [], ◌∷◌, length, Some, None, ap, ◌∙◌, arith, le-leb}
 use Rattle.std.proofs.lemmas.Bool.{lt-leb}
 use Rattle.k_reader.specs.Types.{Place, Token, TokenKind, Mark, Expr, Binding, Term, Open, ExpressionStage, Site, Reading}
 use Rattle.k_tree.specs.declared.tokens.TokenKind.TheVariants as token
@@ -24,10 +24,6 @@ Feeds r t next reach = feed r t ≡ fed.Goes next reach
 abbrev pub awaits : Site → Opens → Reading
 awaits g s = reading g s now.Operand
 
--- a number as a machine keeps it
-abbrev pub kept : ℕ → ℕ
-kept n = min n (2 ^ 64 - 1)
-
 -- a token that goes on with no operand in a place of this least rank or a higher one
 abbrev pub Below : ℕ → TokenKind → Type 0
 Below least kind =
@@ -38,7 +34,7 @@ pub record Holds (least : ℕ) (g : Site) (s : Opens) (k : ℕ) (e : Expr) (r : 
   pub a : Term
   pub next : (t : Token) → Below least t.what → feed r t ≡ value g s a t
   pub ranked : k ≤ a.rank
-  pub high : a.height ≡ kept (expr_depth e)
+  pub high : a.height ≡ (expr_depth e)
   pub same : bare_expr a.tree ≡ bare_expr e
 
 -- how high the places lie that pass an operator by which a tree of rank k goes on

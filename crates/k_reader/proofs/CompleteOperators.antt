@@ -17,8 +17,8 @@ use Rattle.k_reader.specs.declared.expression.Open.TheVariants as open_
 use Rattle.k_reader.specs.declared.expression.ExpressionStage.TheVariants as now
 use Rattle.k_reader.specs.declared.expression.plug.Plugged.TheVariants as plugged
 use Rattle.k_reader.proofs.CompleteLeads.{token_at, Leads, Step, leads-then, leads-more}
-use Rattle.k_reader.proofs.CompleteHolds.{Feeds, reading, awaits, kept, Holds, Guards, Reads, closed, taken, taken_by, below_by}
-use Rattle.k_reader.proofs.CompleteSteps.{reach_low, above-kept, bind, Infixes, comma_infixes, binary_infixes, assignment_infixes, binary_bounds, binary_binding, assignment_binding, own_bound, infix_hole, infix_opens, infix_plugs}
+use Rattle.k_reader.proofs.CompleteHolds.{Feeds, reading, awaits, Holds, Guards, Reads, closed, taken, taken_by, below_by}
+use Rattle.k_reader.proofs.CompleteSteps.{reach_low, above-both, bind, Infixes, comma_infixes, binary_infixes, assignment_infixes, binary_bounds, binary_binding, assignment_binding, own_bound, infix_hole, infix_opens, infix_plugs}
 
 -- a construct by its spelling and its depth
 pub reads_by : (k : ℕ) (e : Expr) (xs : Spelled) (d : ℕ) → spell_expr e ≡ xs → expr_depth e ≡ d
@@ -30,14 +30,14 @@ reads_by k e xs d spelled deep f = λ least g s h q.
 
 -- a value that was just made
 pub holds_value : (least : ℕ) (g : Site) (s : Opens) (k : ℕ) (e : Expr) (a : Term)
-    → k ≤ a.rank → a.height ≡ kept (expr_depth e) → bare_expr a.tree ≡ bare_expr e → Holds least g s k e (reading g s (now.Value a))
+    → k ≤ a.rank → a.height ≡ (expr_depth e) → bare_expr a.tree ≡ bare_expr e → Holds least g s k e (reading g s (now.Value a))
 unfolding feed
 holds_value least g s k e a r h b = record { a = a; next = λ t below. refl; ranked = r; high = h; same = b }
 
 -- a construct that ends with its operand
 pub holds_over : (least : ℕ) (g : Site) (o : Open) (s : Opens) (j k : ℕ) (b e : Expr) (r : Reading) (h : Holds least g (o ∷ s) j b r) (c : Term)
     → plug o h.a ≡ plugged.Whole c → least ≤ hole g (o ∷ s)
-    → k ≤ c.rank → c.height ≡ kept (expr_depth e) → bare_expr c.tree ≡ bare_expr e → Holds least g s k e r
+    → k ≤ c.rank → c.height ≡ (expr_depth e) → bare_expr c.tree ≡ bare_expr e → Holds least g s k e r
 holds_over least g o s j k b e r h c whole le rank high same = record {
   a = c;
   next = λ t below. h.next t below ∙ closed g o s h.a c t (below.1 (hole g (o ∷ s)) h.a.rank le) whole;
@@ -55,7 +55,7 @@ leaf_step least g s k e made t le fed_by deep same = record {
   reach = level g s;
   goes = fed_by;
   low = omega arith;
-  there = holds_value least g s k e (term made 16 1) le (sym (ap kept deep)) same;
+  there = holds_value least g s k e (term made 16 1) le (sym deep) same;
 }
 
 pub reads_number : (k : ℕ) (p : Place) (kind : Kind) (n : ℕ) → k ≤ 16 → Reads k (expr.Number p kind n)
@@ -101,7 +101,7 @@ reads_name k p x le =
         a = term (expr.Name at x) 16 1;
         next = λ t below. named_next g s at x t below.0;
         ranked = le;
-        high = sym (ap kept (expr_Name ℕ expr_depth_step p x));
+        high = sym (expr_Name ℕ expr_depth_step p x);
         same = expr_Name Expr bare_expr_step at x ∙ sym (expr_Name Expr bare_expr_step p x);
       };
     })
@@ -143,7 +143,7 @@ reads_infix k left own right op a b e shape binds le up guards more spelled deep
           (λ z i. holds_over least g (open_.Infix p op h.a) s right k b e z i (infix_made p op h.a i.a) (infix_plugs p op h.a i.a)
           (let low : least ≤ right = guard.1 in omega arith)
           (let own_is : own_rank op ≡ own = own_bound op (bind left own right) binds in omega arith)
-          (above-kept h.a.height i.a.height (expr_depth a) (expr_depth b) h.high i.high ∙ sym (ap kept deep))
+          (above-both h.a.height i.a.height (expr_depth a) (expr_depth b) h.high i.high ∙ sym deep)
           (ap (λ m. bare_expr (infix_tree m p op h.a.tree i.a.tree)) (own_bound op (bind left own right) binds) ∙ same p h.a.tree i.a.tree h.same i.same));
     }))
 

@@ -17,7 +17,7 @@ use Rattle.k_reader.specs.Expressions.{hole, plug, Opens, level, term, prefix_ra
 use Rattle.k_reader.specs.declared.expression.Open.TheVariants as open_
 use Rattle.k_reader.specs.declared.expression.plug.Plugged.TheVariants as plugged
 use Rattle.k_reader.proofs.CompleteLeads.{token_at, Leads, Step, leads-more}
-use Rattle.k_reader.proofs.CompleteHolds.{Feeds, awaits, kept, Holds, Guards, Reads}
+use Rattle.k_reader.proofs.CompleteHolds.{Feeds, awaits, Holds, Guards, Reads}
 use Rattle.k_reader.proofs.CompleteSteps.{above-one, prefix_opens, sizeof_opens}
 use Rattle.k_reader.proofs.CompleteOperators.{reads_by, holds_over}
 
@@ -46,7 +46,7 @@ reads_before k least rank own g s kind made a e c opens at low guards plugs le r
           (λ r h. holds_over least g (made p) s rank k a e r h (c h.a p) (plugs p h.a)
           (let i : hole g (made p ∷ s) ≡ rank = at p in omega arith)
           (let i : (c h.a p).rank ≡ own = rank_is p h.a in omega arith)
-          (high p h.a ∙ (above-one h.a.height (expr_depth a) h.high ∙ sym (ap kept deep)))
+          (high p h.a ∙ (above-one h.a.height (expr_depth a) h.high ∙ sym deep))
           (same p h.a h.same)));
     }
 

@@ -15,16 +15,16 @@ use Rattle.k_reader.specs.declared.expression.ExpressionStage.TheVariants as now
 use Rattle.k_reader.specs.declared.expression.Fed.TheVariants as fed
 use Rattle.k_reader.specs.declared.expression.plug.Plugged.TheVariants as plugged
 use Rattle.k_reader.proofs.CompleteLeads.{token_at}
-use Rattle.k_reader.proofs.CompleteHolds.{awaits, kept}
+use Rattle.k_reader.proofs.CompleteHolds.{awaits}
 
 -- numbers as a machine keeps them
-pub reach_low : (g : Site) (s : Opens) (h d : ℕ) → h ≡ kept d → plus (level g s) h ≤ g.level + length s + d
+pub reach_low : (g : Site) (s : Opens) (h d : ℕ) → h ≡ d → plus (level g s) h ≤ g.level + length s + d
 reach_low g s h d e = omega arith
 
-pub above-kept : (h j d f : ℕ) → h ≡ kept d → j ≡ kept f → above h j ≡ kept (1 + max d f)
-above-kept h j d f x y = omega arith
+pub above-both : (h j d f : ℕ) → h ≡ d → j ≡ f → above h j ≡ (1 + max d f)
+above-both h j d f x y = omega arith
 
-pub above-one : (h d : ℕ) → h ≡ kept d → above h 0 ≡ kept (1 + d)
+pub above-one : (h d : ℕ) → h ≡ d → above h 0 ≡ (1 + d)
 above-one h d x = omega arith
 
 -- `(`, an operator, `sizeof` before an operand

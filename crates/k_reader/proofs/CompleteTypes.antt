@@ -21,7 +21,7 @@ use Rattle.k_reader.specs.declared.expression.ExpressionStage.TheVariants as now
 use Rattle.k_reader.specs.declared.expression.Fed.TheVariants as fed
 use Rattle.k_reader.specs.declared.expression.plug.Plugged.TheVariants as plugged
 use Rattle.k_reader.proofs.CompleteLeads.{token_at, Leads, leads-then, leads-more}
-use Rattle.k_reader.proofs.CompleteHolds.{Feeds, reading, awaits, kept, Holds, Reads}
+use Rattle.k_reader.proofs.CompleteHolds.{Feeds, reading, awaits, Holds, Reads}
 use Rattle.k_reader.proofs.CompleteSteps.{above-one, paren_opens, sizeof_opens}
 use Rattle.k_reader.proofs.CompleteOperators.{reads_by, holds_value, holds_over}
 use Rattle.k_reader.proofs.CompleteEnclosed.{opened_low}
@@ -180,7 +180,7 @@ reads_cast k p specs stars a le h positive f =
           (f least g o (omega arith) ((λ i. omega arith), (λ i. omega arith), (λ i. omega arith), (λ i. under)))
           (λ z i. holds_over least g (open_.Cast at specs stars) s 13 k a (expr.Cast p specs stars a) z i (term (expr.Cast at specs stars i.a.tree) 13 (above i.a.height 0))
           (cast_plugs at specs stars i.a) (omega arith) le
-          (above-one i.a.height (expr_depth a) i.high ∙ sym (ap kept (expr_Cast ℕ expr_depth_step p specs stars a)))
+          (above-one i.a.height (expr_depth a) i.high ∙ sym (expr_Cast ℕ expr_depth_step p specs stars a))
           (expr_Cast Expr bare_expr_step at specs stars i.a.tree
           ∙ (ap (λ t. expr.Cast nowhere specs stars t) i.same ∙ sym (expr_Cast Expr bare_expr_step p specs stars a))))));
     })
@@ -219,7 +219,7 @@ reads_size k p specs stars le h =
               goes = closing g (open_.Sizeof at ∷ s) from specs stars r to n ∙ close_size g s from at specs stars;
               low = omega arith;
               there = holds_value least g s k (expr.SizeofType p specs stars) (term (expr.SizeofType at specs stars) 14 1) le
-                  (sym (ap kept (expr_SizeofType ℕ expr_depth_step p specs stars)))
+                  (sym (expr_SizeofType ℕ expr_depth_step p specs stars))
                   (expr_SizeofType Expr bare_expr_step at specs stars ∙ sym (expr_SizeofType Expr bare_expr_step p specs stars));
             });
       };

@@ -19,7 +19,6 @@ use Rattle.k_reader.specs.Declarations as spec
 use Rattle.k_reader.specs.declared.declaration.DeclarationStage.TheVariants as stage
 use Rattle.k_reader.specs.declared.declaration.Declared.TheVariants as declared_
 use Rattle.k_reader.proofs.Commas.{not_none}
-use Rattle.k_reader.proofs.ExpressionState.{IsLimit}
 use Rattle.k_reader.proofs.ExpressionReach.{Reached}
 use Rattle.k_reader.proofs.ReadingReach.{Begun, feed_begun}
 
@@ -39,21 +38,21 @@ fed_stays lim (fed.Ends v) true h = tt
 fed_stays lim (fed.Ends v) false h = tt
 fed_stays lim fed.Refused b h = tt
 
-pub needed_stays : (lim : ℕ) → IsLimit lim → (r : Reading) (t : Token) (c : Closer) → Begun lim r → ReadStays lim (read_needed r t c)
+pub needed_stays : (lim : ℕ) → (r : Reading) (t : Token) (c : Closer) → Begun lim r → ReadStays lim (read_needed r t c)
 unfolding read_needed
-needed_stays lim is_limit r t c b =
-    fed_stays lim (feed r t) (closes t c) (λ next reach e le. (feed_begun lim is_limit r t next reach b e le).1)
+needed_stays lim r t c b =
+    fed_stays lim (feed r t) (closes t c) (λ next reach e le. (feed_begun lim r t next reach b e le).1)
 
 by_stays : (lim : ℕ) (x : Read) → ReadStays lim x → MaybeStays lim (maybe_by x)
 by_stays lim (read.Goes r reach) h = h
 by_stays lim (read.Done v) h = tt
 by_stays lim read.Refused h = tt
 
-pub maybe_stays : (lim : ℕ) → IsLimit lim → (r : Reading) (t : Token) (c : Closer) → Begun lim r → MaybeStays lim (read_maybe r t c)
+pub maybe_stays : (lim : ℕ) → (r : Reading) (t : Token) (c : Closer) → Begun lim r → MaybeStays lim (read_maybe r t c)
 unfolding read_maybe
-maybe_stays lim is_limit r t c b =
+maybe_stays lim r t c b =
     cond_both (is_fresh r && closes t c) (maybe.Done None) (maybe_by (read_needed r t c)) (MaybeStays lim) (λ e. tt)
-    (λ e. by_stays lim (read_needed r t c) (needed_stays lim is_limit r t c b))
+    (λ e. by_stays lim (read_needed r t c) (needed_stays lim r t c b))
 
 -- nothing was read of an expression that begins
 pub begin_begun : (lim rank level : ℕ) → Begun lim (begin rank level)
@@ -78,7 +77,7 @@ abbrev pub DeclaredStays : ℕ → Declared → Type 0
 DeclaredStays lim (declared_.Goes d reach) = reach ≤ lim → StageReached lim d.front d.stage
 DeclaredStays lim _ = Unit {0}
 
-module _ (lim : ℕ) (is_limit : IsLimit lim) where
+module _ (lim : ℕ) where
   cond_stays : (b : Bool) (x y : Declared) → (b ≡ true → DeclaredStays lim x) → (b ≡ false → DeclaredStays lim y) → DeclaredStays lim (cond b x y)
   cond_stays b x y h k = cond_both b x y (DeclaredStays lim) h k
 
@@ -103,7 +102,7 @@ module _ (lim : ℕ) (is_limit : IsLimit lim) where
   end_stays f d _ = tt
 
   one_more : (n : ℕ) → plus n 1 ≤ lim → n + 1 ≤ lim
-  one_more n le = omega (arith, is_limit, le)
+  one_more n le = omega (arith, le)
 
   named_stays : (f : Front) (d : Declarator) (m : Mark) → DeclaredStays lim (spec.named f d m)
   unfolding spec.named
@@ -156,11 +155,11 @@ module _ (lim : ℕ) (is_limit : IsLimit lim) where
   unfolding spec.first_token
   first_token_stays f o t =
       first_stays f o t.place (feed (begin 1 (plus (spec.inner_level f o) 1)) t)
-      (λ next reach e le. (feed_begun lim is_limit (begin 1 (plus (spec.inner_level f o) 1)) t next reach
+      (λ next reach e le. (feed_begun lim (begin 1 (plus (spec.inner_level f o) 1)) t next reach
       (begin_begun lim 1 (plus (spec.inner_level f o) 1)) e le).1)
 
   two_more : (n l : ℕ) → plus (plus n l) 2 ≤ lim → n + l + 2 ≤ lim
-  two_more n l le = omega (arith, is_limit, le)
+  two_more n l le = omega (arith, le)
 
   mark_starts_stays : (f : Front) (o : Opened) (t : Token) (m : Mark) → DeclaredStays lim (spec.mark_starts f o t m)
   unfolding spec.mark_starts spec.brace spec.last_comma inits.last_comma
@@ -186,14 +185,14 @@ module _ (lim : ℕ) (is_limit : IsLimit lim) where
   unfolding spec.before spec.size spec.starts spec.value spec.after
   stage_stays f (stage.Before stars) t h = before_stays f stars t.place t.what
   stage_stays f (stage.Named d) t h = kind_named_stays f d t.what
-  stage_stays f (stage.Size d r) t h = size_stays f d (read_maybe r t closer.Bracket) (maybe_stays lim is_limit r t closer.Bracket h)
+  stage_stays f (stage.Size d r) t h = size_stays f d (read_maybe r t closer.Bracket) (maybe_stays lim r t closer.Bracket h)
   stage_stays f (stage.Starts d s) t h = starts_stays f (inits.opened d s) t t.what
   stage_stays f (stage.Value d s p r) t h =
-      value_stays f d s p t (feed r t) (λ next reach e le. (feed_begun lim is_limit r t next reach (λ q. h) e le).1)
+      value_stays f d s p t (feed r t) (λ next reach e le. (feed_begun lim r t next reach (λ q. h) e le).1)
   stage_stays f (stage.After d s) t h = after_stays f (inits.opened d s) t.what h
 
 -- a token within the limit keeps it so
-pub declaration_stays : (lim : ℕ) → IsLimit lim → (d : Declaration) (t : Token) → StageReached lim d.front d.stage
+pub declaration_stays : (lim : ℕ) → (d : Declaration) (t : Token) → StageReached lim d.front d.stage
     → DeclaredStays lim (spec.feed_declaration d t)
 unfolding spec.feed_declaration
-declaration_stays lim is_limit d t h = stage_stays lim is_limit d.front d.stage t h
+declaration_stays lim d t h = stage_stays lim d.front d.stage t h

@@ -30,7 +30,7 @@ use Rattle.k_reader.specs.declared.declaration.DeclarationStage.TheVariants as s
 use Rattle.k_reader.specs.declared.declaration.Declared.TheVariants as declared_
 use Rattle.k_reader.proofs.Commas.{comma, lay_each, each_push, with_last, not_none}
 use Rattle.k_reader.proofs.Rows.{row_push, deepest_more, StartsAt, starts-more, at_stands}
-use Rattle.k_reader.proofs.ExpressionState.{IsLimit, IsRead, Keeps}
+use Rattle.k_reader.proofs.ExpressionState.{IsRead, Keeps}
 use Rattle.k_reader.proofs.ExpressionTerms.{one_at, stand-more, regroup, three, and_left, and_right}
 use Rattle.k_reader.proofs.ExpressionTerms as terms
 use Rattle.k_reader.proofs.TypeSound.{stars_more, stars_const, is_const_word, no_stars_yet}
@@ -55,7 +55,7 @@ behind_all xs ys P ts b st = subst (λ z. Stand (xs ++ ys) z) (sym b.is) (stand-
 pub behind_now : (xs : Pieces) (P : List Token → Type 0) (ts : List Token) → Stand xs ts → P [] → Behind xs P ts
 behind_now xs P ts st p = record { front = ts; back = []; is = sym (append-nil ts); stands = st; rest = p }
 
-module _ (lim : ℕ) (is_limit : IsLimit lim) (l : ℕ) (ts : List Token) (t : Token) where
+module _ (lim : ℕ) (l : ℕ) (ts : List Token) (t : Token) where
   declared_cond : (b : Bool) (x y : Declared) → (b ≡ true → KeepsDeclared lim l ts t x) → (b ≡ false → KeepsDeclared lim l ts t y)
       → KeepsDeclared lim l ts t (cond b x y)
   declared_cond true x y f h = f refl
@@ -270,7 +270,7 @@ module _ (lim : ℕ) (is_limit : IsLimit lim) (l : ℕ) (ts : List Token) (t : T
   unfolding spec.size
   size_keeps f d r o k =
       size_by_keeps f d r (read_maybe r t closer.Bracket) o k
-      (maybe_keeps lim is_limit (site 2 f.level) k.behind.back t r closer.Bracket (omega (arith, o.base, o.level)) k.behind.rest)
+      (maybe_keeps lim (site 2 f.level) k.behind.back t r closer.Bracket (omega (arith, o.base, o.level)) k.behind.rest)
 
   -- behind an initialiser
 
@@ -295,7 +295,7 @@ module _ (lim : ℕ) (is_limit : IsLimit lim) (l : ℕ) (ts : List Token) (t : T
   -- where an initialiser begins
 
   true_brace : (a n : ℕ) → plus (plus a n) 2 ≤ lim → (a + n) + 1 ≤ lim + 1
-  true_brace a n h = omega (arith, is_limit, h)
+  true_brace a n h = omega (arith, h)
 
   brace_keeps : (f : Front) (d : Declarator) (s : List Brace) → OkFront lim l f → t.what ≡ token.Mark mark.LeftBrace → OkStarts lim l f d s ts
       → KeepsDeclared lim l ts t (spec.brace f (inits.opened d s) t.place)
@@ -341,7 +341,7 @@ module _ (lim : ℕ) (is_limit : IsLimit lim) (l : ℕ) (ts : List Token) (t : T
       → KeepsDeclared lim l ts t (spec.first_token f (inits.opened d s) t)
   unfolding spec.first_token
   first_keeps f d s o k =
-      first_by_keeps f d s _ o k (at_keeps lim is_limit (site 1 (plus (plus f.level (length s)) 1)) [] t (begin 1 (plus (plus f.level (length s)) 1))
+      first_by_keeps f d s _ o k (at_keeps lim (site 1 (plus (plus f.level (length s)) 1)) [] t (begin 1 (plus (plus f.level (length s)) 1))
       (begin_at lim 1 (plus (plus f.level (length s)) 1) (omega arith)))
 
   mark_starts_keeps : (f : Front) (d : Declarator) (s : List Brace) (m : Mark) → OkFront lim l f → t.what ≡ token.Mark m → OkStarts lim l f d s ts
@@ -364,7 +364,7 @@ module _ (lim : ℕ) (is_limit : IsLimit lim) (l : ℕ) (ts : List Token) (t : T
   -- in an expression that is an initialiser
 
   true_value : (a n d : ℕ) → plus (plus a n) 1 + d ≤ lim + 1 → (a + n) + (1 + d) ≤ lim + 1
-  true_value a n d h = omega (arith, is_limit, h)
+  true_value a n d h = omega (arith, h)
 
   value_done : (f : Front) (d : Declarator) (s : List Brace) (p : Place) (r : Reading) (v : Expr) → OkFront lim l f
       → (k : OkValue lim l f d s (λ us. At lim (site 1 (plus (plus f.level (length s)) 1)) r us × StartsAt p us) ts)
@@ -404,7 +404,7 @@ module _ (lim : ℕ) (is_limit : IsLimit lim) (l : ℕ) (ts : List Token) (t : T
       → KeepsDeclared lim l ts t (spec.value f (inits.opened d s) p r t)
   unfolding spec.value
   value_keeps f d s p r o k =
-      value_by_keeps f d s p r (feed r t) o k (at_keeps lim is_limit (site 1 (plus (plus f.level (length s)) 1)) k.behind.back t r k.behind.rest.0)
+      value_by_keeps f d s p r (feed r t) o k (at_keeps lim (site 1 (plus (plus f.level (length s)) 1)) k.behind.back t r k.behind.rest.0)
 
   stage_keeps : (f : Front) (g : DeclarationStage) → OkFront lim l f → OkStage lim l f g ts → KeepsDeclared lim l ts t (spec.stage_fed f g t)
   stage_keeps f (stage.Before stars) o k = before_keeps f stars o k

@@ -19,7 +19,7 @@ use Rattle.k_reader.specs.declared.declaration.DeclarationStage.TheVariants as s
 use Rattle.k_reader.specs.declared.declaration.Declared.TheVariants as declared_
 use Rattle.k_reader.proofs.DeclarationReach.{StageReached}
 use Rattle.k_reader.proofs.DeclarationState.{OkDeclaration, OkStage}
-use Rattle.k_reader.proofs.ExpressionState.{IsLimit, Keeps}
+use Rattle.k_reader.proofs.ExpressionState.{Keeps}
 use Rattle.k_reader.proofs.ExpressionReach.{Reached}
 use Rattle.k_reader.proofs.ExpressionViable.{mark_token, Ends_operand}
 use Rattle.k_reader.proofs.ReadingSound.{At, site, begin_at, at_keeps}
@@ -47,7 +47,7 @@ brace_ends : Ends_operand mark.RightBrace
 unfolding binding
 brace_ends = (refl, refl)
 
-module _ (lim : ℕ) (is_limit : IsLimit lim) (f : Front) where
+module _ (lim : ℕ) (f : Front) where
   abbrev Ended : DeclarationStage → Type 0
   Ended n = DeclarationCanEnd lim (spec.declaration_at f n)
 
@@ -80,7 +80,7 @@ module _ (lim : ℕ) (is_limit : IsLimit lim) (f : Front) where
       → Ended (stage.Size d r)
   unfolding spec.feed_declaration spec.size
   size_ended d r ts a h =
-      maybe_can_end Declaration Outcome DeclarationGoes DeclarationEnds lim is_limit closer.Bracket (site 2 f.level) r ts a h
+      maybe_can_end Declaration Outcome DeclarationGoes DeclarationEnds lim closer.Bracket (site 2 f.level) r ts a h
       (λ u. spec.declaration_at f (stage.Size d u)) (λ v. spec.declaration_at f (stage.Named (spec.sized d v)))
       (λ u t next reach e. ap (λ z. spec.size_by f d z) e) (λ u t v e. ap (λ z. spec.size_by f d z) e) (λ v. named_ended (spec.sized d v))
 
@@ -118,12 +118,12 @@ module _ (lim : ℕ) (is_limit : IsLimit lim) (f : Front) where
       → Reached lim r.site r.opens → Ended (stage.Value d s p r)
   unfolding spec.feed_declaration spec.value spec.after inits.plug inits.after spec.end
   value_ended d [] p r g ts a h =
-      inner_ends Declaration Outcome DeclarationGoes DeclarationEnds lim is_limit mark.Semicolon semicolon_ends g r ts a h
+      inner_ends Declaration Outcome DeclarationGoes DeclarationEnds lim mark.Semicolon semicolon_ends g r ts a h
       (λ u. spec.declaration_at f (stage.Value d [] p u)) (λ e. (f.specs, f.list ++ record d { init = Some (init.One p e) } ∷ []))
       (λ u t next reach e. ap (λ z. spec.value_by f (inits.opened d []) p z t) e)
       (λ u e q. ap (λ z. spec.value_by f (inits.opened d []) p z (mark_token mark.Semicolon)) q)
   value_ended d (b ∷ s) p r g ts a h =
-      inner_can_end Declaration Outcome DeclarationGoes DeclarationEnds lim is_limit mark.RightBrace brace_ends g r ts a h
+      inner_can_end Declaration Outcome DeclarationGoes DeclarationEnds lim mark.RightBrace brace_ends g r ts a h
       (λ u. spec.declaration_at f (stage.Value d (b ∷ s) p u))
       (λ e. spec.declaration_at f (stage.After
       (inits.plug_into d s (inits.listed (record { place = b.place; items = b.items ++ init.One p e ∷ [] }) false)).declarator
@@ -146,7 +146,7 @@ module _ (lim : ℕ) (is_limit : IsLimit lim) (f : Front) where
       let g : Site = site 1 n in
       let r : Reading = record { site = g; opens = []; state = now.Named nowhere (97 ∷ []) } in
       let low : n ≤ lim = level_of s le in
-      let k : Keeps lim g [] a_name (fed.Goes r (level g [])) = at_keeps lim is_limit g [] a_name (begin 1 n) (begin_at lim 1 n (omega arith)) in
+      let k : Keeps lim g [] a_name (fed.Goes r (level g [])) = at_keeps lim g [] a_name (begin 1 n) (begin_at lim 1 n (omega arith)) in
       let a : At lim g r (a_name ∷ []) = k (level_above n low) in
       goes_then Declaration Outcome DeclarationGoes DeclarationEnds lim (spec.declaration_at f (stage.Starts d s))
       (spec.declaration_at f (stage.Value d s nowhere r)) a_name (level g []) refl (level_above n low)
@@ -188,7 +188,7 @@ module _ (lim : ℕ) (is_limit : IsLimit lim) (f : Front) where
   stage_ended (stage.After d s) ts k h = after_ended d s
 
 -- what was read of a declaration can be ended within the limit
-pub declaration_viable : (lim : ℕ) → IsLimit lim → (l : ℕ) (d : Declaration) (ts : List Token) → OkDeclaration lim l d ts
+pub declaration_viable : (lim : ℕ) → (l : ℕ) (d : Declaration) (ts : List Token) → OkDeclaration lim l d ts
     → StageReached lim d.front d.stage → DeclarationCanEnd lim d
-declaration_viable lim is_limit l d ts ok h =
-    stage_ended lim is_limit d.front d.stage ts (subst (λ n. OkStage lim n d.front d.stage ts) (sym ok.front.level) ok.stage) h
+declaration_viable lim l d ts ok h =
+    stage_ended lim d.front d.stage ts (subst (λ n. OkStage lim n d.front d.stage ts) (sym ok.front.level) ok.stage) h

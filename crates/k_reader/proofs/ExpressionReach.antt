@@ -14,7 +14,7 @@ use Rattle.k_reader.specs.declared.expression.Open.TheVariants as open_
 use Rattle.k_reader.specs.declared.expression.ExpressionStage.TheVariants as now
 use Rattle.k_reader.specs.declared.expression.Fed.TheVariants as fed
 use Rattle.k_reader.specs.declared.expression.plug.Plugged.TheVariants as plugged
-use Rattle.k_reader.proofs.ExpressionState.{IsLimit, lev}
+use Rattle.k_reader.proofs.ExpressionState.{lev}
 
 -- what a cast, a prefix operator or a parenthesis with its node at level l makes sure: an operand one level down;
 -- but `sizeof (` may go on with a type
@@ -35,14 +35,14 @@ Stays lim g (fed.Goes r reach) = reach ≤ lim → (r.site ≡ g) × Reached lim
 Stays lim g (fed.Ends e) = Unit {0}
 Stays lim g fed.Refused = Unit {0}
 
-module _ (lim : ℕ) (is_limit : IsLimit lim) (g : Site) where
+module _ (lim : ℕ) (g : Site) where
   cond_stays : (b : Bool) (x y : Fed) → (b ≡ true → Stays lim g x) → (b ≡ false → Stays lim g y) → Stays lim g (cond b x y)
   cond_stays b x y h k = cond_both b x y (Stays lim g) h k
 
   deeper : (s : Opens) → plus (level g s) 1 ≤ lim → lev g s + 1 ≤ lim
-  deeper s le = more lim g.level (length s) is_limit le
+  deeper s le = more lim g.level (length s) le
     where
-      more : (lim n l : ℕ) → IsLimit lim → plus (plus n l) 1 ≤ lim → n + l + 1 ≤ lim
+      more : (lim n l : ℕ) → plus (plus n l) 1 ≤ lim → n + l + 1 ≤ lim
       more lim n l h le = omega (arith, h, le)
 
   -- the first token of an operand
@@ -170,6 +170,6 @@ module _ (lim : ℕ) (is_limit : IsLimit lim) (g : Site) where
   now_stays s (now.Type specs stars) t h = type_stays s specs stars t.what h
   now_stays s (now.Value a) t h = value_stays s a t h
 
-pub feed_stays : (lim : ℕ) → IsLimit lim → (r : Reading) (t : Token) → Reached lim r.site r.opens → Stays lim r.site (feed r t)
+pub feed_stays : (lim : ℕ) → (r : Reading) (t : Token) → Reached lim r.site r.opens → Stays lim r.site (feed r t)
 unfolding feed
-feed_stays lim is_limit r t h = now_stays lim is_limit r.site r.opens r.state t h
+feed_stays lim r t h = now_stays lim r.site r.opens r.state t h

@@ -3,18 +3,18 @@ use Rattle.std.proofs.Common.{ℕ, List}
 use Rattle.k_reader.specs.Types.{Token, ExpressionStage, Reading, Site}
 use Rattle.k_reader.specs.Expressions.{Opens, feed, feed_at}
 use Rattle.k_reader.specs.declared.expression.ExpressionStage.TheVariants as now
-use Rattle.k_reader.proofs.ExpressionState.{IsLimit, Inv, Keeps}
+use Rattle.k_reader.proofs.ExpressionState.{Inv, Keeps}
 use Rattle.k_reader.proofs.OperandSound.{operand_keeps}
 use Rattle.k_reader.proofs.TypeSound.{type_keeps}
 use Rattle.k_reader.proofs.ValueSound.{value_keeps, named_keeps}
 
-module _ (lim : ℕ) (is_limit : IsLimit lim) (g : Site) (ts : List Token) (t : Token) where
+module _ (lim : ℕ) (g : Site) (ts : List Token) (t : Token) where
   feed_at_keeps : (s : Opens) (n : ExpressionStage) → Inv lim g s n ts → Keeps lim g ts t (feed_at g s n t)
-  feed_at_keeps s now.Operand i = operand_keeps lim is_limit g ts t s i.stands i.opens
-  feed_at_keeps s (now.Named p x) i = named_keeps lim is_limit g ts t s p x i
-  feed_at_keeps s (now.Type specs stars) i = type_keeps lim is_limit g ts t s specs stars i
-  feed_at_keeps s (now.Value a) i = value_keeps lim is_limit g ts t s a i
+  feed_at_keeps s now.Operand i = operand_keeps lim g ts t s i.stands i.opens
+  feed_at_keeps s (now.Named p x) i = named_keeps lim g ts t s p x i
+  feed_at_keeps s (now.Type specs stars) i = type_keeps lim g ts t s specs stars i
+  feed_at_keeps s (now.Value a) i = value_keeps lim g ts t s a i
 
-pub feed_keeps : (lim : ℕ) → IsLimit lim → (ts : List Token) (t : Token) (r : Reading) → Inv lim r.site r.opens r.state ts → Keeps lim r.site ts t (feed r t)
+pub feed_keeps : (lim : ℕ) → (ts : List Token) (t : Token) (r : Reading) → Inv lim r.site r.opens r.state ts → Keeps lim r.site ts t (feed r t)
 unfolding feed
-feed_keeps lim is_limit ts t r i = feed_at_keeps lim is_limit r.site ts t r.opens r.state i
+feed_keeps lim ts t r i = feed_at_keeps lim r.site ts t r.opens r.state i

@@ -1,5 +1,5 @@
 -- What has been read of an expression: its pieces, and what holds of them.
-use Rattle.std.proofs.Common.{ℕ, ◌≡◌, ◌+◌, ◌≤◌, ◌^◌, ◌<◌, Bool, ◌||◌, IsTrue, List, [], ◌∷◌, ◌++◌, map, length}
+use Rattle.std.proofs.Common.{ℕ, ◌≡◌, ◌+◌, ◌≤◌, Bool, ◌||◌, IsTrue, List, [], ◌∷◌, ◌++◌, map, length}
 use Rattle.k_reader.specs.Types.{Place, Token, Mark, Word, Expr, Term, Open, ExpressionStage, Site, Fed}
 use Rattle.k_tree.specs.declared.tokens.mark.Mark.TheVariants as mark
 use Rattle.k_tree.specs.declared.tokens.word.Word.TheVariants as word
@@ -14,10 +14,6 @@ use Rattle.k_reader.specs.declared.expression.Open.TheVariants as open_
 use Rattle.k_reader.specs.declared.expression.ExpressionStage.TheVariants as now
 use Rattle.k_reader.specs.declared.expression.Fed.TheVariants as fed
 use Rattle.k_reader.proofs.Marks.{Infix}
-
--- a limit of nesting that a machine's number holds
-abbrev pub IsLimit : ℕ → Type 0
-IsLimit lim = lim + 2 < 2 ^ 64
 
 -- arguments, each with a comma behind it
 abbrev pub lay_args : List Expr → Pieces

@@ -13,7 +13,7 @@ use Rattle.k_tree.proofs.Standing.{stand-append}
 use Rattle.k_reader.specs.Level.{plus, above}
 use Rattle.k_reader.specs.Expressions.{infix_tree, term}
 use Rattle.k_reader.proofs.Marks.{Infix, is_comma, is_assign, is_binary}
-use Rattle.k_reader.proofs.ExpressionState.{IsLimit, Fits}
+use Rattle.k_reader.proofs.ExpressionState.{Fits}
 
 -- one token
 pub one_at : (t : Token) (k : TokenKind) → t.what ≡ k → Stand (at t.place (plain (k ∷ []))) (t ∷ [])
@@ -41,17 +41,17 @@ five xs a b c d e ts h =
     subst (λ z. Stand z ts) (ap (λ z. xs ++ (a ++ (b ++ z))) (append_assoc c d e)) (four xs a b (c ++ d) e ts h)
 
 -- a level that a machine's number holds, and that is within a limit, is the level itself
-pub true_level : (lim a b : ℕ) → IsLimit lim → plus a b ≤ lim → a + b ≤ lim
+pub true_level : (lim a b : ℕ) → plus a b ≤ lim → a + b ≤ lim
 true_level lim a b h le = omega (arith, h, le)
 
 -- levels below two parts
-pub true_above : (lim l a b x y : ℕ) → IsLimit lim → a ≡ x → b ≡ y → (l + 1) + x ≤ lim + 1 → (l + 1) + y ≤ lim + 1 → above a b ≡ 1 + max x y
+pub true_above : (lim l a b x y : ℕ) → a ≡ x → b ≡ y → (l + 1) + x ≤ lim + 1 → (l + 1) + y ≤ lim + 1 → above a b ≡ 1 + max x y
 true_above lim l a b x y h p q i j = omega (arith, h, p, q, i, j)
 
-pub true_over : (lim l a x : ℕ) → IsLimit lim → a ≡ x → (l + 1) + x ≤ lim + 1 → above a 0 ≡ 1 + x
+pub true_over : (lim l a x : ℕ) → a ≡ x → (l + 1) + x ≤ lim + 1 → above a 0 ≡ 1 + x
 true_over lim l a x h p i = omega (arith, h, p, i)
 
-pub fits_two : (lim l rank : ℕ) (e : Expr) (a b : Term) → IsLimit lim → Ranked rank e
+pub fits_two : (lim l rank : ℕ) (e : Expr) (a b : Term) → Ranked rank e
     → expr_depth e ≡ 1 + max (expr_depth a.tree) (expr_depth b.tree)
     → Fits lim (l + 1) a → Fits lim (l + 1) b → Fits lim l (term e rank (above a.height b.height))
 fits_two lim l rank e a b h r d fa fb = record {
@@ -60,7 +60,7 @@ fits_two lim l rank e a b h r d fa fb = record {
   within = omega (arith, d, fa.within, fb.within);
 }
 
-pub fits_one : (lim l rank : ℕ) (e : Expr) (a : Term) → IsLimit lim → Ranked rank e → expr_depth e ≡ 1 + expr_depth a.tree
+pub fits_one : (lim l rank : ℕ) (e : Expr) (a : Term) → Ranked rank e → expr_depth e ≡ 1 + expr_depth a.tree
     → Fits lim (l + 1) a → Fits lim l (term e rank (above a.height 0))
 fits_one lim l rank e a h r d fa = record {
   ranked = r;

@@ -17,7 +17,7 @@ use Rattle.k_reader.specs.Expressions.{Opens, goes, level, hole, term, opened, n
 use Rattle.k_reader.specs.declared.expression.Open.TheVariants as open_
 use Rattle.k_reader.specs.declared.expression.ExpressionStage.TheVariants as now
 use Rattle.k_reader.specs.declared.expression.Fed.TheVariants as fed
-use Rattle.k_reader.proofs.ExpressionState.{IsLimit, Fits, OkOpen, ok_infix, ok_then, ok_other, ok_index, ok_call, lev, Valid, ValidNow}
+use Rattle.k_reader.proofs.ExpressionState.{Fits, OkOpen, ok_infix, ok_then, ok_other, ok_index, ok_call, lev, Valid, ValidNow}
 use Rattle.k_reader.proofs.ExpressionReach.{Reached}
 use Rattle.k_reader.proofs.ExpressionDepth.{some_depth}
 
@@ -61,7 +61,7 @@ right_bracket_ends : Ends_operand mark.RightBracket
 unfolding binding
 right_bracket_ends = (refl, refl)
 
-module _ (lim : ℕ) (is_limit : IsLimit lim) (end : Mark) (ends : Ends_operand end) (g : Site) where
+module _ (lim : ℕ) (end : Mark) (ends : Ends_operand end) (g : Site) where
   -- the last token, or a mark of a construct that is open, ends an operand
   data Ending : Opens → Term → List Token → Expr → Type 0 where
     at_end : (s : Opens) (a : Term) (e : Expr) → value g s a (mark_token end) ≡ fed.Ends e → Ending s a [] e

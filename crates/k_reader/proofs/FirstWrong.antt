@@ -16,12 +16,9 @@ use Rattle.k_reader.specs.Runs.{Outcome, next, runs}
 use Rattle.k_reader.specs.Sources.{begin_source, feed_source}
 use Rattle.k_reader.specs.declared.source.Sourced.TheVariants as sourced
 use Rattle.k_reader.specs.declared.whole.ParseFault.TheVariants as fault
-use Rattle.k_reader.proofs.ExpressionBound.{furthest}
-use Rattle.k_reader.proofs.ExpressionState.{IsLimit}
 use Rattle.k_reader.proofs.CompleteLeads.{token_at, Step, Leads, Reaches}
 use Rattle.k_reader.proofs.CompleteItems.{Sources}
 use Rattle.k_reader.proofs.CompleteSources.{SourceRead, unit_of, source_complete, goes_once}
-use Rattle.k_reader.proofs.SourceBound.{SourcedBound, source_bound}
 use Rattle.k_reader.proofs.SourceSound.{OkSource, IsUnit, KeepsSourced, source_keeps, begin_source_ok}
 use Rattle.k_reader.proofs.SourceViable.{PhaseReached, SourcedStays, source_stays, source_begins}
 
@@ -121,9 +118,9 @@ not_reached limit z y t reach e deep takes = elim takes [
 ]
 
 -- what was read so far begins a source
-so_far : (limit : ℕ) → IsLimit limit → (s : Source) (seen : List Token) → OkSource limit s seen → PhaseReached limit s.phase → Begins limit seen
-so_far limit is_limit s seen ok reached =
-    let found = source_begins limit is_limit s seen ok reached in
+so_far : (limit : ℕ) (s : Source) (seen : List Token) → OkSource limit s seen → PhaseReached limit s.phase → Begins limit seen
+so_far limit s seen ok reached =
+    let found = source_begins limit s seen ok reached in
     let more : List Token = found.0 in
     let tree : source.Unit = found.1 in
     let unit : IsUnit limit tree (seen ++ more) = found.2 in
@@ -151,89 +148,91 @@ pub record Stands (limit : ℕ) (s : Source) (seen : List Token) : Type 0 where
   pub ok : OkSource limit s seen
   pub reached : PhaseReached limit s.phase
 
+-- the same at each limit from this one on
+abbrev pub StandsFrom : ℕ → Source → List Token → Type 0
+StandsFrom limit s seen = (n : ℕ) → limit ≤ n → Stands n s seen
+
 -- the refusal of a token that is not taken
-refused_at : (limit : ℕ) → IsLimit limit → (s : Source) (seen : List Token) (t : Token) (ts : List Token) (f : ParseFault) → Stands limit s seen
+refused_at : (limit : ℕ) (s : Source) (seen : List Token) (t : Token) (ts : List Token) (f : ParseFault) → Stands limit s seen
     → feed_source s t ≡ sourced.Refused → f ≡ fault.Syntax t.place → IsFirstWrong limit (seen ++ t ∷ ts) f
-refused_at limit is_limit s seen t ts f h e same =
+refused_at limit s seen t ts f h e same =
     let stop = λ (n : ℕ) (b : Begins n (seen ++ t ∷ [])). not_taken (1 + n) s t e (taken n (1 + limit) seen t s b h.trace) in
     record {
       before = seen;
       wrong = t;
       after = ts;
       split = refl;
-      begin = so_far limit is_limit s seen h.ok h.reached;
+      begin = so_far limit s seen h.ok h.reached;
       stop = stop limit;
       refusal = subst (λ g. IsRefusalAt g seen t) (sym same) (refl, stop);
     }
 
 -- one token more was read
-stands_more : (limit : ℕ) → IsLimit limit → (s y : Source) (seen : List Token) (t : Token) (reach : ℕ) → Stands limit s seen
+stands_more : (limit : ℕ) (s y : Source) (seen : List Token) (t : Token) (reach : ℕ) → Stands limit s seen
     → feed_source s t ≡ sourced.Goes y reach → reach ≤ limit → Stands limit y (seen ++ t ∷ [])
-stands_more limit is_limit s y seen t reach h e le = record {
+stands_more limit s y seen t reach h e le = record {
   trace = reaches_more (1 + limit) begin_source s y seen t reach h.trace e (omega (arith, le));
-  ok = subst (KeepsSourced limit seen t) e (source_keeps limit is_limit seen t s h.ok) le;
-  reached = subst (SourcedStays limit) e (source_stays limit is_limit s t h.reached) le;
+  ok = subst (KeepsSourced limit seen t) e (source_keeps limit seen t s h.ok) le;
+  reached = subst (SourcedStays limit) e (source_stays limit s t h.reached) le;
 }
 
--- a token that reaches too deep, with those before it, begins a source of a greater nesting
-begins_deeper : (limit : ℕ) → IsLimit (furthest limit) → (s y : Source) (seen : List Token) (t : Token) (reach : ℕ) → Stands limit s seen
-    → Stands (furthest limit) s seen → feed_source s t ≡ sourced.Goes y reach → Begins (furthest limit) (seen ++ t ∷ [])
-begins_deeper limit is_deeper s y seen t reach h d e =
-    let le : reach ≤ furthest limit = subst (SourcedBound limit) e (source_bound limit s seen t h.ok h.reached) in
-    let more : Stands (furthest limit) y (seen ++ t ∷ []) = stands_more (furthest limit) is_deeper s y seen t reach d e le in
-    so_far (furthest limit) is_deeper y (seen ++ t ∷ []) more.ok more.reached
+-- a token that reaches too deep, with those before it, begins a source of the nesting that it reaches
+begins_deeper : (s y : Source) (seen : List Token) (t : Token) (reach : ℕ) → Stands reach s seen → feed_source s t ≡ sourced.Goes y reach
+    → Begins reach (seen ++ t ∷ [])
+begins_deeper s y seen t reach h e =
+    let more : Stands reach y (seen ++ t ∷ []) = stands_more reach s y seen t reach h e (omega arith) in
+    so_far reach y (seen ++ t ∷ []) more.ok more.reached
 
 -- the refusal of a token that reaches too deep
-deep_at : (limit : ℕ) → IsLimit limit → IsLimit (furthest limit) → (s y : Source) (seen : List Token) (t : Token) (ts : List Token) (f : ParseFault)
-    (reach : ℕ) → Stands limit s seen → Stands (furthest limit) s seen → feed_source s t ≡ sourced.Goes y reach → limit < reach
-    → f ≡ fault.TooDeep t.place → IsFirstWrong limit (seen ++ t ∷ ts) f
-deep_at limit is_limit is_deeper s y seen t ts f reach h d e deep same = record {
-  before = seen;
-  wrong = t;
-  after = ts;
-  split = refl;
-  begin = so_far limit is_limit s seen h.ok h.reached;
-  stop = λ (b : Begins limit (seen ++ t ∷ [])). not_reached limit s y t reach e deep (taken limit (1 + limit) seen t s b h.trace);
-  refusal = subst (λ g. IsRefusalAt g seen t) (sym same) (refl, (furthest limit, begins_deeper limit is_deeper s y seen t reach h d e));
-}
+deep_at : (limit : ℕ) (s y : Source) (seen : List Token) (t : Token) (ts : List Token) (f : ParseFault) (reach : ℕ) → StandsFrom limit s seen
+    → feed_source s t ≡ sourced.Goes y reach → limit < reach → f ≡ fault.TooDeep t.place → IsFirstWrong limit (seen ++ t ∷ ts) f
+deep_at limit s y seen t ts f reach all e deep same =
+    let h : Stands limit s seen = all limit (omega arith) in
+    record {
+      before = seen;
+      wrong = t;
+      after = ts;
+      split = refl;
+      begin = so_far limit s seen h.ok h.reached;
+      stop = λ (b : Begins limit (seen ++ t ∷ [])). not_reached limit s y t reach e deep (taken limit (1 + limit) seen t s b h.trace);
+      refusal = subst (λ g. IsRefusalAt g seen t) (sym same) (refl, (reach, begins_deeper s y seen t reach (all reach (omega (arith, deep))) e));
+    }
 
 -- what the rest of the list gives behind one token more
 abbrev pub Again : ℕ → List Token → List Token → Token → ParseFault → Type 0
 Again limit ts seen t f =
-    (y : Source) → Stands limit y (seen ++ t ∷ []) → Stands (furthest limit) y (seen ++ t ∷ []) → runs limit y ts ≡ Some (Err f)
-    → IsFirstWrong limit ((seen ++ t ∷ []) ++ ts) f
+    (y : Source) → StandsFrom limit y (seen ++ t ∷ []) → runs limit y ts ≡ Some (Err f) → IsFirstWrong limit ((seen ++ t ∷ []) ++ ts) f
 
-module _ (limit : ℕ) (is_limit : IsLimit limit) (is_deeper : IsLimit (furthest limit)) where
+module _ (limit : ℕ) where
   by_reach : (ts seen : List Token) (s : Source) (t : Token) (f : ParseFault) (y : Source) (reach : ℕ) (b : Bool) → nat_le reach limit ≡ b
-      → feed_source s t ≡ sourced.Goes y reach → Stands limit s seen → Stands (furthest limit) s seen
+      → feed_source s t ≡ sourced.Goes y reach → StandsFrom limit s seen
       → cond b (runs limit y ts) (Some (Err (fault.TooDeep t.place))) ≡ Some (Err f) → Again limit ts seen t f → IsFirstWrong limit (seen ++ t ∷ ts) f
-  by_reach ts seen s t f y reach true le fed h d e again =
+  by_reach ts seen s t f y reach true le fed all e again =
       let low : reach ≤ limit = leb-true reach limit le in
-      subst (λ all. IsFirstWrong limit all f) (append_assoc seen (t ∷ []) ts)
-      (again y (stands_more limit is_limit s y seen t reach h fed low)
-      (stands_more (furthest limit) is_deeper s y seen t reach d fed (omega (arith, low))) e)
-  by_reach ts seen s t f y reach false le fed h d e again =
-      deep_at limit is_limit is_deeper s y seen t ts f reach h d fed (leb-false reach limit le) (sym (some_err (fault.TooDeep t.place) f e))
+      subst (λ list. IsFirstWrong limit list f) (append_assoc seen (t ∷ []) ts)
+      (again y (λ n more. stands_more n s y seen t reach (all n more) fed (omega (arith, low, more))) e)
+  by_reach ts seen s t f y reach false le fed all e again =
+      deep_at limit s y seen t ts f reach all fed (leb-false reach limit le) (sym (some_err (fault.TooDeep t.place) f e))
 
-  by_feed : (ts seen : List Token) (s : Source) (t : Token) (f : ParseFault) (x : Sourced) → feed_source s t ≡ x → Stands limit s seen
-      → Stands (furthest limit) s seen → next limit x t.place (λ y. runs limit y ts) ≡ Some (Err f) → Again limit ts seen t f
-      → IsFirstWrong limit (seen ++ t ∷ ts) f
-  by_feed ts seen s t f (sourced.Goes y reach) fed h d e again = by_reach ts seen s t f y reach (nat_le reach limit) refl fed h d e again
-  by_feed ts seen s t f (sourced.Done u) fed h d e again = absurd (some_done u f e)
-  by_feed ts seen s t f sourced.Refused fed h d e again = refused_at limit is_limit s seen t ts f h fed (sym (some_err (fault.Syntax t.place) f e))
+  by_feed : (ts seen : List Token) (s : Source) (t : Token) (f : ParseFault) (x : Sourced) → feed_source s t ≡ x → StandsFrom limit s seen
+      → next limit x t.place (λ y. runs limit y ts) ≡ Some (Err f) → Again limit ts seen t f → IsFirstWrong limit (seen ++ t ∷ ts) f
+  by_feed ts seen s t f (sourced.Goes y reach) fed all e again = by_reach ts seen s t f y reach (nat_le reach limit) refl fed all e again
+  by_feed ts seen s t f (sourced.Done u) fed all e again = absurd (some_done u f e)
+  by_feed ts seen s t f sourced.Refused fed all e again =
+      refused_at limit s seen t ts f (all limit (omega arith)) fed (sym (some_err (fault.Syntax t.place) f e))
 
   -- a list that is refused behind some tokens is refused at its first wrong token
-  pub wrong_behind : (ts seen : List Token) (s : Source) (f : ParseFault) → Stands limit s seen → Stands (furthest limit) s seen
-      → runs limit s ts ≡ Some (Err f) → IsFirstWrong limit (seen ++ ts) f
+  pub wrong_behind : (ts seen : List Token) (s : Source) (f : ParseFault) → StandsFrom limit s seen → runs limit s ts ≡ Some (Err f)
+      → IsFirstWrong limit (seen ++ ts) f
   unfolding runs
-  wrong_behind [] seen s f h d e = absurd (none_err f e)
-  wrong_behind (t ∷ ts) seen s f h d e =
-      by_feed ts seen s t f (feed_source s t) refl h d e (λ y g k r. wrong_behind ts (seen ++ t ∷ []) y f g k r)
+  wrong_behind [] seen s f all e = absurd (none_err f e)
+  wrong_behind (t ∷ ts) seen s f all e =
+      by_feed ts seen s t f (feed_source s t) refl all e (λ y g r. wrong_behind ts (seen ++ t ∷ []) y f g r)
 
 -- nothing was read yet
 begin_stands : (limit : ℕ) → Stands limit begin_source []
 begin_stands limit = record { trace = refl; ok = begin_source_ok limit; reached = tt }
 
 -- a whole list
-pub first_wrong : (tokens : List Token) (f : ParseFault) → runs 200 begin_source tokens ≡ Some (Err f) → IsFirstWrong 200 tokens f
-first_wrong tokens f e = wrong_behind 200 (omega arith) (omega arith) tokens [] begin_source f (begin_stands 200) (begin_stands (furthest 200)) e
+pub first_wrong : (limit : ℕ) (tokens : List Token) (f : ParseFault) → runs limit begin_source tokens ≡ Some (Err f) → IsFirstWrong limit tokens f
+first_wrong limit tokens f e = wrong_behind limit tokens [] begin_source f (λ n more. begin_stands n) e

@@ -22,12 +22,10 @@ pub mod CompleteSteps
 pub mod CompleteSwitches
 pub mod CompleteTests
 pub mod CompleteTypes
-pub mod DeclarationBound
 pub mod DeclarationReach
 pub mod DeclarationSound
 pub mod DeclarationState
 pub mod DeclarationViable
-pub mod ExpressionBound
 pub mod ExpressionDepth
 pub mod ExpressionReach
 pub mod ExpressionSound
@@ -38,10 +36,8 @@ pub mod FirstWrong
 pub mod InitialiserSound
 pub mod Marks
 pub mod OperandSound
-pub mod ParameterBound
 pub mod ParameterSound
 pub mod ParameterViable
-pub mod ReadingBound
 pub mod ReadingReach
 pub mod ReadingSound
 pub mod ReadingViable
@@ -49,10 +45,8 @@ pub mod Ranks
 pub mod Rows
 pub mod RunSound
 pub mod Runs
-pub mod SourceBound
 pub mod SourceSound
 pub mod SourceViable
-pub mod StatementBound
 pub mod StatementReach
 pub mod StatementSound
 pub mod StatementState

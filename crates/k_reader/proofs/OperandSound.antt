@@ -19,7 +19,7 @@ use Rattle.k_reader.specs.declared.expression.Open.TheVariants as open_
 use Rattle.k_reader.specs.declared.expression.ExpressionStage.TheVariants as now
 use Rattle.k_reader.specs.declared.expression.Fed.TheVariants as fed
 use Rattle.k_reader.proofs.Marks.{is_open_mark, is_close_mark, Infix, is_comma, is_assign, is_binary}
-use Rattle.k_reader.proofs.ExpressionState.{IsLimit, lay_opens, ok_infix, ok_then, ok_other, ok_cast, ok_prefix, ok_sizeof, ok_paren, ok_index, ok_call, Valid, Keeps}
+use Rattle.k_reader.proofs.ExpressionState.{lay_opens, ok_infix, ok_then, ok_other, ok_cast, ok_prefix, ok_sizeof, ok_paren, ok_index, ok_call, Valid, Keeps}
 use Rattle.k_reader.proofs.ExpressionTerms.{one_at, one, stand-more, true_level, and_left, and_right}
 
 -- the right operand of an infix operator has a rank up to 13
@@ -56,7 +56,7 @@ hole_small lim g (_ ∷ s) (ok_paren p h, v) = omega arith
 hole_small lim g (_ ∷ s) (ok_index p a h k f, v) = omega arith
 hole_small lim g (_ ∷ s) (ok_call p x args height h k d e i, v) = omega arith
 
-module _ (lim : ℕ) (is_limit : IsLimit lim) (g : Site) (ts : List Token) (t : Token) where
+module _ (lim : ℕ) (g : Site) (ts : List Token) (t : Token) where
   leaf_keeps : (s : Opens) (k : TokenKind) (tree : Expr) → t.what ≡ k → Stand (lay_opens s) ts → Valid lim g s
       → Ranked 16 tree → expr_depth tree ≡ 1 → lay_expr tree ≡ at t.place (plain (k ∷ [])) → Keeps lim g ts t (leaf g s tree)
   leaf_keeps s k tree e st v r d l = λ reach. (
@@ -69,7 +69,7 @@ module _ (lim : ℕ) (is_limit : IsLimit lim) (g : Site) (ts : List Token) (t : 
         record {
           ranked = r;
           height = sym d;
-          within = omega (arith, d, true_level lim g.level (length s) is_limit reach);
+          within = omega (arith, d, true_level lim g.level (length s) reach);
         },
       );
     },
@@ -154,7 +154,7 @@ module _ (lim : ℕ) (is_limit : IsLimit lim) (g : Site) (ts : List Token) (t : 
     refl,
     record {
       stands = stand-append (lay_opens s) _ ts (t ∷ []) st (one_at t (token.Word word.Sizeof) (e ∙ ap token.Word (is_sizeof_word w h)));
-      opens = (ok_sizeof t.place (hole_small lim g s v) (true_level lim g.level (length s) is_limit reach), v);
+      opens = (ok_sizeof t.place (hole_small lim g s v) (true_level lim g.level (length s) reach), v);
       state = tt;
     },
   )
@@ -187,7 +187,7 @@ module _ (lim : ℕ) (is_limit : IsLimit lim) (g : Site) (ts : List Token) (t : 
     record {
       stands = stand-append (lay_opens s) _ ts (t ∷ []) st (one_at t (token.Name x) e);
       opens = v;
-      state = true_level lim g.level (length s) is_limit reach;
+      state = true_level lim g.level (length s) reach;
     },
   )
   kind_keeps s (token.Number kind n) e st v =

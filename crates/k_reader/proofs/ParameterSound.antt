@@ -26,7 +26,6 @@ use Rattle.k_reader.specs.declared.parameter.ParameterStage.TheVariants as part_
 use Rattle.k_reader.specs.declared.parameter.Parametric.TheVariants as parametric
 use Rattle.k_reader.proofs.Commas.{comma, lay_each, each_push, with_last, not_none}
 use Rattle.k_reader.proofs.Rows.{row_push, deepest_more, StartsAt, starts-more, at_stands}
-use Rattle.k_reader.proofs.ExpressionState.{IsLimit}
 use Rattle.k_reader.proofs.ExpressionTerms.{one, stand-more, regroup, and_left, and_right}
 use Rattle.k_reader.proofs.TypeSound.{stars_more, stars_const, is_const_word, no_stars_yet}
 use Rattle.k_reader.proofs.ReadingSound.{At, site, begin_at, IsMaybe, KeepsMaybe, maybe_keeps, Behind}
@@ -146,7 +145,7 @@ true_both : (a b : Bool) → a ≡ true → b ≡ true → (a && b) ≡ true
 true_both true b h k = k
 true_both false b h k = absurd (false_true h)
 
-module _ (lim : ℕ) (is_limit : IsLimit lim) (ts : List Token) (t : Token) where
+module _ (lim : ℕ) (ts : List Token) (t : Token) where
   parametric_cond : (b : Bool) (x y : Parametric) → (b ≡ true → KeepsParametric lim ts t x) → (b ≡ false → KeepsParametric lim ts t y)
       → KeepsParametric lim ts t (cond b x y)
   parametric_cond true x y f h = f refl
@@ -453,7 +452,7 @@ module _ (lim : ℕ) (is_limit : IsLimit lim) (ts : List Token) (t : Token) wher
   unfolding spec.size
   size_keeps list p r o k =
       size_by_keeps list p r (read_maybe r t closer.Bracket) o k
-      (maybe_keeps lim is_limit (site 2 1) k.behind.rest.0.back t r closer.Bracket (omega arith) k.behind.rest.0.rest)
+      (maybe_keeps lim (site 2 1) k.behind.rest.0.back t r closer.Bracket (omega arith) k.behind.rest.0.rest)
 
   part_keeps : (list : List Param) (q : ParameterStage) → OkList lim list → OkPart lim list q ts → KeepsParametric lim ts t (spec.part_fed list q t)
   part_keeps list part_.Starts o k = first_keeps list o k

@@ -17,7 +17,6 @@ use Rattle.k_reader.specs.Parameters as spec
 use Rattle.k_reader.specs.declared.parameter.ParameterStage.TheVariants as part_
 use Rattle.k_reader.specs.declared.parameter.Parametric.TheVariants as parametric
 use Rattle.k_reader.proofs.DeclarationReach.{MaybeStays, maybe_stays, begin_begun}
-use Rattle.k_reader.proofs.ExpressionState.{IsLimit}
 use Rattle.k_reader.proofs.ExpressionViable.{mark_token}
 use Rattle.k_reader.proofs.ParameterSound.{OkParameters, OkPart}
 use Rattle.k_reader.proofs.ReadingReach.{Begun}
@@ -34,7 +33,7 @@ abbrev pub ParametricStays : ℕ → Parametric → Type 0
 ParametricStays lim (parametric.Goes ps reach) = reach ≤ lim → PartReached lim ps.part
 ParametricStays lim _ = Unit {0}
 
-module _ (lim : ℕ) (is_limit : IsLimit lim) where
+module _ (lim : ℕ) where
   cond_stays : (b : Bool) (x y : Parametric) → (b ≡ true → ParametricStays lim x) → (b ≡ false → ParametricStays lim y)
       → ParametricStays lim (cond b x y)
   cond_stays b x y h k = cond_both b x y (ParametricStays lim) h k
@@ -97,13 +96,13 @@ module _ (lim : ℕ) (is_limit : IsLimit lim) where
   part_stays list part_.Starts t h = first_stays list t.place t.what
   part_stays list (part_.Typed p stars) t h = typed_stays list p stars t.what
   part_stays list (part_.Named p) t h = kind_named_stays list p t.what
-  part_stays list (part_.Size p r) t h = size_stays list p (read_maybe r t closer.Bracket) (maybe_stays lim is_limit r t closer.Bracket h)
+  part_stays list (part_.Size p r) t h = size_stays list p (read_maybe r t closer.Bracket) (maybe_stays lim r t closer.Bracket h)
 
 -- a token within the limit keeps it so
-pub parameters_stay : (lim : ℕ) → IsLimit lim → (ps : Parameters) (t : Token) → PartReached lim ps.part
+pub parameters_stay : (lim : ℕ) → (ps : Parameters) (t : Token) → PartReached lim ps.part
     → ParametricStays lim (spec.feed_parameters ps t)
 unfolding spec.feed_parameters
-parameters_stay lim is_limit ps t h = part_stays lim is_limit ps.list ps.part t h
+parameters_stay lim ps t h = part_stays lim ps.list ps.part t h
 
 abbrev pub ParametersGo : Parameters → Token → Parameters → ℕ → Type 0
 ParametersGo ps t next reach = spec.feed_parameters ps t ≡ parametric.Goes next reach
@@ -114,7 +113,7 @@ ParametersEnd ps t o = spec.feed_parameters ps t ≡ parametric.Done o
 abbrev pub ParametersCanEnd : ℕ → Parameters → Type 0
 ParametersCanEnd lim = CanEnd Parameters Params ParametersGo ParametersEnd lim
 
-module _ (lim : ℕ) (is_limit : IsLimit lim) (list : List Param) where
+module _ (lim : ℕ) (list : List Param) where
   -- `)` behind a parameter
   end_by : (p : Param) → (n : ParameterStage) → (b : Bool)
       → spec.feed_parameters (record { list = list; part = n }) (mark_token mark.RightParen)
@@ -151,7 +150,7 @@ module _ (lim : ℕ) (is_limit : IsLimit lim) (list : List Param) where
       → ParametersCanEnd lim (record { list = list; part = part_.Size p r })
   unfolding spec.feed_parameters spec.size
   size_ended p r ts a h =
-      maybe_can_end Parameters Params ParametersGo ParametersEnd lim is_limit closer.Bracket (site 2 1) r ts a h
+      maybe_can_end Parameters Params ParametersGo ParametersEnd lim closer.Bracket (site 2 1) r ts a h
       (λ u. record { list = list; part = part_.Size p u }) (λ v. record { list = list; part = part_.Named (record p { dims = p.dims ++ v ∷ [] }) })
       (λ u t next reach e. ap (λ z. spec.size_by list p z) e) (λ u t v e. ap (λ z. spec.size_by list p z) e)
       (λ v. named_ended (record p { dims = p.dims ++ v ∷ [] }))
@@ -163,6 +162,6 @@ module _ (lim : ℕ) (is_limit : IsLimit lim) (list : List Param) where
   part_ended (part_.Size p r) ts k h = size_ended p r _ k.behind.rest.0.rest h
 
 -- what was read of parameters can be ended within the limit
-pub parameters_viable : (lim : ℕ) → IsLimit lim → (ps : Parameters) (ts : List Token) → OkParameters lim ps ts → PartReached lim ps.part
+pub parameters_viable : (lim : ℕ) → (ps : Parameters) (ts : List Token) → OkParameters lim ps ts → PartReached lim ps.part
     → ParametersCanEnd lim ps
-parameters_viable lim is_limit ps ts ok h = part_ended lim is_limit ps.list ps.part ts ok.part h
+parameters_viable lim ps ts ok h = part_ended lim ps.list ps.part ts ok.part h

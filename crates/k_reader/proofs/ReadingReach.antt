@@ -11,20 +11,19 @@ use Rattle.k_reader.specs.Readings.{is_operand, is_fresh}
 use Rattle.k_reader.specs.declared.expression.Open.TheVariants as open_
 use Rattle.k_reader.specs.declared.expression.ExpressionStage.TheVariants as now
 use Rattle.k_reader.specs.declared.expression.Fed.TheVariants as fed
-use Rattle.k_reader.proofs.ExpressionState.{IsLimit}
 use Rattle.k_reader.proofs.ExpressionReach.{Reached, Stays, feed_stays}
 
-module _ (lim : ℕ) (is_limit : IsLimit lim) (g : Site) where
+module _ (lim : ℕ) (g : Site) where
   at_level : level g [] ≤ lim → g.level ≤ lim
-  at_level le = same g.level lim is_limit le
+  at_level le = same g.level lim le
     where
-      same : (n lim : ℕ) → IsLimit lim → plus n 0 ≤ lim → n ≤ lim
+      same : (n lim : ℕ) → plus n 0 ≤ lim → n ≤ lim
       same n lim h le = omega (arith, h, le)
 
   one_down : plus (level g []) 1 ≤ lim → g.level + 0 + 1 ≤ lim
-  one_down le = more g.level lim is_limit le
+  one_down le = more g.level lim le
     where
-      more : (n lim : ℕ) → IsLimit lim → plus (plus n 0) 1 ≤ lim → n + 0 + 1 ≤ lim
+      more : (n lim : ℕ) → plus (plus n 0) 1 ≤ lim → n + 0 + 1 ≤ lim
       more n lim h le = omega (arith, h, le)
 
   up : g.level + 0 + 1 ≤ lim → g.level ≤ lim
@@ -73,25 +72,25 @@ fresh_is s (now.Named p x) e = absurd (false≢true e)
 fresh_is s (now.Type specs stars) e = absurd (false≢true e)
 fresh_is s (now.Value a) e = absurd (false≢true e)
 
-begun_by : (lim : ℕ) → IsLimit lim → (g : Site) (s : Opens) (n : ExpressionStage) (t : Token)
+begun_by : (lim : ℕ) → (g : Site) (s : Opens) (n : ExpressionStage) (t : Token)
     → ((is_operand n && nat_eq (length s) 0) ≡ true) ⊎ Reached lim g s → Stays lim g (feed_at g s n t)
 unfolding feed
-begun_by lim is_limit g s n t (inl e) =
+begun_by lim g s n t (inl e) =
     let q : (n ≡ now.Operand) × (s ≡ []) = fresh_is s n e in
-    subst (λ z. Stays lim g (feed_at g s z t)) (sym q.0) (subst (λ z. Stays lim g (feed_at g z now.Operand t)) (sym q.1) (first_stays lim is_limit g t))
-begun_by lim is_limit g s n t (inr h) = feed_stays lim is_limit (record { site = g; opens = s; state = n }) t h
+    subst (λ z. Stays lim g (feed_at g s z t)) (sym q.0) (subst (λ z. Stays lim g (feed_at g z now.Operand t)) (sym q.1) (first_stays lim g t))
+begun_by lim g s n t (inr h) = feed_stays lim (record { site = g; opens = s; state = n }) t h
 
 fresh_or : (b : Bool) (P : Type 0) → (b ≡ false → P) → (b ≡ true) ⊎ P
 fresh_or true P h = inl refl
 fresh_or false P h = inr (h refl)
 
 -- a token within the limit makes it sure
-pub feed_begun : (lim : ℕ) → IsLimit lim → (r : Reading) (t : Token) (next : Reading) (reach : ℕ) → Begun lim r
+pub feed_begun : (lim : ℕ) → (r : Reading) (t : Token) (next : Reading) (reach : ℕ) → Begun lim r
     → feed r t ≡ fed.Goes next reach → reach ≤ lim → (next.site ≡ r.site) × Reached lim next.site next.opens
 unfolding feed is_fresh
-feed_begun lim is_limit r t next reach b e le =
+feed_begun lim r t next reach b e le =
     let st : Stays lim r.site (feed r t) =
-    begun_by lim is_limit r.site r.opens r.state t
+    begun_by lim r.site r.opens r.state t
     (fresh_or (is_operand r.state && nat_eq (length r.opens) 0) (Reached lim r.site r.opens) b) in
     let k : (next.site ≡ r.site) × Reached lim r.site next.opens = (subst (λ z. Stays lim r.site z) e st) le in
     (k.0, subst (λ g. Reached lim g next.opens) (sym k.0) k.1)

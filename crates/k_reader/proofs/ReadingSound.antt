@@ -14,7 +14,7 @@ use Rattle.k_reader.specs.declared.expression.Fed.TheVariants as fed
 use Rattle.k_reader.specs.declared.reading.Closer.TheVariants as closer
 use Rattle.k_reader.specs.declared.reading.Read.TheVariants as read
 use Rattle.k_reader.specs.declared.reading.Maybe.TheVariants as maybe
-use Rattle.k_reader.proofs.ExpressionState.{IsLimit, laid, Inv, IsRead, Keeps}
+use Rattle.k_reader.proofs.ExpressionState.{laid, Inv, IsRead, Keeps}
 use Rattle.k_reader.proofs.ExpressionTerms.{and_left, and_right}
 use Rattle.k_reader.proofs.ExpressionSound.{feed_keeps}
 
@@ -29,9 +29,9 @@ site rank level = record { rank = rank; level = level }
 pub begin_at : (lim rank level : ℕ) → rank ≤ 2 → At lim (site rank level) (begin rank level) []
 begin_at lim rank level h = (refl, record { stands = tt; opens = h; state = tt })
 
-pub at_keeps : (lim : ℕ) → IsLimit lim → (g : Site) (ts : List Token) (t : Token) (r : Reading) → At lim g r ts → Keeps lim g ts t (feed r t)
-at_keeps lim is_limit g ts t r (e, i) =
-    subst (λ h. Inv lim h r.opens r.state ts → Keeps lim h ts t (feed r t)) e (feed_keeps lim is_limit ts t r) i
+pub at_keeps : (lim : ℕ) → (g : Site) (ts : List Token) (t : Token) (r : Reading) → At lim g r ts → Keeps lim g ts t (feed r t)
+at_keeps lim g ts t r (e, i) =
+    subst (λ h. Inv lim h r.opens r.state ts → Keeps lim h ts t (feed r t)) e (feed_keeps lim ts t r) i
 
 -- the mark that closes
 abbrev pub closing : Closer → Mark
@@ -85,11 +85,11 @@ pub closes_is : (c : Closer) (t : Token) → closes t c ≡ true → t.what ≡ 
 unfolding closes
 closes_is c t h = kind_is c t.what h
 
-pub read_keeps : (lim : ℕ) → IsLimit lim → (g : Site) (ts : List Token) (t : Token) (r : Reading) (c : Closer) → At lim g r ts
+pub read_keeps : (lim : ℕ) → (g : Site) (ts : List Token) (t : Token) (r : Reading) (c : Closer) → At lim g r ts
     → KeepsRead lim g ts t (closing c) (read_needed r t c)
 unfolding read_needed
-read_keeps lim is_limit g ts t r c a =
-    read_by_keeps lim g ts t (closing c) (feed r t) (closes t c) (closes_is c t) (at_keeps lim is_limit g ts t r a)
+read_keeps lim g ts t r c a =
+    read_by_keeps lim g ts t (closing c) (feed r t) (closes t c) (closes_is c t) (at_keeps lim g ts t r a)
 
 maybe_by_keeps : (lim : ℕ) (g : Site) (ts : List Token) (t : Token) (m : Mark) (f : Read)
     → KeepsRead lim g ts t m f → KeepsMaybe lim g ts t m (maybe_by f)
@@ -118,16 +118,16 @@ maybe_cond : (lim : ℕ) (g : Site) (ts : List Token) (t : Token) (m : Mark) (b 
 maybe_cond lim g ts t m true x y f k = f refl
 maybe_cond lim g ts t m false x y f k = k
 
-pub maybe_keeps : (lim : ℕ) → IsLimit lim → (g : Site) (ts : List Token) (t : Token) (r : Reading) (c : Closer) → g.level ≤ lim + 1 → At lim g r ts
+pub maybe_keeps : (lim : ℕ) → (g : Site) (ts : List Token) (t : Token) (r : Reading) (c : Closer) → g.level ≤ lim + 1 → At lim g r ts
     → KeepsMaybe lim g ts t (closing c) (read_maybe r t c)
 unfolding read_maybe
-maybe_keeps lim is_limit g ts t r c le a =
+maybe_keeps lim g ts t r c le a =
     maybe_cond lim g ts t (closing c) (is_fresh r && closes t c) (maybe.Done None) (maybe_by (read_needed r t c))
     (λ h. (
       record { ranked = tt; stands = fresh_stands lim g ts r (and_left (is_fresh r) (closes t c) h) a; within = omega (arith, le) },
       closes_is c t (and_right (is_fresh r) (closes t c) h),
     ))
-    (maybe_by_keeps lim g ts t (closing c) (read_needed r t c) (read_keeps lim is_limit g ts t r c a))
+    (maybe_by_keeps lim g ts t (closing c) (read_needed r t c) (read_keeps lim g ts t r c a))
 
 -- pieces that stand, and behind them what holds of the rest
 pub record Behind (xs : Pieces) (P : List Token → Type 0) (ts : List Token) : Type 0 where

@@ -12,7 +12,7 @@ use Rattle.k_reader.specs.declared.expression.Fed.TheVariants as fed
 use Rattle.k_reader.specs.declared.reading.Closer.TheVariants as closer
 use Rattle.k_reader.specs.declared.reading.Read.TheVariants as read
 use Rattle.k_reader.specs.declared.reading.Maybe.TheVariants as maybe
-use Rattle.k_reader.proofs.ExpressionState.{IsLimit, Inv}
+use Rattle.k_reader.proofs.ExpressionState.{Inv}
 use Rattle.k_reader.proofs.ExpressionReach.{Reached}
 use Rattle.k_reader.proofs.ExpressionViable.{mark_token, Ends_operand, Completes, completes, completes_by, now_completes}
 use Rattle.k_reader.proofs.ReadingReach.{Begun, fresh_is}
@@ -96,11 +96,11 @@ unfolding read_maybe
 maybe_left_out r t c e h = cond-true (is_fresh r && closes t c) _ _ (and_from (is_fresh r) (closes t c) e h)
 
 -- an expression at a site can be ended
-pub at_completes : (lim : ℕ) → IsLimit lim → (m : Mark) → Ends_operand m → (g : Site) (r : Reading) (ts : List Token) → At lim g r ts
+pub at_completes : (lim : ℕ) → (m : Mark) → Ends_operand m → (g : Site) (r : Reading) (ts : List Token) → At lim g r ts
     → Reached lim r.site r.opens → (us : List Token) × (e : Expr) × Completes lim (mark_token m) r us e
-at_completes lim is_limit m ends g r ts a h =
+at_completes lim m ends g r ts a h =
     let i : Inv lim r.site r.opens r.state ts = subst (λ z. Inv lim z r.opens r.state ts) (sym a.0) a.1 in
-    now_completes lim is_limit m ends r.site r.opens r.state i.opens i.state h
+    now_completes lim m ends r.site r.opens r.state i.opens i.state h
 
 module _ (R O : Type 0) (Goes : R → Token → R → ℕ → Type 0) (Ends : R → Token → O → Type 0) (lim : ℕ) where
   -- the tokens of an expression inside, and then what comes behind it
@@ -115,13 +115,13 @@ module _ (R O : Type 0) (Goes : R → Token → R → ℕ → Type 0) (Ends : R 
       (through end next us e rest inside on tail o behind)
 
   -- an expression that goes on, and behind which a state follows from which an end can be reached
-  pub inner_can_end : IsLimit lim → (m : Mark) → Ends_operand m → (g : Site) (r : Reading) (ts : List Token) → At lim g r ts
+  pub inner_can_end : (m : Mark) → Ends_operand m → (g : Site) (r : Reading) (ts : List Token) → At lim g r ts
       → Reached lim r.site r.opens → (inside : Reading → R) (behind : Expr → R)
       → ((r : Reading) (t : Token) (next : Reading) (reach : ℕ) → feed r t ≡ fed.Goes next reach → Goes (inside r) t (inside next) reach)
       → ((r : Reading) (e : Expr) → feed r (mark_token m) ≡ fed.Ends e → Goes (inside r) (mark_token m) (behind e) 0)
       → ((e : Expr) → CanEnd R O Goes Ends lim (behind e)) → CanEnd R O Goes Ends lim (inside r)
-  inner_can_end is_limit m ends g r ts a h inside behind on off rest =
-      let x : (us : List Token) × (e : Expr) × Completes lim (mark_token m) r us e = at_completes lim is_limit m ends g r ts a h in
+  inner_can_end m ends g r ts a h inside behind on off rest =
+      let x : (us : List Token) × (e : Expr) × Completes lim (mark_token m) r us e = at_completes lim m ends g r ts a h in
       let y : CanEnd R O Goes Ends lim (behind x.1) = rest x.1 in (
         x.0 ++ mark_token m ∷ y.0,
         y.1,
@@ -130,25 +130,25 @@ module _ (R O : Type 0) (Goes : R → Token → R → ℕ → Type 0) (Ends : R 
       )
 
   -- an expression whose mark ends all
-  pub inner_ends : IsLimit lim → (m : Mark) → Ends_operand m → (g : Site) (r : Reading) (ts : List Token) → At lim g r ts
+  pub inner_ends : (m : Mark) → Ends_operand m → (g : Site) (r : Reading) (ts : List Token) → At lim g r ts
       → Reached lim r.site r.opens → (inside : Reading → R) (whole : Expr → O)
       → ((r : Reading) (t : Token) (next : Reading) (reach : ℕ) → feed r t ≡ fed.Goes next reach → Goes (inside r) t (inside next) reach)
       → ((r : Reading) (e : Expr) → feed r (mark_token m) ≡ fed.Ends e → Ends (inside r) (mark_token m) (whole e))
       → CanEnd R O Goes Ends lim (inside r)
-  inner_ends is_limit m ends g r ts a h inside whole on off =
-      let x : (us : List Token) × (e : Expr) × Completes lim (mark_token m) r us e = at_completes lim is_limit m ends g r ts a h in (
+  inner_ends m ends g r ts a h inside whole on off =
+      let x : (us : List Token) × (e : Expr) × Completes lim (mark_token m) r us e = at_completes lim m ends g r ts a h in (
         x.0 ++ mark_token m ∷ [],
         whole x.1,
         through (mark_token m) r x.0 x.1 x.2 inside on [] (whole x.1) (λ u q. run_ends (inside u) (mark_token m) (whole x.1) (off u x.1 q)),
       )
 
   -- one that may be left out
-  pub maybe_can_end : IsLimit lim → (c : Closer) (g : Site) (r : Reading) (ts : List Token) → At lim g r ts
+  pub maybe_can_end : (c : Closer) (g : Site) (r : Reading) (ts : List Token) → At lim g r ts
       → Begun lim r → (inside : Reading → R) (behind : Option Expr → R)
       → ((r : Reading) (t : Token) (next : Reading) (reach : ℕ) → read_maybe r t c ≡ maybe.Goes next reach → Goes (inside r) t (inside next) reach)
       → ((r : Reading) (t : Token) (v : Option Expr) → read_maybe r t c ≡ maybe.Done v → Goes (inside r) t (behind v) 0)
       → ((v : Option Expr) → CanEnd R O Goes Ends lim (behind v)) → CanEnd R O Goes Ends lim (inside r)
-  maybe_can_end is_limit c g r ts a b inside behind on off rest = by (is_fresh r) refl
+  maybe_can_end c g r ts a b inside behind on off rest = by (is_fresh r) refl
     where
       by : (f : Bool) → is_fresh r ≡ f → CanEnd R O Goes Ends lim (inside r)
       by true e =
@@ -159,7 +159,7 @@ module _ (R O : Type 0) (Goes : R → Token → R → ℕ → Type 0) (Ends : R 
                 (off r (mark_token (closing c)) None (maybe_left_out r (mark_token (closing c)) c e (closing_closes c))) (omega arith) y.2,
           )
       by false e =
-          inner_can_end is_limit (closing c) (closing_ends c) g r ts a (b e) inside (λ v. behind (Some v))
+          inner_can_end (closing c) (closing_ends c) g r ts a (b e) inside (λ v. behind (Some v))
           (λ u t next reach q. on u t next reach (maybe_goes u t c next reach q))
           (λ u v q. off u (mark_token (closing c)) (Some v) (maybe_ends u (mark_token (closing c)) c v q (closing_closes c)))
           (λ v. rest (Some v))

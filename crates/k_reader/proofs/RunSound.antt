@@ -1,5 +1,5 @@
 -- A list that is read to its end has a tree that is ranked, placed and within the limit.
-use Rattle.std.proofs.Common.{ℕ, ◌≡◌, ◌≤◌, Bool, true, false, cond, List, [], ◌∷◌, ◌++◌, Some, None, refl, sym, subst, arith, append_assoc, nat_le}
+use Rattle.std.proofs.Common.{ℕ, ◌≡◌, ◌≤◌, Bool, true, false, cond, List, [], ◌∷◌, ◌++◌, Some, None, refl, sym, subst, append_assoc, nat_le}
 use Rattle.std.specs.Prelude.{Ok, Err}
 use Rattle.std.proofs.lemmas.Bool.{leb-true}
 use Rattle.k_reader.specs.Types.{Token, Source, Sourced, ParseFault}
@@ -10,7 +10,6 @@ use Rattle.k_reader.specs.Runs.{Outcome, next, runs}
 use Rattle.k_reader.specs.Sources.{begin_source, feed_source}
 use Rattle.k_reader.specs.declared.source.Sourced.TheVariants as sourced
 use Rattle.k_reader.specs.declared.whole.ParseFault.TheVariants as fault
-use Rattle.k_reader.proofs.ExpressionState.{IsLimit}
 use Rattle.k_reader.proofs.SourceSound.{OkSource, IsUnit, KeepsSourced, source_keeps, begin_source_ok}
 
 ok_is : (u v : source.Unit) → ◌≡◌ {A = Outcome} (Some (Ok u)) (Some (Ok v)) → u ≡ v
@@ -41,16 +40,16 @@ fed_sound lim us ts t u (sourced.Done v) k c e again =
     subst (λ z. IsUnit lim u (us ++ t ∷ z)) (sym (last_is_all t ts c k.1)) (subst (λ z. IsUnit lim z (us ++ t ∷ [])) (ok_is v u e) k.0)
 fed_sound lim us ts t u sourced.Refused k c e again = absurd (no_outcome (fault.Syntax t.place) u e)
 
-pub runs_sound : (lim : ℕ) → IsLimit lim → (us ts : List Token) (s : Source) (u : source.Unit) → OkSource lim s us → EndsOnce ts
+pub runs_sound : (lim : ℕ) → (us ts : List Token) (s : Source) (u : source.Unit) → OkSource lim s us → EndsOnce ts
     → runs lim s ts ≡ Some (Ok u) → IsUnit lim u (us ++ ts)
 unfolding runs
-runs_sound lim is_limit us [] s u o c e = absurd c
-runs_sound lim is_limit us (t ∷ []) s u o c e =
-    fed_sound lim us [] t u (feed_source s t) (source_keeps lim is_limit us t s o) c e (λ x k z. absurd (none_some u z))
-runs_sound lim is_limit us (t ∷ (v ∷ ts)) s u o c e =
-    fed_sound lim us (v ∷ ts) t u (feed_source s t) (source_keeps lim is_limit us t s o) c e
-    (λ x k z. subst (IsUnit lim u) (append_assoc us (t ∷ []) (v ∷ ts)) (runs_sound lim is_limit (us ++ t ∷ []) (v ∷ ts) x u k c.1 z))
+runs_sound lim us [] s u o c e = absurd c
+runs_sound lim us (t ∷ []) s u o c e =
+    fed_sound lim us [] t u (feed_source s t) (source_keeps lim us t s o) c e (λ x k z. absurd (none_some u z))
+runs_sound lim us (t ∷ (v ∷ ts)) s u o c e =
+    fed_sound lim us (v ∷ ts) t u (feed_source s t) (source_keeps lim us t s o) c e
+    (λ x k z. subst (IsUnit lim u) (append_assoc us (t ∷ []) (v ∷ ts)) (runs_sound lim (us ++ t ∷ []) (v ∷ ts) x u k c.1 z))
 
 -- the tree of a list that ends once
-pub tree_sound : (ts : List Token) (u : source.Unit) → EndsOnce ts → runs 200 begin_source ts ≡ Some (Ok u) → IsUnit 200 u ts
-tree_sound ts u c e = runs_sound 200 (omega arith) [] ts begin_source u (begin_source_ok 200) c e
+pub tree_sound : (limit : ℕ) (ts : List Token) (u : source.Unit) → EndsOnce ts → runs limit begin_source ts ≡ Some (Ok u) → IsUnit limit u ts
+tree_sound limit ts u c e = runs_sound limit [] ts begin_source u (begin_source_ok limit) c e

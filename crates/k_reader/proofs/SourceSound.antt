@@ -28,7 +28,6 @@ use Rattle.k_reader.specs.declared.source.SourceStage.TheVariants as phase
 use Rattle.k_reader.specs.declared.source.Sourced.TheVariants as sourced
 use Rattle.k_reader.proofs.Commas.{lay_each}
 use Rattle.k_reader.proofs.Rows.{row_push, deepest_more, StartsAt, starts-more, at_stands}
-use Rattle.k_reader.proofs.ExpressionState.{IsLimit}
 use Rattle.k_reader.proofs.ExpressionTerms.{one_at, one, stand-more, three, and_left, and_right}
 use Rattle.k_reader.proofs.ReadingSound.{Behind}
 use Rattle.k_reader.proofs.DeclarationState.{lay_bare, lay_front, OkDeclaration, KeepsDeclared}
@@ -103,7 +102,7 @@ head_laid : (s t n l q : Pieces) → ((s ++ (t ++ n)) ++ l) ++ q ≡ s ++ (t ++ 
 head_laid s t n l q =
     append_assoc (s ++ (t ++ n)) l q ∙ (append_assoc s (t ++ n) (l ++ q) ∙ ap (λ z. s ++ z) (append_assoc t n (l ++ q)))
 
-module _ (lim : ℕ) (is_limit : IsLimit lim) (ts : List Token) (t : Token) where
+module _ (lim : ℕ) (ts : List Token) (t : Token) where
   sourced_cond : (b : Bool) (x y : Sourced) → (b ≡ true → KeepsSourced lim ts t x) → (b ≡ false → KeepsSourced lim ts t y)
       → KeepsSourced lim ts t (cond b x y)
   sourced_cond true x y f h = f refl
@@ -204,7 +203,7 @@ module _ (lim : ℕ) (is_limit : IsLimit lim) (ts : List Token) (t : Token) wher
   declares_keeps items p d o b =
       sourced_cond (is_left_paren t.what && spec.titled_by d.front d.stage) _ _
       (λ h. titled_keeps items p d.front d.stage o (left_paren_is t.what (and_left (is_left_paren t.what) _ h)) (and_right (is_left_paren t.what) _ h) b)
-      (λ h. declares_by_keeps items p d _ o b (declaration_keeps lim is_limit 1 b.back t d b.rest.0))
+      (λ h. declares_by_keeps items p d _ o b (declaration_keeps lim 1 b.back t d b.rest.0))
 
   -- parameters
 
@@ -245,7 +244,7 @@ module _ (lim : ℕ) (is_limit : IsLimit lim) (ts : List Token) (t : Token) wher
       → KeepsSourced lim ts t (spec.parameters items p title ps t)
   unfolding spec.parameters
   parameters_keep_on items p title ps o b =
-      parameters_by_keeps items p title ps _ o b (parameters_keep lim is_limit b.rest.behind.back t ps b.rest.behind.rest)
+      parameters_by_keeps items p title ps _ o b (parameters_keep lim b.rest.behind.back t ps b.rest.behind.rest)
 
   -- behind a head
 
@@ -292,7 +291,7 @@ module _ (lim : ℕ) (is_limit : IsLimit lim) (ts : List Token) (t : Token) wher
   phase_keeps items (phase.Declares p d) o k = declares_keeps items p d o k
   phase_keeps items (phase.Parameters p title ps) o k = parameters_keep_on items p title ps o k
   phase_keeps items (phase.Headed p h) o k = kind_headed_keeps items p h t.what o refl k.1 k.0
-  phase_keeps items (phase.Body p h b) o k = body_by_keeps items p h b _ o k.1 k.0 (body_keeps lim is_limit k.0.back t b k.0.rest)
+  phase_keeps items (phase.Body p h b) o k = body_by_keeps items p h b _ o k.1 k.0 (body_keeps lim k.0.back t b k.0.rest)
 
   pub source_keeps : (s : Source) → OkSource lim s ts → KeepsSourced lim ts t (spec.feed_source s t)
   unfolding spec.feed_source OkItems

@@ -22,7 +22,6 @@ use Rattle.k_reader.specs.declared.source.Sourced.TheVariants as sourced
 use Rattle.k_reader.proofs.DeclarationReach.{StageReached, DeclaredStays, declaration_stays}
 use Rattle.k_reader.proofs.DeclarationState.{OkDeclaration}
 use Rattle.k_reader.proofs.DeclarationViable.{Outcome, DeclarationGoes, DeclarationEnds, declaration_viable}
-use Rattle.k_reader.proofs.ExpressionState.{IsLimit}
 use Rattle.k_reader.proofs.ExpressionViable.{mark_token}
 use Rattle.k_reader.proofs.ParameterSound.{OkParameters}
 use Rattle.k_reader.proofs.ParameterViable.{PartReached, ParametricStays, parameters_stay, ParametersGo, ParametersEnd, parameters_viable}
@@ -44,7 +43,7 @@ abbrev pub SourcedStays : ℕ → Sourced → Type 0
 SourcedStays lim (sourced.Goes s reach) = reach ≤ lim → PhaseReached lim s.phase
 SourcedStays lim _ = Unit {0}
 
-module _ (lim : ℕ) (is_limit : IsLimit lim) (items : List Item) where
+module _ (lim : ℕ) (items : List Item) where
   starts_stays : (p : Place) (k : TokenKind) → SourcedStays lim (spec.kind_starts items p k)
   starts_stays p token.End = tt
   starts_stays p (token.Word w) =
@@ -87,16 +86,16 @@ module _ (lim : ℕ) (is_limit : IsLimit lim) (items : List Item) where
   phase_stays (phase.Declares p d) t h =
       cond_both (is_left_paren t.what && spec.is_titled d) (spec.titled_at items p d.front d.stage)
       (spec.declares_by items p (feed_declaration d t)) (SourcedStays lim) (λ e. titled_stays p d.front d.stage)
-      (λ e. declared_stays p (feed_declaration d t) (declaration_stays lim is_limit d t h))
+      (λ e. declared_stays p (feed_declaration d t) (declaration_stays lim d t h))
   phase_stays (phase.Parameters p title ps) t h =
-      parameters_stays p title (feed_parameters ps t) (parameters_stay lim is_limit ps t h)
+      parameters_stays p title (feed_parameters ps t) (parameters_stay lim ps t h)
   phase_stays (phase.Headed p h) t k = headed_stays p h t.what
-  phase_stays (phase.Body p h b) t k = in_body_stays p h t.place (feed_body b t) (body_stays lim is_limit b t k)
+  phase_stays (phase.Body p h b) t k = in_body_stays p h t.place (feed_body b t) (body_stays lim b t k)
 
 -- a token within the limit keeps it so
-pub source_stays : (lim : ℕ) → IsLimit lim → (s : Source) (t : Token) → PhaseReached lim s.phase → SourcedStays lim (spec.feed_source s t)
+pub source_stays : (lim : ℕ) → (s : Source) (t : Token) → PhaseReached lim s.phase → SourcedStays lim (spec.feed_source s t)
 unfolding spec.feed_source
-source_stays lim is_limit s t h = phase_stays lim is_limit s.items s.phase t h
+source_stays lim s t h = phase_stays lim s.items s.phase t h
 
 abbrev pub SourceGoes : Source → Token → Source → ℕ → Type 0
 SourceGoes s t next reach = spec.feed_source s t ≡ sourced.Goes next reach
@@ -112,12 +111,12 @@ abbrev pub SourceCanEnd : ℕ → Source → Type 0
 SourceCanEnd lim = CanEnd Source source.Unit SourceGoes SourceEnds lim
 
 -- what is read by such tokens is a source, which begins with those that were read before
-pub source_runs_sound : (lim : ℕ) → IsLimit lim → (s : Source) (us : List Token) (u : source.Unit) (ts : List Token)
+pub source_runs_sound : (lim : ℕ) → (s : Source) (us : List Token) (u : source.Unit) (ts : List Token)
     → SourceRuns lim s us u → OkSource lim s ts → IsUnit lim u (ts ++ us)
-source_runs_sound lim is_limit s us u ts runs ok =
+source_runs_sound lim s us u ts runs ok =
     runs_keep Source source.Unit SourceGoes SourceEnds lim (OkSource lim) (IsUnit lim)
-    (λ d t next reach ts e le k. (subst (λ z. KeepsSourced lim ts t z) e (source_keeps lim is_limit ts t d k)) le)
-    (λ d t o ts e k. let q : KeepsSourced lim ts t (sourced.Done o) = subst (λ z. KeepsSourced lim ts t z) e (source_keeps lim is_limit ts t d k) in q.0)
+    (λ d t next reach ts e le k. (subst (λ z. KeepsSourced lim ts t z) e (source_keeps lim ts t d k)) le)
+    (λ d t o ts e k. let q : KeepsSourced lim ts t (sourced.Done o) = subst (λ z. KeepsSourced lim ts t z) e (source_keeps lim ts t d k) in q.0)
     s us u ts runs ok
 
 -- `(` behind the name of a first declarator goes on with no declaration
@@ -158,7 +157,7 @@ declared_on items p d t x e no_refusal =
     (λ q. absurd (no_refusal (sym e ∙ title_refused d t q)))
     (λ q. ap (λ z. spec.declares_by items p z) e)
 
-module _ (lim : ℕ) (is_limit : IsLimit lim) where
+module _ (lim : ℕ) where
   end_token : Token
   end_token = record { what = token.End; place = nowhere }
 
@@ -187,7 +186,7 @@ module _ (lim : ℕ) (is_limit : IsLimit lim) where
       (λ q. record { items = items; phase = phase.Parameters p t q })
       (λ o c. record { items = items; phase = phase.Headed p (spec.head_of t o) })
       (λ q u next reach e. ap (λ z. spec.parameters_by items p t z) e) (λ q u o e. ap (λ z. spec.parameters_by items p t z) e)
-      ps (parameters_viable lim is_limit ps ts ok h) (λ o c. headed_ended items p (spec.head_of t o))
+      ps (parameters_viable lim ps ts ok h) (λ o c. headed_ended items p (spec.head_of t o))
 
   body_ended : (items : List Item) (p : Place) (h : Head) (b : Body) (ts : List Token) → OkBody lim b ts → BodyReached lim b
       → SourceCanEnd lim (record { items = items; phase = phase.Body p h b })
@@ -197,7 +196,7 @@ module _ (lim : ℕ) (is_limit : IsLimit lim) where
       (λ q. record { items = items; phase = phase.Body p h q })
       (λ o c. record { items = items ++ item.Function p h o c.place ∷ []; phase = phase.Starts })
       (λ q u next reach e. ap (λ z. spec.body_by items p h u.place z) e) (λ q u o e. ap (λ z. spec.body_by items p h u.place z) e)
-      b (body_viable lim is_limit b ts ok k) (λ o c. starts_ended (items ++ item.Function p h o c.place ∷ []))
+      b (body_viable lim b ts ok k) (λ o c. starts_ended (items ++ item.Function p h o c.place ∷ []))
 
   declares_ended : (items : List Item) (p : Place) (d : Declaration) (ts : List Token) → OkDeclaration lim 1 d ts
       → StageReached lim d.front d.stage → SourceCanEnd lim (record { items = items; phase = phase.Declares p d })
@@ -208,7 +207,7 @@ module _ (lim : ℕ) (is_limit : IsLimit lim) where
       (λ o c. record { items = items ++ item.Objects p o.0 o.1 ∷ []; phase = phase.Starts })
       (λ q u next reach e. declared_on items p q u (declared_.Goes next reach) e (λ z. no_goes next reach z))
       (λ q u o e. declared_on items p q u (declared_.Done o.0 o.1) e (λ z. no_done o.0 o.1 z))
-      d (declaration_viable lim is_limit 1 d ts ok k) (λ o c. starts_ended (items ++ item.Objects p o.0 o.1 ∷ []))
+      d (declaration_viable lim 1 d ts ok k) (λ o c. starts_ended (items ++ item.Objects p o.0 o.1 ∷ []))
 
   phase_ended : (items : List Item) (n : SourceStage) (ts : List Token) → OkPhase lim items n ts → PhaseReached lim n
       → SourceCanEnd lim (record { items = items; phase = n })
@@ -219,12 +218,12 @@ module _ (lim : ℕ) (is_limit : IsLimit lim) where
   phase_ended items (phase.Body p x b) ts ok h = body_ended items p x b ok.0.back ok.0.rest h
 
 -- what was read of a source can be ended within the limit
-pub source_viable : (lim : ℕ) → IsLimit lim → (s : Source) (ts : List Token) → OkSource lim s ts → PhaseReached lim s.phase → SourceCanEnd lim s
-source_viable lim is_limit s ts ok h = phase_ended lim is_limit s.items s.phase ts ok.phase h
+pub source_viable : (lim : ℕ) → (s : Source) (ts : List Token) → OkSource lim s ts → PhaseReached lim s.phase → SourceCanEnd lim s
+source_viable lim s ts ok h = phase_ended lim s.items s.phase ts ok.phase h
 
 -- so there is a source that the grammar gives, within the limit, which begins with the tokens that were read
-pub source_begins : (lim : ℕ) → IsLimit lim → (s : Source) (ts : List Token) → OkSource lim s ts → PhaseReached lim s.phase
+pub source_begins : (lim : ℕ) → (s : Source) (ts : List Token) → OkSource lim s ts → PhaseReached lim s.phase
     → (us : List Token) × (u : source.Unit) × IsUnit lim u (ts ++ us)
-source_begins lim is_limit s ts ok h =
-    let x : SourceCanEnd lim s = source_viable lim is_limit s ts ok h in
-    (x.0, x.1, source_runs_sound lim is_limit s x.0 x.1 ts x.2 ok)
+source_begins lim s ts ok h =
+    let x : SourceCanEnd lim s = source_viable lim s ts ok h in
+    (x.0, x.1, source_runs_sound lim s x.0 x.1 ts x.2 ok)

@@ -22,7 +22,6 @@ use Rattle.k_reader.specs.declared.statement.Tested.TheVariants as tested
 use Rattle.k_reader.specs.declared.statement.BlockStage.TheVariants as step
 use Rattle.k_reader.specs.declared.statement.Stepped.TheVariants as stepped
 use Rattle.k_reader.proofs.DeclarationReach.{ReadStays, MaybeStays, needed_stays, maybe_stays, begin_begun, StageReached, DeclaredStays, declaration_stays}
-use Rattle.k_reader.proofs.ExpressionState.{IsLimit}
 use Rattle.k_reader.proofs.ExpressionReach.{Reached}
 use Rattle.k_reader.proofs.ReadingReach.{Begun, feed_begun}
 
@@ -60,7 +59,7 @@ abbrev pub BodyStays : ℕ → Stepped → Type 0
 BodyStays lim (stepped.Goes b reach) = reach ≤ lim → BodyReached lim b
 BodyStays lim _ = Unit {0}
 
-module _ (lim : ℕ) (is_limit : IsLimit lim) (ps : Parts) where
+module _ (lim : ℕ) (ps : Parts) where
   -- the first token of a statement
 
   first_stays : (s : Frames) (p : Place) (x : Fed) → FramesReached lim s
@@ -74,7 +73,7 @@ module _ (lim : ℕ) (is_limit : IsLimit lim) (ps : Parts) where
   unfolding spec.expression
   expression_stays s t h =
       first_stays s t.place (feed (begin 0 (spec.inner s)) t) h
-      (λ next reach e le. (feed_begun lim is_limit (begin 0 (spec.inner s)) t next reach (begin_begun lim 0 (spec.inner s)) e le).1)
+      (λ next reach e le. (feed_begun lim (begin 0 (spec.inner s)) t next reach (begin_begun lim 0 (spec.inner s)) e le).1)
 
   declares_stays : (s : Frames) (w : Word) (p : Place) → FramesReached lim s → BodyStays lim (spec.declares ps s w p)
   unfolding spec.declares
@@ -213,7 +212,7 @@ module _ (lim : ℕ) (is_limit : IsLimit lim) (ps : Parts) where
   start_stays : (s : Frames) (p : Place) (r : Reading) (t : Token) (w : Option Word) → FramesReached lim s → spec.inner s ≤ lim
       → ReadingReached lim r → BodyStays lim (spec.start_with ps s p r t w)
   start_stays s p r t (Some w) h i k = λ le. (h, (i, tt))
-  start_stays s p r t None h i k = by (read_maybe r t closer.Semicolon) (maybe_stays lim is_limit r t closer.Semicolon (λ e. k))
+  start_stays s p r t None h i k = by (read_maybe r t closer.Semicolon) (maybe_stays lim r t closer.Semicolon (λ e. k))
     where
       by : (x : Maybe) → MaybeStays lim x → BodyStays lim (spec.start_by ps s p x)
       by (maybe.Goes u reach) m = λ le. (h, (i, m le))
@@ -262,13 +261,13 @@ module _ (lim : ℕ) (is_limit : IsLimit lim) (ps : Parts) where
       cond_both (closes t closer.Colon) (spec.labelled ps s (part_.Default p)) stepped.Refused (BodyStays lim)
       (λ e. labelled_stays s (part_.Default p) h) (λ e. tt)
 
-behind_stays : (lim : ℕ) → IsLimit lim → (ps : Parts) (s : Frames) (x : Stmt) (t : Token) → FramesReached lim s → BodyStays lim (spec.behind ps s x t)
+behind_stays : (lim : ℕ) → (ps : Parts) (s : Frames) (x : Stmt) (t : Token) → FramesReached lim s → BodyStays lim (spec.behind ps s x t)
 unfolding spec.behind
-behind_stays lim is_limit ps [] x t h = begins_stays lim is_limit (ps ++ x ∷ []) [] t h
-behind_stays lim is_limit ps (f ∷ s) x t h =
-    closed_stays lim is_limit ps s f x (spec.is_else t.what) t (λ y. spec.behind ps s y t) h (λ y. behind_stays lim is_limit ps s y t h.1)
+behind_stays lim ps [] x t h = begins_stays lim (ps ++ x ∷ []) [] t h
+behind_stays lim ps (f ∷ s) x t h =
+    closed_stays lim ps s f x (spec.is_else t.what) t (λ y. spec.behind ps s y t) h (λ y. behind_stays lim ps s y t h.1)
 
-step_stays : (lim : ℕ) → IsLimit lim → (ps : Parts) (s : Frames) (n : BlockStage) (t : Token) → FramesReached lim s → StepReached lim s n
+step_stays : (lim : ℕ) → (ps : Parts) (s : Frames) (n : BlockStage) (t : Token) → FramesReached lim s → StepReached lim s n
     → BodyStays lim (spec.step_fed ps s n t)
 unfolding spec.value spec.test spec.returned spec.local spec.in_for spec.start spec.for_declares spec.second spec.third spec.in_switch spec.case_value
 step_stays lim l ps s step.Begins t h k = begins_stays lim l ps s t h
@@ -296,6 +295,6 @@ step_stays lim l ps s (step.Case p r) t h k =
 step_stays lim l ps s (step.Default p) t h k = default_stays lim l ps s p t h
 
 -- a token within the limit keeps it so
-pub body_stays : (lim : ℕ) → IsLimit lim → (b : Body) (t : Token) → BodyReached lim b → BodyStays lim (spec.feed_body b t)
+pub body_stays : (lim : ℕ) → (b : Body) (t : Token) → BodyReached lim b → BodyStays lim (spec.feed_body b t)
 unfolding spec.feed_body
-body_stays lim is_limit b t h = step_stays lim is_limit b.parts b.frames b.step t h.0 h.1
+body_stays lim b t h = step_stays lim b.parts b.frames b.step t h.0 h.1

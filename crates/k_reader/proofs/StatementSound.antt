@@ -11,7 +11,7 @@ use Rattle.k_tree.specs.declared.tree.statement.Part.TheVariants as part_
 use Rattle.k_tree.specs.Folds.{stmt_Expr, stmt_Empty, stmt_Block, if_alone as if_alone_folds, if_else as if_else_folds, stmt_While, stmt_DoWhile, stmt_For, stmt_Switch, part_Case, part_Default, part_Does, stmt_Break, stmt_Continue, stmt_Return, stmt_Declare}
 use Rattle.k_tree.specs.Nesting.{expr_depth, option_depth, first_depth, declarators_depth, stmt_depth, part_depth, part_depth_step, stmt_depth_step}
 use Rattle.k_tree.specs.Places.{Pieces, plain, at, lay_expr, lay_option, lay_first, lay_for, lay_in_parens, lay_declaration, lay_stmt, lay_part, lay_switched, lay_part_step, lay_stmt_step, lay_stmts, stmt_place, Stand}
-use Rattle.k_tree.specs.Ranked.{Ranked, IfGiven, RankedFirst, RankedStmt, RankedParts, RankedSwitch, ends_open, ends_open_part, ends_open_step, value, empty, block, if_alone, if_else, while_loop, do_loop, for_loop, switch_stmt, no_labels, case_label, default_label, does, break_loop, continue_loop, return_value, no_parts, statement, declaration}
+use Rattle.k_tree.specs.Ranked.{Ranked, IfGiven, RankedFirst, RankedStmt, RankedSwitch, ends_open, ends_open_part, ends_open_step, value, empty, block, if_alone, if_else, while_loop, do_loop, for_loop, switch_stmt, no_labels, case_label, default_label, does, break_loop, continue_loop, return_value, no_parts}
 use Rattle.k_tree.specs.Spelling.{the_mark, the_word}
 use Rattle.k_tree.proofs.Standing.{stand-append}
 use Rattle.k_reader.specs.Operators.{is_spec_word, is_semicolon, is_left_brace, is_right_brace}
@@ -31,7 +31,7 @@ use Rattle.k_reader.specs.declared.statement.Tested.TheVariants as tested
 use Rattle.k_reader.specs.declared.statement.BlockStage.TheVariants as step
 use Rattle.k_reader.specs.declared.statement.Stepped.TheVariants as stepped
 use Rattle.k_reader.proofs.Rows.{row_push, deepest_more, StartsAt, starts-more, at_stands}
-use Rattle.k_reader.proofs.ExpressionState.{IsLimit, Keeps}
+use Rattle.k_reader.proofs.ExpressionState.{Keeps}
 use Rattle.k_reader.proofs.ExpressionTerms.{one_at, one, stand-more, regroup, three, four, five, and_left, and_right}
 use Rattle.k_reader.proofs.ReadingSound.{At, site, begin_at, at_keeps, KeepsRead, read_keeps, KeepsMaybe, maybe_keeps, fresh_stands, closes_is, Behind}
 use Rattle.k_reader.proofs.DeclarationState.{OkDeclaration, KeepsDeclared}
@@ -43,7 +43,7 @@ use Rattle.k_reader.proofs.StatementState.{word_at, left_paren, left_brace, semi
 false_true : false ≡ true → ⊥
 false_true z = cc
 
-module _ (lim : ℕ) (is_limit : IsLimit lim) (ts : List Token) (t : Token) where
+module _ (lim : ℕ) (ts : List Token) (t : Token) where
   stepped_cond : (b : Bool) (x y : Stepped) → (b ≡ true → KeepsStepped lim ts t x) → (b ≡ false → KeepsStepped lim ts t y)
       → KeepsStepped lim ts t (cond b x y)
   stepped_cond true x y f h = f refl
@@ -61,13 +61,13 @@ module _ (lim : ℕ) (is_limit : IsLimit lim) (ts : List Token) (t : Token) wher
 
   -- levels
   true_inner : (s : Frames) (d : ℕ) → inner s + d ≤ lim + 1 → ((1 + length s) + 1) + d ≤ lim + 1
-  true_inner s d h = omega (arith, is_limit, h)
+  true_inner s d h = omega (arith, h)
 
   true_level : (s : Frames) → level s ≤ lim → (1 + length s) + 1 ≤ lim + 1
-  true_level s h = omega (arith, is_limit, h)
+  true_level s h = omega (arith, h)
 
   inner_room : (s : Frames) → level s ≤ lim → inner s ≤ lim + 1
-  inner_room s h = omega (arith, is_limit, h)
+  inner_room s h = omega (arith, h)
 
   goes : (ps : Parts) (s : Frames) (x : BlockStage) (reach : ℕ) → OkParts lim ps → OkFrames lim s → (reach ≤ lim → OkStep lim ps s x (ts ++ t ∷ []))
       → KeepsStepped lim ts t (spec.steps ps s x reach)
@@ -97,7 +97,7 @@ module _ (lim : ℕ) (is_limit : IsLimit lim) (ts : List Token) (t : Token) wher
       → Behind (lay_base ps s) (λ us. At lim (site 0 (inner s)) r us × StartsAt p us) ts → KeepsStepped lim ts t (spec.value ps s p r t)
   unfolding spec.value
   value_keeps ps s p r o f b =
-      value_by_keeps ps s p r _ o f b (read_keeps lim is_limit (site 0 (inner s)) b.back t r closer.Semicolon b.rest.0)
+      value_by_keeps ps s p r _ o f b (read_keeps lim (site 0 (inner s)) b.back t r closer.Semicolon b.rest.0)
 
   -- `return`
   returned_by_keeps : (ps : Parts) (s : Frames) (p : Place) (r : Reading) (m : Maybe) → OkParts lim ps → OkFrames lim s
@@ -121,7 +121,7 @@ module _ (lim : ℕ) (is_limit : IsLimit lim) (ts : List Token) (t : Token) wher
       → OkBehind lim s (lay_base ps s ++ word_at p word.Return) (At lim (site 0 (inner s)) r) ts → KeepsStepped lim ts t (spec.returned ps s p r t)
   unfolding spec.returned
   returned_keeps ps s p r o f b =
-      returned_by_keeps ps s p r _ o f b (maybe_keeps lim is_limit (site 0 (inner s)) b.behind.back t r closer.Semicolon b.room b.behind.rest)
+      returned_by_keeps ps s p r _ o f b (maybe_keeps lim (site 0 (inner s)) b.behind.back t r closer.Semicolon b.room b.behind.rest)
 
   -- a declaration of a block
   local_by_keeps : (ps : Parts) (s : Frames) (p : Place) (d : Declaration) (m : Declared) → OkParts lim ps → OkFrames lim s → is_in_block s ≡ true
@@ -152,7 +152,7 @@ module _ (lim : ℕ) (is_limit : IsLimit lim) (ts : List Token) (t : Token) wher
       → OkBehind lim s (lay_base ps s) (λ us. OkDeclaration lim (inner s) d us × StartsAt p us) ts → KeepsStepped lim ts t (spec.local ps s p d t)
   unfolding spec.local
   local_keeps ps s p d o f i b =
-      local_by_keeps ps s p d _ o f i b (declaration_keeps lim is_limit (inner s) b.behind.back t d b.behind.rest.0)
+      local_by_keeps ps s p d _ o f i b (declaration_keeps lim (inner s) b.behind.back t d b.behind.rest.0)
 
   -- a semicolon
   pub semicolon_keeps : (ps : Parts) (s : Frames) (x : Stmt) → OkParts lim ps → OkFrames lim s → OkSemicolon lim ps s x ts
@@ -292,7 +292,7 @@ module _ (lim : ℕ) (is_limit : IsLimit lim) (ts : List Token) (t : Token) wher
   expression_keeps : (ps : Parts) (s : Frames) → OkParts lim ps → OkFrames lim s → Stand (lay_base ps s) ts → KeepsStepped lim ts t (spec.expression ps s t)
   unfolding spec.expression
   expression_keeps ps s o f st =
-      expression_by_keeps ps s _ o f st (at_keeps lim is_limit (site 0 (inner s)) [] t (begin 0 (inner s)) (begin_at lim 0 (inner s) (omega arith)))
+      expression_by_keeps ps s _ o f st (at_keeps lim (site 0 (inner s)) [] t (begin 0 (inner s)) (begin_at lim 0 (inner s) (omega arith)))
 
   empty_keeps : (ps : Parts) (s : Frames) → OkParts lim ps → OkFrames lim s → t.what ≡ token.Mark mark.Semicolon → Stand (lay_base ps s) ts
       → KeepsStepped lim ts t (spec.empty ps s t.place)
@@ -379,7 +379,7 @@ module _ (lim : ℕ) (is_limit : IsLimit lim) (ts : List Token) (t : Token) wher
   pub test_keeps : (ps : Parts) (s : Frames) (x : Tested) (r : Reading) → OkParts lim ps → OkFrames lim s → OkTested lim (1 + length s) x
       → Behind (lay_base ps s ++ (lay_tested x ++ left_paren)) (At lim (site 0 (inner s)) r) ts → KeepsStepped lim ts t (spec.test ps s x r t)
   unfolding spec.test
-  test_keeps ps s x r o f h b = test_by_keeps ps s x r _ o f h b (read_keeps lim is_limit (site 0 (inner s)) b.back t r closer.Paren b.rest)
+  test_keeps ps s x r o f h b = test_by_keeps ps s x r _ o f h b (read_keeps lim (site 0 (inner s)) b.back t r closer.Paren b.rest)
 
   -- the token behind a statement
 
@@ -591,9 +591,9 @@ module _ (lim : ℕ) (is_limit : IsLimit lim) (ts : List Token) (t : Token) wher
     where
       choose : (c : Bool) → (is_spec_word w && is_fresh r) ≡ c → KeepsStepped lim ts t (spec.start_with ps s p r t (cond c (Some w) None))
       choose true h = for_declares_begins ps s p r w o f e (and_left (is_spec_word w) (is_fresh r) h) (and_right (is_spec_word w) (is_fresh r) h) b
-      choose false h = start_by_keeps ps s p r _ o f b (maybe_keeps lim is_limit (site 0 (inner s)) b.behind.back t r closer.Semicolon b.room b.behind.rest)
+      choose false h = start_by_keeps ps s p r _ o f b (maybe_keeps lim (site 0 (inner s)) b.behind.back t r closer.Semicolon b.room b.behind.rest)
   start_with_keeps ps s p r _ o f e b =
-      start_by_keeps ps s p r _ o f b (maybe_keeps lim is_limit (site 0 (inner s)) b.behind.back t r closer.Semicolon b.room b.behind.rest)
+      start_by_keeps ps s p r _ o f b (maybe_keeps lim (site 0 (inner s)) b.behind.back t r closer.Semicolon b.room b.behind.rest)
 
   start_keeps : (ps : Parts) (s : Frames) (p : Place) (r : Reading) → OkParts lim ps → OkFrames lim s
       → OkBehind lim s (lay_base ps s ++ For_at p) (At lim (site 0 (inner s)) r) ts → KeepsStepped lim ts t (spec.start ps s p r t)
@@ -704,7 +704,7 @@ module _ (lim : ℕ) (is_limit : IsLimit lim) (ts : List Token) (t : Token) wher
       goes ps s (step.Case p q) reach o f (λ z. (pushed (lay_base ps s ++ word_at p word.Case) _ _ b (h z), i))
   case_by_keeps ps s p (read.Done e) o f i r b h =
       labelled_keeps ps (part_.Case p e) o s i f (case_label p e [] h.0.ranked no_labels)
-      (λ z. omega (arith, is_limit, h.0.within, part_Case ℕ ℕ part_depth_step stmt_depth_step p e))
+      (λ z. omega (arith, h.0.within, part_Case ℕ ℕ part_depth_step stmt_depth_step p e))
       (subst (λ x. Stand (lay_base ps s ++ x) (ts ++ t ∷ [])) (sym (part_Case Pieces Pieces lay_part_step lay_stmt_step p e))
       (regroup (lay_base ps s) (word_at p word.Case) (lay_expr e ++ plain (the_mark mark.Colon)) (ts ++ t ∷ [])
       (stand-more (lay_base ps s ++ word_at p word.Case) (lay_expr e) (plain (the_mark mark.Colon)) ts (t ∷ [])
@@ -727,7 +727,7 @@ module _ (lim : ℕ) (is_limit : IsLimit lim) (ts : List Token) (t : Token) wher
   unfolding spec.in_switch spec.case_value
   switch_keeps ps s (step.Braces p e) o f k = braces_keeps ps s p e o f k.1 k.0
   switch_keeps ps s (step.Case p r) o f k =
-      case_by_keeps ps s p _ o f k.1 r k.0 (read_keeps lim is_limit (site 2 (level s)) k.0.back t r closer.Colon k.0.rest)
+      case_by_keeps ps s p _ o f k.1 r k.0 (read_keeps lim (site 2 (level s)) k.0.back t r closer.Colon k.0.rest)
   switch_keeps ps s (step.Default p) o f k = default_label_keeps ps s p o f k.1 k.0
   switch_keeps ps s _ o f k = tt
 
@@ -736,11 +736,11 @@ module _ (lim : ℕ) (is_limit : IsLimit lim) (ts : List Token) (t : Token) wher
   for_keeps ps s (step.For p) o f k = for_opened_keeps ps s p o f k.0 k.1
   for_keeps ps s (step.Start p r) o f k = start_keeps ps s p r o f k
   for_keeps ps s (step.Declares p d) o f k =
-      for_declares_by_keeps ps s p d _ o f k (declaration_keeps lim is_limit (inner s) k.behind.back t d k.behind.rest)
+      for_declares_by_keeps ps s p d _ o f k (declaration_keeps lim (inner s) k.behind.back t d k.behind.rest)
   for_keeps ps s (step.Second p start r) o f k =
-      second_by_keeps ps s p start r _ o f k.0 k.1 (maybe_keeps lim is_limit (site 0 (inner s)) k.0.behind.back t r closer.Semicolon k.0.room k.0.behind.rest)
+      second_by_keeps ps s p start r _ o f k.0 k.1 (maybe_keeps lim (site 0 (inner s)) k.0.behind.back t r closer.Semicolon k.0.room k.0.behind.rest)
   for_keeps ps s (step.Third p start test r) o f k =
-      third_by_keeps ps s p start test r _ o f k.0 k.1 k.2 (maybe_keeps lim is_limit (site 0 (inner s)) k.0.behind.back t r closer.Paren k.0.room k.0.behind.rest)
+      third_by_keeps ps s p start test r _ o f k.0 k.1 k.2 (maybe_keeps lim (site 0 (inner s)) k.0.behind.back t r closer.Paren k.0.room k.0.behind.rest)
   for_keeps ps s x o f k = switch_keeps ps s x o f k
 
   step_keeps : (ps : Parts) (s : Frames) (x : BlockStage) → OkParts lim ps → OkFrames lim s → OkStep lim ps s x ts → KeepsStepped lim ts t (spec.step_fed ps s x t)

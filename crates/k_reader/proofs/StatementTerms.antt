@@ -1,11 +1,11 @@
 -- What the soundness of a function's block rests on: parts that grow, pieces of what is open, and which tokens pass a test.
 use Rattle.std.proofs.Common.{◌≡◌, true, false, List, [], ◌∷◌, ◌++◌, refl, sym, subst, append_assoc}
-use Rattle.k_reader.specs.Types.{Place, Token, TokenKind, Stmt, Frame}
+use Rattle.k_reader.specs.Types.{Token, TokenKind, Stmt, Frame}
 use Rattle.k_tree.specs.declared.tokens.TokenKind.TheVariants as token
 use Rattle.k_tree.specs.declared.tokens.mark.Mark.TheVariants as mark
 use Rattle.k_tree.specs.declared.tokens.word.Word.TheVariants as word
 use Rattle.k_tree.specs.Places.{lay_stmts, Stand}
-use Rattle.k_tree.specs.Ranked.{RankedStmt, RankedParts, no_parts, statement, declaration}
+use Rattle.k_tree.specs.Ranked.{RankedParts, no_parts, statement, declaration}
 use Rattle.k_reader.specs.Expressions.{is_left_paren}
 use Rattle.k_reader.specs.Statements.{Parts, Frames, is_else, is_while, is_brace}
 use Rattle.k_reader.proofs.StatementState.{lay_frame, lay_frames, lay_base, IsPart, a_stmt, a_declaration}

@@ -28,7 +28,6 @@ use Rattle.k_reader.specs.declared.statement.Stepped.TheVariants as stepped
 use Rattle.k_reader.proofs.DeclarationReach.{StageReached}
 use Rattle.k_reader.proofs.DeclarationState.{OkDeclaration}
 use Rattle.k_reader.proofs.DeclarationViable.{Outcome, DeclarationGoes, DeclarationEnds, declaration_viable}
-use Rattle.k_reader.proofs.ExpressionState.{IsLimit}
 use Rattle.k_reader.proofs.ExpressionViable.{mark_token}
 use Rattle.k_reader.proofs.ReadingReach.{Begun, fresh_is}
 use Rattle.k_reader.proofs.ReadingSound.{At, site, begin_at}
@@ -95,7 +94,7 @@ goes_on next reach e = cc
 closed_so : (v : Option Expr) → maybe.Done v ≡ maybe.Refused → ⊥
 closed_so v e = cc
 
-module _ (lim : ℕ) (is_limit : IsLimit lim) (ps : Parts) where
+module _ (lim : ℕ) (ps : Parts) where
   abbrev body : Frames → BlockStage → Body
   body s n = record { parts = ps; frames = s; step = n }
 
@@ -144,7 +143,7 @@ module _ (lim : ℕ) (is_limit : IsLimit lim) (ps : Parts) where
       → ((e : Expr) → BodyCanEnd lim (tested_body s x e)) → Ended s (step.Test x r)
   unfolding spec.feed_body spec.test
   test_ended s x r g ts a h rest =
-      inner_can_end Body Parts BodyGoes BodyEnds lim is_limit mark.RightParen (closing_ends closer.Paren) g r ts a h
+      inner_can_end Body Parts BodyGoes BodyEnds lim mark.RightParen (closing_ends closer.Paren) g r ts a h
       (λ u. body s (step.Test x u)) (tested_body s x)
       (λ u t next reach e. ap (λ z. spec.test_by ps s x z) (needed_goes u t closer.Paren next reach e))
       (λ u e q. ap (λ z. spec.test_by ps s x z) (needed_ends u (mark_token mark.RightParen) closer.Paren e q (closing_closes closer.Paren))
@@ -242,7 +241,7 @@ module _ (lim : ℕ) (is_limit : IsLimit lim) (ps : Parts) where
   unfolding spec.feed_body spec.in_for spec.in_switch spec.case_value spec.labelled
   case_ended = switch_split Case_ended (λ q e parts s p r g ts a k h.
       let f : Frames = frame.Switch q e parts ∷ s in
-      inner_can_end Body Parts BodyGoes BodyEnds lim is_limit mark.Colon (closing_ends closer.Colon) g r ts a k
+      inner_can_end Body Parts BodyGoes BodyEnds lim mark.Colon (closing_ends closer.Colon) g r ts a k
       (λ u. body f (step.Case p u)) (λ v. body (frame.Switch q e (parts ++ part_.Case p v ∷ []) ∷ s) step.Begins)
       (λ u t next reach i. ap (λ z. spec.case_by ps f p z) (needed_goes u t closer.Colon next reach i))
       (λ u v i. ap (λ z. spec.case_by ps f p z) (needed_ends u (mark_token mark.Colon) closer.Colon v i (closing_closes closer.Colon)))
@@ -265,7 +264,7 @@ module _ (lim : ℕ) (is_limit : IsLimit lim) (ps : Parts) where
       → Ended s (step.Value p r)
   unfolding spec.feed_body spec.value
   value_ended s p r g ts a k h =
-      inner_can_end Body Parts BodyGoes BodyEnds lim is_limit mark.Semicolon (closing_ends closer.Semicolon) g r ts a k
+      inner_can_end Body Parts BodyGoes BodyEnds lim mark.Semicolon (closing_ends closer.Semicolon) g r ts a k
       (λ u. body s (step.Value p u)) (λ e. body s (step.Whole (stmt.Expr p e)))
       (λ u t next reach e. ap (λ z. spec.value_by ps s p z) (needed_goes u t closer.Semicolon next reach e))
       (λ u e q. ap (λ z. spec.value_by ps s p z) (needed_ends u (mark_token mark.Semicolon) closer.Semicolon e q (closing_closes closer.Semicolon)))
@@ -275,7 +274,7 @@ module _ (lim : ℕ) (is_limit : IsLimit lim) (ps : Parts) where
       → Ended s (step.Return p r)
   unfolding spec.feed_body spec.returned
   return_ended s p r g ts a k h =
-      maybe_can_end Body Parts BodyGoes BodyEnds lim is_limit closer.Semicolon g r ts a k
+      maybe_can_end Body Parts BodyGoes BodyEnds lim closer.Semicolon g r ts a k
       (λ u. body s (step.Return p u)) (λ v. body s (step.Whole (stmt.Return p v)))
       (λ u t next reach e. ap (λ z. spec.returned_by ps s p z) e) (λ u t v e. ap (λ z. spec.returned_by ps s p z) e)
       (λ v. closes_whole s (stmt.Return p v) h)
@@ -287,7 +286,7 @@ module _ (lim : ℕ) (is_limit : IsLimit lim) (ps : Parts) where
       inside_can_end Declaration Outcome DeclarationGoes DeclarationEnds Body Parts BodyGoes BodyEnds lim
       (λ u. body s (step.Local p u)) (λ o t. body s (step.Whole (stmt.Declare p o.0 o.1)))
       (λ u t next reach e. ap (λ z. spec.local_by ps s p z) e) (λ u t o e. ap (λ z. spec.local_by ps s p z) e)
-      d (declaration_viable lim is_limit l d ts ok k) (λ o t. closes_whole s (stmt.Declare p o.0 o.1) h)
+      d (declaration_viable lim l d ts ok k) (λ o t. closes_whole s (stmt.Declare p o.0 o.1) h)
 
   -- the parts of a `for`
 
@@ -295,7 +294,7 @@ module _ (lim : ℕ) (is_limit : IsLimit lim) (ps : Parts) where
       → ReadingReached lim r → FramesReached lim s → spec.inner s ≤ lim → Ended s (step.Third p start test r)
   unfolding spec.feed_body spec.in_for spec.third
   third_ended s p start test r g ts a k h i =
-      maybe_can_end Body Parts BodyGoes BodyEnds lim is_limit closer.Paren g r ts a (λ e. k)
+      maybe_can_end Body Parts BodyGoes BodyEnds lim closer.Paren g r ts a (λ e. k)
       (λ u. body s (step.Third p start test u)) (λ v. body (frame.For p start test v ∷ s) step.Begins)
       (λ u t next reach e. ap (λ z. spec.third_by ps s p start test z) e) (λ u t v e. ap (λ z. spec.third_by ps s p start test z) e)
       (λ v. begins_ended (frame.For p start test v ∷ s) (i, h))
@@ -304,7 +303,7 @@ module _ (lim : ℕ) (is_limit : IsLimit lim) (ps : Parts) where
       → ReadingReached lim r → FramesReached lim s → spec.inner s ≤ lim → Ended s (step.Second p start r)
   unfolding spec.feed_body spec.in_for spec.second
   second_ended s p start r g ts a k h i =
-      maybe_can_end Body Parts BodyGoes BodyEnds lim is_limit closer.Semicolon g r ts a (λ e. k)
+      maybe_can_end Body Parts BodyGoes BodyEnds lim closer.Semicolon g r ts a (λ e. k)
       (λ u. body s (step.Second p start u)) (λ v. body s (step.Third p start v (begin 0 (spec.inner s))))
       (λ u t next reach e. ap (λ z. spec.second_by ps s p start z) e) (λ u t v e. ap (λ z. spec.second_by ps s p start z) e)
       (λ v. third_ended s p start v (begin 0 (spec.inner s)) (site 0 (spec.inner s)) [] (begin_at lim 0 (spec.inner s) (omega arith)) i h i)
@@ -318,7 +317,7 @@ module _ (lim : ℕ) (is_limit : IsLimit lim) (ps : Parts) where
       → ReadingReached lim r → FramesReached lim s → spec.inner s ≤ lim → Ended s (step.Start p r)
   unfolding spec.feed_body spec.in_for spec.start spec.specifier
   start_ended s p r g ts a k h i =
-      maybe_can_end Body Parts BodyGoes BodyEnds lim is_limit closer.Semicolon g r ts a (λ e. k)
+      maybe_can_end Body Parts BodyGoes BodyEnds lim closer.Semicolon g r ts a (λ e. k)
       (λ u. body s (step.Start p u)) (λ v. body s (step.Second p (spec.first_of v) (begin 0 (spec.inner s))))
       (λ u t next reach e.
       ap (λ w. spec.start_with ps s p u t w) (not_specifier u t.place t.what (maybe.Goes next reach) e (goes_on next reach))
@@ -343,7 +342,7 @@ module _ (lim : ℕ) (is_limit : IsLimit lim) (ps : Parts) where
       inside_can_end Declaration Outcome DeclarationGoes DeclarationEnds Body Parts BodyGoes BodyEnds lim
       (λ u. body s (step.Declares p u)) (λ o t. body s (step.Second p (first.Declare o.0 o.1) (begin 0 (spec.inner s))))
       (λ u t next reach e. ap (λ z. spec.for_declares_by ps s p z) e) (λ u t o e. ap (λ z. spec.for_declares_by ps s p z) e)
-      d (declaration_viable lim is_limit l d ts ok k) (λ o t. seconds s p (first.Declare o.0 o.1) h i)
+      d (declaration_viable lim l d ts ok k) (λ o t. seconds s p (first.Declare o.0 o.1) h i)
 
   step_ended : (s : Frames) (n : BlockStage) (ts : List Token) → OkStep lim ps s n ts → FramesReached lim s → StepReached lim s n → Ended s n
   step_ended s step.Begins ts ok h k = begins_ended s h
@@ -367,5 +366,5 @@ module _ (lim : ℕ) (is_limit : IsLimit lim) (ps : Parts) where
   step_ended s (step.Local p d) ts ok h k = local_ended s p d (spec.inner s) ok.0.behind.back ok.0.behind.rest.0 k h
 
 -- what was read of a block can be ended within the limit
-pub body_viable : (lim : ℕ) → IsLimit lim → (b : Body) (ts : List Token) → OkBody lim b ts → BodyReached lim b → BodyCanEnd lim b
-body_viable lim is_limit b ts ok h = step_ended lim is_limit b.parts b.frames b.step ts ok.step h.0 h.1
+pub body_viable : (lim : ℕ) → (b : Body) (ts : List Token) → OkBody lim b ts → BodyReached lim b → BodyCanEnd lim b
+body_viable lim b ts ok h = step_ended lim b.parts b.frames b.step ts ok.step h.0 h.1

@@ -19,7 +19,7 @@ use Rattle.k_reader.specs.Expressions.{Opens, goes, hole, term, valued, is_befor
 use Rattle.k_reader.specs.declared.expression.Open.TheVariants as open_
 use Rattle.k_reader.specs.declared.expression.ExpressionStage.TheVariants as now
 use Rattle.k_reader.specs.declared.expression.Fed.TheVariants as fed
-use Rattle.k_reader.proofs.ExpressionState.{IsLimit, lay_opens, OkOpen, ok_cast, ok_sizeof, lev, ValidNow, Inv, Keeps}
+use Rattle.k_reader.proofs.ExpressionState.{lay_opens, OkOpen, ok_cast, ok_sizeof, lev, ValidNow, Inv, Keeps}
 use Rattle.k_reader.proofs.ExpressionTerms.{one, stand-more, regroup, and_left, and_right}
 use Rattle.k_reader.proofs.OperandSound.{cond_keeps}
 
@@ -82,7 +82,7 @@ type_more s xs ys k t ts e q st =
     subst (λ z. Stand (s ++ z) (ts ++ t ∷ [])) (sym (ap plain e ∙ map-append _ xs (k ∷ [])))
     (stand-more s (plain xs) (plain (k ∷ [])) ts (t ∷ []) st (one t k q))
 
-module _ (lim : ℕ) (is_limit : IsLimit lim) (g : Site) (ts : List Token) (t : Token) where
+module _ (lim : ℕ) (g : Site) (ts : List Token) (t : Token) where
   spec_keeps : (s : Opens) (specs : List Word) (stars : Stars) (w : Word) → t.what ≡ token.Word w
       → stars.pending ≡ false → nat_eq (length stars.done) 0 ≡ true → is_spec_word w ≡ true
       → Inv lim g s (now.Type specs stars) ts → Keeps lim g ts t (goes g s (now.Type (specs ++ w ∷ []) stars) 0)

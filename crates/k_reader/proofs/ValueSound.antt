@@ -19,7 +19,7 @@ use Rattle.k_reader.specs.Expressions as spec
 use Rattle.k_reader.specs.declared.expression.Open.TheVariants as open_
 use Rattle.k_reader.specs.declared.expression.ExpressionStage.TheVariants as now
 use Rattle.k_reader.proofs.Marks.{Infix, Kind, kind_of, infix_kind, question, bracket, step, no_operator}
-use Rattle.k_reader.proofs.ExpressionState.{IsLimit, lay_args, lay_open, lay_opens, Fits, OkOpen, ok_infix, ok_then, ok_other, ok_cast, ok_prefix, ok_sizeof, ok_paren, ok_index, ok_call, lev, Valid, Inv, IsRead, Keeps}
+use Rattle.k_reader.proofs.ExpressionState.{lay_args, lay_open, lay_opens, Fits, OkOpen, ok_infix, ok_then, ok_other, ok_cast, ok_prefix, ok_sizeof, ok_paren, ok_index, ok_call, lev, Valid, Inv, IsRead, Keeps}
 use Rattle.k_reader.proofs.ExpressionTerms.{one_at, one, stand-more, regroup, three, four, five, fits_two, fits_one, ranked_as, infix_ranked, infix_laid, infix_deep, and_left, and_right}
 use Rattle.k_reader.proofs.OperandSound.{hole_small, cond_keeps}
 
@@ -27,10 +27,10 @@ use Rattle.k_reader.proofs.OperandSound.{hole_small, cond_keeps}
 deeper : (lim : ℕ) (g : Site) (s : Opens) (o : Open) (a : Term) → Fits lim (lev g (o ∷ s)) a → Fits lim (lev g s + 1) a
 deeper lim g s o a f = record { ranked = f.ranked; height = f.height; within = omega (arith, f.within) }
 
-true_reach : (lim x y h d : ℕ) → IsLimit lim → h ≡ d → plus (plus x y) h ≤ lim → ((x + y) + 1) + d ≤ lim + 1
+true_reach : (lim x y h d : ℕ) → h ≡ d → plus (plus x y) h ≤ lim → ((x + y) + 1) + d ≤ lim + 1
 true_reach lim x y h d l e r = omega (arith, l, e, r)
 
-sunk : (lim : ℕ) (g : Site) (s : Opens) (a : Term) → IsLimit lim → Fits lim (lev g s) a → plus (level g s) a.height ≤ lim → Fits lim (lev g s + 1) a
+sunk : (lim : ℕ) (g : Site) (s : Opens) (a : Term) → Fits lim (lev g s) a → plus (level g s) a.height ≤ lim → Fits lim (lev g s + 1) a
 sunk lim g s a h f r = record {
   ranked = f.ranked;
   height = f.height;
@@ -70,7 +70,7 @@ takes_facts : (hole rank left own right : ℕ) → takes_by hole rank (Some (rec
 takes_facts hole rank left own right h =
     (leb-true hole own (and_left (nat_le hole own) (nat_le left rank) h), leb-true left rank (and_right (nat_le hole own) (nat_le left rank) h))
 
-module _ (lim : ℕ) (is_limit : IsLimit lim) (g : Site) (ts : List Token) (t : Token) where
+module _ (lim : ℕ) (g : Site) (ts : List Token) (t : Token) where
   -- an operand was read
   abbrev pub Reads : Opens → Term → Type 0
   Reads s a = Inv lim g s (now.Value a) ts
@@ -86,7 +86,7 @@ module _ (lim : ℕ) (is_limit : IsLimit lim) (g : Site) (ts : List Token) (t : 
   infix_keeps s a op left own right i e r o k le h =
       open_keeps s (open_.Infix t.place op a) (plus (level g s) a.height)
       (λ z. stand-more (lay_opens s) (lay_expr a.tree) _ ts (t ∷ []) h.stands (one_at t (token.Mark op) e))
-      (λ z. ok_infix t.place op a left own right i r o k le (sunk lim g s a is_limit h.state.1 z)) h.opens
+      (λ z. ok_infix t.place op a left own right i r o k le (sunk lim g s a h.state.1 z)) h.opens
 
   posted_keeps : (s : Opens) (a : Term) (op : Mark) → t.what ≡ token.Mark op → IsTrue (is_step op) → 15 ≤ a.rank → Reads s a
       → Keeps lim g ts t (goes g s (now.Value (posted t.place op a)) (plus (level g s) a.height))
@@ -98,9 +98,9 @@ module _ (lim : ℕ) (is_limit : IsLimit lim) (g : Site) (ts : List Token) (t : 
       opens = h.opens;
       state = (
         omega (arith, hole_small lim g s h.opens),
-        fits_one lim (lev g s) 15 (expr.Post t.place op a.tree) a is_limit
+        fits_one lim (lev g s) 15 (expr.Post t.place op a.tree) a
             (postfix 15 t.place op a.tree (omega arith) q (ranked_as 15 lim (lev g s) a le h.state.1))
-            (expr_Post ℕ expr_depth_step t.place op a.tree) (sunk lim g s a is_limit h.state.1 z),
+            (expr_Post ℕ expr_depth_step t.place op a.tree) (sunk lim g s a h.state.1 z),
       );
     },
   )
@@ -112,7 +112,7 @@ module _ (lim : ℕ) (is_limit : IsLimit lim) (g : Site) (ts : List Token) (t : 
       let f : (hole g s ≤ 2) × (3 ≤ a.rank) = takes_facts (hole g s) a.rank 3 2 2 h in
       open_keeps s (open_.Then t.place a) (plus (level g s) a.height)
       (λ z. stand-more (lay_opens s) (lay_expr a.tree) _ ts (t ∷ []) r.stands (one_at t (token.Mark mark.Question) e))
-      (λ z. ok_then t.place a f.0 f.1 (sunk lim g s a is_limit r.state.1 z)) r.opens
+      (λ z. ok_then t.place a f.0 f.1 (sunk lim g s a r.state.1 z)) r.opens
 
   bracket_keeps : (s : Opens) (a : Term) → t.what ≡ token.Mark mark.LeftBracket → takes (hole g s) a.rank mark.LeftBracket ≡ true → Reads s a
       → Keeps lim g ts t (take_operator g s a mark.LeftBracket t.place)
@@ -121,7 +121,7 @@ module _ (lim : ℕ) (is_limit : IsLimit lim) (g : Site) (ts : List Token) (t : 
       let f : (hole g s ≤ 15) × (15 ≤ a.rank) = takes_facts (hole g s) a.rank 15 15 0 h in
       open_keeps s (open_.Index t.place a) (plus (level g s) a.height)
       (λ z. stand-more (lay_opens s) (lay_expr a.tree) _ ts (t ∷ []) r.stands (one_at t (token.Mark mark.LeftBracket) e))
-      (λ z. ok_index t.place a (hole_small lim g s r.opens) f.1 (sunk lim g s a is_limit r.state.1 z)) r.opens
+      (λ z. ok_index t.place a (hole_small lim g s r.opens) f.1 (sunk lim g s a r.state.1 z)) r.opens
 
   false_true : false ≡ true → ⊥
   false_true z = cc
@@ -176,7 +176,7 @@ module _ (lim : ℕ) (is_limit : IsLimit lim) (g : Site) (ts : List Token) (t : 
       opens = r.opens.1;
       state = (
         omega (arith, hole_small lim g s r.opens.1),
-        fits_one lim (lev g s) 16 (expr.Paren p a.tree) a is_limit
+        fits_one lim (lev g s) 16 (expr.Paren p a.tree) a
             (paren 16 p a.tree (omega arith) (ranked_as 0 lim (lev g (open_.Paren p ∷ s)) a (omega arith) r.state.1))
             (expr_Paren ℕ expr_depth_step p a.tree) (deeper lim g s (open_.Paren p) a r.state.1),
       );
@@ -197,7 +197,7 @@ module _ (lim : ℕ) (is_limit : IsLimit lim) (g : Site) (ts : List Token) (t : 
           opens = r.opens.1;
           state = (
             omega (arith, hole_small lim g s r.opens.1),
-            fits_two lim (lev g s) 15 (expr.Index p a.tree b.tree) a b is_limit
+            fits_two lim (lev g s) 15 (expr.Index p a.tree b.tree) a b
                 (index 15 p a.tree b.tree (omega arith) (ranked_as 15 lim (lev g s + 1) a le f) (ranked_as 0 lim (lev g (open_.Index p a ∷ s)) b (omega arith) r.state.1))
                 (expr_Index ℕ expr_depth_step p a.tree b.tree) f (deeper lim g s (open_.Index p a) b r.state.1),
           );
@@ -248,7 +248,7 @@ module _ (lim : ℕ) (is_limit : IsLimit lim) (g : Site) (ts : List Token) (t : 
       called_depth = expr_Call ℕ expr_depth_step p x (args ++ a.tree ∷ [])
 
       called_height : plus (max height a.height) 1 ≡ expr_depth (expr.Call p x (args ++ a.tree ∷ []))
-      called_height = omega (arith, is_limit, called_depth, deepest_push args a.tree, eh, r.state.1.height, l, (deeper lim g s (open_.Call p x args height) a r.state.1).within)
+      called_height = omega (arith, called_depth, deepest_push args a.tree, eh, r.state.1.height, l, (deeper lim g s (open_.Call p x args height) a r.state.1).within)
 
   argued_keeps : (s : Opens) (p : Place) (x : List ℕ) (args : List Expr) (height : ℕ) (a : Term) (m : Mark) → t.what ≡ token.Mark m
       → Reads (open_.Call p x args height ∷ s) a
@@ -313,7 +313,7 @@ module _ (lim : ℕ) (is_limit : IsLimit lim) (g : Site) (ts : List Token) (t : 
     opens = r.opens.1;
     state = (
       k,
-      fits_one lim (lev g s) 14 (expr.Pre p op a.tree) a is_limit
+      fits_one lim (lev g s) 14 (expr.Pre p op a.tree) a
           (prefix 14 p op a.tree (omega arith) e (ranked_as 14 lim (lev g (open_.Prefix p op ∷ s)) a (step_hole (is_step op) a.rank r.state.0 e) r.state.1))
           (expr_Pre ℕ expr_depth_step p op a.tree) (deeper lim g s (open_.Prefix p op) a r.state.1),
     );
@@ -323,7 +323,7 @@ module _ (lim : ℕ) (is_limit : IsLimit lim) (g : Site) (ts : List Token) (t : 
     opens = r.opens.1;
     state = (
       k,
-      fits_one lim (lev g s) 14 (expr.Unary p op a.tree) a is_limit
+      fits_one lim (lev g s) 14 (expr.Unary p op a.tree) a
           (unary 14 p op a.tree (omega arith) (only_unary (is_step op) (is_unary op) h e) (ranked_as 13 lim (lev g (open_.Prefix p op ∷ s)) a (unary_hole (is_step op) a.rank r.state.0) r.state.1))
           (expr_Unary ℕ expr_depth_step p op a.tree) (deeper lim g s (open_.Prefix p op) a r.state.1),
     );
@@ -339,7 +339,7 @@ module _ (lim : ℕ) (is_limit : IsLimit lim) (g : Site) (ts : List Token) (t : 
     opens = r.opens.1;
     state = (
       k,
-      fits_two lim (lev g s) own (infix_tree own p op a.tree b.tree) a b is_limit
+      fits_two lim (lev g s) own (infix_tree own p op a.tree b.tree) a b
           (infix_ranked op left own right i p a.tree b.tree (ranked_as left lim (lev g s + 1) a le f)
           (ranked_as right lim (lev g (open_.Infix p op a ∷ s)) b (subst (λ n. n ≤ b.rank) e r.state.0) r.state.1))
           (infix_deep op left own right i p a.tree b.tree) f (deeper lim g s (open_.Infix p op a) b r.state.1),
@@ -358,7 +358,7 @@ module _ (lim : ℕ) (is_limit : IsLimit lim) (g : Site) (ts : List Token) (t : 
       record {
         ranked = conditional 2 p a.tree b.tree c.tree (omega arith) (ranked_as 3 lim (lev g s + 1) a le f)
             (ranked_as 0 lim (lev g s + 1) b (omega arith) h) (ranked_as 2 lim (lev g (open_.Other p a b ∷ s)) c r.state.0 r.state.1);
-        height = omega (arith, is_limit, made, f.height, h.height, r.state.1.height, f.within, h.within, (deeper lim g s (open_.Other p a b) c r.state.1).within);
+        height = omega (arith, made, f.height, h.height, r.state.1.height, f.within, h.within, (deeper lim g s (open_.Other p a b) c r.state.1).within);
         within = omega (arith, made, f.within, h.within, (deeper lim g s (open_.Other p a b) c r.state.1).within);
       },
     );
@@ -376,7 +376,7 @@ module _ (lim : ℕ) (is_limit : IsLimit lim) (g : Site) (ts : List Token) (t : 
     opens = r.opens.1;
     state = (
       k,
-      fits_one lim (lev g s) 13 (expr.Cast p specs stars a.tree) a is_limit
+      fits_one lim (lev g s) 13 (expr.Cast p specs stars a.tree) a
           (cast 13 p specs stars a.tree (omega arith) h (ranked_as 13 lim (lev g (open_.Cast p specs stars ∷ s)) a r.state.0 r.state.1))
           (expr_Cast ℕ expr_depth_step p specs stars a.tree) (deeper lim g s (open_.Cast p specs stars) a r.state.1),
     );
@@ -391,7 +391,7 @@ module _ (lim : ℕ) (is_limit : IsLimit lim) (g : Site) (ts : List Token) (t : 
     opens = r.opens.1;
     state = (
       k,
-      fits_one lim (lev g s) 14 (expr.SizeofExpr p a.tree) a is_limit
+      fits_one lim (lev g s) 14 (expr.SizeofExpr p a.tree) a
           (sizeof_expr 14 p a.tree (omega arith) (ranked_as 14 lim (lev g (open_.Sizeof p ∷ s)) a r.state.0 r.state.1))
           (expr_SizeofExpr ℕ expr_depth_step p a.tree) (deeper lim g s (open_.Sizeof p) a r.state.1),
     );

@@ -14,8 +14,8 @@ use Rattle.k_reader.specs.Sources.{begin_source}
 
 -- a tree that a list is read to is one that the grammar gives, stands over the list, and is within the limit of nesting (C17 6.5 to 6.9)
 abbrev pub TreesReadAreRanked : Type 0
-TreesReadAreRanked = (tokens : List Token) (u : source.Unit) → EndsOnce tokens → runs 200 begin_source tokens ≡ Some (Ok u)
-    → RankedUnit u × Placed u tokens × (nesting u ≤ 200)
+TreesReadAreRanked = (limit : ℕ) (tokens : List Token) (u : source.Unit) → EndsOnce tokens → runs limit begin_source tokens ≡ Some (Ok u)
+    → RankedUnit u × Placed u tokens × (nesting u ≤ limit)
 
 -- tokens that spell a tree that the grammar gives, within the limit of nesting, are read to that tree up to places
 abbrev pub RankedTreesAreRead : Type 0
@@ -28,4 +28,4 @@ OneTreePerSpelling = (u v : source.Unit) → RankedUnit u → RankedUnit v → s
 
 -- a list that is refused is refused at its first wrong token: the first with which the tokens so far begin no source within the limit of nesting
 abbrev pub RefusalsAreFirstWrong : Type 0
-RefusalsAreFirstWrong = (tokens : List Token) (f : ParseFault) → runs 200 begin_source tokens ≡ Some (Err f) → IsFirstWrong 200 tokens f
+RefusalsAreFirstWrong = (limit : ℕ) (tokens : List Token) (f : ParseFault) → runs limit begin_source tokens ≡ Some (Err f) → IsFirstWrong limit tokens f

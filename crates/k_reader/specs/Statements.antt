@@ -222,10 +222,6 @@ close f b other = closed.Part f b
 abbrev pub otherwise : Parts → Frames → Place → Expr → Stmt → Stepped
 otherwise ps s p e a = await_part ps s (frame.Else p e a) 0
 
--- an `if` without `else` (C17 6.8.4.1)
-abbrev pub if_alone : Place → Expr → Stmt → Stmt
-if_alone p e a = stmt.If p e a None
-
 -- is it `while`?
 abbrev pub is_while : TokenKind → Bool
 is_while (token.Word word.While) = true

@@ -58,10 +58,17 @@ pub fn await_part(
 }
 
 /// The level of a statement that begins.
-pub fn level(frames: &Stack<Frame>) -> usize
-    ensures { result ≡ spec.level frames.now }
+pub fn level(frames: &Stack<Frame>) -> Result<usize, NoMemory>
+    ensures { IfOk result (λ level. level ≡ spec.level frames.now) }
 {
     plus(1, frames.len())
+}
+
+/// The level of what stands in a statement that begins.
+pub fn inner_level(frames: &Stack<Frame>) -> Result<usize, NoMemory>
+    ensures { IfOk result (λ level. level ≡ spec.inner frames.now) }
+{
+    plus(level(frames)?, 1)
 }
 
 /// No token of a block was read.

@@ -37,10 +37,11 @@ pub fn argued(
             Ok(goes(site, opens, ExpressionStage::Operand, 0))
         }
         Mark::RightParen => {
+            let height = plus(height, 1)?;
             let term = Term {
                 tree: Expr::Call { place, name, args },
                 rank: 15,
-                height: plus(height, 1),
+                height,
             };
             Ok(goes(site, opens, ExpressionStage::Value { term }, 0))
         }

@@ -1,6 +1,7 @@
 //! The token behind an operand.
 ghost use Rattle.std.specs.Prelude.{◌≡◌, IfOk};
 ghost use Rattle.k_reader.specs.Expressions as spec;
+ghost use Rattle.k_reader.specs.Level as levels;
 
 use crate::expression::call::argued;
 use crate::expression::plug::{boxed, plug};
@@ -15,6 +16,13 @@ use k_reader::stack::Stack;
 use k_tree::{Expr, Mark, Token, TokenKind};
 use std::alloc::Global;
 
+/// The deepest level of an operand of so many levels, of which an operator behind it makes sure.
+fn reach_of(site: Site, opens: &Stack<Open>, height: usize) -> Result<usize, NoMemory>
+    ensures { IfOk result (λ reach. reach ≡ levels.plus (spec.level site opens.now) height) }
+{
+    plus(level(site, opens)?, height)
+}
+
 /// An operator goes on with an operand.
 #[tactic(auto, unfolding(k_reader::specs::Expressions::take_operator))]
 fn take(
@@ -27,7 +35,13 @@ fn take(
 ) -> Result<Fed, NoMemory>
     ensures { IfOk result (λ fed. fed ≡ spec.take_operator site opens left op place) }
 {
-    let reach = plus(level(site, &opens), left.height);
+    let reach = match reach_of(site, &opens, left.height) {
+        Ok(reach) => reach,
+        Err(NoMemory) => {
+            drop(left);
+            return Err(NoMemory);
+        }
+    };
     if is_step(op) {
         let term = posted(alloc, place, op, left)?;
         return Ok(goes(site, opens, ExpressionStage::Value { term }, reach));
@@ -52,8 +66,9 @@ fn operator_opens(op: Mark, left: Term, place: Place) -> Open
 fn posted(alloc: Global, place: Place, op: Mark, term: Term) -> Result<Term, NoMemory>
     ensures { IfOk result (λ made. made ≡ spec.posted place op term) }
 {
-    let height = above(term.height, 0);
-    let of = Box::new(alloc, term.tree)?;
+    let Term { tree, height, .. } = term;
+    let of = Box::new(alloc, tree)?;
+    let height = above(height, 0)?;
     Ok(Term {
         tree: Expr::Post { place, op, of },
         rank: 15,
@@ -64,8 +79,9 @@ fn posted(alloc: Global, place: Place, op: Mark, term: Term) -> Result<Term, NoM
 fn paren(alloc: Global, place: Place, term: Term) -> Result<Term, NoMemory>
     ensures { IfOk result (λ made. made ≡ spec.enclosed place term) }
 {
-    let height = above(term.height, 0);
-    let of = Box::new(alloc, term.tree)?;
+    let Term { tree, height, .. } = term;
+    let of = Box::new(alloc, tree)?;
+    let height = above(height, 0)?;
     Ok(Term {
         tree: Expr::Paren { place, of },
         rank: 16,
@@ -76,8 +92,9 @@ fn paren(alloc: Global, place: Place, term: Term) -> Result<Term, NoMemory>
 fn indexed(alloc: Global, place: Place, base: Term, index: Term) -> Result<Term, NoMemory>
     ensures { IfOk result (λ made. made ≡ spec.indexed place base index) }
 {
-    let height = above(base.height, index.height);
+    let (left, right) = (base.height, index.height);
     let (base, index) = boxed(alloc, base.tree, index.tree)?;
+    let height = above(left, right)?;
     Ok(Term {
         tree: Expr::Index { place, base, index },
         rank: 15,

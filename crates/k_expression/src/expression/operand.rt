@@ -2,6 +2,7 @@
 ghost use Rattle.std.specs.Prelude.{◌≡◌, IfOk, nat_eq, length};
 ghost use Rattle.k_reader.specs.Expressions as spec;
 ghost use Rattle.k_reader.specs.Operators.{is_prefix_mark};
+ghost use Rattle.k_reader.specs.declared.expression.ExpressionStage.TheVariants as stages;
 ghost use Rattle.k_tree.specs.Ranked as ranked;
 
 use crate::expression::{goes, hole, level, refused};
@@ -14,17 +15,16 @@ use k_reader::stars::no_stars;
 use k_tree::{Expr, Mark, Token, TokenKind, Word};
 use std::alloc::Global;
 
-/// An operand of one token.
-fn leaf(site: Site, opens: Stack<Open>, tree: Expr) -> Fed
-    ensures { result ≡ spec.leaf site opens tree }
+/// An operand of one token, which lies at this level.
+fn leaf(site: Site, opens: Stack<Open>, tree: Expr, own: usize) -> Fed
+    ensures { result ≡ spec.goes site opens (stages.Value (spec.term tree 16 1)) own }
 {
-    let reach = level(site, &opens);
     let term = Term {
         tree,
         rank: 16,
         height: 1,
     };
-    goes(site, opens, ExpressionStage::Value { term }, reach)
+    goes(site, opens, ExpressionStage::Value { term }, own)
 }
 
 /// `(` before an operand. Behind `sizeof` it may belong to a type, which adds no level.
@@ -32,9 +32,10 @@ fn leaf(site: Site, opens: Stack<Open>, tree: Expr) -> Fed
 fn opened(site: Site, mut opens: Stack<Open>, place: Place) -> Result<Fed, NoMemory>
     ensures { IfOk result (λ fed. fed ≡ spec.opened site opens place) }
 {
+    let inner = plus(level(site, &opens)?, 1)?;
     let reach = match opens.top() {
         Some(Open::Sizeof { .. }) => 0,
-        _ => plus(level(site, &opens), 1),
+        _ => inner,
     };
     opens.push(Open::Paren { place })?;
     Ok(goes(site, opens, ExpressionStage::Operand, reach))
@@ -81,7 +82,7 @@ fn no_arguments(site: Site, mut opens: Stack<Open>) -> Fed
 fn prefix(site: Site, mut opens: Stack<Open>, op: Mark, place: Place) -> Result<Fed, NoMemory>
     ensures { IfOk result (λ fed. fed ≡ spec.prefix_operator site opens op place) }
 {
-    let reach = plus(level(site, &opens), 1);
+    let reach = plus(level(site, &opens)?, 1)?;
     opens.push(Open::Prefix { place, op })?;
     Ok(goes(site, opens, ExpressionStage::Operand, reach))
 }
@@ -163,7 +164,7 @@ fn word(
     ensures { IfOk result (λ fed. fed ≡ spec.word_operand site opens word place) }
 {
     if is_sizeof(word) {
-        let reach = level(site, &opens);
+        let reach = level(site, &opens)?;
         opens.push(Open::Sizeof { place })?;
         return Ok(goes(site, opens, ExpressionStage::Operand, reach));
     }
@@ -200,11 +201,11 @@ pub fn operand(
     ensures { IfOk result (λ fed. fed ≡ spec.operand site opens token.now) }
 {
     let place = token.place;
+    let own = level(site, &opens)?;
     match &token.what {
         TokenKind::Name(name) => {
             let name = Text::copy_of(alloc, name.as_str())?;
-            let reach = level(site, &opens);
-            Ok(goes(site, opens, ExpressionStage::Named { place, name }, reach))
+            Ok(goes(site, opens, ExpressionStage::Named { place, name }, own))
         }
         TokenKind::Number(kind, value) => {
             let tree = Expr::Number {
@@ -212,18 +213,18 @@ pub fn operand(
                 kind: *kind,
                 value: *value,
             };
-            Ok(leaf(site, opens, tree))
+            Ok(leaf(site, opens, tree, own))
         }
         TokenKind::Char(value) => {
             let tree = Expr::Char {
                 place,
                 value: *value,
             };
-            Ok(leaf(site, opens, tree))
+            Ok(leaf(site, opens, tree, own))
         }
         TokenKind::Str(bytes) => {
             let bytes = Seq::copy_of(alloc, bytes.as_slice())?;
-            Ok(leaf(site, opens, Expr::Str { place, bytes }))
+            Ok(leaf(site, opens, Expr::Str { place, bytes }, own))
         }
         TokenKind::Mark(mark_read) => mark(site, opens, *mark_read, place),
         TokenKind::Word(word_read) => word(alloc, site, opens, *word_read, place),

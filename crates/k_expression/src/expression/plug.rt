@@ -32,9 +32,10 @@ pub fn boxed(alloc: Global, left: Expr, right: Expr) -> Result<(Box<Expr>, Box<E
 fn infix(alloc: Global, place: Place, op: Mark, left: Term, right: Term) -> Result<Term, NoMemory>
     ensures { IfOk result (λ term. term ≡ spec.infix_made place op left right) }
 {
-    let height = above(left.height, right.height);
+    let (before, behind) = (left.height, right.height);
     let rank = own_rank(op);
     let (left, right) = boxed(alloc, left.tree, right.tree)?;
+    let height = above(before, behind)?;
     let tree = match rank {
         0 => Expr::Comma { place, left, right },
         1 => Expr::Assign {
@@ -62,7 +63,7 @@ fn conditional(
 ) -> Result<Term, NoMemory>
     ensures { IfOk result (λ term. term ≡ spec.conditional place test «then» other) }
 {
-    let height = above(test.height, then.height.max(other.height));
+    let (first, rest) = (test.height, then.height.max(other.height));
     let (test, then) = match boxed(alloc, test.tree, then.tree) {
         Ok(both) => both,
         Err(NoMemory) => {
@@ -71,6 +72,7 @@ fn conditional(
         }
     };
     let other = Box::new(alloc, other.tree)?;
+    let height = above(first, rest)?;
     Ok(Term {
         tree: Expr::Cond {
             place,
@@ -98,8 +100,9 @@ fn prefix_tree(place: Place, op: Mark, of: Box<Expr>) -> Expr
 fn prefixed(alloc: Global, place: Place, op: Mark, term: Term) -> Result<Term, NoMemory>
     ensures { IfOk result (λ made. made ≡ spec.prefixed place op term) }
 {
-    let height = above(term.height, 0);
-    let of = Box::new(alloc, term.tree)?;
+    let Term { tree, height, .. } = term;
+    let of = Box::new(alloc, tree)?;
+    let height = above(height, 0)?;
     Ok(Term {
         tree: prefix_tree(place, op, of),
         rank: 14,
@@ -116,8 +119,9 @@ fn cast(
 ) -> Result<Term, NoMemory>
     ensures { IfOk result (λ made. made ≡ spec.term (expr.Cast place specs stars term.tree) 13 (above_of term.height 0)) }
 {
-    let height = above(term.height, 0);
-    let of = Box::new(alloc, term.tree)?;
+    let Term { tree, height, .. } = term;
+    let of = Box::new(alloc, tree)?;
+    let height = above(height, 0)?;
     Ok(Term {
         tree: Expr::Cast {
             place,
@@ -133,8 +137,9 @@ fn cast(
 fn sizeof(alloc: Global, place: Place, term: Term) -> Result<Term, NoMemory>
     ensures { IfOk result (λ made. made ≡ spec.term (expr.SizeofExpr place term.tree) 14 (above_of term.height 0)) }
 {
-    let height = above(term.height, 0);
-    let of = Box::new(alloc, term.tree)?;
+    let Term { tree, height, .. } = term;
+    let of = Box::new(alloc, tree)?;
+    let height = above(height, 0)?;
     Ok(Term {
         tree: Expr::SizeofExpr { place, of },
         rank: 14,

@@ -3,12 +3,11 @@ ghost use Rattle.std.specs.Prelude.{◌≡◌, IfOk};
 ghost use Rattle.k_reader.specs.Statements as spec;
 
 use crate::statement::switch::{case_begins, default_begins};
-use crate::statement::{await_part, level, steps, whole};
+use crate::statement::{await_part, inner_level, level, steps, whole};
 use k_declaration::declaration::begin_declaration;
 use k_expression::expression::{begin, begin_boxed, feed};
 use k_num::{Box, NoMemory, Place, Seq};
 use k_reader::expression::Fed;
-use k_reader::level::plus;
 use k_reader::operators::{is_left_brace, is_right_brace, is_semicolon, is_spec};
 use k_reader::stack::Stack;
 use k_reader::statement::{BlockStage, Frame, Stepped, Tested};
@@ -85,8 +84,8 @@ fn declares(
     if !is_spec(word) || !is_in_block(&frames) {
         return Ok(Stepped::Refused);
     }
-    let reach = level(&frames);
-    let declaration = begin_declaration(alloc, word, plus(reach, 1))?;
+    let reach = level(&frames)?;
+    let declaration = begin_declaration(alloc, word, inner_level(&frames)?)?;
     let declaration = Box::new(alloc, declaration)?;
     Ok(steps(
         parts,
@@ -125,8 +124,8 @@ fn jump(
 ) -> Result<Stepped, NoMemory>
     ensures { IfOk result (λ fed. fed ≡ spec.jump parts frames word place) }
 {
-    let own = level(&frames);
-    let inner = plus(own, 1);
+    let own = level(&frames)?;
+    let inner = inner_level(&frames)?;
     let (step, reach) = match word {
         Word::If => {
             let tested = Tested::If { place };
@@ -171,7 +170,7 @@ fn expression(
 ) -> Result<Stepped, NoMemory>
     ensures { IfOk result (λ fed. fed ≡ spec.expression parts frames token.now) }
 {
-    let reading = begin(alloc, 0, plus(level(&frames), 1));
+    let reading = begin(alloc, 0, inner_level(&frames)?);
     match feed(alloc, reading, token)? {
         Fed::Goes { reading, reach } => {
             let reading = Box::new(alloc, reading)?;
@@ -195,7 +194,7 @@ fn empty(
 ) -> Result<Stepped, NoMemory>
     ensures { IfOk result (λ fed. fed ≡ spec.empty parts frames place) }
 {
-    let reach = level(&frames);
+    let reach = level(&frames)?;
     let stmt = Box::new(alloc, Stmt::Empty { place })?;
     Ok(steps(parts, frames, BlockStage::Whole { stmt }, reach))
 }
@@ -231,7 +230,7 @@ fn block_begins(
 ) -> Result<Stepped, NoMemory>
     ensures { IfOk result (λ fed. fed ≡ spec.block_begins parts frames place) }
 {
-    let reach = level(&frames);
+    let reach = level(&frames)?;
     let frame = Frame::Block {
         place,
         parts: Seq::new(alloc),

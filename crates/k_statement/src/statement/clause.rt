@@ -4,12 +4,11 @@ ghost use Rattle.k_reader.specs.Statements as spec;
 
 use crate::statement::begin::begins;
 use crate::statement::switch::more_switched;
-use crate::statement::{await_part, level, steps};
+use crate::statement::{await_part, inner_level, steps};
 use k_expression::expression::begin_boxed;
 use k_expression::reading::{is_left_paren, read_needed};
 use k_num::{Box, NoMemory, Place, Seq};
 use k_reader::expression::Reading;
-use k_reader::level::plus;
 use k_reader::reading::{Closer, Read};
 use k_reader::stack::Stack;
 use k_reader::statement::clause::Closed;
@@ -31,7 +30,7 @@ pub fn opened(
     if !is_left_paren(token) {
         return Ok(Stepped::Refused);
     }
-    let reading = begin_boxed(alloc, 0, plus(level(&frames), 1))?;
+    let reading = begin_boxed(alloc, 0, inner_level(&frames)?)?;
     Ok(steps(parts, frames, BlockStage::Test { tested, reading }, 0))
 }
 

@@ -3,14 +3,13 @@ ghost use Rattle.std.specs.Prelude.{◌≡◌, IfOk};
 ghost use Rattle.k_reader.specs.Statements as spec;
 
 use crate::statement::switch::in_switch;
-use crate::statement::{await_part, level, steps};
+use crate::statement::{await_part, inner_level, steps};
 use k_declaration::declaration::{begin_declaration, feed_declaration};
 use k_expression::expression::begin_boxed;
 use k_expression::reading::{is_fresh, is_left_paren, read_maybe};
 use k_num::{Box, NoMemory, Place, Seq};
 use k_reader::declaration::{Declaration, Declared};
 use k_reader::expression::Reading;
-use k_reader::level::plus;
 use k_reader::operators::is_spec;
 use k_reader::reading::{Closer, Maybe};
 use k_reader::stack::Stack;
@@ -32,7 +31,7 @@ fn opened(
     if !is_left_paren(token) {
         return Ok(Stepped::Refused);
     }
-    let reading = begin_boxed(alloc, 0, plus(level(&frames), 1))?;
+    let reading = begin_boxed(alloc, 0, inner_level(&frames)?)?;
     Ok(steps(parts, frames, BlockStage::Start { place, reading }, 0))
 }
 
@@ -47,7 +46,7 @@ fn second_begins(
     ensures { IfOk result (λ fed. fed ≡ spec.second_begins parts frames place start) }
 {
     let start = Box::new(alloc, start)?;
-    let reading = begin_boxed(alloc, 0, plus(level(&frames), 1))?;
+    let reading = begin_boxed(alloc, 0, inner_level(&frames)?)?;
     let step = BlockStage::Second {
         place,
         start,
@@ -95,7 +94,7 @@ fn start(
     ensures { IfOk result (λ fed. fed ≡ spec.start parts frames place reading token.now) }
 {
     if let Some(word) = specifier(reading.get(), token) {
-        let declaration = begin_declaration(alloc, word, plus(level(&frames), 1))?;
+        let declaration = begin_declaration(alloc, word, inner_level(&frames)?)?;
         let declaration = Box::new(alloc, declaration)?;
         return Ok(steps(
             parts,
@@ -165,7 +164,7 @@ fn second(
             Ok(steps(parts, frames, step, reach))
         }
         Maybe::Done { value: test } => {
-            let reading = begin_boxed(alloc, 0, plus(level(&frames), 1))?;
+            let reading = begin_boxed(alloc, 0, inner_level(&frames)?)?;
             let step = BlockStage::Third {
                 place,
                 start,

@@ -35,7 +35,7 @@ pub fn case_begins(
     if !is_in_switch(&frames) {
         return Ok(Stepped::Refused);
     }
-    let reach = level(&frames);
+    let reach = level(&frames)?;
     let reading = begin_boxed(alloc, 2, reach)?;
     Ok(steps(parts, frames, BlockStage::Case { place, reading }, reach))
 }
