@@ -1,6 +1,5 @@
 -- Blocks, and each ranked statement.
 use Rattle.std.proofs.Common.{ℕ, ◌≡◌, ◌≢◌, ◌+◌, ◌<◌, ◌≤◌, max, true, false, cond, ◌&&◌, IsTrue, List, [], ◌∷◌, ◌++◌, map, length, sym, ap, ◌∙◌, subst, refl, arith, append_assoc, append-nil}
-use Rattle.std.proofs.lemmas.List.{map-append}
 use Rattle.std.proofs.lemmas.List.Elements.{All-head}
 use Rattle.k_reader.specs.Types.{Place, Token, TokenKind, Word, Declarator, Stmt, Part, Declaration, Body}
 use Rattle.k_tree.specs.declared.tokens.TokenKind.TheVariants as token
@@ -21,13 +20,14 @@ use Rattle.k_reader.specs.declared.statement.Frame.TheVariants as frame
 use Rattle.k_reader.specs.declared.statement.BlockStage.TheVariants as step
 use Rattle.k_reader.specs.declared.statement.Stepped.TheVariants as stepped
 use Rattle.k_reader.proofs.CompleteLeads.{token_at, Leads, leads-then, leads-more, leads-in}
-use Rattle.k_reader.proofs.CompleteDepths.{depth_positive}
+use Rattle.k_reader.proofs.CompleteDepths.{depth_positive, above_zero}
 use Rattle.k_reader.proofs.CompleteInitialisers.{Declares}
 use Rattle.k_reader.proofs.CompleteDeclarations.{DeclarationHolds, declaration_complete}
 use Rattle.k_reader.proofs.CompleteStatements.{Runs, body_at, begins_at, StmtHolds, StmtReads, stmt_by, holds_stmt, from_begin, value_reads, empty_reads, break_reads, continue_reads, return_reads}
 use Rattle.k_reader.proofs.CompleteTests.{while_reads, do_reads, if_alone_reads, if_else_reads}
 use Rattle.k_reader.proofs.CompleteLoops.{for_reads}
 use Rattle.k_reader.proofs.CompleteSwitches.{EachSwitched, case_reads, default_reads, does_reads, switch_reads}
+use Rattle.k_reader.proofs.Rows.{one_more}
 
 -- a part of a block is read where a block awaits one, as itself up to places
 abbrev pub PartReads : Stmt → Type 0
@@ -124,14 +124,6 @@ pub record PartsHold (pf : List Stmt → Parts) (ff : List Stmt → Frames) (par
   pub next : (t : Token) → is_else t.what ≡ false → feed_body z t ≡ feed_body (begins_at (pf made) (ff made)) t
   pub same : map bare_stmt made ≡ map bare_stmt parts
 
-one_more : (done seen : List Stmt) (b a : Stmt) → map bare_stmt done ≡ map bare_stmt seen → bare_stmt b ≡ bare_stmt a
-    → map bare_stmt (done ++ b ∷ []) ≡ map bare_stmt (seen ++ a ∷ [])
-one_more done seen b a e h =
-    map-append bare_stmt done (b ∷ [])
-    ∙ (ap (λ t. t ++ bare_stmt b ∷ []) e
-    ∙ (ap (λ t. map bare_stmt seen ++ t ∷ []) h
-    ∙ sym (map-append bare_stmt seen (a ∷ []))))
-
 pub parts_lead : (bound : ℕ) (pf : List Stmt → Parts) (ff : List Stmt → Frames) (n : ℕ) → Blocks pf ff n → (more : List Stmt) → EachPart more
     → 1 + n + deepest (map stmt_depth more) ≤ bound
     → (seen : List Stmt) (z : Body) → PartsHold pf ff seen z → Leads Runs bound (spell_stmts more) z (PartsHold pf ff (seen ++ more))
@@ -146,7 +138,7 @@ parts_lead bound pf ff n blocks (x ∷ more) r low seen z h =
     (parts_lead bound pf ff n blocks more r.2 (omega arith) (seen ++ x ∷ []) y (record {
       made = h.made ++ k.made ∷ [];
       next = λ t u. k.next t (λ _. u) ∙ blocks.next h.made k.made t;
-      same = one_more h.made seen k.made x h.same k.same;
+      same = one_more bare_stmt h.made seen k.made x h.same k.same;
     })))
 
 -- a block
@@ -202,9 +194,6 @@ block_reads p parts r =
     })
 
 -- no statement has depth 0
-
-above_zero : (d e : ℕ) → e ≡ 1 + d → 1 ≤ e
-above_zero d e h = omega arith
 
 stmt_positive : (x : Stmt) → RankedStmt x → 1 ≤ stmt_depth x
 stmt_positive _ (value p a x) = above_zero (expr_depth a) _ (stmt_Expr ℕ ℕ part_depth_step stmt_depth_step p a)

@@ -1,6 +1,5 @@
 -- Calls, argument by argument.
 use Rattle.std.proofs.Common.{ℕ, ◌≡◌, ◌+◌, ◌≤◌, max, List, [], ◌∷◌, ◌++◌, map, length, sym, ap, ◌∙◌, subst, refl, arith, append_assoc}
-use Rattle.std.proofs.lemmas.List.{map-append}
 use Rattle.k_reader.specs.Types.{Place, Expr, Term, Site, Reading}
 use Rattle.k_tree.specs.declared.tokens.TokenKind.TheVariants as token
 use Rattle.k_tree.specs.declared.tokens.mark.Mark.TheVariants as mark
@@ -9,17 +8,18 @@ use Rattle.k_tree.specs.Bare.{bare_expr, bare_expr_step, nowhere}
 use Rattle.k_tree.specs.Folds.{expr_Call}
 use Rattle.k_tree.specs.Nesting.{expr_depth, expr_depth_step, deepest}
 use Rattle.k_tree.specs.Spelling.{Spelled, spell_expr, spell_expr_step, the_mark, behind_commas, with_commas}
-use Rattle.k_reader.specs.Operators.{is_prefix_mark, is_open, is_close, binding}
+use Rattle.k_reader.specs.Operators.{is_prefix_mark, is_open, is_close}
 use Rattle.k_reader.specs.Level.{plus}
 use Rattle.k_reader.specs.Expressions.{then_ends, paren_ends, index_ends, feed, operand, named, hole, plug, Opens, goes, level, term, mark_operand, no_arguments, enclose, argued}
 use Rattle.k_reader.specs.declared.expression.Open.TheVariants as open_
 use Rattle.k_reader.specs.declared.expression.ExpressionStage.TheVariants as now
 use Rattle.k_reader.specs.declared.expression.plug.Plugged.TheVariants as plugged
 use Rattle.k_reader.proofs.CompleteLeads.{token_at, Leads, leads-then}
-use Rattle.k_reader.proofs.CompleteHolds.{Feeds, reading, awaits, Below, Holds, Guards, Reads, below_by}
-use Rattle.k_reader.proofs.CompleteSteps.{bind}
+use Rattle.k_reader.proofs.CompleteHolds.{Feeds, reading, awaits, Holds, Guards, Reads}
 use Rattle.k_reader.proofs.CompleteOperators.{reads_by, holds_value}
-use Rattle.k_reader.proofs.CompleteEnclosed.{encloses, right_paren_below}
+use Rattle.k_reader.proofs.CompleteEnclosed.{encloses}
+use Rattle.k_reader.proofs.Rows.{one_more}
+use Rattle.k_reader.proofs.CompleteReadings.{comma_below, paren_below}
 
 -- the arguments are read one by one
 abbrev pub EachReads : List Expr → Type 0
@@ -61,20 +61,8 @@ call_empty : (g : Site) (s : Opens) (p : Place) (x : List ℕ) (at : Place)
 unfolding feed operand mark_operand no_arguments is_open is_close is_prefix_mark
 call_empty g s p x at = refl
 
-comma_below : Below 1 (token.Mark mark.Comma)
-unfolding binding
-comma_below = below_by 1 mark.Comma (bind 0 0 1) refl refl (omega arith)
-
 argument_guards : Guards 1 1
 argument_guards = ((λ h. omega arith), (λ h. omega arith), (λ h. omega arith), (λ h. omega arith))
-
-one_more : (done seen : List Expr) (b a : Expr) → map bare_expr done ≡ map bare_expr seen → bare_expr b ≡ bare_expr a
-    → map bare_expr (done ++ b ∷ []) ≡ map bare_expr (seen ++ a ∷ [])
-one_more done seen b a e h =
-    map-append bare_expr done (b ∷ [])
-    ∙ (ap (λ t. t ++ bare_expr b ∷ []) e
-    ∙ (ap (λ t. map bare_expr seen ++ t ∷ []) h
-    ∙ sym (map-append bare_expr seen (a ∷ []))))
 
 higher : (height h d e f : ℕ) → height ≡ d → h ≡ e → f ≡ max d (max e 0) → max height h ≡ f
 higher height h d e f x y z = omega arith
@@ -92,7 +80,7 @@ arguments_lead bound least k g s p at x [] f le low a seen done height same high
     record {
       next = reading g s (now.Value (called at x done height h.a));
       reach = 0;
-      goes = encloses 1 g (open_.Call at x done height) s 1 a r h mark.RightParen to (right_paren_below 1)
+      goes = encloses 1 g (open_.Call at x done height) s 1 a r h mark.RightParen to (paren_below 1)
           (let i : hole g (open_.Call at x done height ∷ s) ≡ 1 = call_hole g s at x done height in omega arith) (call_parts at x done height h.a)
           ∙ call_closes g s at x done height h.a;
       low = omega arith;
@@ -101,7 +89,7 @@ arguments_lead bound least k g s p at x [] f le low a seen done height same high
           (higher height h.a.height (deepest (map expr_depth seen)) (expr_depth a) (deepest (map expr_depth (seen ++ a ∷ []))) high h.high d)
           ∙ sym (expr_Call ℕ expr_depth_step p x (seen ++ a ∷ [])))
           (expr_Call Expr bare_expr_step at x (done ++ h.a.tree ∷ [])
-          ∙ (ap (λ t. expr.Call nowhere x t) (one_more done seen h.a.tree a same h.same)
+          ∙ (ap (λ t. expr.Call nowhere x t) (one_more bare_expr done seen h.a.tree a same h.same)
           ∙ sym (expr_Call Expr bare_expr_step p x (seen ++ a ∷ []))));
     }
 arguments_lead bound least k g s p at x (b ∷ args) f le low a seen done height same high r h = λ to.
@@ -125,7 +113,7 @@ arguments_lead bound least k g s p at x (b ∷ args) f le low a seen done height
           (λ z i. subst (λ all. Leads Feeds bound (behind_commas (map spell_expr args) ++ the_mark mark.RightParen) z (Holds least g s k (expr.Call p x all)))
           (append_assoc seen (a ∷ []) (b ∷ args))
           (arguments_lead bound least k g s p at x args f.1 le (omega arith) b (seen ++ a ∷ []) more tall
-          (one_more done seen h.a.tree a same h.same)
+          (one_more bare_expr done seen h.a.tree a same h.same)
           (higher height h.a.height (deepest (map expr_depth seen)) (expr_depth a) (deepest (map expr_depth (seen ++ a ∷ []))) high h.high d)
           z i)));
     }

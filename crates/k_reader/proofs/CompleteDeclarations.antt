@@ -1,6 +1,5 @@
 -- Declarators and declarations.
-use Rattle.std.proofs.Common.{ℕ, ◌≡◌, ◌≢◌, ◌+◌, ◌≤◌, Bool, true, cond, IsTrue, All, List, [], ◌∷◌, ◌++◌, map, length, Option, Some, None, sym, ap, ◌∙◌, subst, refl, arith, append_assoc}
-use Rattle.std.proofs.lemmas.List.{map-append}
+use Rattle.std.proofs.Common.{ℕ, ◌≡◌, ◌≢◌, ◌+◌, ◌≤◌, Bool, cond, IsTrue, All, List, [], ◌∷◌, ◌++◌, map, length, Option, Some, None, sym, ap, ◌∙◌, subst, refl, arith, append_assoc}
 use Rattle.std.proofs.lemmas.List.Elements.{All-head, All-tail}
 use Rattle.k_reader.specs.Types.{Place, Token, Word, Expr, Init, Declarator, Stars, Front, Declaration, Reading}
 use Rattle.k_tree.specs.declared.tokens.TokenKind.TheVariants as token
@@ -10,7 +9,7 @@ use Rattle.k_tree.specs.Bare.{bare_dims, bare_init, bare_declarator, where_given
 use Rattle.k_tree.specs.Nesting.{init_depth, initialised_depth, declarator_depth, declarators_depth}
 use Rattle.k_tree.specs.Ranked.{Specs, IfGiven, RankedInit, RankedDeclarator, RankedDeclaration, is_spec}
 use Rattle.k_tree.specs.Spelling.{spell_init, spell_initialised, spell_dims, spell_stars, spell_specs, spell_declarator, the_name, behind_commas, with_commas}
-use Rattle.k_reader.specs.Operators.{is_equal, is_bracket, binding, is_spec_word}
+use Rattle.k_reader.specs.Operators.{is_equal, is_bracket, is_spec_word}
 use Rattle.k_reader.specs.Level.{plus}
 use Rattle.k_reader.specs.Stars.{no_stars, all_stars, star, constant}
 use Rattle.k_reader.specs.Expressions.{begin}
@@ -21,12 +20,12 @@ use Rattle.k_reader.specs.Declarations.{mark_before, feed_declaration, declarati
 use Rattle.k_reader.specs.declared.declaration.DeclarationStage.TheVariants as stage
 use Rattle.k_reader.specs.declared.declaration.Declared.TheVariants as declared_
 use Rattle.k_reader.proofs.CompleteLeads.{token_at, Leads, leads-then, leads-more}
-use Rattle.k_reader.proofs.CompleteHolds.{Feeds, Below, below_by}
-use Rattle.k_reader.proofs.CompleteSteps.{bind}
+use Rattle.k_reader.proofs.CompleteHolds.{Feeds}
 use Rattle.k_reader.proofs.CompleteExpressions.{Whole}
-use Rattle.k_reader.proofs.CompleteReadings.{maybe_goes, maybe_ends, bracket_below, semicolon_below}
+use Rattle.k_reader.proofs.CompleteReadings.{maybe_goes, maybe_ends, bracket_below, semicolon_below, closes_at, comma_below}
 use Rattle.k_reader.proofs.CompleteRows.{words_lead, Starred, stars_lead, Sized, Sizes, dims_lead}
 use Rattle.k_reader.proofs.CompleteInitialisers.{Declares, InitHolds, init_awaits, init_complete, init_positive}
+use Rattle.k_reader.proofs.Rows.{one_more}
 
 -- before the name of a declarator
 abbrev pub before_name : Front → Stars → Declaration
@@ -91,17 +90,13 @@ size_closes : (f : Front) (p : Place) (stars : List Bool) (x : List ℕ) (ds : L
 unfolding feed_declaration size read_maybe is_fresh closes
 size_closes f p stars x ds at = refl
 
-closes_bracket : (p : Place) → closes (token_at p (token.Mark mark.RightBracket)) closer.Bracket ≡ true
-unfolding closes
-closes_bracket p = refl
-
 size_ends : (f : Front) (p : Place) (stars : List Bool) (x : List ℕ) (ds : List (Option Expr)) (e : Expr) (r : Reading) (h : Whole 2 e r) (at : Place)
     → Declares (declaration_at f (stage.Size (named_at f p stars x ds) r)) (token_at at (token.Mark mark.RightBracket))
     (declaration_at f (stage.Named (named_at f p stars x (ds ++ Some h.made ∷ [])))) 0
 unfolding feed_declaration size
 size_ends f p stars x ds e r h at =
     ap (size_by f (named_at f p stars x ds))
-    (maybe_ends r (token_at at (token.Mark mark.RightBracket)) closer.Bracket h.made (h.ends (token_at at (token.Mark mark.RightBracket)) (bracket_below 2)) (closes_bracket at))
+    (maybe_ends r (token_at at (token.Mark mark.RightBracket)) closer.Bracket h.made (h.ends (token_at at (token.Mark mark.RightBracket)) (bracket_below 2)) (closes_at closer.Bracket at))
 
 sizes : (f : Front) (p : Place) (stars : List Bool) (x : List ℕ)
     → Sizes Declares (λ ds. declaration_at f (stage.Named (named_at f p stars x ds))) (λ ds r. declaration_at f (stage.Size (named_at f p stars x ds) r)) f.level
@@ -143,10 +138,6 @@ init_semicolon : (f : Front) (d : Declarator) (i : Init) (p : Place)
     → after f (inits.plug (inits.opened d []) i) (token_at p (token.Mark mark.Semicolon)) ≡ end f (record d { init = Some i }) mark.Semicolon
 unfolding after inits.after inits.plug
 init_semicolon f d i p = refl
-
-comma_below : Below 1 (token.Mark mark.Comma)
-unfolding binding
-comma_below = below_by 1 mark.Comma (bind 0 0 1) refl refl (omega arith)
 
 declarator_same : (p q : Place) (stars : List Bool) (x : List ℕ) (ds es : List (Option Expr)) (i j : Option Init)
     → bare_dims ds ≡ bare_dims es → where_given bare_init i ≡ where_given bare_init j
@@ -214,14 +205,6 @@ semicolon_ends : (f : Front) (d : Declarator) → end f d mark.Semicolon ≡ dec
 unfolding end
 semicolon_ends f d = refl
 
-one_more : (done seen : List Declarator) (b a : Declarator) → map bare_declarator done ≡ map bare_declarator seen → bare_declarator b ≡ bare_declarator a
-    → map bare_declarator (done ++ b ∷ []) ≡ map bare_declarator (seen ++ a ∷ [])
-one_more done seen b a e h =
-    map-append bare_declarator done (b ∷ [])
-    ∙ (ap (λ t. t ++ bare_declarator b ∷ []) e
-    ∙ (ap (λ t. map bare_declarator seen ++ t ∷ []) h
-    ∙ sym (map-append bare_declarator seen (a ∷ []))))
-
 declarators_lead : (bound : ℕ) (specs : List Word) (level : ℕ) (more : List Declarator) → All RankedDeclarator more → 1 ≤ bound
     → level + declarators_depth more ≤ bound
     → (d : Declarator) (seen done : List Declarator) → map bare_declarator done ≡ map bare_declarator seen
@@ -230,7 +213,7 @@ declarators_lead : (bound : ℕ) (specs : List Word) (level : ℕ) (more : List 
 declarators_lead bound specs level [] r positive low d seen done e z h = record {
   made = done ++ h.made ∷ [];
   ends = λ p. h.semicolon p ∙ semicolon_ends (front_of specs done level) h.made;
-  same = one_more done seen h.made d e h.same;
+  same = one_more bare_declarator done seen h.made d e h.same;
 }
 declarators_lead bound specs level (b ∷ more) r positive low d seen done e z h = λ p. record {
   next = before_name (front_of specs (done ++ h.made ∷ []) level) no_stars;
@@ -244,7 +227,7 @@ declarators_lead bound specs level (b ∷ more) r positive low d seen done e z h
       (λ y k. subst (λ all. Leads Declares bound (behind_commas (map spell_declarator more)) y (DeclarationHolds specs all))
       (append_assoc seen (d ∷ []) (b ∷ more))
       (declarators_lead bound specs level more (All-tail RankedDeclarator b more r) positive (omega arith) b (seen ++ d ∷ []) (done ++ h.made ∷ [])
-      (one_more done seen h.made d e h.same) y k));
+      (one_more bare_declarator done seen h.made d e h.same) y k));
 }
 
 -- the specifiers behind the first

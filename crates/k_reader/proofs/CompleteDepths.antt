@@ -5,7 +5,7 @@ use Rattle.k_tree.specs.Folds.{expr_Assign, expr_Binary, expr_Call, expr_Cast, e
 use Rattle.k_tree.specs.Nesting.{expr_depth, expr_depth_step, deepest}
 use Rattle.k_tree.specs.Ranked.{Ranked, comma, assignment, conditional, binary, cast, unary, prefix, sizeof_expr, sizeof_type, index, postfix, call, name, number, character, string, paren}
 
-above_zero : (d e : ℕ) → e ≡ 1 + d → 1 ≤ e
+pub above_zero : (d e : ℕ) → e ≡ 1 + d → 1 ≤ e
 above_zero d e h = omega arith
 
 pub depth_positive : (k : ℕ) (e : Expr) → Ranked k e → 1 ≤ expr_depth e

@@ -17,9 +17,10 @@ use Rattle.k_reader.specs.declared.expression.Open.TheVariants as open_
 use Rattle.k_reader.specs.declared.expression.ExpressionStage.TheVariants as now
 use Rattle.k_reader.specs.declared.expression.plug.Plugged.TheVariants as plugged
 use Rattle.k_reader.proofs.CompleteLeads.{token_at, leads-then, leads-more}
-use Rattle.k_reader.proofs.CompleteHolds.{Feeds, reading, awaits, Below, Holds, Guards, Reads, parted, taken, taken_by, below_by, below_none}
+use Rattle.k_reader.proofs.CompleteHolds.{Feeds, reading, awaits, Below, Holds, Guards, Reads, parted, taken, taken_by, below_by}
 use Rattle.k_reader.proofs.CompleteSteps.{reach_low, above-both, above-one, bind, paren_opens, step_binding, step_is_no_paren}
 use Rattle.k_reader.proofs.CompleteOperators.{reads_by, holds_value, holds_over}
+use Rattle.k_reader.proofs.CompleteReadings.{paren_below, bracket_below, colon_below}
 
 -- the construct around a value meets a mark that no operand goes on with
 pub encloses : (least : ℕ) (g : Site) (o : Open) (s : Opens) (k : ℕ) (e : Expr) (r : Reading) (h : Holds least g (o ∷ s) k e r) (m : Mark) (p : Place)
@@ -27,19 +28,6 @@ pub encloses : (least : ℕ) (g : Site) (o : Open) (s : Opens) (k : ℕ) (e : Ex
     → feed r (token_at p (token.Mark m)) ≡ enclose g s o h.a m
 encloses least g o s k e r h m p below le part =
     h.next (token_at p (token.Mark m)) below ∙ parted g o s h.a (token_at p (token.Mark m)) (below.1 (hole g (o ∷ s)) h.a.rank le) part
-
--- marks that are no operators
-pub right_paren_below : (least : ℕ) → Below least (token.Mark mark.RightParen)
-unfolding binding
-right_paren_below least = below_none least mark.RightParen refl refl
-
-right_bracket_below : (least : ℕ) → Below least (token.Mark mark.RightBracket)
-unfolding binding
-right_bracket_below least = below_none least mark.RightBracket refl refl
-
-colon_below : (least : ℕ) → Below least (token.Mark mark.Colon)
-unfolding binding
-colon_below least = below_none least mark.Colon refl refl
 
 -- the least rank that serves in parentheses
 guards_low : Guards 0 0
@@ -78,7 +66,7 @@ reads_paren k p a le positive f =
           (λ r h to. record {
             next = reading g s (now.Value (enclosed at h.a));
             reach = 0;
-            goes = encloses 0 g (open_.Paren at) s 0 a r h mark.RightParen to (right_paren_below 0) (omega arith) (paren_parts at h.a) ∙ paren_closes g s at h.a;
+            goes = encloses 0 g (open_.Paren at) s 0 a r h mark.RightParen to (paren_below 0) (omega arith) (paren_parts at h.a) ∙ paren_closes g s at h.a;
             low = omega arith;
             there = holds_value least g s k (expr.Paren p a) (enclosed at h.a) le
                 (above-one h.a.height (expr_depth a) h.high ∙ sym (expr_Paren ℕ expr_depth_step p a))
@@ -133,7 +121,7 @@ reads_index k p a b le f n =
           (λ z i to. record {
             next = reading g s (now.Value (indexed at h.a i.a));
             reach = 0;
-            goes = encloses 0 g (open_.Index at h.a) s 0 b z i mark.RightBracket to (right_bracket_below 0) (omega arith) (index_parts at h.a i.a) ∙ index_closes g s at h.a i.a;
+            goes = encloses 0 g (open_.Index at h.a) s 0 b z i mark.RightBracket to (bracket_below 0) (omega arith) (index_parts at h.a i.a) ∙ index_closes g s at h.a i.a;
             low = omega arith;
             there = holds_value least g s k (expr.Index p a b) (indexed at h.a i.a) le
                 (above-both h.a.height i.a.height (expr_depth a) (expr_depth b) h.high i.high ∙ sym (expr_Index ℕ expr_depth_step p a b))

@@ -1,7 +1,6 @@
 -- Initialisers, in the machine of declarations.
 use Rattle.std.proofs.Common.{ℕ, ◌≡◌, ◌+◌, ◌<◌, ◌≤◌, max, Bool, true, false, cond, nat_eq, List, [], ◌∷◌, ◌++◌, map, length, Some, None, sym, ap, ◌∙◌, subst, refl, arith, append_assoc}
 use Rattle.std.proofs.lemmas.Bool.{ne_eqb}
-use Rattle.std.proofs.lemmas.List.{map-append}
 use Rattle.k_reader.specs.Types.{Place, Token, TokenKind, Expr, Init, Declarator, Brace, Opened, Front, Declaration, Reading}
 use Rattle.k_tree.specs.declared.tokens.TokenKind.TheVariants as token
 use Rattle.k_tree.specs.declared.tokens.mark.Mark.TheVariants as mark
@@ -22,10 +21,11 @@ use Rattle.k_reader.specs.declared.declaration.DeclarationStage.TheVariants as s
 use Rattle.k_reader.specs.declared.declaration.Declared.TheVariants as declared_
 use Rattle.k_reader.specs.declared.expression.Fed.TheVariants as fed
 use Rattle.k_reader.proofs.CompleteLeads.{token_at, Moves, Step, Leads, leads-then, leads-in}
-use Rattle.k_reader.proofs.CompleteHolds.{Feeds, Below, below_by, below_none}
-use Rattle.k_reader.proofs.CompleteSteps.{bind}
+use Rattle.k_reader.proofs.CompleteHolds.{Feeds, Below, below_none}
 use Rattle.k_reader.proofs.CompleteDepths.{depth_positive}
 use Rattle.k_reader.proofs.CompleteExpressions.{Whole, whole}
+use Rattle.k_reader.proofs.Rows.{one_more}
+use Rattle.k_reader.proofs.CompleteReadings.{comma_below}
 
 -- how the machine of declarations moves
 abbrev pub Declares : Moves Declaration
@@ -107,10 +107,6 @@ one_reads p a x = λ f d s.
 
 -- a list in braces
 
-comma_below : Below 1 (token.Mark mark.Comma)
-unfolding binding
-comma_below = below_by 1 mark.Comma (bind 0 0 1) refl refl (omega arith)
-
 brace_below : Below 1 (token.Mark mark.RightBrace)
 unfolding binding
 brace_below = below_none 1 mark.RightBrace refl refl
@@ -164,14 +160,6 @@ abbrev pub EachInitReads : List Init → Type 0
 EachInitReads [] = Unit {0}
 EachInitReads (i ∷ is) = InitReads i × EachInitReads is
 
-one_more : (done seen : List Init) (b a : Init) → map bare_init done ≡ map bare_init seen → bare_init b ≡ bare_init a
-    → map bare_init (done ++ b ∷ []) ≡ map bare_init (seen ++ a ∷ [])
-one_more done seen b a e h =
-    map-append bare_init done (b ∷ [])
-    ∙ (ap (λ t. t ++ bare_init b ∷ []) e
-    ∙ (ap (λ t. map bare_init seen ++ t ∷ []) h
-    ∙ sym (map-append bare_init seen (a ∷ []))))
-
 list_same : (p q : Place) (xs ys : List Init) (last : Bool) → map bare_init xs ≡ map bare_init ys → bare_init (init.List p xs last) ≡ bare_init (init.List q ys last)
 list_same p q xs ys last e = init_List Init bare_init_step p xs last ∙ (ap (λ t. init.List nowhere t last) e ∙ sym (init_List Init bare_init_step q ys last))
 
@@ -189,7 +177,7 @@ list_ends_lead bound f d s q p false positive i seen done e z h = λ to. record 
   goes = h.next (token_at to (token.Mark mark.RightBrace)) brace_below ∙ brace_closes f d (brace_at p done) s h.made to;
   low = omega arith;
   there = after_holds f d s (init.List q (seen ++ i ∷ []) false) (init.List p (done ++ h.made ∷ []) false)
-      (list_same p q (done ++ h.made ∷ []) (seen ++ i ∷ []) false (one_more done seen h.made i e h.same));
+      (list_same p q (done ++ h.made ∷ []) (seen ++ i ∷ []) false (one_more bare_init done seen h.made i e h.same));
 }
 list_ends_lead bound f d s q p true positive i seen done e z h = λ to. record {
   next = init_awaits f d (brace_at p (done ++ h.made ∷ []) ∷ s);
@@ -202,7 +190,7 @@ list_ends_lead bound f d s q p true positive i seen done e z h = λ to. record {
     goes = last_goes f d (brace_at p (done ++ h.made ∷ [])) s at (has_items (done ++ h.made ∷ []) (long_items done h.made));
     low = omega arith;
     there = after_holds f d s (init.List q (seen ++ i ∷ []) true) (init.List p (done ++ h.made ∷ []) true)
-        (list_same p q (done ++ h.made ∷ []) (seen ++ i ∷ []) true (one_more done seen h.made i e h.same));
+        (list_same p q (done ++ h.made ∷ []) (seen ++ i ∷ []) true (one_more bare_init done seen h.made i e h.same));
   };
 }
 
@@ -228,7 +216,7 @@ inits_lead bound f d s q p last (j ∷ is) r low i seen done e z h = λ to.
           (λ y k. subst (λ all. Leads Declares bound (behind_commas (map spell_init is) ++ list_ends last) y (InitHolds f d s (init.List q all last)))
           (append_assoc seen (i ∷ []) (j ∷ is))
           (inits_lead bound f d s q p last is r.1 (omega arith) j (seen ++ i ∷ []) (done ++ h.made ∷ [])
-          (one_more done seen h.made i e h.same) y k)));
+          (one_more bare_init done seen h.made i e h.same) y k)));
     }
 
 pub init_positive : (i : Init) → RankedInit i → 2 ≤ init_depth i

@@ -2,7 +2,7 @@
 use Rattle.std.proofs.Common.{ℕ, ◌≡◌, ◌+◌, ◌≤◌, max, Bool, true, false, cond, ◌&&◌, IsTrue, List, [], ◌∷◌, ◌++◌, map, length, Option, Some, None, sym, ap, ◌∙◌, subst, refl, arith, append_assoc, ⊎_elim}
 use Rattle.std.proofs.lemmas.Bool.{and_parts, eqb-true, cases_Bool}
 use Rattle.std.proofs.lemmas.List.Elements.{All-head}
-use Rattle.k_reader.specs.Types.{Place, Token, TokenKind, Word, Expr, Declarator, First, Stmt, Part, Declaration, Reading, ExpressionStage, Site, Fed, Body}
+use Rattle.k_reader.specs.Types.{Place, Token, TokenKind, Word, Expr, Declarator, First, Stmt, Part, Declaration, Reading, ExpressionStage, Site, Body}
 use Rattle.k_tree.specs.declared.tokens.TokenKind.TheVariants as token
 use Rattle.k_tree.specs.declared.tokens.mark.Mark.TheVariants as mark
 use Rattle.k_tree.specs.declared.tokens.word.Word.TheVariants as word
@@ -14,7 +14,7 @@ use Rattle.k_tree.specs.Nesting.{option_depth, first_depth, declarators_depth, s
 use Rattle.k_tree.specs.Ranked.{Ranked, IfGiven, RankedFirst, RankedDeclaration, ends_open_part, ends_open_step, is_spec}
 use Rattle.k_tree.specs.Spelling.{Spelled, spell_specs, spell_declarator, spell_declaration, with_commas, spell_option, spell_first, spell_for, spell_stmt, spell_part_step, spell_stmt_step, the_mark, the_word}
 use Rattle.k_reader.specs.Operators.{is_semicolon, is_right_brace, is_left_brace, is_spec_word}
-use Rattle.k_reader.specs.Expressions.{feed, operand, word_operand, is_before_type, is_sizeof, type_begun, goes, level as expr_level, begin, Opens}
+use Rattle.k_reader.specs.Expressions.{feed, operand, word_operand, is_before_type, type_begun, goes, level as expr_level, begin, Opens}
 use Rattle.k_reader.specs.Readings.{read_maybe, is_fresh, closes}
 use Rattle.k_reader.specs.declared.reading.Closer.TheVariants as closer
 use Rattle.k_reader.specs.Declarations.{begin_declaration}
@@ -27,16 +27,13 @@ use Rattle.k_reader.specs.declared.statement.BlockStage.TheVariants as step
 use Rattle.k_reader.proofs.CompleteLeads.{token_at, Leads, leads-then, leads-more, leads-in}
 use Rattle.k_reader.proofs.CompleteHolds.{Feeds, reading, awaits}
 use Rattle.k_reader.proofs.CompleteExpressions.{Whole}
-use Rattle.k_reader.proofs.CompleteReadings.{maybe_goes, maybe_ends, semicolon_below, paren_below}
+use Rattle.k_reader.proofs.CompleteReadings.{maybe_goes, maybe_ends, semicolon_below, paren_below, closes_at, refused_goes}
 use Rattle.k_reader.proofs.CompleteInitialisers.{Declares}
 use Rattle.k_reader.proofs.CompleteDeclarations.{DeclarationHolds, declaration_complete}
 use Rattle.k_reader.proofs.CompleteStatements.{Runs, body_at, begins_at, StmtHolds, StmtReads, stmt_by, Given, maybe_lead}
+use Rattle.k_reader.proofs.CompleteTypes.{spec_is_no_sizeof}
 
 -- a specifier is refused where an expression begins
-
-spec_is_no_sizeof : (w : Word) → IsTrue (is_spec w) → is_sizeof w ≡ false
-spec_is_no_sizeof word.Sizeof h = cc
-spec_is_no_sizeof w h = refl
 
 spec_refused : (g : Site) (p : Place) (w : Word) → is_spec_word w ≡ true → feed (awaits g []) (token_at p (token.Word w)) ≡ fed.Refused
 unfolding feed operand word_operand is_spec_word is_before_type
@@ -53,9 +50,6 @@ state_refused : (g : Site) (s : Opens) (n : ExpressionStage) (p : Place) (w : Wo
 unfolding is_fresh
 state_refused g s now.Operand p w f e = opens_refused g s p w (eqb-true (length s) 0 f) e
 state_refused g s n p w f e = absurd cc
-
-refused_goes : (r : Reading) (reach : ℕ) → ◌≡◌ {A = Fed} fed.Refused (fed.Goes r reach) → ⊥
-refused_goes r reach e = cc
 
 word_no_specifier : (r : Reading) (p : Place) (w : Word) → (feed r (token_at p (token.Word w)) ≡ fed.Refused → ⊥) → specifier_by r (token.Word w) ≡ None
 word_no_specifier r p w f =
@@ -94,20 +88,12 @@ start_empty : (ps : Parts) (s : Frames) (p at : Place)
 unfolding feed_body in_for start specifier read_maybe is_fresh closes second_at
 start_empty ps s p at = refl
 
-closes_semicolon : (p : Place) → closes (token_at p (token.Mark mark.Semicolon)) closer.Semicolon ≡ true
-unfolding closes
-closes_semicolon p = refl
-
-closes_paren : (p : Place) → closes (token_at p (token.Mark mark.RightParen)) closer.Paren ≡ true
-unfolding closes
-closes_paren p = refl
-
 start_ends : (ps : Parts) (s : Frames) (p : Place) (a : Expr) (r : Reading) (h : Whole 0 a r) (at : Place)
     → Runs (body_at ps s (step.Start p r)) (token_at at (token.Mark mark.Semicolon)) (second_at ps s p (first_of (Some h.made))) 0
 unfolding feed_body in_for start specifier second_at
 start_ends ps s p a r h at =
     ap (start_by ps s p) (maybe_ends r (token_at at (token.Mark mark.Semicolon)) closer.Semicolon h.made
-    (h.ends (token_at at (token.Mark mark.Semicolon)) (semicolon_below 0)) (closes_semicolon at))
+    (h.ends (token_at at (token.Mark mark.Semicolon)) (semicolon_below 0)) (closes_at closer.Semicolon at))
 
 start_specifier : (ps : Parts) (s : Frames) (p : Place) (w : Word) (at : Place) → IsTrue (is_spec w)
     → Runs (body_at ps s (step.Start p (begin 0 (inner s)))) (token_at at (token.Word w)) (body_at ps s (step.Declares p (begin_declaration w (inner s)))) 0
@@ -208,7 +194,7 @@ second_ends : (ps : Parts) (s : Frames) (p : Place) (x : First) (a : Expr) (r : 
 unfolding feed_body in_for second third_at
 second_ends ps s p x a r h at =
     ap (second_by ps s p x) (maybe_ends r (token_at at (token.Mark mark.Semicolon)) closer.Semicolon h.made
-    (h.ends (token_at at (token.Mark mark.Semicolon)) (semicolon_below 0)) (closes_semicolon at))
+    (h.ends (token_at at (token.Mark mark.Semicolon)) (semicolon_below 0)) (closes_at closer.Semicolon at))
 
 third_moves : (ps : Parts) (s : Frames) (p : Place) (x : First) (a : Option Expr) (r : Reading) (t : Token) (next : Reading) (reach : ℕ) → Feeds r t next reach
     → Runs (body_at ps s (step.Third p x a r)) t (body_at ps s (step.Third p x a next)) reach
@@ -225,7 +211,7 @@ third_ends : (ps : Parts) (s : Frames) (p : Place) (x : First) (a : Option Expr)
 unfolding feed_body in_for third
 third_ends ps s p x a b r h at =
     ap (third_by ps s p x a) (maybe_ends r (token_at at (token.Mark mark.RightParen)) closer.Paren h.made
-    (h.ends (token_at at (token.Mark mark.RightParen)) (paren_below 0)) (closes_paren at))
+    (h.ends (token_at at (token.Mark mark.RightParen)) (paren_below 0)) (closes_at closer.Paren at))
 
 for_behind : (ps : Parts) (s : Frames) (p : Place) (x : First) (a b : Option Expr) (c : Stmt) (t : Token)
     → behind ps (frame.For p x a b ∷ s) c t ≡ behind ps s (stmt.For p x a b c) t

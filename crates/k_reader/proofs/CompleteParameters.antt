@@ -1,7 +1,7 @@
 -- Parameters, up to the closing parenthesis.
 use Rattle.std.proofs.Common.{ℕ, ◌≡◌, ◌+◌, ◌≤◌, Bool, true, false, cond, ◌&&◌, nat_eq, is_none, IsTrue, All, List, [], ◌∷◌, ◌++◌, map, length, Option, Some, None, sym, ap, ◌∙◌, subst, refl, arith, append_assoc}
 use Rattle.std.proofs.lemmas.Bool.{and_parts, eqb-true, ne_eqb, false_from_ne_true}
-use Rattle.std.proofs.lemmas.List.{map-append, length-map}
+use Rattle.std.proofs.lemmas.List.{length-map}
 use Rattle.std.proofs.lemmas.List.Elements.{All-head, All-tail, All-nil}
 use Rattle.k_reader.specs.Types.{Place, Token, Word, Expr, Param, Params, Stars, ParameterStage, Parameters, Reading}
 use Rattle.k_tree.specs.declared.tokens.TokenKind.TheVariants as token
@@ -23,8 +23,9 @@ use Rattle.k_reader.specs.declared.parameter.Parametric.TheVariants as parametri
 use Rattle.k_reader.proofs.CompleteLeads.{token_at, Moves, Leads, leads-then, leads-more}
 use Rattle.k_reader.proofs.CompleteHolds.{Feeds}
 use Rattle.k_reader.proofs.CompleteExpressions.{Whole}
-use Rattle.k_reader.proofs.CompleteReadings.{maybe_goes, maybe_ends, bracket_below}
+use Rattle.k_reader.proofs.CompleteReadings.{maybe_goes, maybe_ends, bracket_below, closes_at}
 use Rattle.k_reader.proofs.CompleteRows.{words_lead, Starred, stars_lead, Sized, Sizes, dims_lead}
+use Rattle.k_reader.proofs.Rows.{one_more}
 
 -- how the machine of parameters moves
 abbrev pub Follows : Moves Parameters
@@ -84,16 +85,12 @@ size_closes : (list : List Param) (at : Place) (specs : List Word) (stars : List
 unfolding feed_parameters size read_maybe is_fresh closes
 size_closes list at specs stars x ds p = refl
 
-closes_bracket : (p : Place) → closes (token_at p (token.Mark mark.RightBracket)) closer.Bracket ≡ true
-unfolding closes
-closes_bracket p = refl
-
 size_ends : (list : List Param) (at : Place) (specs : List Word) (stars : List Bool) (x : Option (List ℕ)) (ds : List (Option Expr)) (e : Expr) (r : Reading) (h : Whole 2 e r) (p : Place)
     → Follows (at_part list (part_.Size (param_at at specs stars x ds) r)) (token_at p (token.Mark mark.RightBracket)) (named_at list at specs stars x (ds ++ Some h.made ∷ [])) 0
 unfolding feed_parameters size
 size_ends list at specs stars x ds e r h p =
     ap (size_by list (param_at at specs stars x ds))
-    (maybe_ends r (token_at p (token.Mark mark.RightBracket)) closer.Bracket h.made (h.ends (token_at p (token.Mark mark.RightBracket)) (bracket_below 2)) (closes_bracket p))
+    (maybe_ends r (token_at p (token.Mark mark.RightBracket)) closer.Bracket h.made (h.ends (token_at p (token.Mark mark.RightBracket)) (bracket_below 2)) (closes_at closer.Bracket p))
 
 sizes : (list : List Param) (at : Place) (specs : List Word) (stars : List Bool) (x : Option (List ℕ))
     → Sizes Follows (λ ds. named_at list at specs stars x ds) (λ ds r. at_part list (part_.Size (param_at at specs stars x ds) r)) 1
@@ -264,14 +261,6 @@ close_ends : (list : List Param) (d : Param) → (nat_eq (length list) 0 && is_v
 unfolding end
 close_ends list d h = ap (λ b. cond b (parametric.Done params.Void) (parametric.Done (params.List (list ++ d ∷ [])))) h
 
-one_more : (done seen : List Param) (b a : Param) → map bare_param done ≡ map bare_param seen → bare_param b ≡ bare_param a
-    → map bare_param (done ++ b ∷ []) ≡ map bare_param (seen ++ a ∷ [])
-one_more done seen b a e h =
-    map-append bare_param done (b ∷ [])
-    ∙ (ap (λ t. t ++ bare_param b ∷ []) e
-    ∙ (ap (λ t. map bare_param seen ++ t ∷ []) h
-    ∙ sym (map-append bare_param seen (a ∷ []))))
-
 long : (done : List Param) (d : Param) → 1 ≤ length (done ++ d ∷ [])
 long [] d = omega arith
 long (x ∷ done) d = let h : 1 ≤ length (done ++ d ∷ []) = long done d in omega arith
@@ -286,7 +275,7 @@ params_lead : (bound : ℕ) (more : List Param) → All RankedParam more → 1 �
 params_lead bound [] r positive low d seen done e z h f = record {
   made = params.List (done ++ h.made ∷ []);
   ends = λ p. h.close p ∙ close_ends done h.made (f refl);
-  same = ap params.List (one_more done seen h.made d e h.same);
+  same = ap params.List (one_more bare_param done seen h.made d e h.same);
 }
 params_lead bound (b ∷ more) r positive low d seen done e z h f = λ p. record {
   next = at_part (done ++ h.made ∷ []) part_.Starts;
@@ -300,7 +289,7 @@ params_lead bound (b ∷ more) r positive low d seen done e z h f = λ p. record
       (λ y k. subst (λ all. Leads Follows bound (behind_commas (map spell_param more)) y (ParamsHold (params.List all)))
       (append_assoc seen (d ∷ []) (b ∷ more))
       (params_lead bound more (All-tail RankedParam b more r) positive (omega arith) b (seen ++ d ∷ []) (done ++ h.made ∷ [])
-      (one_more done seen h.made d e h.same) y k (λ _. some_done (done ++ h.made ∷ []) (is_void_alone k.made) (long done h.made))));
+      (one_more bare_param done seen h.made d e h.same) y k (λ _. some_done (done ++ h.made ∷ []) (is_void_alone k.made) (long done h.made))));
 }
 
 empty_ends : (p : Place) → feed_parameters begin_parameters (token_at p (token.Mark mark.RightParen)) ≡ parametric.Done params.Empty

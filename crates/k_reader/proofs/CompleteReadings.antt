@@ -14,7 +14,9 @@ use Rattle.k_reader.specs.declared.reading.Read.TheVariants as read_
 use Rattle.k_reader.specs.declared.reading.Maybe.TheVariants as maybe_
 use Rattle.k_reader.specs.declared.reading.Closer.TheVariants as closer
 use Rattle.k_reader.proofs.CompleteLeads.{token_at}
-use Rattle.k_reader.proofs.CompleteHolds.{Feeds, reading, awaits, Below, below_none}
+use Rattle.k_reader.proofs.CompleteHolds.{Feeds, reading, awaits, Below, below_none, below_by}
+use Rattle.k_reader.proofs.ReadingSound.{closing}
+use Rattle.k_reader.proofs.CompleteSteps.{bind}
 
 pub needed_goes : (r : Reading) (t : Token) (c : Closer) (next : Reading) (reach : ℕ) → Feeds r t next reach → read_needed r t c ≡ read_.Goes next reach
 unfolding read_needed
@@ -51,7 +53,7 @@ fresh_refused r t c e =
     let both : (is_fresh r ≡ true) × (closes t c ≡ true) = and_parts (is_fresh r) (closes t c) e in
     state_refused r.site r.opens r.state t c both.0 both.1
 
-refused_goes : (r : Reading) (reach : ℕ) → ◌≡◌ {A = Fed} fed.Refused (fed.Goes r reach) → ⊥
+pub refused_goes : (r : Reading) (reach : ℕ) → ◌≡◌ {A = Fed} fed.Refused (fed.Goes r reach) → ⊥
 refused_goes r reach e = cc
 
 refused_ends : (e : Expr) → ◌≡◌ {A = Fed} fed.Refused (fed.Ends e) → ⊥
@@ -72,6 +74,14 @@ maybe_ends r t c e h i =
     ap (λ b. cond b (maybe_.Done None) (maybe_by (read_needed r t c))) (not_fresh r t c (λ j. refused_ends e (sym j ∙ h)))
     ∙ ap maybe_by (needed_ends r t c e h i)
 
+-- the mark that closes an expression does so wherever it stands
+pub closes_at : (c : Closer) (p : Place) → closes (token_at p (token.Mark (closing c))) c ≡ true
+unfolding closes
+closes_at closer.Bracket p = refl
+closes_at closer.Paren p = refl
+closes_at closer.Semicolon p = refl
+closes_at closer.Colon p = refl
+
 -- the marks that close end each expression
 pub bracket_below : (rank : ℕ) → Below rank (token.Mark mark.RightBracket)
 unfolding binding
@@ -88,3 +98,8 @@ semicolon_below rank = below_none rank mark.Semicolon refl refl
 pub colon_below : (rank : ℕ) → Below rank (token.Mark mark.Colon)
 unfolding binding
 colon_below rank = below_none rank mark.Colon refl refl
+
+-- a comma ends an argument and an initialiser
+pub comma_below : Below 1 (token.Mark mark.Comma)
+unfolding binding
+comma_below = below_by 1 mark.Comma (bind 0 0 1) refl refl (omega arith)

@@ -1,6 +1,5 @@
 -- Each ranked source is read as itself, up to places, no deeper than it lies; so its spelling tells it.
 use Rattle.std.proofs.Common.{ℕ, ◌≡◌, ◌+◌, ◌≤◌, All, List, [], ◌∷◌, ◌++◌, map, sym, ap, ◌∙◌, subst, refl, arith, append_assoc, append-nil}
-use Rattle.std.proofs.lemmas.List.{map-append}
 use Rattle.std.proofs.lemmas.List.Elements.{All-head, All-tail}
 use Rattle.k_reader.specs.Types.{Place, Token, TokenKind, Item, Source, Sourced}
 use Rattle.k_tree.specs.declared.tokens.TokenKind.TheVariants as token
@@ -13,6 +12,7 @@ use Rattle.k_reader.specs.Sources.{feed_source, begin_source, starts}
 use Rattle.k_reader.specs.declared.source.Sourced.TheVariants as sourced
 use Rattle.k_reader.proofs.CompleteLeads.{token_at, Leads, leads-then, leads-once}
 use Rattle.k_reader.proofs.CompleteItems.{Sources, starts_at, ItemRead, item_complete}
+use Rattle.k_reader.proofs.Rows.{one_more}
 
 abbrev pub unit_of : List Item → Place → source.Unit
 unit_of items p = record { items = items; end = p }
@@ -27,14 +27,6 @@ end_ends : (items : List Item) (p : Place) → feed_source (starts_at items) (to
 unfolding feed_source starts
 end_ends items p = refl
 
-one_more : (done seen : List Item) (b a : Item) → map bare_item done ≡ map bare_item seen → bare_item b ≡ bare_item a
-    → map bare_item (done ++ b ∷ []) ≡ map bare_item (seen ++ a ∷ [])
-one_more done seen b a e h =
-    map-append bare_item done (b ∷ [])
-    ∙ (ap (λ t. t ++ bare_item b ∷ []) e
-    ∙ (ap (λ t. map bare_item seen ++ t ∷ []) h
-    ∙ sym (map-append bare_item seen (a ∷ []))))
-
 items_lead : (bound : ℕ) (more : List Item) → All RankedItem more → 1 + deepest (map item_depth more) ≤ bound
     → (seen done : List Item) → map bare_item done ≡ map bare_item seen
     → Leads Sources bound (in_row (map spell_item more)) (starts_at done) (SourceRead (seen ++ more))
@@ -48,7 +40,7 @@ items_lead bound (i ∷ more) r low seen done e =
     (item_complete bound done i (All-head RankedItem i more r) (omega arith))
     (λ z h. subst (λ y. Leads Sources bound (in_row (map spell_item more)) y (SourceRead (seen ++ i ∷ more))) (sym h.at)
     (subst (λ all. Leads Sources bound (in_row (map spell_item more)) (starts_at (done ++ h.made ∷ [])) (SourceRead all)) (append_assoc seen (i ∷ []) more)
-    (items_lead bound more (All-tail RankedItem i more r) (omega arith) (seen ++ i ∷ []) (done ++ h.made ∷ []) (one_more done seen h.made i e h.same))))
+    (items_lead bound more (All-tail RankedItem i more r) (omega arith) (seen ++ i ∷ []) (done ++ h.made ∷ []) (one_more bare_item done seen h.made i e h.same))))
 
 -- a ranked source leads from the start of a source to where its end gives it back, up to places; no reach is below its nesting
 pub source_complete : (u : source.Unit) → RankedUnit u → Leads Sources (1 + nesting u) (in_row (map spell_item u.items)) begin_source (SourceRead u.items)
@@ -68,10 +60,10 @@ read_once us vs z x y =
     let both : unit_of x.made nowhere ≡ unit_of y.made nowhere = done_once (unit_of x.made nowhere) (unit_of y.made nowhere) (sym (x.ends nowhere) ∙ y.ends nowhere) in
     sym x.same ∙ (ap (λ u. map bare_item u.items) both ∙ y.same)
 
-cons_tail : (x y : TokenKind) (xs ys : Spelled) → ◌≡◌ {A = Spelled} (x ∷ xs) (y ∷ ys) → xs ≡ ys
+pub cons_tail : (x y : TokenKind) (xs ys : Spelled) → ◌≡◌ {A = Spelled} (x ∷ xs) (y ∷ ys) → xs ≡ ys
 cons_tail x y xs ys e = cc
 
-cons_head : (x y : TokenKind) (xs ys : Spelled) → ◌≡◌ {A = Spelled} (x ∷ xs) (y ∷ ys) → x ≡ y
+pub cons_head : (x y : TokenKind) (xs ys : Spelled) → ◌≡◌ {A = Spelled} (x ∷ xs) (y ∷ ys) → x ≡ y
 cons_head x y xs ys e = cc
 
 no_cons : (x : TokenKind) (xs : Spelled) → ◌≡◌ {A = Spelled} [] (x ∷ xs) → ⊥

@@ -22,7 +22,7 @@ use Rattle.k_reader.specs.declared.statement.Stepped.TheVariants as stepped
 use Rattle.k_reader.proofs.CompleteLeads.{token_at, Moves, Step, Leads, leads-then, leads-more, leads-in}
 use Rattle.k_reader.proofs.CompleteHolds.{Feeds}
 use Rattle.k_reader.proofs.CompleteExpressions.{Whole, whole}
-use Rattle.k_reader.proofs.CompleteReadings.{needed_goes, needed_ends, maybe_goes, maybe_ends, semicolon_below}
+use Rattle.k_reader.proofs.CompleteReadings.{needed_goes, needed_ends, maybe_goes, maybe_ends, semicolon_below, closes_at}
 
 -- how the machine of a function's block moves
 abbrev pub Runs : Moves Body
@@ -79,16 +79,12 @@ value_moves : (ps : Parts) (s : Frames) (p : Place) (r : Reading) (t : Token) (n
 unfolding feed_body value
 value_moves ps s p r t next reach h = ap (value_by ps s p) (needed_goes r t closer.Semicolon next reach h)
 
-closes_semicolon : (p : Place) → closes (token_at p (token.Mark mark.Semicolon)) closer.Semicolon ≡ true
-unfolding closes
-closes_semicolon p = refl
-
 value_ends : (ps : Parts) (s : Frames) (p : Place) (a : Expr) (r : Reading) (h : Whole 0 a r) (at : Place)
     → Runs (body_at ps s (step.Value p r)) (token_at at (token.Mark mark.Semicolon)) (body_at ps s (step.Whole (stmt.Expr p h.made))) 0
 unfolding feed_body value
 value_ends ps s p a r h at =
     ap (value_by ps s p) (needed_ends r (token_at at (token.Mark mark.Semicolon)) closer.Semicolon h.made
-    (h.ends (token_at at (token.Mark mark.Semicolon)) (semicolon_below 0)) (closes_semicolon at))
+    (h.ends (token_at at (token.Mark mark.Semicolon)) (semicolon_below 0)) (closes_at closer.Semicolon at))
 
 -- in an expression that is a statement
 record InValue (ps : Parts) (s : Frames) (a : Expr) (z : Body) : Type 0 where
@@ -254,7 +250,7 @@ return_ends : (ps : Parts) (s : Frames) (p : Place) (a : Expr) (r : Reading) (h 
 unfolding feed_body returned
 return_ends ps s p a r h at =
     ap (returned_by ps s p) (maybe_ends r (token_at at (token.Mark mark.Semicolon)) closer.Semicolon h.made
-    (h.ends (token_at at (token.Mark mark.Semicolon)) (semicolon_below 0)) (closes_semicolon at))
+    (h.ends (token_at at (token.Mark mark.Semicolon)) (semicolon_below 0)) (closes_at closer.Semicolon at))
 
 pub return_reads : (p : Place) (a : Option Expr) → IfGiven (Ranked 0) a → StmtReads (stmt.Return p a)
 return_reads p a x =

@@ -1,6 +1,5 @@
 -- `switch`, with the parts of its braces.
-use Rattle.std.proofs.Common.{ℕ, ◌≡◌, ◌≢◌, ◌+◌, ◌≤◌, max, true, false, List, [], ◌∷◌, ◌++◌, map, length, sym, ap, ◌∙◌, subst, refl, arith, append_assoc, append-nil}
-use Rattle.std.proofs.lemmas.List.{map-append}
+use Rattle.std.proofs.Common.{ℕ, ◌≡◌, ◌≢◌, ◌+◌, ◌≤◌, max, false, List, [], ◌∷◌, ◌++◌, map, length, sym, ap, ◌∙◌, subst, refl, arith, append_assoc, append-nil}
 use Rattle.k_reader.specs.Types.{Place, Token, TokenKind, Expr, Stmt, Part, Reading, Body}
 use Rattle.k_tree.specs.declared.tokens.TokenKind.TheVariants as token
 use Rattle.k_tree.specs.declared.tokens.mark.Mark.TheVariants as mark
@@ -25,9 +24,10 @@ use Rattle.k_reader.specs.declared.statement.Stepped.TheVariants as stepped
 use Rattle.k_reader.proofs.CompleteLeads.{token_at, Leads, leads-then, leads-more, leads-in}
 use Rattle.k_reader.proofs.CompleteHolds.{Feeds}
 use Rattle.k_reader.proofs.CompleteExpressions.{Whole, whole}
-use Rattle.k_reader.proofs.CompleteReadings.{needed_goes, needed_ends, colon_below}
+use Rattle.k_reader.proofs.CompleteReadings.{needed_goes, needed_ends, colon_below, closes_at}
 use Rattle.k_reader.proofs.CompleteStatements.{Runs, body_at, begins_at, StmtHolds, StmtReads, stmt_by, holds_stmt, from_begin}
 use Rattle.k_reader.proofs.CompleteTests.{tested_lead}
+use Rattle.k_reader.proofs.Rows.{one_more}
 
 switch_goes : (ps : Parts) (s : Frames) (p : Place) → Runs (begins_at ps s) (token_at p (token.Word word.Switch)) (body_at ps s (step.Keyword (tested.Switch p))) (inner s)
 unfolding feed_body begins keyword mark_begins is_semicolon is_left_brace is_right_brace jump is_spec_word
@@ -66,16 +66,12 @@ case_moves : (ps : Parts) (s : Frames) (p : Place) (r : Reading) (t : Token) (ne
 unfolding feed_body in_for in_switch case_value
 case_moves ps s p r t next reach h = ap (case_by ps s p) (needed_goes r t closer.Colon next reach h)
 
-closes_colon : (p : Place) → closes (token_at p (token.Mark mark.Colon)) closer.Colon ≡ true
-unfolding closes
-closes_colon p = refl
-
 case_ends : (ps : Parts) (s : Frames) (p : Place) (e : Expr) (done : List Part) (q : Place) (a : Expr) (r : Reading) (h : Whole 2 a r) (at : Place)
     → Runs (body_at ps (switch_at p e s done) (step.Case q r)) (token_at at (token.Mark mark.Colon)) (begins_at ps (switch_at p e s (done ++ part_.Case q h.made ∷ []))) 0
 unfolding feed_body in_for in_switch case_value labelled
 case_ends ps s p e done q a r h at =
     ap (case_by ps (switch_at p e s done) q) (needed_ends r (token_at at (token.Mark mark.Colon)) closer.Colon h.made
-    (h.ends (token_at at (token.Mark mark.Colon)) (colon_below 2)) (closes_colon at))
+    (h.ends (token_at at (token.Mark mark.Colon)) (colon_below 2)) (closes_at closer.Colon at))
 
 default_goes : (ps : Parts) (s : Frames) (p : Place) (e : Expr) (done : List Part) (at : Place)
     → Runs (begins_at ps (switch_at p e s done)) (token_at at (token.Word word.Default)) (body_at ps (switch_at p e s done) (step.Default at)) 0
@@ -92,14 +88,6 @@ pub record SwitchHolds (ps : Parts) (s : Frames) (p : Place) (e : Expr) (parts :
   made : List Part
   next : (t : Token) → is_else t.what ≡ false → feed_body z t ≡ feed_body (begins_at ps (switch_at p e s made)) t
   same : map bare_part made ≡ map bare_part parts
-
-one_more : (done seen : List Part) (b a : Part) → map bare_part done ≡ map bare_part seen → bare_part b ≡ bare_part a
-    → map bare_part (done ++ b ∷ []) ≡ map bare_part (seen ++ a ∷ [])
-one_more done seen b a e h =
-    map-append bare_part done (b ∷ [])
-    ∙ (ap (λ t. t ++ bare_part b ∷ []) e
-    ∙ (ap (λ t. map bare_part seen ++ t ∷ []) h
-    ∙ sym (map-append bare_part seen (a ∷ []))))
 
 -- a part is read behind others, no deeper than it lies, as itself up to places
 abbrev pub PartReads : Part → Type 0
@@ -152,7 +140,7 @@ case_reads q a x positive =
             there = record {
               made = h.made ++ part_.Case at i.read.made ∷ [];
               next = λ t u. refl;
-              same = one_more h.made seen (part_.Case at i.read.made) (part_.Case q a) h.same
+              same = one_more bare_part h.made seen (part_.Case at i.read.made) (part_.Case q a) h.same
                   (part_Case Part Stmt bare_part_step bare_stmt_step at i.read.made
                   ∙ (ap (λ v. part_.Case nowhere v) i.read.same ∙ sym (part_Case Part Stmt bare_part_step bare_stmt_step q a)));
             };
@@ -181,7 +169,7 @@ default_reads q =
         there = record {
           made = h.made ++ part_.Default at ∷ [];
           next = λ t u. refl;
-          same = one_more h.made seen (part_.Default at) (part_.Default q) h.same
+          same = one_more bare_part h.made seen (part_.Default at) (part_.Default q) h.same
               (part_Default Part Stmt bare_part_step bare_stmt_step at ∙ sym (part_Default Part Stmt bare_part_step bare_stmt_step q));
         };
       };
@@ -200,7 +188,7 @@ does_reads q x some f =
     (λ y k. record {
       made = h.made ++ part_.Does (stmt_place k.made) k.made ∷ [];
       next = λ t u. k.next t (λ _. u) ∙ switch_next ps s p e h.made k.made t;
-      same = one_more h.made seen (part_.Does (stmt_place k.made) k.made) (part_.Does q x) h.same
+      same = one_more bare_part h.made seen (part_.Does (stmt_place k.made) k.made) (part_.Does q x) h.same
           (part_Does Part Stmt bare_part_step bare_stmt_step (stmt_place k.made) k.made
           ∙ (ap (λ v. part_.Does nowhere v) k.same ∙ sym (part_Does Part Stmt bare_part_step bare_stmt_step q x)));
     })))

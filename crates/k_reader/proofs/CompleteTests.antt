@@ -12,7 +12,6 @@ use Rattle.k_tree.specs.Ranked.{Ranked, ends_open, ends_open_part, ends_open_ste
 use Rattle.k_tree.specs.Spelling.{Spelled, spell_expr, spell_stmt, spell_part_step, spell_stmt_step, the_mark, the_word, in_parens}
 use Rattle.k_reader.specs.Operators.{is_spec_word, is_semicolon, is_right_brace, is_left_brace}
 use Rattle.k_reader.specs.Expressions.{begin}
-use Rattle.k_reader.specs.Readings.{closes}
 use Rattle.k_reader.specs.declared.reading.Closer.TheVariants as closer
 use Rattle.k_reader.specs.Statements.{mark_begins, jump, Parts, Frames, feed_body, begins, keyword, opened, test, test_by, test_done, behind, close, closed_by, part, do_while, is_else, inner}
 use Rattle.k_reader.specs.declared.statement.Frame.TheVariants as frame
@@ -22,7 +21,7 @@ use Rattle.k_reader.specs.declared.statement.Stepped.TheVariants as stepped
 use Rattle.k_reader.proofs.CompleteLeads.{token_at, Leads, leads-then, leads-more, leads-in}
 use Rattle.k_reader.proofs.CompleteHolds.{Feeds}
 use Rattle.k_reader.proofs.CompleteExpressions.{Whole, whole}
-use Rattle.k_reader.proofs.CompleteReadings.{needed_goes, needed_ends, paren_below}
+use Rattle.k_reader.proofs.CompleteReadings.{needed_goes, needed_ends, paren_below, closes_at}
 use Rattle.k_reader.proofs.CompleteStatements.{Runs, body_at, begins_at, StmtHolds, StmtReads, stmt_by, holds_stmt, semicolon_goes}
 
 -- a test
@@ -37,16 +36,12 @@ test_moves : (ps : Parts) (s : Frames) (x : Tested) (r : Reading) (t : Token) (n
 unfolding feed_body test
 test_moves ps s x r t next reach h = ap (test_by ps s x) (needed_goes r t closer.Paren next reach h)
 
-closes_paren : (p : Place) → closes (token_at p (token.Mark mark.RightParen)) closer.Paren ≡ true
-unfolding closes
-closes_paren p = refl
-
 test_ends : (ps : Parts) (s : Frames) (x : Tested) (a : Expr) (r : Reading) (h : Whole 0 a r) (at : Place)
     → feed_body (body_at ps s (step.Test x r)) (token_at at (token.Mark mark.RightParen)) ≡ test_done ps s x h.made
 unfolding feed_body test
 test_ends ps s x a r h at =
     ap (test_by ps s x) (needed_ends r (token_at at (token.Mark mark.RightParen)) closer.Paren h.made
-    (h.ends (token_at at (token.Mark mark.RightParen)) (paren_below 0)) (closes_paren at))
+    (h.ends (token_at at (token.Mark mark.RightParen)) (paren_below 0)) (closes_at closer.Paren at))
 
 -- behind a test
 record Behind (after : Expr → Body) (a : Expr) (z : Body) : Type 0 where

@@ -90,7 +90,7 @@ stars_lead bound g s specs stars done (true ∷ more) positive e = λ p. record 
   };
 }
 
-spec_is_no_sizeof : (w : Word) → IsTrue (is_spec w) → is_sizeof w ≡ false
+pub spec_is_no_sizeof : (w : Word) → IsTrue (is_spec w) → is_sizeof w ≡ false
 spec_is_no_sizeof word.Sizeof h = cc
 spec_is_no_sizeof w h = refl
 

@@ -3,7 +3,7 @@ use Rattle.std.proofs.Common.{ℕ, ◌≡◌, ◌+◌, ◌<◌, ◌≤◌, Bool,
 use Rattle.std.specs.Prelude.{◌⊎◌, Ok, Err}
 use Rattle.std.proofs.lemmas.Bool.{leb-true, leb-false}
 use Rattle.std.proofs.lemmas.List.{map-append}
-use Rattle.k_reader.specs.Types.{Token, TokenKind, Item, Source, Sourced, ParseFault}
+use Rattle.k_reader.specs.Types.{Token, Item, Source, Sourced, ParseFault}
 use Rattle.k_tree.specs.declared.tokens.TokenKind.TheVariants as token
 use Rattle.k_tree.specs.declared.tree.unit.Unit as source
 use Rattle.k_tree.specs.Nesting.{nesting}
@@ -18,7 +18,7 @@ use Rattle.k_reader.specs.declared.source.Sourced.TheVariants as sourced
 use Rattle.k_reader.specs.declared.whole.ParseFault.TheVariants as fault
 use Rattle.k_reader.proofs.CompleteLeads.{token_at, Step, Leads, Reaches}
 use Rattle.k_reader.proofs.CompleteItems.{Sources}
-use Rattle.k_reader.proofs.CompleteSources.{SourceRead, unit_of, source_complete, goes_once}
+use Rattle.k_reader.proofs.CompleteSources.{SourceRead, unit_of, source_complete, goes_once, cons_head, cons_tail}
 use Rattle.k_reader.proofs.SourceSound.{OkSource, IsUnit, KeepsSourced, source_keeps, begin_source_ok}
 use Rattle.k_reader.proofs.SourceViable.{PhaseReached, SourcedStays, source_stays, source_begins}
 
@@ -27,12 +27,6 @@ abbrev pub Takes : ℕ → Source → Token → Type 0
 Takes bound s t =
     ((z : Source) × (reach : ℕ) × (feed_source s t ≡ sourced.Goes z reach) × (reach < bound))
     ⊎ ((u : source.Unit) × (feed_source s t ≡ sourced.Done u))
-
-cons_head : (x y : TokenKind) (xs ys : Spelled) → ◌≡◌ {A = Spelled} (x ∷ xs) (y ∷ ys) → x ≡ y
-cons_head x y xs ys e = cc
-
-cons_tail : (x y : TokenKind) (xs ys : Spelled) → ◌≡◌ {A = Spelled} (x ∷ xs) (y ∷ ys) → xs ≡ ys
-cons_tail x y xs ys e = cc
 
 no_more : (ts : List Token) (t : Token) (rest : Spelled) → ◌≡◌ {A = Spelled} [] (kinds (ts ++ t ∷ []) ++ rest) → ⊥
 no_more [] t rest e = cc

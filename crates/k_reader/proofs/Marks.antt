@@ -1,11 +1,12 @@
 -- Which operators there are behind an operand, and what each makes.
 use Rattle.std.proofs.Common.{ℕ, suc, ◌≡◌, ◌+◌, ◌≤◌, true, false, IsTrue, Some, None, refl, ◌∙◌, ap, arith}
-use Rattle.k_reader.specs.Types.{Place, Mark, Term}
+use Rattle.k_reader.specs.Types.{Place, Mark, Term, TokenKind}
+use Rattle.k_tree.specs.declared.tokens.TokenKind.TheVariants as token
 use Rattle.k_tree.specs.declared.tokens.mark.Mark.TheVariants as mark
 use Rattle.k_tree.specs.Ranked.{binary_rank, is_assignment, is_step}
 use Rattle.k_reader.specs.Operators.{binding, binding_by, other_binding, is_step_mark, is_open, is_close, is_bracket, is_question, is_equal, is_left_brace, is_right_brace, is_star, is_semicolon}
 use Rattle.k_reader.specs.declared.expression.Open.TheVariants as open_
-use Rattle.k_reader.specs.Expressions.{operator_opens}
+use Rattle.k_reader.specs.Expressions.{operator_opens, is_left_paren}
 
 -- a binary, assignment or comma operator, by the least rank of its left operand, the rank of what it makes, and the least
 -- rank of its right operand
@@ -75,7 +76,7 @@ kind_of mark.CaretEqual = assign_kind mark.CaretEqual refl refl refl (λ a p. re
 kind_of mark.BarEqual = assign_kind mark.BarEqual refl refl refl (λ a p. refl)
 kind_of op = no_operator op refl
 
-false_true : false ≡ true → ⊥
+pub false_true : false ≡ true → ⊥
 false_true z = cc
 
 pub is_open_mark : (m : Mark) → is_open m ≡ true → m ≡ mark.LeftParen
@@ -117,3 +118,7 @@ pub is_semicolon_mark : (m : Mark) → is_semicolon m ≡ true → m ≡ mark.Se
 unfolding is_semicolon
 is_semicolon_mark mark.Semicolon h = refl
 is_semicolon_mark _ h = absurd (false_true h)
+
+pub left_paren_is : (k : TokenKind) → is_left_paren k ≡ true → k ≡ token.Mark mark.LeftParen
+left_paren_is (token.Mark mark.LeftParen) h = refl
+left_paren_is _ h = absurd (false_true h)

@@ -15,7 +15,7 @@ use Rattle.k_tree.specs.Ranked.{Ranked, IfGiven, Specs, is_spec, RankedDims, Ran
 use Rattle.k_tree.specs.Spelling.{the_mark, the_word, the_name, spell_specs, spell_stars, spell_optional_name}
 use Rattle.k_tree.proofs.Standing.{stand-append}
 use Rattle.k_reader.specs.Operators.{is_spec_word, is_bracket, is_star}
-use Rattle.k_reader.proofs.Marks.{is_bracket_mark, is_star_mark}
+use Rattle.k_reader.proofs.Marks.{is_bracket_mark, is_star_mark, false_true}
 use Rattle.k_reader.specs.Stars.{all_stars, star, constant}
 use Rattle.k_reader.specs.Expressions.{begin, is_const}
 use Rattle.k_reader.specs.Readings.{read_maybe}
@@ -25,7 +25,7 @@ use Rattle.k_reader.specs.Parameters as spec
 use Rattle.k_reader.specs.declared.parameter.ParameterStage.TheVariants as part_
 use Rattle.k_reader.specs.declared.parameter.Parametric.TheVariants as parametric
 use Rattle.k_reader.proofs.Commas.{comma, lay_each, each_push, with_last, not_none}
-use Rattle.k_reader.proofs.Rows.{row_push, deepest_more, StartsAt, starts-more, at_stands}
+use Rattle.k_reader.proofs.Rows.{row_push, deepest_more, StartsAt, starts-more, at_stands, no_items}
 use Rattle.k_reader.proofs.ExpressionTerms.{one, stand-more, regroup, and_left, and_right}
 use Rattle.k_reader.proofs.TypeSound.{stars_more, stars_const, is_const_word, no_stars_yet}
 use Rattle.k_reader.proofs.ReadingSound.{At, site, begin_at, IsMaybe, KeepsMaybe, maybe_keeps, Behind}
@@ -78,13 +78,6 @@ abbrev pub KeepsParametric : ℕ → List Token → Token → Parametric → Typ
 KeepsParametric lim ts t (parametric.Goes ps reach) = reach ≤ lim → OkParameters lim ps (ts ++ t ∷ [])
 KeepsParametric lim ts t (parametric.Done ps) = AreRead lim ps (ts ++ t ∷ [])
 KeepsParametric lim ts t parametric.Refused = Unit {0}
-
-no_items : {A : Type 0} (xs : List A) → length xs ≡ 0 → xs ≡ []
-no_items [] h = refl
-no_items (x ∷ xs) h = absurd (omega (arith, h))
-
-false_true : false ≡ true → ⊥
-false_true z = cc
 
 -- parameters that aren't `void` alone
 ranked_list : (list : List Param) (p : Param) → All RankedParam (list ++ p ∷ []) → (list ≡ [] → IsVoidAlone p → ⊥) → RankedParams (params.List (list ++ p ∷ []))

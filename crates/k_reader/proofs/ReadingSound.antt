@@ -1,5 +1,5 @@
 -- An expression up to the mark that closes it.
-use Rattle.std.proofs.Common.{ℕ, ◌≡◌, ◌+◌, ◌≤◌, Bool, true, false, ◌&&◌, cond, List, [], ◌∷◌, ◌++◌, length, Option, None, refl, subst, arith, nat_eq}
+use Rattle.std.proofs.Common.{ℕ, ◌≡◌, ◌+◌, ◌≤◌, Bool, true, false, ◌&&◌, cond, List, [], ◌∷◌, ◌++◌, length, Option, None, refl, subst, arith, nat_eq, ap, ◌∙◌, append_assoc}
 use Rattle.std.proofs.lemmas.Bool.{eqb-true}
 use Rattle.k_reader.specs.Types.{Token, TokenKind, Mark, Expr, ExpressionStage, Reading, Site, Fed, Closer, Read, Maybe}
 use Rattle.k_tree.specs.declared.tokens.TokenKind.TheVariants as token
@@ -17,6 +17,7 @@ use Rattle.k_reader.specs.declared.reading.Maybe.TheVariants as maybe
 use Rattle.k_reader.proofs.ExpressionState.{laid, Inv, IsRead, Keeps}
 use Rattle.k_reader.proofs.ExpressionTerms.{and_left, and_right}
 use Rattle.k_reader.proofs.ExpressionSound.{feed_keeps}
+use Rattle.k_reader.proofs.Marks.{false_true}
 
 -- what was read of an expression at a site
 abbrev pub At : ℕ → Site → Reading → List Token → Type 0
@@ -39,9 +40,6 @@ closing closer.Bracket = mark.RightBracket
 closing closer.Paren = mark.RightParen
 closing closer.Semicolon = mark.Semicolon
 closing closer.Colon = mark.Colon
-
-false_true : false ≡ true → ⊥
-false_true z = cc
 
 mark_is : (c : Closer) (m : Mark) → mark_closes c m ≡ true → m ≡ closing c
 mark_is closer.Bracket mark.RightBracket h = refl
@@ -136,3 +134,14 @@ pub record Behind (xs : Pieces) (P : List Token → Type 0) (ts : List Token) : 
   pub is : ts ≡ front ++ back
   pub stands : Stand xs front
   pub rest : P back
+
+-- a token more behind pieces
+abbrev pub pushed : (ts : List Token) (t : Token) (xs : Pieces) (P Q : List Token → Type 0) → (b : Behind xs P ts) → Q (b.back ++ t ∷ [])
+    → Behind xs Q (ts ++ t ∷ [])
+pushed ts t xs P Q b q = record {
+  front = b.front;
+  back = b.back ++ t ∷ [];
+  is = ap (λ z. z ++ t ∷ []) b.is ∙ append_assoc b.front b.back (t ∷ []);
+  stands = b.stands;
+  rest = q;
+}

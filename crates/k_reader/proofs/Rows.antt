@@ -1,7 +1,7 @@
 -- Rows that grow at their end.
-use Rattle.std.proofs.Common.{ℕ, ◌≡◌, List, [], ◌∷◌, ◌++◌, map, sym, ◌∙◌, ap, arith, append_assoc}
+use Rattle.std.proofs.Common.{ℕ, ◌≡◌, List, [], ◌∷◌, ◌++◌, map, sym, ◌∙◌, ap, arith, append_assoc, length, refl}
 use Rattle.std.specs.Prelude.{max}
-use Rattle.std.proofs.lemmas.List.{append-nil}
+use Rattle.std.proofs.lemmas.List.{append-nil, map-append}
 use Rattle.k_reader.specs.Types.{Place, Token}
 use Rattle.k_tree.specs.Nesting.{deepest}
 use Rattle.k_tree.specs.Places.{Pieces, at, lay_row, Stand}
@@ -28,3 +28,13 @@ pub at_stands : (p : Place) (xs : Pieces) (ts : List Token) → StartsAt p ts �
 at_stands p [] ts h st = st
 at_stands p (x ∷ xs) [] h st = absurd st
 at_stands p (x ∷ xs) (t ∷ ts) h st = (st.0, All-cons (λ q. q ≡ t.place) p x.places (sym h) st.1, st.2)
+
+-- rows that are the same item by item are so with one item more
+pub one_more : {A : Type 0} {B : Type 0} (f : A → B) (done seen : List A) (b a : A) → map f done ≡ map f seen → f b ≡ f a
+    → map f (done ++ b ∷ []) ≡ map f (seen ++ a ∷ [])
+one_more f done seen b a e h =
+    map-append f done (b ∷ []) ∙ (ap (λ t. t ++ f b ∷ []) e ∙ (ap (λ t. map f seen ++ t ∷ []) h ∙ sym (map-append f seen (a ∷ []))))
+
+pub no_items : {A : Type 0} (xs : List A) → length xs ≡ 0 → xs ≡ []
+no_items [] h = refl
+no_items (x ∷ xs) h = absurd (omega (arith, h))

@@ -27,14 +27,15 @@ use Rattle.k_reader.specs.Sources as spec
 use Rattle.k_reader.specs.declared.source.SourceStage.TheVariants as phase
 use Rattle.k_reader.specs.declared.source.Sourced.TheVariants as sourced
 use Rattle.k_reader.proofs.Commas.{lay_each}
-use Rattle.k_reader.proofs.Rows.{row_push, deepest_more, StartsAt, starts-more, at_stands}
+use Rattle.k_reader.proofs.Rows.{row_push, deepest_more, StartsAt, starts-more, at_stands, no_items}
 use Rattle.k_reader.proofs.ExpressionTerms.{one_at, one, stand-more, three, and_left, and_right}
-use Rattle.k_reader.proofs.ReadingSound.{Behind}
+use Rattle.k_reader.proofs.ReadingSound.{Behind, pushed}
 use Rattle.k_reader.proofs.DeclarationState.{lay_bare, lay_front, OkDeclaration, KeepsDeclared}
 use Rattle.k_reader.proofs.DeclarationSound.{behind_all, behind_now, declaration_keeps, begin_declared}
 use Rattle.k_reader.proofs.ParameterSound.{OkParameters, KeepsParametric, parameters_keep, begin_parameters_ok}
-use Rattle.k_reader.proofs.StatementState.{OkBody, KeepsStepped}
+use Rattle.k_reader.proofs.StatementState.{OkBody, KeepsStepped, left_paren, left_brace}
 use Rattle.k_reader.proofs.StatementSound.{body_keeps, begin_body_ok}
+use Rattle.k_reader.proofs.Marks.{false_true, left_paren_is}
 
 abbrev pub lay_items : List Item → Pieces
 lay_items items = lay_row (map lay_item items)
@@ -42,12 +43,6 @@ lay_items items = lay_row (map lay_item items)
 -- a head up to its name
 abbrev pub lay_title : Title → Pieces
 lay_title t = plain (spell_specs t.specs) ++ (plain (spell_stars t.stars) ++ at t.name_place (plain (the_name t.name)))
-
-abbrev left_paren : Pieces
-left_paren = plain (the_mark mark.LeftParen)
-
-abbrev left_brace : Pieces
-left_brace = plain (the_mark mark.LeftBrace)
 
 pub record OkTitle (lim : ℕ) (t : Title) (ps : Parameters) (p : Place) (us : List Token) : Type 0 where
   pub behind : Behind (lay_title t ++ left_paren) (OkParameters lim ps) us
@@ -85,13 +80,6 @@ KeepsSourced lim ts t (sourced.Goes s reach) = reach ≤ lim → OkSource lim s 
 KeepsSourced lim ts t (sourced.Done u) = IsUnit lim u (ts ++ t ∷ []) × (t.what ≡ token.End)
 KeepsSourced lim ts t sourced.Refused = Unit {0}
 
-no_items : {A : Type 0} (xs : List A) → length xs ≡ 0 → xs ≡ []
-no_items [] h = refl
-no_items (x ∷ xs) h = absurd (omega (arith, h))
-
-false_true : false ≡ true → ⊥
-false_true z = cc
-
 title_laid : (f : Front) (d : Declarator) → f.list ≡ [] → d.dims ≡ [] → lay_front f ++ lay_bare d ≡ lay_title (spec.title_of f d)
 title_laid f d a b =
     ap (λ x. (plain (spell_specs f.specs) ++ lay_each lay_declarator x) ++ lay_bare d) a
@@ -124,15 +112,6 @@ module _ (lim : ℕ) (ts : List Token) (t : Token) where
     items = All-push RankedItem items i o.0 r;
     within = omega (arith, o.1, w, deepest_more item_depth items i);
     phase = subst (λ x. Stand x (ts ++ t ∷ [])) (sym (row_push lay_item items i)) st;
-  }
-
-  pushed : (xs : Pieces) (P Q : List Token → Type 0) → (b : Behind xs P ts) → Q (b.back ++ t ∷ []) → Behind xs Q (ts ++ t ∷ [])
-  pushed xs P Q b q = record {
-    front = b.front;
-    back = b.back ++ t ∷ [];
-    is = ap (λ z. z ++ t ∷ []) b.is ∙ append_assoc b.front b.back (t ∷ []);
-    stands = b.stands;
-    rest = q;
   }
 
   -- pieces that stand at the tokens behind others, with this one
@@ -170,22 +149,18 @@ module _ (lim : ℕ) (ts : List Token) (t : Token) where
       → (b : Behind (lay_items items) (λ us. OkDeclaration lim 1 d us × StartsAt p us) ts)
       → KeepsDeclared lim 1 b.back t m → KeepsSourced lim ts t (spec.declares_by items p m)
   declares_by_keeps items p d (declared_.Goes q reach) o b h =
-      goes items (phase.Declares p q) reach o (λ z. pushed (lay_items items) _ _ b (h z, starts-more p b.back (t ∷ []) b.rest.1))
+      goes items (phase.Declares p q) reach o (λ z. pushed ts t (lay_items items) _ _ b (h z, starts-more p b.back (t ∷ []) b.rest.1))
   declares_by_keeps items p d (declared_.Done specs list) o b h =
       done items (item.Objects p specs list) o h.ranked (omega (arith, h.within))
       (all_pushed (lay_items items) (at p (lay_declaration specs list)) _ b
       (at_stands p (lay_declaration specs list) (b.back ++ t ∷ []) (starts-more p b.back (t ∷ []) b.rest.1) h.stands))
   declares_by_keeps items p d declared_.Refused o b h = tt
 
-  left_paren_is : (k : TokenKind) → is_left_paren k ≡ true → k ≡ token.Mark mark.LeftParen
-  left_paren_is (token.Mark mark.LeftParen) h = refl
-  left_paren_is _ h = absurd (false_true h)
-
   titled_keeps : (items : List Item) (p : Place) (f : Front) (g : DeclarationStage) → OkItems items → t.what ≡ token.Mark mark.LeftParen → spec.titled_by f g ≡ true
       → Behind (lay_items items) (λ us. OkDeclaration lim 1 (record { front = f; stage = g }) us × StartsAt p us) ts
       → KeepsSourced lim ts t (spec.titled_at items p f g)
   titled_keeps items p f (stage.Named d) o e h b =
-      goes items (phase.Parameters p (spec.title_of f d) begin_parameters) 0 o (λ z. pushed (lay_items items) _ _ b (record {
+      goes items (phase.Parameters p (spec.title_of f d) begin_parameters) 0 o (λ z. pushed ts t (lay_items items) _ _ b (record {
         behind = behind_now (lay_title (spec.title_of f d) ++ left_paren) _ (b.back ++ t ∷ [])
             (stand-append (lay_title (spec.title_of f d)) left_paren b.back (t ∷ [])
             (subst (λ x. Stand x b.back) (title_laid f d (no_items f.list (eqb-true (length f.list) 0 (and_left (nat_eq (length f.list) 0) _ h)))
@@ -216,7 +191,7 @@ module _ (lim : ℕ) (ts : List Token) (t : Token) where
   parameters_by_keeps : (items : List Item) (p : Place) (title : Title) (ps : Parameters) (m : Parametric) → OkItems items
       → (b : Behind (lay_items items) (OkTitle lim title ps p) ts) → KeepsParametric lim b.rest.behind.back t m → KeepsSourced lim ts t (spec.parameters_by items p title m)
   parameters_by_keeps items p title ps (parametric.Goes q reach) o b h =
-      goes items (phase.Parameters p title q) reach o (λ z. pushed (lay_items items) _ _ b (record {
+      goes items (phase.Parameters p title q) reach o (λ z. pushed ts t (lay_items items) _ _ b (record {
         behind = record {
           front = b.rest.behind.front;
           back = b.rest.behind.back ++ t ∷ [];
@@ -229,7 +204,7 @@ module _ (lim : ℕ) (ts : List Token) (t : Token) where
       }))
   parameters_by_keeps items p title ps (parametric.Done q) o b h =
       goes items (phase.Headed p (spec.head_of title q)) 0 o (λ z. (
-        pushed (lay_items items) _ _ b (record {
+        pushed ts t (lay_items items) _ _ b (record {
           stands = head_stands title q (b.back ++ t ∷ [])
               (subst (λ x. Stand ((lay_title title ++ left_paren) ++ (lay_params q ++ plain (the_mark mark.RightParen))) x)
               (sym (ap (λ x. x ++ t ∷ []) b.rest.behind.is ∙ append_assoc b.rest.behind.front b.rest.behind.back (t ∷ [])))
@@ -277,7 +252,7 @@ module _ (lim : ℕ) (ts : List Token) (t : Token) where
       → (b : Behind (lay_items items ++ (at p (lay_head h) ++ left_brace)) (OkBody lim d) ts) → KeepsStepped lim b.back t m
       → KeepsSourced lim ts t (spec.body_by items p h t.place m)
   body_by_keeps items p h d (stepped.Goes q reach) o i b k =
-      goes items (phase.Body p h q) reach o (λ z. (pushed (lay_items items ++ (at p (lay_head h) ++ left_brace)) _ _ b (k z), i))
+      goes items (phase.Body p h q) reach o (λ z. (pushed ts t (lay_items items ++ (at p (lay_head h) ++ left_brace)) _ _ b (k z), i))
   body_by_keeps items p h d (stepped.Done parts) o i b k =
       done items (item.Function p h parts t.place) o (i.0, k.0.0) (omega (arith, i.1, k.0.1))
       (three (lay_items items) (at p (lay_head h)) left_brace (lay_stmts parts ++ at t.place (plain (the_mark mark.RightBrace))) (ts ++ t ∷ [])

@@ -15,7 +15,7 @@ use Rattle.k_tree.specs.Ranked.{Ranked, IfGiven, RankedFirst, RankedStmt, Ranked
 use Rattle.k_tree.specs.Spelling.{the_mark, the_word}
 use Rattle.k_tree.proofs.Standing.{stand-append}
 use Rattle.k_reader.specs.Operators.{is_spec_word, is_semicolon, is_left_brace, is_right_brace}
-use Rattle.k_reader.proofs.Marks.{is_semicolon_mark, is_left_brace_mark, is_right_brace_mark}
+use Rattle.k_reader.proofs.Marks.{is_semicolon_mark, is_left_brace_mark, is_right_brace_mark, false_true, left_paren_is}
 use Rattle.k_reader.specs.Expressions.{begin, is_left_paren, is_sizeof}
 use Rattle.k_reader.specs.declared.expression.Fed.TheVariants as fed
 use Rattle.k_reader.specs.Readings.{closes, is_fresh}
@@ -33,31 +33,18 @@ use Rattle.k_reader.specs.declared.statement.Stepped.TheVariants as stepped
 use Rattle.k_reader.proofs.Rows.{row_push, deepest_more, StartsAt, starts-more, at_stands}
 use Rattle.k_reader.proofs.ExpressionState.{Keeps}
 use Rattle.k_reader.proofs.ExpressionTerms.{one_at, one, stand-more, regroup, three, four, five, and_left, and_right}
-use Rattle.k_reader.proofs.ReadingSound.{At, site, begin_at, at_keeps, KeepsRead, read_keeps, KeepsMaybe, maybe_keeps, fresh_stands, closes_is, Behind}
+use Rattle.k_reader.proofs.ReadingSound.{At, site, begin_at, at_keeps, KeepsRead, read_keeps, KeepsMaybe, maybe_keeps, fresh_stands, closes_is, Behind, pushed}
 use Rattle.k_reader.proofs.DeclarationState.{OkDeclaration, KeepsDeclared}
 use Rattle.k_reader.proofs.DeclarationSound.{behind_all, behind_now, declaration_keeps, begin_declared}
 use Rattle.k_reader.proofs.SwitchTerms.{switch_split, switched_append, switch_push, does_stands}
-use Rattle.k_reader.proofs.StatementTerms.{parts_push, base_open, base_close, left_paren_is, else_is, while_is, brace_is}
+use Rattle.k_reader.proofs.StatementTerms.{parts_push, base_open, base_close, else_is, while_is, brace_is}
 use Rattle.k_reader.proofs.StatementState.{word_at, left_paren, left_brace, semicolon, lay_frame, lay_frames, lay_base, lay_tested, Below, OkFrame, OkFrames, OkTested, IsPart, a_stmt, a_declaration, OkSemicolon, OkBehind, For_at, OkStep, OkParts, OkBody, KeepsStepped}
-
-false_true : false ≡ true → ⊥
-false_true z = cc
 
 module _ (lim : ℕ) (ts : List Token) (t : Token) where
   stepped_cond : (b : Bool) (x y : Stepped) → (b ≡ true → KeepsStepped lim ts t x) → (b ≡ false → KeepsStepped lim ts t y)
       → KeepsStepped lim ts t (cond b x y)
   stepped_cond true x y f h = f refl
   stepped_cond false x y f h = h refl
-
-  -- a token more behind pieces
-  pushed : (xs : Pieces) (P Q : List Token → Type 0) → (b : Behind xs P ts) → Q (b.back ++ t ∷ []) → Behind xs Q (ts ++ t ∷ [])
-  pushed xs P Q b q = record {
-    front = b.front;
-    back = b.back ++ t ∷ [];
-    is = ap (λ z. z ++ t ∷ []) b.is ∙ append_assoc b.front b.back (t ∷ []);
-    stands = b.stands;
-    rest = q;
-  }
 
   -- levels
   true_inner : (s : Frames) (d : ℕ) → inner s + d ≤ lim + 1 → ((1 + length s) + 1) + d ≤ lim + 1
@@ -77,14 +64,13 @@ module _ (lim : ℕ) (ts : List Token) (t : Token) where
   value_by_keeps : (ps : Parts) (s : Frames) (p : Place) (r : Reading) (m : Read) → OkParts lim ps → OkFrames lim s
       → (b : Behind (lay_base ps s) (λ us. At lim (site 0 (inner s)) r us × StartsAt p us) ts)
       → KeepsRead lim (site 0 (inner s)) b.back t mark.Semicolon m → KeepsStepped lim ts t (spec.value_by ps s p m)
-  unfolding pushed
   value_by_keeps ps s p r (read.Goes q reach) o f b h =
-      goes ps s (step.Value p q) reach o f (λ z. pushed (lay_base ps s) _ _ b (h z, starts-more p b.back (t ∷ []) b.rest.1))
+      goes ps s (step.Value p q) reach o f (λ z. pushed ts t (lay_base ps s) _ _ b (h z, starts-more p b.back (t ∷ []) b.rest.1))
   value_by_keeps ps s p r (read.Done e) o f b h =
       goes ps s (step.Whole (stmt.Expr p e)) 0 o f (λ z. record {
         stands = subst (λ x. Stand (lay_base ps s ++ x) (ts ++ t ∷ [])) (sym (stmt_Expr Pieces Pieces lay_part_step lay_stmt_step p e))
             (behind_all (lay_base ps s) (at p (lay_expr e ++ semicolon)) _ (ts ++ t ∷ [])
-            (pushed (lay_base ps s) _ (λ us. StartsAt p us) b (starts-more p b.back (t ∷ []) b.rest.1))
+            (pushed ts t (lay_base ps s) _ (λ us. StartsAt p us) b (starts-more p b.back (t ∷ []) b.rest.1))
             (at_stands p (lay_expr e ++ semicolon) (b.back ++ t ∷ []) (starts-more p b.back (t ∷ []) b.rest.1)
             (stand-append (lay_expr e) semicolon b.back (t ∷ []) h.0.stands (one t (token.Mark mark.Semicolon) h.1))));
         part = inr (value p e h.0.ranked);
@@ -104,7 +90,7 @@ module _ (lim : ℕ) (ts : List Token) (t : Token) where
       → (b : OkBehind lim s (lay_base ps s ++ word_at p word.Return) (At lim (site 0 (inner s)) r) ts)
       → KeepsMaybe lim (site 0 (inner s)) b.behind.back t mark.Semicolon m → KeepsStepped lim ts t (spec.returned_by ps s p m)
   returned_by_keeps ps s p r (maybe.Goes q reach) o f b h =
-      goes ps s (step.Return p q) reach o f (λ z. record { behind = pushed (lay_base ps s ++ word_at p word.Return) _ _ b.behind (h z); room = b.room })
+      goes ps s (step.Return p q) reach o f (λ z. record { behind = pushed ts t (lay_base ps s ++ word_at p word.Return) _ _ b.behind (h z); room = b.room })
   returned_by_keeps ps s p r (maybe.Done e) o f b h =
       goes ps s (step.Whole (stmt.Return p e)) 0 o f (λ z. record {
         stands = subst (λ x. Stand (lay_base ps s ++ x) (ts ++ t ∷ [])) (sym (stmt_Return Pieces Pieces lay_part_step lay_stmt_step p e))
@@ -127,11 +113,10 @@ module _ (lim : ℕ) (ts : List Token) (t : Token) where
   local_by_keeps : (ps : Parts) (s : Frames) (p : Place) (d : Declaration) (m : Declared) → OkParts lim ps → OkFrames lim s → is_in_block s ≡ true
       → (b : OkBehind lim s (lay_base ps s) (λ us. OkDeclaration lim (inner s) d us × StartsAt p us) ts)
       → KeepsDeclared lim (inner s) b.behind.back t m → KeepsStepped lim ts t (spec.local_by ps s p m)
-  unfolding pushed
   local_by_keeps ps s p d (declared_.Goes q reach) o f i b h =
       goes ps s (step.Local p q) reach o f (λ z. (
         record {
-          behind = pushed (lay_base ps s) _ _ b.behind (h z, starts-more p b.behind.back (t ∷ []) b.behind.rest.1);
+          behind = pushed ts t (lay_base ps s) _ _ b.behind (h z, starts-more p b.behind.back (t ∷ []) b.behind.rest.1);
           room = b.room;
         },
         i,
@@ -140,7 +125,7 @@ module _ (lim : ℕ) (ts : List Token) (t : Token) where
       goes ps s (step.Whole (stmt.Declare p specs list)) 0 o f (λ z. record {
         stands = subst (λ x. Stand (lay_base ps s ++ x) (ts ++ t ∷ [])) (sym (stmt_Declare Pieces Pieces lay_part_step lay_stmt_step p specs list))
             (behind_all (lay_base ps s) (at p (lay_declaration specs list)) _ (ts ++ t ∷ [])
-            (pushed (lay_base ps s) _ (λ us. StartsAt p us) b.behind (starts-more p b.behind.back (t ∷ []) b.behind.rest.1))
+            (pushed ts t (lay_base ps s) _ (λ us. StartsAt p us) b.behind (starts-more p b.behind.back (t ∷ []) b.behind.rest.1))
             (at_stands p (lay_declaration specs list) (b.behind.back ++ t ∷ []) (starts-more p b.behind.back (t ∷ []) b.behind.rest.1) h.stands));
         part = inl (a_declaration p specs list h.ranked, i);
         shut = stmt_Declare (Unit {0}) Bool ends_open_part ends_open_step p specs list;
@@ -368,7 +353,7 @@ module _ (lim : ℕ) (ts : List Token) (t : Token) where
       → (b : Behind (lay_base ps s ++ (lay_tested x ++ left_paren)) (At lim (site 0 (inner s)) r) ts)
       → KeepsRead lim (site 0 (inner s)) b.back t mark.RightParen m → KeepsStepped lim ts t (spec.test_by ps s x m)
   test_by_keeps ps s x r (read.Goes q reach) o f h b k =
-      goes ps s (step.Test x q) reach o f (λ z. (pushed (lay_base ps s ++ (lay_tested x ++ left_paren)) _ _ b (k z), h))
+      goes ps s (step.Test x q) reach o f (λ z. (pushed ts t (lay_base ps s ++ (lay_tested x ++ left_paren)) _ _ b (k z), h))
   test_by_keeps ps s x r (read.Done e) o f h b k =
       test_done_keeps ps s x e o f h (k.0.ranked, true_inner s (expr_depth e) k.0.within)
       (three (lay_base ps s) (lay_tested x) left_paren (lay_expr e ++ plain (the_mark mark.RightParen)) (ts ++ t ∷ [])
@@ -559,7 +544,7 @@ module _ (lim : ℕ) (ts : List Token) (t : Token) where
       → (b : OkBehind lim s (lay_base ps s ++ For_at p) (At lim (site 0 (inner s)) r) ts)
       → KeepsMaybe lim (site 0 (inner s)) b.behind.back t mark.Semicolon m → KeepsStepped lim ts t (spec.start_by ps s p m)
   start_by_keeps ps s p r (maybe.Goes q reach) o f b h =
-      goes ps s (step.Start p q) reach o f (λ z. record { behind = pushed (lay_base ps s ++ For_at p) _ _ b.behind (h z); room = b.room })
+      goes ps s (step.Start p q) reach o f (λ z. record { behind = pushed ts t (lay_base ps s ++ For_at p) _ _ b.behind (h z); room = b.room })
   start_by_keeps ps s p r (maybe.Done v) o f b h =
       second_begins_keeps ps s p (spec.first_of v) o f b.room
       (subst (λ y. Stand ((lay_base ps s ++ For_at p) ++ y) (ts ++ t ∷ [])) (sym (first_laid v))
@@ -603,12 +588,11 @@ module _ (lim : ℕ) (ts : List Token) (t : Token) where
   for_declares_by_keeps : (ps : Parts) (s : Frames) (p : Place) (d : Declaration) (m : Declared) → OkParts lim ps → OkFrames lim s
       → (b : OkBehind lim s (lay_base ps s ++ For_at p) (OkDeclaration lim (inner s) d) ts)
       → KeepsDeclared lim (inner s) b.behind.back t m → KeepsStepped lim ts t (spec.for_declares_by ps s p m)
-  unfolding pushed
   for_declares_by_keeps ps s p d (declared_.Goes q reach) o f b h =
-      goes ps s (step.Declares p q) reach o f (λ z. record { behind = pushed (lay_base ps s ++ For_at p) _ _ b.behind (h z); room = b.room })
+      goes ps s (step.Declares p q) reach o f (λ z. record { behind = pushed ts t (lay_base ps s ++ For_at p) _ _ b.behind (h z); room = b.room })
   for_declares_by_keeps ps s p d (declared_.Done specs list) o f b h =
       second_begins_keeps ps s p (first.Declare specs list) o f b.room
-      (behind_all (lay_base ps s ++ For_at p) (lay_declaration specs list) (λ us. Unit {0}) (ts ++ t ∷ []) (pushed (lay_base ps s ++ For_at p) _ (λ us. Unit {0}) b.behind tt) h.stands)
+      (behind_all (lay_base ps s ++ For_at p) (lay_declaration specs list) (λ us. Unit {0}) (ts ++ t ∷ []) (pushed ts t (lay_base ps s ++ For_at p) _ (λ us. Unit {0}) b.behind tt) h.stands)
       (h.ranked, true_inner s (declarators_depth list) h.within)
   for_declares_by_keeps ps s p d declared_.Refused o f b h = tt
 
@@ -617,7 +601,7 @@ module _ (lim : ℕ) (ts : List Token) (t : Token) where
       → RankedFirst start × (((1 + length s) + 1) + first_depth start ≤ lim + 1)
       → KeepsMaybe lim (site 0 (inner s)) b.behind.back t mark.Semicolon m → KeepsStepped lim ts t (spec.second_by ps s p start m)
   second_by_keeps ps s p start r (maybe.Goes q reach) o f b k h =
-      goes ps s (step.Second p start q) reach o f (λ z. (record { behind = pushed ((lay_base ps s ++ For_at p) ++ lay_first start) _ _ b.behind (h z); room = b.room }, k))
+      goes ps s (step.Second p start q) reach o f (λ z. (record { behind = pushed ts t ((lay_base ps s ++ For_at p) ++ lay_first start) _ _ b.behind (h z); room = b.room }, k))
   second_by_keeps ps s p start r (maybe.Done v) o f b k h =
       goes ps s (step.Third p start v (begin 0 (inner s))) 0 o f (λ z. (
         record {
@@ -649,7 +633,7 @@ module _ (lim : ℕ) (ts : List Token) (t : Token) where
   third_by_keeps ps s p start test r (maybe.Goes q reach) o f b k q2 h =
       goes ps s (step.Third p start test q) reach o f (λ z. (
         record {
-          behind = pushed ((lay_base ps s ++ For_at p) ++ (lay_first start ++ (lay_option test ++ semicolon))) _ _ b.behind (h z);
+          behind = pushed ts t ((lay_base ps s ++ For_at p) ++ (lay_first start ++ (lay_option test ++ semicolon))) _ _ b.behind (h z);
           room = b.room;
         },
         k,
@@ -701,7 +685,7 @@ module _ (lim : ℕ) (ts : List Token) (t : Token) where
       → (r : Reading) (b : Behind (lay_base ps s ++ word_at p word.Case) (At lim (site 2 (level s)) r) ts)
       → KeepsRead lim (site 2 (level s)) b.back t mark.Colon m → KeepsStepped lim ts t (spec.case_by ps s p m)
   case_by_keeps ps s p (read.Goes q reach) o f i r b h =
-      goes ps s (step.Case p q) reach o f (λ z. (pushed (lay_base ps s ++ word_at p word.Case) _ _ b (h z), i))
+      goes ps s (step.Case p q) reach o f (λ z. (pushed ts t (lay_base ps s ++ word_at p word.Case) _ _ b (h z), i))
   case_by_keeps ps s p (read.Done e) o f i r b h =
       labelled_keeps ps (part_.Case p e) o s i f (case_label p e [] h.0.ranked no_labels)
       (λ z. omega (arith, h.0.within, part_Case ℕ ℕ part_depth_step stmt_depth_step p e))

@@ -1,17 +1,14 @@
 -- What the soundness of a function's block rests on: parts that grow, pieces of what is open, and which tokens pass a test.
-use Rattle.std.proofs.Common.{◌≡◌, true, false, List, [], ◌∷◌, ◌++◌, refl, sym, subst, append_assoc}
+use Rattle.std.proofs.Common.{◌≡◌, true, List, [], ◌∷◌, ◌++◌, refl, sym, subst, append_assoc}
 use Rattle.k_reader.specs.Types.{Token, TokenKind, Stmt, Frame}
 use Rattle.k_tree.specs.declared.tokens.TokenKind.TheVariants as token
 use Rattle.k_tree.specs.declared.tokens.mark.Mark.TheVariants as mark
 use Rattle.k_tree.specs.declared.tokens.word.Word.TheVariants as word
 use Rattle.k_tree.specs.Places.{lay_stmts, Stand}
 use Rattle.k_tree.specs.Ranked.{RankedParts, no_parts, statement, declaration}
-use Rattle.k_reader.specs.Expressions.{is_left_paren}
 use Rattle.k_reader.specs.Statements.{Parts, Frames, is_else, is_while, is_brace}
 use Rattle.k_reader.proofs.StatementState.{lay_frame, lay_frames, lay_base, IsPart, a_stmt, a_declaration}
-
-false_true : false ≡ true → ⊥
-false_true z = cc
+use Rattle.k_reader.proofs.Marks.{false_true}
 
 -- one part more
 pub parts_push : (ps : Parts) (x : Stmt) → RankedParts ps → IsPart x → RankedParts (ps ++ x ∷ [])
@@ -25,10 +22,6 @@ base_open ps f s us st = subst (λ x. Stand x us) (sym (append_assoc (lay_stmts 
 
 pub base_close : (ps : Parts) (f : Frame) (s : Frames) (us : List Token) → Stand (lay_base ps s ++ lay_frame f) us → Stand (lay_base ps (f ∷ s)) us
 base_close ps f s us st = subst (λ x. Stand x us) (append_assoc (lay_stmts ps) (lay_frames s) (lay_frame f)) st
-
-pub left_paren_is : (k : TokenKind) → is_left_paren k ≡ true → k ≡ token.Mark mark.LeftParen
-left_paren_is (token.Mark mark.LeftParen) h = refl
-left_paren_is _ h = absurd (false_true h)
 
 pub else_is : (k : TokenKind) → is_else k ≡ true → k ≡ token.Word word.Else
 else_is (token.Word word.Else) h = refl

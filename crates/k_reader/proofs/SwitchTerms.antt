@@ -1,5 +1,5 @@
 -- The braces of a `switch`: which constructs they are, and how one more part stands in them.
-use Rattle.std.proofs.Common.{◌≡◌, true, false, List, [], ◌∷◌, ◌++◌, Some, None, sym, ◌∙◌, ap, subst, append_assoc}
+use Rattle.std.proofs.Common.{◌≡◌, true, List, [], ◌∷◌, ◌++◌, Some, None, sym, ◌∙◌, ap, subst, append_assoc}
 use Rattle.std.proofs.lemmas.List.Elements.{All-head, All-cons}
 use Rattle.k_reader.specs.Types.{Place, Token, Expr, Stmt, Part, Frame}
 use Rattle.k_tree.specs.declared.tokens.word.Word.TheVariants as word
@@ -14,9 +14,7 @@ use Rattle.k_reader.specs.declared.statement.Frame.TheVariants as frame
 use Rattle.k_reader.proofs.Rows.{row_push}
 use Rattle.k_reader.proofs.ExpressionTerms.{five}
 use Rattle.k_reader.proofs.StatementState.{word_at, left_brace, semicolon, lay_frame, lay_frames, lay_base}
-
-false_true : false ≡ true → ⊥
-false_true z = cc
+use Rattle.k_reader.proofs.Marks.{false_true}
 
 -- what is true right in the braces of each `switch` is true where a label may stand
 pub switch_split : (P : Frames → Type 0) → ((p : Place) (e : Expr) (parts : List Part) (s : Frames) → P (frame.Switch p e parts ∷ s))

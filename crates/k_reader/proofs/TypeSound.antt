@@ -22,6 +22,7 @@ use Rattle.k_reader.specs.declared.expression.Fed.TheVariants as fed
 use Rattle.k_reader.proofs.ExpressionState.{lay_opens, OkOpen, ok_cast, ok_sizeof, lev, ValidNow, Inv, Keeps}
 use Rattle.k_reader.proofs.ExpressionTerms.{one, stand-more, regroup, and_left, and_right}
 use Rattle.k_reader.proofs.OperandSound.{cond_keeps}
+use Rattle.k_reader.proofs.Rows.{no_items}
 
 -- spellings of stars
 pub stars_more : (xs : List Bool) (b : Bool) → spell_stars (xs ++ b ∷ []) ≡ spell_stars xs ++ spell_star b
@@ -49,13 +50,9 @@ const_spelled specs stars h =
     ap (λ z. spell_specs specs ++ z) (stars_const stars.done ∙ ap (λ z. spell_stars z ++ the_word word.Const) (sym (pending_stars stars h)))
     ∙ sym (append_assoc (spell_specs specs) (spell_stars (all_stars stars)) (the_word word.Const))
 
-none_done : {A : Type 0} (xs : List A) → length xs ≡ 0 → xs ≡ []
-none_done [] h = refl
-none_done (x ∷ xs) h = absurd (omega (arith, h))
-
 pub no_stars_yet : (stars : Stars) → stars.pending ≡ false → nat_eq (length stars.done) 0 ≡ true → all_stars stars ≡ []
 no_stars_yet stars h k =
-    ap (λ b. cond b (stars.done ++ false ∷ []) stars.done) h ∙ none_done stars.done (eqb-true (length stars.done) 0 k)
+    ap (λ b. cond b (stars.done ++ false ∷ []) stars.done) h ∙ no_items stars.done (eqb-true (length stars.done) 0 k)
 
 pub spec_spelled : (specs : List Word) (stars : Stars) (w : Word) → all_stars stars ≡ []
     → spell_type (specs ++ w ∷ []) (all_stars stars) ≡ spell_type specs (all_stars stars) ++ the_word w

@@ -18,7 +18,7 @@ use Rattle.k_reader.specs.Expressions.{Opens, goes, level, hole, term, valued, t
 use Rattle.k_reader.specs.Expressions as spec
 use Rattle.k_reader.specs.declared.expression.Open.TheVariants as open_
 use Rattle.k_reader.specs.declared.expression.ExpressionStage.TheVariants as now
-use Rattle.k_reader.proofs.Marks.{Infix, Kind, kind_of, infix_kind, question, bracket, step, no_operator}
+use Rattle.k_reader.proofs.Marks.{Infix, Kind, kind_of, infix_kind, question, bracket, step, no_operator, false_true, left_paren_is}
 use Rattle.k_reader.proofs.ExpressionState.{lay_args, lay_open, lay_opens, Fits, OkOpen, ok_infix, ok_then, ok_other, ok_cast, ok_prefix, ok_sizeof, ok_paren, ok_index, ok_call, lev, Valid, Inv, IsRead, Keeps}
 use Rattle.k_reader.proofs.ExpressionTerms.{one_at, one, stand-more, regroup, three, four, five, fits_two, fits_one, ranked_as, infix_ranked, infix_laid, infix_deep, and_left, and_right}
 use Rattle.k_reader.proofs.OperandSound.{hole_small, cond_keeps}
@@ -122,9 +122,6 @@ module _ (lim : ℕ) (g : Site) (ts : List Token) (t : Token) where
       open_keeps s (open_.Index t.place a) (plus (level g s) a.height)
       (λ z. stand-more (lay_opens s) (lay_expr a.tree) _ ts (t ∷ []) r.stands (one_at t (token.Mark mark.LeftBracket) e))
       (λ z. ok_index t.place a (hole_small lim g s r.opens) f.1 (sunk lim g s a r.state.1 z)) r.opens
-
-  false_true : false ≡ true → ⊥
-  false_true z = cc
 
   no_step : (op : Mark) → IsTrue (is_step op) → is_step_mark op ≡ false → ⊥
   unfolding is_step_mark
@@ -434,10 +431,6 @@ module _ (lim : ℕ) (g : Site) (ts : List Token) (t : Token) where
       (λ z. stand-more (lay_opens s) (at p (plain (the_name x))) _ ts (t ∷ []) i.stands (one t (token.Mark mark.LeftParen) e))
       (λ z. ok_call p x [] 0 (hole_small lim g s i.opens) no_args refl i.state (omega (arith, i.state))) i.opens
 
-  left_paren : (k : TokenKind) → is_left_paren k ≡ true → k ≡ token.Mark mark.LeftParen
-  left_paren (token.Mark mark.LeftParen) h = refl
-  left_paren _ h = absurd (false_true h)
-
   name_reads : (s : Opens) (p : Place) (x : List ℕ) → Inv lim g s (now.Named p x) ts → Reads s (term (expr.Name p x) 16 1)
   name_reads s p x i = record {
     stands = subst (λ y. Stand (lay_opens s ++ y) ts) (sym (expr_Name Pieces lay_expr_step p x)) i.stands;
@@ -455,5 +448,5 @@ module _ (lim : ℕ) (g : Site) (ts : List Token) (t : Token) where
   pub named_keeps : (s : Opens) (p : Place) (x : List ℕ) → Inv lim g s (now.Named p x) ts → Keeps lim g ts t (named g s p x t)
   unfolding named
   named_keeps s p x i =
-      cond_keeps lim g ts t (is_left_paren t.what) _ _ (λ h. call_opens s p x (left_paren t.what h) i)
+      cond_keeps lim g ts t (is_left_paren t.what) _ _ (λ h. call_opens s p x (left_paren_is t.what h) i)
       (λ h. value_keeps s (term (expr.Name p x) 16 1) (name_reads s p x i))
