@@ -2,11 +2,12 @@
 use Rattle.std.proofs.Common.{ℕ, ◌≡◌, ◌<◌, List, [], ◌∷◌, ◌++◌, Ok, Err, inl, inr, refl, sym, ap, subst, ◌∙◌, append_assoc, arith}
 use Rattle.std.specs.Prelude.{◌⊎◌, Result}
 use Rattle.std.proofs.lemmas.List.{map-append, append-nil}
-use Rattle.k_reader.specs.Types.{Token, ParseFault}
+use Rattle.k_reader.specs.Types.{Token}
+use Rattle.k_parse.specs.declared.fault.ParseFault.{ParseFault}
 use Rattle.k_tree.specs.declared.tree.unit.Unit as source
 use Rattle.k_tree.specs.Count.{unit_count}
-use Rattle.k_reader.specs.Beginnings.{kinds, Begins, IsRefusalAt, IsFirstWrong}
-use Rattle.k_reader.specs.declared.whole.ParseFault.TheVariants as fault
+use Rattle.k_parse.specs.Beginnings.{kinds, Begins, IsRefusalAt, IsFirstWrong}
+use Rattle.k_parse.specs.declared.fault.ParseFault.TheVariants as fault
 use Rattle.k_parse.specs.Parse.{IsTreeOf, IsRefused, IsParse, nesting_limit}
 use Rattle.k_parse.proofs.Trees.{placed_spells, one_tree}
 

@@ -10,7 +10,7 @@ use Rattle.k_tree.specs.Spelling.{spelling}
 use Rattle.k_tree.proofs.Bounds.{unit_bound}
 use Rattle.k_tree.proofs.Laid.{unit_spelled}
 use Rattle.k_tree.proofs.Standing.{stand-kinds}
-use Rattle.k_reader.specs.Beginnings.{kinds}
+use Rattle.k_parse.specs.Beginnings.{kinds}
 use Rattle.k_reader.proofs.CompleteSources.{source_spelled_once}
 use Rattle.k_parse.specs.Parse.{IsTreeOf, IsOnly, IsOne}
 use Rattle.k_parse.proofs.ReplacedUnit.{placed_alone}

@@ -3,10 +3,10 @@ use Rattle.std.proofs.Common.{ℕ, suc, ◌≡◌, ◌+◌, ◌<◌, ◌≤◌, 
 use Rattle.std.proofs.lemmas.Bool.{lt-leb}
 use Rattle.k_reader.specs.Types.{Token, Source, Sourced}
 use Rattle.k_tree.specs.declared.tree.unit.Unit as source
-use Rattle.k_reader.specs.Runs.{Outcome, next, runs}
+use Rattle.k_parse.specs.Runs.{Outcome, next, runs}
 use Rattle.k_reader.specs.Sources.{feed_source}
 use Rattle.k_reader.specs.declared.source.Sourced.TheVariants as sourced
-use Rattle.k_reader.specs.declared.whole.ParseFault.TheVariants as fault
+use Rattle.k_parse.specs.declared.fault.ParseFault.TheVariants as fault
 use Rattle.k_parse.specs.Parse.{nesting_limit}
 
 -- the token at an index is the first of the rest

@@ -40,10 +40,7 @@ module _ (lim : ℕ) (g : Site) where
   cond_stays b x y h k = cond_both b x y (Stays lim g) h k
 
   deeper : (s : Opens) → plus (level g s) 1 ≤ lim → lev g s + 1 ≤ lim
-  deeper s le = more lim g.level (length s) le
-    where
-      more : (lim n l : ℕ) → plus (plus n l) 1 ≤ lim → n + l + 1 ≤ lim
-      more lim n l h le = omega (arith, h, le)
+  deeper s le = omega (arith, le)
 
   -- the first token of an operand
 

@@ -1,5 +1,5 @@
 -- Small laws of what was read of an expression: tokens that stand, ranks, heights.
-use Rattle.std.proofs.Common.{ℕ, suc, ◌≡◌, ◌+◌, ◌≤◌, Bool, true, false, ◌&&◌, List, [], ◌∷◌, ◌++◌, refl, sym, ◌∙◌, ap, subst, arith, append_assoc}
+use Rattle.std.proofs.Common.{ℕ, suc, ◌≡◌, ◌+◌, ◌≤◌, Bool, true, false, ◌&&◌, List, [], ◌∷◌, ◌++◌, refl, ◌∙◌, ap, subst, arith, append_assoc}
 use Rattle.std.specs.Prelude.{max}
 use Rattle.std.proofs.lemmas.List.Elements.{All-nil, All-cons}
 use Rattle.k_reader.specs.Types.{Place, Token, TokenKind, Mark, Expr, Term}
@@ -10,7 +10,7 @@ use Rattle.k_tree.specs.Ranked.{Ranked, comma, assignment, binary}
 use Rattle.k_tree.specs.Spelling.{the_mark}
 use Rattle.k_tree.proofs.Ranks.{lower}
 use Rattle.k_tree.proofs.Standing.{stand-append}
-use Rattle.k_reader.specs.Level.{plus, above}
+use Rattle.k_reader.specs.Level.{above}
 use Rattle.k_reader.specs.Expressions.{infix_tree, term}
 use Rattle.k_reader.proofs.Marks.{Infix, is_comma, is_assign, is_binary}
 use Rattle.k_reader.proofs.ExpressionState.{Fits}
@@ -40,31 +40,20 @@ pub five : (xs a b c d e : Pieces) (ts : List Token) → Stand ((xs ++ (a ++ (b 
 five xs a b c d e ts h =
     subst (λ z. Stand z ts) (ap (λ z. xs ++ (a ++ (b ++ z))) (append_assoc c d e)) (four xs a b (c ++ d) e ts h)
 
--- a level that a machine's number holds, and that is within a limit, is the level itself
-pub true_level : (lim a b : ℕ) → plus a b ≤ lim → a + b ≤ lim
-true_level lim a b h le = omega (arith, h, le)
-
--- levels below two parts
-pub true_above : (lim l a b x y : ℕ) → a ≡ x → b ≡ y → (l + 1) + x ≤ lim + 1 → (l + 1) + y ≤ lim + 1 → above a b ≡ 1 + max x y
-true_above lim l a b x y h p q i j = omega (arith, h, p, q, i, j)
-
-pub true_over : (lim l a x : ℕ) → a ≡ x → (l + 1) + x ≤ lim + 1 → above a 0 ≡ 1 + x
-true_over lim l a x h p i = omega (arith, h, p, i)
-
 pub fits_two : (lim l rank : ℕ) (e : Expr) (a b : Term) → Ranked rank e
     → expr_depth e ≡ 1 + max (expr_depth a.tree) (expr_depth b.tree)
     → Fits lim (l + 1) a → Fits lim (l + 1) b → Fits lim l (term e rank (above a.height b.height))
-fits_two lim l rank e a b h r d fa fb = record {
+fits_two lim l rank e a b r d fa fb = record {
   ranked = r;
-  height = true_above lim l a.height b.height (expr_depth a.tree) (expr_depth b.tree) h fa.height fb.height fa.within fb.within ∙ sym d;
+  height = omega (arith, d, fa.height, fb.height);
   within = omega (arith, d, fa.within, fb.within);
 }
 
 pub fits_one : (lim l rank : ℕ) (e : Expr) (a : Term) → Ranked rank e → expr_depth e ≡ 1 + expr_depth a.tree
     → Fits lim (l + 1) a → Fits lim l (term e rank (above a.height 0))
-fits_one lim l rank e a h r d fa = record {
+fits_one lim l rank e a r d fa = record {
   ranked = r;
-  height = true_over lim l a.height (expr_depth a.tree) h fa.height fa.within ∙ sym d;
+  height = omega (arith, d, fa.height);
   within = omega (arith, d, fa.within);
 }
 

@@ -15,7 +15,6 @@ pub mod CompleteParameters
 pub mod CompletePrefixes
 pub mod CompleteReadings
 pub mod CompleteRows
-pub mod CompleteRuns
 pub mod CompleteSources
 pub mod CompleteStatements
 pub mod CompleteSteps
@@ -32,7 +31,6 @@ pub mod ExpressionSound
 pub mod ExpressionState
 pub mod ExpressionTerms
 pub mod ExpressionViable
-pub mod FirstWrong
 pub mod InitialiserSound
 pub mod Marks
 pub mod OperandSound
@@ -43,7 +41,6 @@ pub mod ReadingSound
 pub mod ReadingViable
 pub mod Ranks
 pub mod Rows
-pub mod RunSound
 pub mod Runs
 pub mod SourceSound
 pub mod SourceViable

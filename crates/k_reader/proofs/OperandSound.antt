@@ -20,7 +20,7 @@ use Rattle.k_reader.specs.declared.expression.ExpressionStage.TheVariants as now
 use Rattle.k_reader.specs.declared.expression.Fed.TheVariants as fed
 use Rattle.k_reader.proofs.Marks.{is_open_mark, is_close_mark, Infix, is_comma, is_assign, is_binary}
 use Rattle.k_reader.proofs.ExpressionState.{lay_opens, ok_infix, ok_then, ok_other, ok_cast, ok_prefix, ok_sizeof, ok_paren, ok_index, ok_call, Valid, Keeps}
-use Rattle.k_reader.proofs.ExpressionTerms.{one_at, one, stand-more, true_level, and_left, and_right}
+use Rattle.k_reader.proofs.ExpressionTerms.{one_at, one, stand-more, and_left, and_right}
 
 -- the right operand of an infix operator has a rank up to 13
 infix_right : (op : Mark) (left own right : ℕ) → Infix op left own right → own ≤ 12 → right ≤ 14
@@ -69,7 +69,7 @@ module _ (lim : ℕ) (g : Site) (ts : List Token) (t : Token) where
         record {
           ranked = r;
           height = sym d;
-          within = omega (arith, d, true_level lim g.level (length s) reach);
+          within = omega (arith, d, reach);
         },
       );
     },
@@ -154,7 +154,7 @@ module _ (lim : ℕ) (g : Site) (ts : List Token) (t : Token) where
     refl,
     record {
       stands = stand-append (lay_opens s) _ ts (t ∷ []) st (one_at t (token.Word word.Sizeof) (e ∙ ap token.Word (is_sizeof_word w h)));
-      opens = (ok_sizeof t.place (hole_small lim g s v) (true_level lim g.level (length s) reach), v);
+      opens = (ok_sizeof t.place (hole_small lim g s v) reach, v);
       state = tt;
     },
   )
@@ -187,7 +187,7 @@ module _ (lim : ℕ) (g : Site) (ts : List Token) (t : Token) where
     record {
       stands = stand-append (lay_opens s) _ ts (t ∷ []) st (one_at t (token.Name x) e);
       opens = v;
-      state = true_level lim g.level (length s) reach;
+      state = reach;
     },
   )
   kind_keeps s (token.Number kind n) e st v =

@@ -15,16 +15,10 @@ use Rattle.k_reader.proofs.ExpressionReach.{Reached, Stays, feed_stays}
 
 module _ (lim : ℕ) (g : Site) where
   at_level : level g [] ≤ lim → g.level ≤ lim
-  at_level le = same g.level lim le
-    where
-      same : (n lim : ℕ) → plus n 0 ≤ lim → n ≤ lim
-      same n lim h le = omega (arith, h, le)
+  at_level le = omega (arith, le)
 
   one_down : plus (level g []) 1 ≤ lim → g.level + 0 + 1 ≤ lim
-  one_down le = more g.level lim le
-    where
-      more : (n lim : ℕ) → plus (plus n 0) 1 ≤ lim → n + 0 + 1 ≤ lim
-      more n lim h le = omega (arith, h, le)
+  one_down le = omega (arith, le)
 
   up : g.level + 0 + 1 ≤ lim → g.level ≤ lim
   up le = omega arith

@@ -270,29 +270,29 @@ behind_stays lim ps (f ∷ s) x t h =
 step_stays : (lim : ℕ) → (ps : Parts) (s : Frames) (n : BlockStage) (t : Token) → FramesReached lim s → StepReached lim s n
     → BodyStays lim (spec.step_fed ps s n t)
 unfolding spec.value spec.test spec.returned spec.local spec.in_for spec.start spec.for_declares spec.second spec.third spec.in_switch spec.case_value
-step_stays lim l ps s step.Begins t h k = begins_stays lim l ps s t h
-step_stays lim l ps s (step.Whole x) t h k = behind_stays lim l ps s x t h
-step_stays lim l ps s (step.Value p r) t h k =
-    value_stays lim l ps s p (read_needed r t closer.Semicolon) h (needed_stays lim l r t closer.Semicolon (λ e. k))
-step_stays lim l ps s (step.Keyword x) t h k = opened_stays lim l ps s x t h k
-step_stays lim l ps s (step.Test x r) t h k =
-    test_stays lim l ps s x (read_needed r t closer.Paren) h k.0 (needed_stays lim l r t closer.Paren (λ e. k.1))
-step_stays lim l ps s (step.Semicolon x) t h k = semicolon_stays lim l ps s x t h
-step_stays lim l ps s (step.Return p r) t h k =
-    returned_stays lim l ps s p (read_maybe r t closer.Semicolon) h (maybe_stays lim l r t closer.Semicolon k)
-step_stays lim l ps s (step.Local p d) t h k = local_stays lim l ps s p (feed_declaration d t) h (declaration_stays lim l d t k)
-step_stays lim l ps s (step.For p) t h k = for_opened_stays lim l ps s p t h k
-step_stays lim l ps s (step.Start p r) t h k = start_stays lim l ps s p r t (spec.specifier r t) h k.0 k.1
-step_stays lim l ps s (step.Declares p d) t h k =
-    for_declares_stays lim l ps s p (feed_declaration d t) h k.0 (declaration_stays lim l d t k.1)
-step_stays lim l ps s (step.Second p start r) t h k =
-    second_stays lim l ps s p start (read_maybe r t closer.Semicolon) h k.0 (maybe_stays lim l r t closer.Semicolon (λ e. k.1))
-step_stays lim l ps s (step.Third p start test r) t h k =
-    third_stays lim l ps s p start test (read_maybe r t closer.Paren) h k.0 (maybe_stays lim l r t closer.Paren (λ e. k.1))
-step_stays lim l ps s (step.Braces p e) t h k = braces_stays lim l ps s p e t h
-step_stays lim l ps s (step.Case p r) t h k =
-    case_stays lim l ps s p (read_needed r t closer.Colon) h (needed_stays lim l r t closer.Colon (λ e. k))
-step_stays lim l ps s (step.Default p) t h k = default_stays lim l ps s p t h
+step_stays lim ps s step.Begins t h k = begins_stays lim ps s t h
+step_stays lim ps s (step.Whole x) t h k = behind_stays lim ps s x t h
+step_stays lim ps s (step.Value p r) t h k =
+    value_stays lim ps s p (read_needed r t closer.Semicolon) h (needed_stays lim r t closer.Semicolon (λ e. k))
+step_stays lim ps s (step.Keyword x) t h k = opened_stays lim ps s x t h k
+step_stays lim ps s (step.Test x r) t h k =
+    test_stays lim ps s x (read_needed r t closer.Paren) h k.0 (needed_stays lim r t closer.Paren (λ e. k.1))
+step_stays lim ps s (step.Semicolon x) t h k = semicolon_stays lim ps s x t h
+step_stays lim ps s (step.Return p r) t h k =
+    returned_stays lim ps s p (read_maybe r t closer.Semicolon) h (maybe_stays lim r t closer.Semicolon k)
+step_stays lim ps s (step.Local p d) t h k = local_stays lim ps s p (feed_declaration d t) h (declaration_stays lim d t k)
+step_stays lim ps s (step.For p) t h k = for_opened_stays lim ps s p t h k
+step_stays lim ps s (step.Start p r) t h k = start_stays lim ps s p r t (spec.specifier r t) h k.0 k.1
+step_stays lim ps s (step.Declares p d) t h k =
+    for_declares_stays lim ps s p (feed_declaration d t) h k.0 (declaration_stays lim d t k.1)
+step_stays lim ps s (step.Second p start r) t h k =
+    second_stays lim ps s p start (read_maybe r t closer.Semicolon) h k.0 (maybe_stays lim r t closer.Semicolon (λ e. k.1))
+step_stays lim ps s (step.Third p start test r) t h k =
+    third_stays lim ps s p start test (read_maybe r t closer.Paren) h k.0 (maybe_stays lim r t closer.Paren (λ e. k.1))
+step_stays lim ps s (step.Braces p e) t h k = braces_stays lim ps s p e t h
+step_stays lim ps s (step.Case p r) t h k =
+    case_stays lim ps s p (read_needed r t closer.Colon) h (needed_stays lim r t closer.Colon (λ e. k))
+step_stays lim ps s (step.Default p) t h k = default_stays lim ps s p t h
 
 -- a token within the limit keeps it so
 pub body_stays : (lim : ℕ) → (b : Body) (t : Token) → BodyReached lim b → BodyStays lim (spec.feed_body b t)

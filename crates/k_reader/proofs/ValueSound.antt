@@ -1,5 +1,5 @@
 -- The token behind an operand keeps what was read true.
-use Rattle.std.proofs.Common.{ℕ, ◌≡◌, ◌+◌, ◌≤◌, Bool, true, false, ◌||◌, cond, IsTrue, List, [], ◌∷◌, ◌++◌, map, length, Some, refl, sym, ◌∙◌, ap, subst, arith, nat_le, append_assoc}
+use Rattle.std.proofs.Common.{ℕ, ◌≡◌, ◌+◌, ◌≤◌, Bool, true, false, ◌||◌, cond, IsTrue, List, [], ◌∷◌, ◌++◌, map, Some, refl, sym, ◌∙◌, ap, subst, arith, nat_le, append_assoc}
 use Rattle.std.specs.Prelude.{max}
 use Rattle.std.proofs.lemmas.List.{append-nil}
 use Rattle.std.proofs.lemmas.Bool.{leb-true}
@@ -27,14 +27,11 @@ use Rattle.k_reader.proofs.OperandSound.{hole_small, cond_keeps}
 deeper : (lim : ℕ) (g : Site) (s : Opens) (o : Open) (a : Term) → Fits lim (lev g (o ∷ s)) a → Fits lim (lev g s + 1) a
 deeper lim g s o a f = record { ranked = f.ranked; height = f.height; within = omega (arith, f.within) }
 
-true_reach : (lim x y h d : ℕ) → h ≡ d → plus (plus x y) h ≤ lim → ((x + y) + 1) + d ≤ lim + 1
-true_reach lim x y h d l e r = omega (arith, l, e, r)
-
 sunk : (lim : ℕ) (g : Site) (s : Opens) (a : Term) → Fits lim (lev g s) a → plus (level g s) a.height ≤ lim → Fits lim (lev g s + 1) a
-sunk lim g s a h f r = record {
+sunk lim g s a f r = record {
   ranked = f.ranked;
   height = f.height;
-  within = true_reach lim g.level (length s) a.height (expr_depth a.tree) h f.height r;
+  within = omega (arith, f.height, r);
 }
 
 -- arguments

@@ -5,11 +5,8 @@ pub mod Level
 pub mod Operators
 pub mod Parameters
 pub mod Readings
-pub mod Runs
 pub mod Sources
 pub mod Stars
 pub mod Statements
 pub mod Top
-pub mod Laws
-pub mod Beginnings
 pub mod Types

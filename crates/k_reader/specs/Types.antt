@@ -47,4 +47,3 @@ pub use Rattle.k_reader.specs.declared.statement.Frame.{Frame}
 pub use Rattle.k_reader.specs.declared.statement.Stepped.{Stepped}
 pub use Rattle.k_reader.specs.declared.statement.Tested.{Tested}
 pub use Rattle.k_reader.specs.declared.statement.clause.Fitted.{Fitted}
-pub use Rattle.k_reader.specs.declared.whole.ParseFault.{ParseFault}

@@ -8,7 +8,6 @@
 
 pub mod declaration;
 pub mod expression;
-pub mod laws;
 pub mod level;
 pub mod operators;
 pub mod parameter;
@@ -19,4 +18,3 @@ pub mod stars;
 pub mod statement;
 #[cfg(test)]
 mod tests;
-pub mod whole;

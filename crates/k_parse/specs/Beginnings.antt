@@ -1,11 +1,12 @@
 -- Which token of a list is the first wrong one.
 use Rattle.std.specs.Prelude.{ℕ, ◌≡◌, ◌≤◌, List, [], ◌∷◌, ◌++◌, map}
-use Rattle.k_reader.specs.Types.{Token, ParseFault}
+use Rattle.k_reader.specs.Types.{Token}
+use Rattle.k_parse.specs.declared.fault.ParseFault.{ParseFault}
 use Rattle.k_tree.specs.declared.tree.unit.Unit as source
 use Rattle.k_tree.specs.Nesting.{nesting}
 use Rattle.k_tree.specs.Ranked.{RankedUnit}
 use Rattle.k_tree.specs.Spelling.{Spelled, spelling}
-use Rattle.k_reader.specs.declared.whole.ParseFault.TheVariants as fault
+use Rattle.k_parse.specs.declared.fault.ParseFault.TheVariants as fault
 
 -- what tokens are, without their places
 abbrev pub kinds : List Token → Spelled

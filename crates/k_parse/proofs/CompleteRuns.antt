@@ -8,9 +8,9 @@ use Rattle.k_tree.specs.Nesting.{nesting}
 use Rattle.k_tree.specs.Ranked.{RankedUnit}
 use Rattle.k_tree.specs.Spelling.{Spelled, spell_item, spelling, in_row}
 use Rattle.k_reader.specs.Sources.{feed_source, begin_source}
-use Rattle.k_reader.specs.Runs.{next, runs}
+use Rattle.k_parse.specs.Runs.{next, runs}
 use Rattle.k_reader.specs.declared.source.Sourced.TheVariants as sourced
-use Rattle.k_reader.specs.declared.whole.ParseFault.TheVariants as fault
+use Rattle.k_parse.specs.declared.fault.ParseFault.TheVariants as fault
 use Rattle.k_reader.proofs.CompleteLeads.{token_at, Step, Leads}
 use Rattle.k_reader.proofs.CompleteItems.{Sources}
 use Rattle.k_reader.proofs.CompleteSources.{unit_of, SourceRead, source_complete}

@@ -3,7 +3,8 @@ use Rattle.std.proofs.Common.{ℕ, ◌≡◌, ◌+◌, ◌<◌, ◌≤◌, Bool,
 use Rattle.std.specs.Prelude.{◌⊎◌, Ok, Err}
 use Rattle.std.proofs.lemmas.Bool.{leb-true, leb-false}
 use Rattle.std.proofs.lemmas.List.{map-append}
-use Rattle.k_reader.specs.Types.{Token, Item, Source, Sourced, ParseFault}
+use Rattle.k_reader.specs.Types.{Token, Item, Source, Sourced}
+use Rattle.k_parse.specs.declared.fault.ParseFault.{ParseFault}
 use Rattle.k_tree.specs.declared.tokens.TokenKind.TheVariants as token
 use Rattle.k_tree.specs.declared.tree.unit.Unit as source
 use Rattle.k_tree.specs.Nesting.{nesting}
@@ -11,11 +12,11 @@ use Rattle.k_tree.specs.Places.{lay_unit}
 use Rattle.k_tree.specs.Spelling.{Spelled, spell_item, spelling, in_row}
 use Rattle.k_tree.proofs.Laid.{unit_spelled}
 use Rattle.k_tree.proofs.Standing.{stand-kinds}
-use Rattle.k_reader.specs.Beginnings.{kinds, Begins, IsRefusalAt, IsFirstWrong}
-use Rattle.k_reader.specs.Runs.{Outcome, next, runs}
+use Rattle.k_parse.specs.Beginnings.{kinds, Begins, IsRefusalAt, IsFirstWrong}
+use Rattle.k_parse.specs.Runs.{Outcome, next, runs}
 use Rattle.k_reader.specs.Sources.{begin_source, feed_source}
 use Rattle.k_reader.specs.declared.source.Sourced.TheVariants as sourced
-use Rattle.k_reader.specs.declared.whole.ParseFault.TheVariants as fault
+use Rattle.k_parse.specs.declared.fault.ParseFault.TheVariants as fault
 use Rattle.k_reader.proofs.CompleteLeads.{token_at, Step, Leads, Reaches}
 use Rattle.k_reader.proofs.CompleteItems.{Sources}
 use Rattle.k_reader.proofs.CompleteSources.{SourceRead, unit_of, source_complete, goes_once, cons_head, cons_tail}
