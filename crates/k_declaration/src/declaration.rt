@@ -2,20 +2,20 @@
 mod initialiser;
 
 ghost use Rattle.std.specs.Prelude.{◌≡◌, IfOk, length};
-ghost use Rattle.k_reader.specs.Level as levels;
-ghost use Rattle.k_reader.specs.Declarations as spec;
+ghost use Rattle.k_steps.specs.Level as levels;
+ghost use Rattle.k_steps.specs.Declarations as spec;
 
 use k_expression::expression::{begin, begin_boxed, feed};
 use k_expression::reading::{read_maybe, unboxed};
 use k_num::{Box, NoMemory, Place, Seq, Text};
-use k_reader::declaration::initialiser::{After, Brace, Opened};
-use k_reader::declaration::{Declaration, DeclarationStage, Declared, Front};
-use k_reader::expression::{Fed, Reading};
-use k_reader::level::plus;
-use k_reader::operators::{is_bracket, is_equal, is_left_brace, is_right_brace, is_spec};
-use k_reader::reading::{Closer, Maybe};
-use k_reader::stack::Stack;
-use k_reader::stars::{Stars, all_stars, constant, no_stars, star};
+use k_steps::declaration::initialiser::{After, Brace, Opened};
+use k_steps::declaration::{Declaration, DeclarationStage, Declared, Front};
+use k_steps::expression::{Fed, Reading};
+use k_steps::level::plus;
+use k_steps::operators::{is_bracket, is_equal, is_left_brace, is_right_brace, is_spec};
+use k_steps::reading::{Closer, Maybe};
+use k_steps::stack::Stack;
+use k_steps::stars::{Stars, all_stars, constant, no_stars, star};
 use k_tree::{Declarator, Init, Mark, Token, TokenKind, Word};
 use std::alloc::Global;
 
@@ -46,7 +46,7 @@ pub fn begin_declaration(alloc: Global, word: Word, level: usize) -> Result<Decl
 }
 
 /// A keyword before a name: `const` behind a star, or one more specifier.
-#[tactic(auto, unfolding(k_reader::specs::Declarations::word))]
+#[tactic(auto, unfolding(k_steps::specs::Declarations::word))]
 fn word(mut front: Front, stars: Stars, word: Word) -> Result<Declared, NoMemory>
     ensures { IfOk result (λ fed. fed ≡ spec.word front stars word) }
 {
@@ -65,7 +65,7 @@ fn word(mut front: Front, stars: Stars, word: Word) -> Result<Declared, NoMemory
 }
 
 /// The name of a declarator.
-#[tactic(auto, unfolding(k_reader::specs::Declarations::name))]
+#[tactic(auto, unfolding(k_steps::specs::Declarations::name))]
 fn name(
     alloc: Global,
     front: Front,
@@ -88,7 +88,7 @@ fn name(
 }
 
 /// A token before the name of a declarator.
-#[tactic(auto, unfolding(k_reader::specs::Declarations::before))]
+#[tactic(auto, unfolding(k_steps::specs::Declarations::before))]
 fn before(alloc: Global, front: Front, stars: Stars, token: &Token) -> Result<Declared, NoMemory>
     ensures { IfOk result (λ fed. fed ≡ spec.before front stars token.now) }
 {
@@ -101,7 +101,7 @@ fn before(alloc: Global, front: Front, stars: Stars, token: &Token) -> Result<De
 }
 
 /// A mark before the name of a declarator.
-#[tactic(auto, unfolding(k_reader::specs::Declarations::mark_before))]
+#[tactic(auto, unfolding(k_steps::specs::Declarations::mark_before))]
 fn mark_before(front: Front, stars: Stars, mark: Mark) -> Result<Declared, NoMemory>
     ensures { IfOk result (λ fed. fed ≡ spec.mark_before front stars mark) }
 {
@@ -115,7 +115,7 @@ fn mark_before(front: Front, stars: Stars, mark: Mark) -> Result<Declared, NoMem
 }
 
 /// The mark behind a declarator.
-#[tactic(auto, unfolding(k_reader::specs::Declarations::end))]
+#[tactic(auto, unfolding(k_steps::specs::Declarations::end))]
 fn end(
     alloc: Global,
     mut front: Front,
@@ -143,7 +143,7 @@ fn end(
 }
 
 /// A mark behind the name of a declarator, or behind a dimension.
-#[tactic(auto, unfolding(k_reader::specs::Declarations::named))]
+#[tactic(auto, unfolding(k_steps::specs::Declarations::named))]
 fn named(
     alloc: Global,
     front: Front,
@@ -206,7 +206,7 @@ fn behind_name(
 }
 
 /// A token in a dimension.
-#[tactic(auto, unfolding(k_reader::specs::Declarations::size))]
+#[tactic(auto, unfolding(k_steps::specs::Declarations::size))]
 fn size(
     alloc: Global,
     front: Front,
@@ -249,7 +249,7 @@ fn size(
 }
 
 /// The token behind an initialiser.
-#[tactic(auto, unfolding(k_reader::specs::Declarations::after))]
+#[tactic(auto, unfolding(k_steps::specs::Declarations::after))]
 fn behind(alloc: Global, front: Front, opened: Opened, token: &Token) -> Result<Declared, NoMemory>
     ensures { IfOk result (λ fed. fed ≡ spec.after front opened token.now) }
 {
@@ -272,7 +272,7 @@ fn behind(alloc: Global, front: Front, opened: Opened, token: &Token) -> Result<
 }
 
 /// A token where an initialiser begins.
-#[tactic(auto, unfolding(k_reader::specs::Declarations::starts))]
+#[tactic(auto, unfolding(k_steps::specs::Declarations::starts))]
 fn starts(alloc: Global, front: Front, opened: Opened, token: &Token) -> Result<Declared, NoMemory>
     ensures { IfOk result (λ fed. fed ≡ spec.starts front opened token.now) }
 {
@@ -283,7 +283,7 @@ fn starts(alloc: Global, front: Front, opened: Opened, token: &Token) -> Result<
 }
 
 /// A mark where an initialiser begins.
-#[tactic(auto, unfolding(k_reader::specs::Declarations::mark_starts))]
+#[tactic(auto, unfolding(k_steps::specs::Declarations::mark_starts))]
 fn mark_starts(
     alloc: Global,
     front: Front,
@@ -310,7 +310,7 @@ fn below_braces(level: usize, braces: &Stack<Brace>, below: usize) -> Result<usi
 }
 
 /// A brace opens.
-#[tactic(auto, unfolding(k_reader::specs::Declarations::brace))]
+#[tactic(auto, unfolding(k_steps::specs::Declarations::brace))]
 fn open_brace(
     alloc: Global,
     front: Front,
@@ -343,7 +343,7 @@ fn open_brace(
 }
 
 /// A brace closes behind a comma.
-#[tactic(auto, unfolding(k_reader::specs::Declarations::last_comma))]
+#[tactic(auto, unfolding(k_steps::specs::Declarations::last_comma))]
 fn last_comma(front: Front, opened: Opened) -> Result<Declared, NoMemory>
     ensures { IfOk result (λ fed. fed ≡ spec.last_comma front opened) }
 {
@@ -357,7 +357,7 @@ fn last_comma(front: Front, opened: Opened) -> Result<Declared, NoMemory>
 }
 
 /// The first token of an expression that is an initialiser.
-#[tactic(auto, unfolding(k_reader::specs::Declarations::first_token))]
+#[tactic(auto, unfolding(k_steps::specs::Declarations::first_token))]
 fn first(alloc: Global, front: Front, opened: Opened, token: &Token) -> Result<Declared, NoMemory>
     ensures { IfOk result (λ fed. fed ≡ spec.first_token front opened token.now) }
 {
@@ -407,7 +407,7 @@ fn first(alloc: Global, front: Front, opened: Opened, token: &Token) -> Result<D
 }
 
 /// A token in an expression that is an initialiser.
-#[tactic(auto, unfolding(k_reader::specs::Declarations::value))]
+#[tactic(auto, unfolding(k_steps::specs::Declarations::value))]
 fn value(
     alloc: Global,
     front: Front,
@@ -455,7 +455,7 @@ fn value(
 }
 
 /// The next token of a declaration.
-#[tactic(auto, unfolding(k_reader::specs::Declarations::feed_declaration))]
+#[tactic(auto, unfolding(k_steps::specs::Declarations::feed_declaration))]
 pub fn feed_declaration(
     alloc: Global,
     declaration: Declaration,

@@ -1,15 +1,15 @@
 //! Parameters of a function (C17 6.7.6.3), token by token, from behind the opening parenthesis.
 ghost use Rattle.std.specs.Prelude.{◌≡◌, IfOk};
-ghost use Rattle.k_reader.specs.Parameters as spec;
+ghost use Rattle.k_steps.specs.Parameters as spec;
 
 use k_expression::expression::begin_boxed;
 use k_expression::reading::{read_maybe, unboxed};
 use k_num::{Box, NoMemory, Place, Seq, Text};
-use k_reader::expression::Reading;
-use k_reader::operators::{is_bracket, is_spec, is_star};
-use k_reader::parameter::{ParameterStage, Parameters, Parametric};
-use k_reader::reading::{Closer, Maybe};
-use k_reader::stars::{Stars, all_stars, constant, no_stars, star};
+use k_steps::expression::Reading;
+use k_steps::operators::{is_bracket, is_spec, is_star};
+use k_steps::parameter::{ParameterStage, Parameters, Parametric};
+use k_steps::reading::{Closer, Maybe};
+use k_steps::stars::{Stars, all_stars, constant, no_stars, star};
 use k_tree::{Mark, Param, Params, Token, TokenKind, Word};
 use std::alloc::Global;
 use std::mem;
@@ -33,7 +33,7 @@ pub fn begin_parameters(alloc: Global) -> Parameters
 }
 
 /// A keyword where a parameter begins.
-#[tactic(auto, unfolding(k_reader::specs::Parameters::starts))]
+#[tactic(auto, unfolding(k_steps::specs::Parameters::starts))]
 fn starts(alloc: Global, list: Seq<Param>, word: Word, place: Place) -> Result<Parametric, NoMemory>
     ensures { IfOk result (λ fed. fed ≡ spec.starts list word place) }
 {
@@ -54,7 +54,7 @@ fn starts(alloc: Global, list: Seq<Param>, word: Word, place: Place) -> Result<P
 }
 
 /// A closing parenthesis where a parameter could begin.
-#[tactic(auto, unfolding(k_reader::specs::Parameters::none))]
+#[tactic(auto, unfolding(k_steps::specs::Parameters::none))]
 fn none(list: Seq<Param>) -> Parametric
     ensures { result ≡ spec.none list }
 {
@@ -67,7 +67,7 @@ fn none(list: Seq<Param>) -> Parametric
 }
 
 /// A token where a parameter begins.
-#[tactic(auto, unfolding(k_reader::specs::Parameters::first_token))]
+#[tactic(auto, unfolding(k_steps::specs::Parameters::first_token))]
 fn first(alloc: Global, list: Seq<Param>, token: &Token) -> Result<Parametric, NoMemory>
     ensures { IfOk result (λ fed. fed ≡ spec.first_token list token.now) }
 {
@@ -79,7 +79,7 @@ fn first(alloc: Global, list: Seq<Param>, token: &Token) -> Result<Parametric, N
 }
 
 /// A mark where a parameter begins.
-#[tactic(auto, unfolding(k_reader::specs::Parameters::mark_first))]
+#[tactic(auto, unfolding(k_steps::specs::Parameters::mark_first))]
 fn mark_first(list: Seq<Param>, mark: Mark) -> Parametric
     ensures { result ≡ spec.mark_first list mark }
 {
@@ -90,7 +90,7 @@ fn mark_first(list: Seq<Param>, mark: Mark) -> Parametric
 }
 
 /// Is it `void` alone?
-#[tactic(auto, unfolding(k_reader::specs::Parameters::is_void_alone))]
+#[tactic(auto, unfolding(k_steps::specs::Parameters::is_void_alone))]
 fn is_void_alone(param: &Param) -> bool
     ensures { result ≡ spec.is_void_alone param.now }
 {
@@ -101,7 +101,7 @@ fn is_void_alone(param: &Param) -> bool
 }
 
 /// The mark behind a parameter.
-#[tactic(auto, unfolding(k_reader::specs::Parameters::end))]
+#[tactic(auto, unfolding(k_steps::specs::Parameters::end))]
 fn end(mut list: Seq<Param>, param: Param, mark: Mark) -> Result<Parametric, NoMemory>
     ensures { IfOk result (λ fed. fed ≡ spec.end list param mark) }
 {
@@ -130,7 +130,7 @@ fn end(mut list: Seq<Param>, param: Param, mark: Mark) -> Result<Parametric, NoM
 }
 
 /// A mark behind the type or the name of a parameter.
-#[tactic(auto, unfolding(k_reader::specs::Parameters::named))]
+#[tactic(auto, unfolding(k_steps::specs::Parameters::named))]
 fn named(alloc: Global, list: Seq<Param>, param: Param, mark: Mark) -> Result<Parametric, NoMemory>
     ensures { IfOk result (λ fed. fed ≡ spec.named list param mark) }
 {
@@ -167,7 +167,7 @@ fn behind_name(
 }
 
 /// A keyword in the type of a parameter.
-#[tactic(auto, unfolding(k_reader::specs::Parameters::word))]
+#[tactic(auto, unfolding(k_steps::specs::Parameters::word))]
 fn word(
     list: Seq<Param>,
     mut param: Param,
@@ -218,7 +218,7 @@ fn starred(mut param: Param, stars: Stars) -> Result<Param, NoMemory>
 }
 
 /// The name of a parameter.
-#[tactic(auto, unfolding(k_reader::specs::Parameters::name))]
+#[tactic(auto, unfolding(k_steps::specs::Parameters::name))]
 fn name(
     alloc: Global,
     list: Seq<Param>,
@@ -242,7 +242,7 @@ fn name(
 }
 
 /// A token in the type of a parameter, or behind it.
-#[tactic(auto, unfolding(k_reader::specs::Parameters::typed))]
+#[tactic(auto, unfolding(k_steps::specs::Parameters::typed))]
 fn typed(
     alloc: Global,
     list: Seq<Param>,
@@ -264,7 +264,7 @@ fn typed(
 }
 
 /// A mark in the type of a parameter, or behind it.
-#[tactic(auto, unfolding(k_reader::specs::Parameters::mark_typed))]
+#[tactic(auto, unfolding(k_steps::specs::Parameters::mark_typed))]
 fn mark_typed(
     alloc: Global,
     list: Seq<Param>,
@@ -289,7 +289,7 @@ fn mark_typed(
 }
 
 /// A token in a dimension.
-#[tactic(auto, unfolding(k_reader::specs::Parameters::size))]
+#[tactic(auto, unfolding(k_steps::specs::Parameters::size))]
 fn size(
     alloc: Global,
     list: Seq<Param>,
@@ -327,7 +327,7 @@ fn size(
 }
 
 /// The next token of parameters.
-#[tactic(auto, unfolding(k_reader::specs::Parameters::feed_parameters))]
+#[tactic(auto, unfolding(k_steps::specs::Parameters::feed_parameters))]
 pub fn feed_parameters(
     alloc: Global,
     parameters: Parameters,

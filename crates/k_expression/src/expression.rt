@@ -6,15 +6,15 @@ mod plug;
 mod types;
 
 ghost use Rattle.std.specs.Prelude.{◌≡◌, IfOk};
-ghost use Rattle.k_reader.specs.Expressions as spec;
-ghost use Rattle.k_reader.specs.declared.expression.Fed.TheVariants as feds;
+ghost use Rattle.k_steps.specs.Expressions as spec;
+ghost use Rattle.k_steps.specs.declared.expression.Fed.TheVariants as feds;
 
 use crate::reading::is_left_paren;
 use k_num::{Box, NoMemory, Place, Seq, Text};
-use k_reader::expression::{ExpressionStage, Fed, Open, Reading, Site, Term};
-use k_reader::level::plus;
-use k_reader::operators::right_rank;
-use k_reader::stack::Stack;
+use k_steps::expression::{ExpressionStage, Fed, Open, Reading, Site, Term};
+use k_steps::level::plus;
+use k_steps::operators::right_rank;
+use k_steps::stack::Stack;
 use k_tree::{Expr, Mark, Token};
 use std::alloc::Global;
 
@@ -42,7 +42,7 @@ fn level(site: Site, opens: &Stack<Open>) -> Result<usize, NoMemory>
 }
 
 /// The least rank of an operand in the innermost open construct.
-#[tactic(auto, unfolding(k_reader::specs::Expressions::hole))]
+#[tactic(auto, unfolding(k_steps::specs::Expressions::hole))]
 fn hole(site: Site, opens: &Stack<Open>) -> u8
     ensures { result ≡ spec.hole site opens.now }
 {
@@ -59,11 +59,11 @@ fn hole(site: Site, opens: &Stack<Open>) -> u8
 }
 
 /// The least rank of an operand behind an operator before it.
-#[tactic(auto, unfolding(k_reader::specs::Expressions::prefix_rank))]
+#[tactic(auto, unfolding(k_steps::specs::Expressions::prefix_rank))]
 fn prefix_rank(op: Mark) -> u8
     ensures { result ≡ spec.prefix_rank op }
 {
-    if k_reader::operators::is_step(op) {
+    if k_steps::operators::is_step(op) {
         14
     } else {
         13
@@ -71,7 +71,7 @@ fn prefix_rank(op: Mark) -> u8
 }
 
 /// The next token of an expression.
-#[tactic(auto, unfolding(k_reader::specs::Expressions::feed))]
+#[tactic(auto, unfolding(k_steps::specs::Expressions::feed))]
 pub fn feed(alloc: Global, reading: Reading, token: &Token) -> Result<Fed, NoMemory>
     ensures { IfOk result (λ fed. fed ≡ spec.feed reading token.now) }
 {
@@ -85,7 +85,7 @@ pub fn feed(alloc: Global, reading: Reading, token: &Token) -> Result<Fed, NoMem
 }
 
 /// Behind a name: a call begins, or the name stands for itself.
-#[tactic(auto, unfolding(k_reader::specs::Expressions::named))]
+#[tactic(auto, unfolding(k_steps::specs::Expressions::named))]
 fn named(
     alloc: Global,
     site: Site,

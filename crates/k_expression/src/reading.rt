@@ -1,19 +1,19 @@
 //! An expression up to the mark that closes it.
 ghost use Rattle.std.specs.Prelude.{◌≡◌, ◌&&◌, IfOk};
-ghost use Rattle.k_reader.specs.Readings as spec;
-ghost use Rattle.k_reader.specs.Expressions.{is_left_paren};
-ghost use Rattle.k_reader.specs.declared.reading.Closer.TheVariants as closers;
+ghost use Rattle.k_steps.specs.Readings as spec;
+ghost use Rattle.k_steps.specs.Expressions.{is_left_paren};
+ghost use Rattle.k_steps.specs.declared.reading.Closer.TheVariants as closers;
 ghost use Rattle.k_tree.specs.declared.tokens.TokenKind.TheVariants as kinds;
 
 use crate::expression::feed;
 use k_num::{Box, NoMemory};
-use k_reader::expression::{ExpressionStage, Fed, Reading};
-use k_reader::reading::{Closer, Maybe, Read};
+use k_steps::expression::{ExpressionStage, Fed, Reading};
+use k_steps::reading::{Closer, Maybe, Read};
 use k_tree::{Expr, Mark, Token, TokenKind};
 use std::alloc::Global;
 
 /// Is a token this mark?
-#[tactic(auto, unfolding(k_reader::specs::Readings::closes))]
+#[tactic(auto, unfolding(k_steps::specs::Readings::closes))]
 pub fn closes(token: &Token, closer: Closer) -> bool
     ensures { result ≡ spec.closes token.now closer }
 {
@@ -77,7 +77,7 @@ fn is_mark_left_paren(mark: Mark) -> bool
 }
 
 /// Has nothing of the expression been read yet?
-#[tactic(auto, unfolding(k_reader::specs::Readings::is_fresh))]
+#[tactic(auto, unfolding(k_steps::specs::Readings::is_fresh))]
 pub fn is_fresh(reading: &Reading) -> bool
     ensures { result ≡ spec.is_fresh reading.now }
 {
@@ -88,7 +88,7 @@ pub fn is_fresh(reading: &Reading) -> bool
 }
 
 /// The next token of an expression up to a mark.
-#[tactic(auto, unfolding(k_reader::specs::Readings::read_needed))]
+#[tactic(auto, unfolding(k_steps::specs::Readings::read_needed))]
 pub fn read_needed(
     alloc: Global,
     reading: Box<Reading>,
@@ -122,7 +122,7 @@ fn is_left_out(reading: &Reading, token: &Token, closer: Closer) -> bool
 }
 
 /// The next token of an expression that may be left out, up to a mark.
-#[tactic(auto, unfolding(k_reader::specs::Readings::read_maybe))]
+#[tactic(auto, unfolding(k_steps::specs::Readings::read_maybe))]
 pub fn read_maybe(
     alloc: Global,
     reading: Box<Reading>,

@@ -1,35 +1,35 @@
 -- Behind the end of a source no reading goes on.
 use Rattle.std.proofs.Common.{ℕ, ◌≡◌, ◌+◌, ◌<◌, false, ◌&&◌, cond, List, [], ◌∷◌, ◌++◌, length, get_or, drop, None, refl, sym, ap, subst, ◌∙◌}
 use Rattle.std.proofs.Math.Bool.{and-false}
-use Rattle.k_reader.specs.Types.{Place, Token, Stmt, Term, ExpressionStage, Site, Reading, Fed, Plugged, Closer, Front, DeclarationStage, Declaration, Opened, ParameterStage, Parameters, Frame, BlockStage, Body, SourceStage, Source, Sourced, Param, Item}
+use Rattle.k_steps.specs.Types.{Place, Token, Stmt, Term, ExpressionStage, Site, Reading, Fed, Plugged, Closer, Front, DeclarationStage, Declaration, Opened, ParameterStage, Parameters, Frame, BlockStage, Body, SourceStage, Source, Sourced, Param, Item}
 use Rattle.k_tree.specs.declared.tokens.TokenKind.TheVariants as token
 use Rattle.k_tree.specs.declared.tree.statement.Part.TheVariants as labels
-use Rattle.k_reader.specs.Expressions as expressions
-use Rattle.k_reader.specs.Expressions.{Opens}
-use Rattle.k_reader.specs.Readings as readings
-use Rattle.k_reader.specs.Declarations as declarations
-use Rattle.k_reader.specs.Parameters as parameters
-use Rattle.k_reader.specs.Statements as statements
-use Rattle.k_reader.specs.Statements.{Parts, Frames}
-use Rattle.k_reader.specs.Sources as sources
-use Rattle.k_reader.specs.declared.expression.ExpressionStage.TheVariants as now
-use Rattle.k_reader.specs.declared.expression.Fed.TheVariants as fed
-use Rattle.k_reader.specs.declared.expression.plug.Plugged.TheVariants as plugged
-use Rattle.k_reader.specs.declared.reading.Closer.TheVariants as closer
-use Rattle.k_reader.specs.declared.reading.Read.TheVariants as read_
-use Rattle.k_reader.specs.declared.reading.Maybe.TheVariants as maybe_
-use Rattle.k_reader.specs.declared.declaration.DeclarationStage.TheVariants as stage
-use Rattle.k_reader.specs.declared.declaration.Declared.TheVariants as declared_
-use Rattle.k_reader.specs.Initialisers as inits
-use Rattle.k_reader.specs.declared.parameter.ParameterStage.TheVariants as part_
-use Rattle.k_reader.specs.declared.parameter.Parametric.TheVariants as parametric
-use Rattle.k_reader.specs.declared.statement.Frame.TheVariants as frame
-use Rattle.k_reader.specs.declared.statement.BlockStage.TheVariants as step
-use Rattle.k_reader.specs.declared.statement.Stepped.TheVariants as stepped
-use Rattle.k_reader.specs.declared.source.SourceStage.TheVariants as phase
-use Rattle.k_reader.specs.declared.source.Sourced.TheVariants as sourced
+use Rattle.k_steps.specs.Expressions as expressions
+use Rattle.k_steps.specs.Expressions.{Opens}
+use Rattle.k_steps.specs.Readings as readings
+use Rattle.k_steps.specs.Declarations as declarations
+use Rattle.k_steps.specs.Parameters as parameters
+use Rattle.k_steps.specs.Statements as statements
+use Rattle.k_steps.specs.Statements.{Parts, Frames}
+use Rattle.k_steps.specs.Sources as sources
+use Rattle.k_steps.specs.declared.expression.ExpressionStage.TheVariants as now
+use Rattle.k_steps.specs.declared.expression.Fed.TheVariants as fed
+use Rattle.k_steps.specs.declared.expression.plug.Plugged.TheVariants as plugged
+use Rattle.k_steps.specs.declared.reading.Closer.TheVariants as closer
+use Rattle.k_steps.specs.declared.reading.Read.TheVariants as read_
+use Rattle.k_steps.specs.declared.reading.Maybe.TheVariants as maybe_
+use Rattle.k_steps.specs.declared.declaration.DeclarationStage.TheVariants as stage
+use Rattle.k_steps.specs.declared.declaration.Declared.TheVariants as declared_
+use Rattle.k_steps.specs.Initialisers as inits
+use Rattle.k_steps.specs.declared.parameter.ParameterStage.TheVariants as part_
+use Rattle.k_steps.specs.declared.parameter.Parametric.TheVariants as parametric
+use Rattle.k_steps.specs.declared.statement.Frame.TheVariants as frame
+use Rattle.k_steps.specs.declared.statement.BlockStage.TheVariants as step
+use Rattle.k_steps.specs.declared.statement.Stepped.TheVariants as stepped
+use Rattle.k_steps.specs.declared.source.SourceStage.TheVariants as phase
+use Rattle.k_steps.specs.declared.source.Sourced.TheVariants as sourced
 use Rattle.k_tree.specs.Closed.{EndsOnce}
-use Rattle.k_reader.proofs.CompleteLeads.{token_at}
+use Rattle.k_steps.proofs.CompleteLeads.{token_at}
 use Rattle.k_parse.proofs.Turns.{drop_here}
 
 -- an expression does not go on

@@ -3,7 +3,7 @@ use Rattle.std.proofs.Common.{◌≡◌, ◌≢◌, List, [], ◌∷◌, ◌++�
 use Rattle.std.specs.Prelude.{All}
 use Rattle.std.proofs.lemmas.List.{map-append}
 use Rattle.std.proofs.lemmas.List.Elements.{All-nil, All-cons}
-use Rattle.k_reader.specs.Types.{Place, Word, Init, Declarator, Param, Params}
+use Rattle.k_steps.specs.Types.{Place, Word, Init, Declarator, Param, Params}
 use Rattle.k_tree.specs.declared.tokens.mark.Mark.TheVariants as mark
 use Rattle.k_tree.specs.declared.tree.declaration.Init.TheVariants as init
 use Rattle.k_tree.specs.declared.tree.declaration.Params.TheVariants as params

@@ -1,7 +1,7 @@
 -- Statements are given back by themselves without places and the places of their pieces.
 use Rattle.std.proofs.Common.{◌≡◌, ◌≢◌, List, [], ◌∷◌, ◌++◌, map, append_assoc, refl, sym, ap, ◌∙◌}
 use Rattle.std.proofs.lemmas.List.{map-append}
-use Rattle.k_reader.specs.Types.{Place, Word, Declarator, First, Stmt, Expr, Part}
+use Rattle.k_steps.specs.Types.{Place, Word, Declarator, First, Stmt, Expr, Part}
 use Rattle.k_tree.specs.declared.tokens.mark.Mark.TheVariants as mark
 use Rattle.k_tree.specs.declared.tree.statement.First.TheVariants as first
 use Rattle.k_tree.specs.declared.tree.statement.Part.TheVariants as part

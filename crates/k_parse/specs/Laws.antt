@@ -7,8 +7,8 @@ use Rattle.k_tree.specs.Nesting.{nesting}
 use Rattle.k_tree.specs.Places.{Placed}
 use Rattle.k_tree.specs.Ranked.{RankedUnit}
 use Rattle.k_tree.specs.Spelling.{spelling}
-use Rattle.k_reader.specs.Types.{Token}
-use Rattle.k_reader.specs.Sources.{begin_source}
+use Rattle.k_steps.specs.Types.{Token}
+use Rattle.k_steps.specs.Sources.{begin_source}
 use Rattle.k_parse.specs.declared.fault.ParseFault.{ParseFault}
 use Rattle.k_parse.specs.Beginnings.{IsFirstWrong}
 use Rattle.k_parse.specs.Runs.{runs}

@@ -1,21 +1,21 @@
 //! A source (C17 6.9), token by token.
 ghost use Rattle.std.specs.Prelude.{◌≡◌, IfOk};
-ghost use Rattle.k_reader.specs.Parameters.{begin_parameters};
-ghost use Rattle.k_reader.specs.Sources as spec;
-ghost use Rattle.k_reader.specs.declared.source.SourceStage.TheVariants as phases;
-ghost use Rattle.k_reader.specs.declared.source.Sourced.TheVariants as sourced;
-ghost use Rattle.k_reader.specs.Declarations.{feed_declaration};
+ghost use Rattle.k_steps.specs.Parameters.{begin_parameters};
+ghost use Rattle.k_steps.specs.Sources as spec;
+ghost use Rattle.k_steps.specs.declared.source.SourceStage.TheVariants as phases;
+ghost use Rattle.k_steps.specs.declared.source.Sourced.TheVariants as sourced;
+ghost use Rattle.k_steps.specs.Declarations.{feed_declaration};
 
 use crate::statement::{begin_body, feed_body};
 use k_declaration::declaration::{begin_declaration, feed_declaration};
 use k_declaration::parameter::{begin_parameters, feed_parameters};
 use k_expression::reading::is_left_paren;
 use k_num::{Box, NoMemory, Place, Seq};
-use k_reader::declaration::{Declaration, DeclarationStage, Declared, Front};
-use k_reader::operators::is_spec;
-use k_reader::parameter::{Parameters, Parametric};
-use k_reader::source::{Source, SourceStage, Sourced, Title};
-use k_reader::statement::{Body, Stepped};
+use k_steps::declaration::{Declaration, DeclarationStage, Declared, Front};
+use k_steps::operators::is_spec;
+use k_steps::parameter::{Parameters, Parametric};
+use k_steps::source::{Source, SourceStage, Sourced, Title};
+use k_steps::statement::{Body, Stepped};
 use k_tree::{Declarator, Head, Item, Mark, Params, Token, TokenKind, Unit, Word};
 use std::alloc::Global;
 
@@ -45,7 +45,7 @@ fn item_done(mut items: Seq<Item>, item: Item) -> Result<Sourced, NoMemory>
 }
 
 /// A token where an item begins.
-#[tactic(auto, unfolding(k_reader::specs::Sources::starts))]
+#[tactic(auto, unfolding(k_steps::specs::Sources::starts))]
 fn starts(alloc: Global, items: Seq<Item>, token: &Token) -> Result<Sourced, NoMemory>
     ensures { IfOk result (λ fed. fed ≡ spec.starts items token.now) }
 {
@@ -67,7 +67,7 @@ fn starts(alloc: Global, items: Seq<Item>, token: &Token) -> Result<Sourced, NoM
 }
 
 /// Was just the name of the first declarator read?
-#[tactic(auto, unfolding(k_reader::specs::Sources::is_titled))]
+#[tactic(auto, unfolding(k_steps::specs::Sources::is_titled))]
 fn is_titled(declaration: &Declaration) -> bool
     ensures { result ≡ spec.is_titled declaration.now }
 {
@@ -154,7 +154,7 @@ fn titled_at(
 }
 
 /// `(` in an item of which just the name of the first declarator was read.
-#[tactic(auto, unfolding(k_reader::specs::Sources::titled))]
+#[tactic(auto, unfolding(k_steps::specs::Sources::titled))]
 fn titled(
     alloc: Global,
     items: Seq<Item>,
@@ -188,7 +188,7 @@ fn declared(
 }
 
 /// A token in an item that may be a declaration or a function.
-#[tactic(auto, unfolding(k_reader::specs::Sources::declares))]
+#[tactic(auto, unfolding(k_steps::specs::Sources::declares))]
 fn declares(
     alloc: Global,
     items: Seq<Item>,
@@ -224,7 +224,7 @@ fn head_of(title: Title, params: Params) -> Head
 }
 
 /// A token in the parameters of a function.
-#[tactic(auto, unfolding(k_reader::specs::Sources::parameters))]
+#[tactic(auto, unfolding(k_steps::specs::Sources::parameters))]
 fn parameters(
     alloc: Global,
     items: Seq<Item>,
@@ -270,7 +270,7 @@ fn parameters(
 }
 
 /// The mark behind the head of a function.
-#[tactic(auto, unfolding(k_reader::specs::Sources::mark_headed))]
+#[tactic(auto, unfolding(k_steps::specs::Sources::mark_headed))]
 fn mark_headed(
     alloc: Global,
     items: Seq<Item>,
@@ -297,7 +297,7 @@ fn mark_headed(
 }
 
 /// The token behind the head of a function.
-#[tactic(auto, unfolding(k_reader::specs::Sources::headed))]
+#[tactic(auto, unfolding(k_steps::specs::Sources::headed))]
 fn headed(
     alloc: Global,
     items: Seq<Item>,
@@ -314,7 +314,7 @@ fn headed(
 }
 
 /// A token in the block of a function.
-#[tactic(auto, unfolding(k_reader::specs::Sources::in_body))]
+#[tactic(auto, unfolding(k_steps::specs::Sources::in_body))]
 fn in_body(
     alloc: Global,
     items: Seq<Item>,
@@ -343,7 +343,7 @@ fn in_body(
 }
 
 /// The next token of a source.
-#[tactic(auto, unfolding(k_reader::specs::Sources::feed_source))]
+#[tactic(auto, unfolding(k_steps::specs::Sources::feed_source))]
 pub fn feed_source(alloc: Global, source: Source, token: &Token) -> Result<Sourced, NoMemory>
     ensures { IfOk result (λ fed. fed ≡ spec.feed_source source token.now) }
 {

@@ -5,17 +5,17 @@ mod loops;
 mod switch;
 
 ghost use Rattle.std.specs.Prelude.{◌≡◌, IfOk};
-ghost use Rattle.k_reader.specs.Statements as spec;
+ghost use Rattle.k_steps.specs.Statements as spec;
 
 use k_declaration::declaration::feed_declaration;
 use k_expression::reading::{closes, read_maybe, read_needed};
 use k_num::{Box, NoMemory, Place, Seq};
-use k_reader::declaration::{Declaration, Declared};
-use k_reader::expression::Reading;
-use k_reader::level::plus;
-use k_reader::reading::{Closer, Maybe, Read};
-use k_reader::stack::Stack;
-use k_reader::statement::{BlockStage, Body, Frame, Stepped};
+use k_steps::declaration::{Declaration, Declared};
+use k_steps::expression::Reading;
+use k_steps::level::plus;
+use k_steps::reading::{Closer, Maybe, Read};
+use k_steps::stack::Stack;
+use k_steps::statement::{BlockStage, Body, Frame, Stepped};
 use k_tree::{Stmt, Token};
 use std::alloc::Global;
 
@@ -83,7 +83,7 @@ pub fn begin_body(alloc: Global) -> Body
 }
 
 /// A token in a statement that is an expression.
-#[tactic(auto, unfolding(k_reader::specs::Statements::value))]
+#[tactic(auto, unfolding(k_steps::specs::Statements::value))]
 fn value(
     alloc: Global,
     parts: Seq<Stmt>,
@@ -104,7 +104,7 @@ fn value(
 }
 
 /// A token in the value of a `return`.
-#[tactic(auto, unfolding(k_reader::specs::Statements::returned))]
+#[tactic(auto, unfolding(k_steps::specs::Statements::returned))]
 fn returned(
     alloc: Global,
     parts: Seq<Stmt>,
@@ -125,7 +125,7 @@ fn returned(
 }
 
 /// A token in a declaration of a block.
-#[tactic(auto, unfolding(k_reader::specs::Statements::local))]
+#[tactic(auto, unfolding(k_steps::specs::Statements::local))]
 fn local(
     alloc: Global,
     parts: Seq<Stmt>,
@@ -154,7 +154,7 @@ fn local(
 }
 
 /// The semicolon of a statement.
-#[tactic(auto, unfolding(k_reader::specs::Statements::semicolon))]
+#[tactic(auto, unfolding(k_steps::specs::Statements::semicolon))]
 fn semicolon(parts: Seq<Stmt>, frames: Stack<Frame>, stmt: Box<Stmt>, token: &Token) -> Stepped
     ensures { result ≡ spec.semicolon parts frames stmt token.now }
 {
@@ -166,7 +166,7 @@ fn semicolon(parts: Seq<Stmt>, frames: Stack<Frame>, stmt: Box<Stmt>, token: &To
 }
 
 /// The next token of a function's block.
-#[tactic(auto, unfolding(k_reader::specs::Statements::feed_body))]
+#[tactic(auto, unfolding(k_steps::specs::Statements::feed_body))]
 pub fn feed_body(alloc: Global, body: Body, token: &Token) -> Result<Stepped, NoMemory>
     ensures { IfOk result (λ fed. fed ≡ spec.feed_body body token.now) }
 {

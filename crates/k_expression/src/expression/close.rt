@@ -1,18 +1,18 @@
 //! The token behind an operand.
 ghost use Rattle.std.specs.Prelude.{◌≡◌, IfOk};
-ghost use Rattle.k_reader.specs.Expressions as spec;
-ghost use Rattle.k_reader.specs.Level as levels;
+ghost use Rattle.k_steps.specs.Expressions as spec;
+ghost use Rattle.k_steps.specs.Level as levels;
 
 use crate::expression::call::argued;
 use crate::expression::plug::{boxed, plug};
 use crate::expression::{goes, hole, level, refused};
 use k_num::{Box, NoMemory, Place};
-use k_reader::expression::call::Called;
-use k_reader::expression::plug::Plugged;
-use k_reader::expression::{ExpressionStage, Fed, Open, Site, Term};
-use k_reader::level::{above, plus};
-use k_reader::operators::{is_bracket, is_question, is_step, takes};
-use k_reader::stack::Stack;
+use k_steps::expression::call::Called;
+use k_steps::expression::plug::Plugged;
+use k_steps::expression::{ExpressionStage, Fed, Open, Site, Term};
+use k_steps::level::{above, plus};
+use k_steps::operators::{is_bracket, is_question, is_step, takes};
+use k_steps::stack::Stack;
 use k_tree::{Expr, Mark, Token, TokenKind};
 use std::alloc::Global;
 
@@ -24,7 +24,7 @@ fn reach_of(site: Site, opens: &Stack<Open>, height: usize) -> Result<usize, NoM
 }
 
 /// An operator goes on with an operand.
-#[tactic(auto, unfolding(k_reader::specs::Expressions::take_operator))]
+#[tactic(auto, unfolding(k_steps::specs::Expressions::take_operator))]
 fn take(
     alloc: Global,
     site: Site,
@@ -124,7 +124,7 @@ fn colon(
 }
 
 /// The mark behind the second operand of a conditional expression.
-#[tactic(auto, unfolding(k_reader::specs::Expressions::then_ends))]
+#[tactic(auto, unfolding(k_steps::specs::Expressions::then_ends))]
 fn then_ends(
     site: Site,
     opens: Stack<Open>,
@@ -146,7 +146,7 @@ fn then_ends(
 }
 
 /// The mark behind an expression in parentheses.
-#[tactic(auto, unfolding(k_reader::specs::Expressions::paren_ends))]
+#[tactic(auto, unfolding(k_steps::specs::Expressions::paren_ends))]
 fn paren_ends(
     alloc: Global,
     site: Site,
@@ -170,7 +170,7 @@ fn paren_ends(
 }
 
 /// The mark behind an index.
-#[tactic(auto, unfolding(k_reader::specs::Expressions::index_ends))]
+#[tactic(auto, unfolding(k_steps::specs::Expressions::index_ends))]
 fn index_ends(
     alloc: Global,
     site: Site,
@@ -196,7 +196,7 @@ fn index_ends(
 }
 
 /// The construct around a value goes on with the mark behind it.
-#[tactic(auto, unfolding(k_reader::specs::Expressions::enclose))]
+#[tactic(auto, unfolding(k_steps::specs::Expressions::enclose))]
 fn enclose(
     alloc: Global,
     site: Site,
@@ -284,7 +284,7 @@ fn enclose_by(
 }
 
 /// A token that doesn't go on with an operand ends it, and goes to the construct around.
-#[tactic(auto, unfolding(k_reader::specs::Expressions::value))]
+#[tactic(auto, unfolding(k_steps::specs::Expressions::value))]
 pub fn value(
     alloc: Global,
     site: Site,

@@ -1,17 +1,17 @@
 //! The first token of an operand.
 ghost use Rattle.std.specs.Prelude.{◌≡◌, IfOk, nat_eq, length};
-ghost use Rattle.k_reader.specs.Expressions as spec;
-ghost use Rattle.k_reader.specs.Operators.{is_prefix_mark};
-ghost use Rattle.k_reader.specs.declared.expression.ExpressionStage.TheVariants as stages;
+ghost use Rattle.k_steps.specs.Expressions as spec;
+ghost use Rattle.k_steps.specs.Operators.{is_prefix_mark};
+ghost use Rattle.k_steps.specs.declared.expression.ExpressionStage.TheVariants as stages;
 ghost use Rattle.k_tree.specs.Ranked as ranked;
 
 use crate::expression::{goes, hole, level, refused};
 use k_num::{NoMemory, Place, Seq, Text};
-use k_reader::expression::{ExpressionStage, Fed, Open, Site, Term};
-use k_reader::level::plus;
-use k_reader::operators::{is_close, is_open, is_spec, is_step};
-use k_reader::stack::Stack;
-use k_reader::stars::no_stars;
+use k_steps::expression::{ExpressionStage, Fed, Open, Site, Term};
+use k_steps::level::plus;
+use k_steps::operators::{is_close, is_open, is_spec, is_step};
+use k_steps::stack::Stack;
+use k_steps::stars::no_stars;
 use k_tree::{Expr, Mark, Token, TokenKind, Word};
 use std::alloc::Global;
 
@@ -28,7 +28,7 @@ fn leaf(site: Site, opens: Stack<Open>, tree: Expr, own: usize) -> Fed
 }
 
 /// `(` before an operand. Behind `sizeof` it may belong to a type, which adds no level.
-#[tactic(auto, unfolding(k_reader::specs::Expressions::opened))]
+#[tactic(auto, unfolding(k_steps::specs::Expressions::opened))]
 fn opened(site: Site, mut opens: Stack<Open>, place: Place) -> Result<Fed, NoMemory>
     ensures { IfOk result (λ fed. fed ≡ spec.opened site opens place) }
 {
@@ -49,7 +49,7 @@ fn has_none(args: &Seq<Expr>) -> bool
 }
 
 /// `)` where an operand could begin: the end of a call without arguments.
-#[tactic(auto, unfolding(k_reader::specs::Expressions::no_arguments))]
+#[tactic(auto, unfolding(k_steps::specs::Expressions::no_arguments))]
 fn no_arguments(site: Site, mut opens: Stack<Open>) -> Fed
     ensures { result ≡ spec.no_arguments site opens }
 {
@@ -78,7 +78,7 @@ fn no_arguments(site: Site, mut opens: Stack<Open>) -> Fed
 }
 
 /// An operator before an operand.
-#[tactic(auto, unfolding(k_reader::specs::Expressions::prefix_operator))]
+#[tactic(auto, unfolding(k_steps::specs::Expressions::prefix_operator))]
 fn prefix(site: Site, mut opens: Stack<Open>, op: Mark, place: Place) -> Result<Fed, NoMemory>
     ensures { IfOk result (λ fed. fed ≡ spec.prefix_operator site opens op place) }
 {
@@ -98,7 +98,7 @@ fn is_unary(mark: Mark) -> bool
 }
 
 /// Is it an operator that stands before an operand?
-#[tactic(auto, unfolding(k_reader::specs::Operators::is_prefix_mark, k_reader::specs::Operators::is_step_mark))]
+#[tactic(auto, unfolding(k_steps::specs::Operators::is_prefix_mark, k_steps::specs::Operators::is_step_mark))]
 fn is_prefix(mark: Mark) -> bool
     ensures { result ≡ is_prefix_mark mark }
 {
@@ -106,7 +106,7 @@ fn is_prefix(mark: Mark) -> bool
 }
 
 /// A mark where an operand begins.
-#[tactic(auto, unfolding(k_reader::specs::Expressions::mark_operand))]
+#[tactic(auto, unfolding(k_steps::specs::Expressions::mark_operand))]
 fn mark(site: Site, opens: Stack<Open>, mark: Mark, place: Place) -> Result<Fed, NoMemory>
     ensures { IfOk result (λ fed. fed ≡ spec.mark_operand site opens mark place) }
 {
@@ -123,7 +123,7 @@ fn mark(site: Site, opens: Stack<Open>, mark: Mark, place: Place) -> Result<Fed,
 }
 
 /// May the name of a type begin here? Then a `(` stands before it, and that may begin a cast, or follows `sizeof`.
-#[tactic(auto, unfolding(k_reader::specs::Expressions::is_before_type))]
+#[tactic(auto, unfolding(k_steps::specs::Expressions::is_before_type))]
 fn is_before_type(site: Site, opens: &mut Stack<Open>) -> Result<bool, NoMemory>
     ensures kept { IfOk result (λ _. opens.new ≡ opens.old) }
     ensures value { IfOk result (λ before. before ≡ spec.is_before_type site opens.old) }
@@ -153,7 +153,7 @@ fn is_sizeof(word: Word) -> bool
 }
 
 /// A keyword where an operand begins.
-#[tactic(auto, unfolding(k_reader::specs::Expressions::word_operand))]
+#[tactic(auto, unfolding(k_steps::specs::Expressions::word_operand))]
 fn word(
     alloc: Global,
     site: Site,
@@ -191,7 +191,7 @@ fn type_begins(alloc: Global, site: Site, opens: Stack<Open>, word: Word) -> Res
 }
 
 /// The first token of an operand.
-#[tactic(auto, unfolding(k_reader::specs::Expressions::operand))]
+#[tactic(auto, unfolding(k_steps::specs::Expressions::operand))]
 pub fn operand(
     alloc: Global,
     site: Site,

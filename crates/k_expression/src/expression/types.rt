@@ -1,17 +1,17 @@
 //! The name of a type, in a cast or behind `sizeof` (C17 6.7.7).
 ghost use Rattle.std.specs.Prelude.{◌≡◌, IfOk};
-ghost use Rattle.k_reader.specs.Expressions as spec;
+ghost use Rattle.k_steps.specs.Expressions as spec;
 
 use crate::expression::{goes, refused};
 use k_num::{NoMemory, Place, Seq};
-use k_reader::expression::{ExpressionStage, Fed, Open, Site, Term};
-use k_reader::operators::is_spec;
-use k_reader::stack::Stack;
-use k_reader::stars::{Stars, all_stars, constant, star};
+use k_steps::expression::{ExpressionStage, Fed, Open, Site, Term};
+use k_steps::operators::is_spec;
+use k_steps::stack::Stack;
+use k_steps::stars::{Stars, all_stars, constant, star};
 use k_tree::{Expr, Mark, Token, TokenKind, Word};
 
 /// The closing parenthesis of a type.
-#[tactic(auto, unfolding(k_reader::specs::Expressions::close_type))]
+#[tactic(auto, unfolding(k_steps::specs::Expressions::close_type))]
 fn close(
     site: Site,
     mut opens: Stack<Open>,
@@ -29,7 +29,7 @@ fn close(
 }
 
 /// A type in parentheses, the first of which stands at `place`.
-#[tactic(auto, unfolding(k_reader::specs::Expressions::close_over))]
+#[tactic(auto, unfolding(k_steps::specs::Expressions::close_over))]
 fn close_over(
     site: Site,
     mut opens: Stack<Open>,
@@ -86,7 +86,7 @@ fn cast(site: Site, mut opens: Stack<Open>, around: Open) -> Result<Fed, NoMemor
 }
 
 /// One more keyword of a type.
-#[tactic(auto, unfolding(k_reader::specs::Expressions::word_of_type))]
+#[tactic(auto, unfolding(k_steps::specs::Expressions::word_of_type))]
 fn word(
     site: Site,
     opens: Stack<Open>,
@@ -111,7 +111,7 @@ fn word(
 }
 
 /// One more mark in the name of a type.
-#[tactic(auto, unfolding(k_reader::specs::Expressions::mark_of_type))]
+#[tactic(auto, unfolding(k_steps::specs::Expressions::mark_of_type))]
 fn mark(
     site: Site,
     opens: Stack<Open>,
@@ -132,7 +132,7 @@ fn mark(
 }
 
 /// One more token in the name of a type.
-#[tactic(auto, unfolding(k_reader::specs::Expressions::in_type))]
+#[tactic(auto, unfolding(k_steps::specs::Expressions::in_type))]
 pub fn in_type(
     site: Site,
     opens: Stack<Open>,

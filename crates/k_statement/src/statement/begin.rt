@@ -1,21 +1,21 @@
 //! The first token of a statement.
 ghost use Rattle.std.specs.Prelude.{◌≡◌, IfOk};
-ghost use Rattle.k_reader.specs.Statements as spec;
+ghost use Rattle.k_steps.specs.Statements as spec;
 
 use crate::statement::switch::{case_begins, default_begins};
 use crate::statement::{await_part, inner_level, level, steps, whole};
 use k_declaration::declaration::begin_declaration;
 use k_expression::expression::{begin, begin_boxed, feed};
 use k_num::{Box, NoMemory, Place, Seq};
-use k_reader::expression::Fed;
-use k_reader::operators::{is_left_brace, is_right_brace, is_semicolon, is_spec};
-use k_reader::stack::Stack;
-use k_reader::statement::{BlockStage, Frame, Stepped, Tested};
+use k_steps::expression::Fed;
+use k_steps::operators::{is_left_brace, is_right_brace, is_semicolon, is_spec};
+use k_steps::stack::Stack;
+use k_steps::statement::{BlockStage, Frame, Stepped, Tested};
 use k_tree::{Mark, Stmt, Token, TokenKind, Word};
 use std::alloc::Global;
 
 /// Does a declaration or the end of a block stand here as well?
-#[tactic(auto, unfolding(k_reader::specs::Statements::is_in_block))]
+#[tactic(auto, unfolding(k_steps::specs::Statements::is_in_block))]
 fn is_in_block(frames: &Stack<Frame>) -> bool
     ensures { result ≡ spec.is_in_block frames.now }
 {
@@ -23,7 +23,7 @@ fn is_in_block(frames: &Stack<Frame>) -> bool
 }
 
 /// The end of a block or of a `switch`.
-#[tactic(auto, unfolding(k_reader::specs::Statements::block_ends))]
+#[tactic(auto, unfolding(k_steps::specs::Statements::block_ends))]
 fn block_ends(
     alloc: Global,
     parts: Seq<Stmt>,
@@ -71,7 +71,7 @@ fn block_ends(
 }
 
 /// A declaration of a block begins.
-#[tactic(auto, unfolding(k_reader::specs::Statements::declares))]
+#[tactic(auto, unfolding(k_steps::specs::Statements::declares))]
 fn declares(
     alloc: Global,
     parts: Seq<Stmt>,
@@ -96,7 +96,7 @@ fn declares(
 }
 
 /// A keyword that begins a declaration, a statement or a label.
-#[tactic(auto, unfolding(k_reader::specs::Statements::keyword))]
+#[tactic(auto, unfolding(k_steps::specs::Statements::keyword))]
 fn keyword(
     alloc: Global,
     parts: Seq<Stmt>,
@@ -114,7 +114,7 @@ fn keyword(
 }
 
 /// A keyword that begins a statement or a label.
-#[tactic(auto, unfolding(k_reader::specs::Statements::jump))]
+#[tactic(auto, unfolding(k_steps::specs::Statements::jump))]
 fn jump(
     alloc: Global,
     parts: Seq<Stmt>,
@@ -161,7 +161,7 @@ fn jump(
 }
 
 /// The first token of a statement that is an expression.
-#[tactic(auto, unfolding(k_reader::specs::Statements::expression))]
+#[tactic(auto, unfolding(k_steps::specs::Statements::expression))]
 fn expression(
     alloc: Global,
     parts: Seq<Stmt>,
@@ -200,7 +200,7 @@ fn empty(
 }
 
 /// A mark that begins a statement, or ends a block.
-#[tactic(auto, unfolding(k_reader::specs::Statements::mark_begins))]
+#[tactic(auto, unfolding(k_steps::specs::Statements::mark_begins))]
 fn mark_begins(
     alloc: Global,
     parts: Seq<Stmt>,
@@ -239,7 +239,7 @@ fn block_begins(
 }
 
 /// The first token of a statement, or in a block of a declaration, or its end.
-#[tactic(auto, unfolding(k_reader::specs::Statements::begins))]
+#[tactic(auto, unfolding(k_steps::specs::Statements::begins))]
 pub fn begins(
     alloc: Global,
     parts: Seq<Stmt>,

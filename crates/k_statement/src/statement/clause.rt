@@ -1,6 +1,6 @@
 //! Tests in parentheses, and the token behind a statement.
 ghost use Rattle.std.specs.Prelude.{◌≡◌, IfOk};
-ghost use Rattle.k_reader.specs.Statements as spec;
+ghost use Rattle.k_steps.specs.Statements as spec;
 
 use crate::statement::begin::begins;
 use crate::statement::switch::more_switched;
@@ -8,16 +8,16 @@ use crate::statement::{await_part, inner_level, steps};
 use k_expression::expression::begin_boxed;
 use k_expression::reading::{is_left_paren, read_needed};
 use k_num::{Box, NoMemory, Place, Seq};
-use k_reader::expression::Reading;
-use k_reader::reading::{Closer, Read};
-use k_reader::stack::Stack;
-use k_reader::statement::clause::Closed;
-use k_reader::statement::{BlockStage, Frame, Stepped, Tested};
+use k_steps::expression::Reading;
+use k_steps::reading::{Closer, Read};
+use k_steps::stack::Stack;
+use k_steps::statement::clause::Closed;
+use k_steps::statement::{BlockStage, Frame, Stepped, Tested};
 use k_tree::{Expr, Stmt, Token, TokenKind, Word};
 use std::alloc::Global;
 
 /// The parenthesis of a test.
-#[tactic(auto, unfolding(k_reader::specs::Statements::opened))]
+#[tactic(auto, unfolding(k_steps::specs::Statements::opened))]
 pub fn opened(
     alloc: Global,
     parts: Seq<Stmt>,
@@ -35,7 +35,7 @@ pub fn opened(
 }
 
 /// A test is done.
-#[tactic(auto, unfolding(k_reader::specs::Statements::test_done))]
+#[tactic(auto, unfolding(k_steps::specs::Statements::test_done))]
 fn test_done(
     alloc: Global,
     parts: Seq<Stmt>,
@@ -94,7 +94,7 @@ fn is_while(token: &Token) -> bool
 }
 
 /// A statement that ends is put into the statement around it; `other` says whether `else` follows.
-#[tactic(auto, unfolding(k_reader::specs::Statements::close))]
+#[tactic(auto, unfolding(k_steps::specs::Statements::close))]
 fn close(alloc: Global, frame: Frame, stmt: Box<Stmt>, other: bool) -> Result<Fitted, NoMemory>
     ensures { IfOk result (λ made. made ≡ spec.close frame stmt other) }
 {
@@ -154,7 +154,7 @@ fn otherwise(
 }
 
 /// `while` behind the statement of a `do`.
-#[tactic(auto, unfolding(k_reader::specs::Statements::do_while))]
+#[tactic(auto, unfolding(k_steps::specs::Statements::do_while))]
 fn do_while(
     parts: Seq<Stmt>,
     frames: Stack<Frame>,
@@ -172,7 +172,7 @@ fn do_while(
 }
 
 /// One more part of a block, and the token behind it.
-#[tactic(auto, unfolding(k_reader::specs::Statements::more))]
+#[tactic(auto, unfolding(k_steps::specs::Statements::more))]
 fn more(
     alloc: Global,
     parts: Seq<Stmt>,
@@ -194,7 +194,7 @@ fn more(
 }
 
 /// The statement around goes on with the token behind one of its parts.
-#[tactic(auto, unfolding(k_reader::specs::Statements::part))]
+#[tactic(auto, unfolding(k_steps::specs::Statements::part))]
 fn part(
     alloc: Global,
     parts: Seq<Stmt>,
@@ -225,7 +225,7 @@ fn part(
 }
 
 /// The token behind a statement.
-#[tactic(auto, unfolding(k_reader::specs::Statements::behind))]
+#[tactic(auto, unfolding(k_steps::specs::Statements::behind))]
 pub fn behind(
     alloc: Global,
     mut parts: Seq<Stmt>,

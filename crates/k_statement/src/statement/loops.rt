@@ -1,6 +1,6 @@
 //! The parts of a `for` (C17 6.8.5.3).
 ghost use Rattle.std.specs.Prelude.{◌≡◌, IfOk};
-ghost use Rattle.k_reader.specs.Statements as spec;
+ghost use Rattle.k_steps.specs.Statements as spec;
 
 use crate::statement::switch::in_switch;
 use crate::statement::{await_part, inner_level, steps};
@@ -8,17 +8,17 @@ use k_declaration::declaration::{begin_declaration, feed_declaration};
 use k_expression::expression::begin_boxed;
 use k_expression::reading::{is_fresh, is_left_paren, read_maybe};
 use k_num::{Box, NoMemory, Place, Seq};
-use k_reader::declaration::{Declaration, Declared};
-use k_reader::expression::Reading;
-use k_reader::operators::is_spec;
-use k_reader::reading::{Closer, Maybe};
-use k_reader::stack::Stack;
-use k_reader::statement::{BlockStage, Frame, Stepped};
+use k_steps::declaration::{Declaration, Declared};
+use k_steps::expression::Reading;
+use k_steps::operators::is_spec;
+use k_steps::reading::{Closer, Maybe};
+use k_steps::stack::Stack;
+use k_steps::statement::{BlockStage, Frame, Stepped};
 use k_tree::{Expr, First, Stmt, Token, TokenKind, Word};
 use std::alloc::Global;
 
 /// The parenthesis of a `for`.
-#[tactic(auto, unfolding(k_reader::specs::Statements::for_opened))]
+#[tactic(auto, unfolding(k_steps::specs::Statements::for_opened))]
 fn opened(
     alloc: Global,
     parts: Seq<Stmt>,
@@ -65,7 +65,7 @@ fn first_of(value: Option<Box<Expr>>) -> First
 }
 
 /// The first keyword of a declaration in a `for`, if it is one.
-#[tactic(auto, unfolding(k_reader::specs::Statements::specifier))]
+#[tactic(auto, unfolding(k_steps::specs::Statements::specifier))]
 fn specifier(reading: &Reading, token: &Token) -> Option<Word>
     ensures { result ≡ spec.specifier reading.now token.now }
 {
@@ -82,7 +82,7 @@ fn specifier(reading: &Reading, token: &Token) -> Option<Word>
 }
 
 /// A token in the first part of a `for`.
-#[tactic(auto, unfolding(k_reader::specs::Statements::start))]
+#[tactic(auto, unfolding(k_steps::specs::Statements::start))]
 fn start(
     alloc: Global,
     parts: Seq<Stmt>,
@@ -113,7 +113,7 @@ fn start(
 }
 
 /// A token in the declaration of a `for`.
-#[tactic(auto, unfolding(k_reader::specs::Statements::for_declares))]
+#[tactic(auto, unfolding(k_steps::specs::Statements::for_declares))]
 fn declares(
     alloc: Global,
     parts: Seq<Stmt>,
@@ -142,7 +142,7 @@ fn declares(
 }
 
 /// A token in the second part of a `for`.
-#[tactic(auto, unfolding(k_reader::specs::Statements::second))]
+#[tactic(auto, unfolding(k_steps::specs::Statements::second))]
 fn second(
     alloc: Global,
     parts: Seq<Stmt>,
@@ -198,7 +198,7 @@ fn body_begins(
 }
 
 /// A token in the third part of a `for`.
-#[tactic(auto, unfolding(k_reader::specs::Statements::third))]
+#[tactic(auto, unfolding(k_steps::specs::Statements::third))]
 fn third(
     alloc: Global,
     parts: Seq<Stmt>,
@@ -227,7 +227,7 @@ fn third(
 }
 
 /// A token in the parentheses of a `for`, or in a label or before the braces of a `switch`.
-#[tactic(auto, unfolding(k_reader::specs::Statements::in_for))]
+#[tactic(auto, unfolding(k_steps::specs::Statements::in_for))]
 pub fn in_for(
     alloc: Global,
     parts: Seq<Stmt>,

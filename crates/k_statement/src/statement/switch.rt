@@ -1,21 +1,21 @@
 //! The braces of a `switch`, with their labels (C17 6.8.1, 6.8.4.2).
 ghost use Rattle.std.specs.Prelude.{◌≡◌, IfOk};
-ghost use Rattle.k_reader.specs.Statements as spec;
+ghost use Rattle.k_steps.specs.Statements as spec;
 
 use crate::statement::begin::begins;
 use crate::statement::{await_part, level, steps};
 use k_expression::expression::begin_boxed;
 use k_expression::reading::{closes, read_needed};
 use k_num::{Box, NoMemory, Place, Seq};
-use k_reader::expression::Reading;
-use k_reader::reading::{Closer, Read};
-use k_reader::stack::Stack;
-use k_reader::statement::{BlockStage, Frame, Stepped};
+use k_steps::expression::Reading;
+use k_steps::reading::{Closer, Read};
+use k_steps::stack::Stack;
+use k_steps::statement::{BlockStage, Frame, Stepped};
 use k_tree::{Expr, Mark, Part, Stmt, Token, TokenKind};
 use std::alloc::Global;
 
 /// Does a label stand here as well?
-#[tactic(auto, unfolding(k_reader::specs::Statements::is_in_switch))]
+#[tactic(auto, unfolding(k_steps::specs::Statements::is_in_switch))]
 fn is_in_switch(frames: &Stack<Frame>) -> bool
     ensures { result ≡ spec.is_in_switch frames.now }
 {
@@ -23,7 +23,7 @@ fn is_in_switch(frames: &Stack<Frame>) -> bool
 }
 
 /// The value of a `case` begins.
-#[tactic(auto, unfolding(k_reader::specs::Statements::case_begins))]
+#[tactic(auto, unfolding(k_steps::specs::Statements::case_begins))]
 pub fn case_begins(
     alloc: Global,
     parts: Seq<Stmt>,
@@ -41,7 +41,7 @@ pub fn case_begins(
 }
 
 /// `default`
-#[tactic(auto, unfolding(k_reader::specs::Statements::default_begins))]
+#[tactic(auto, unfolding(k_steps::specs::Statements::default_begins))]
 pub fn default_begins(parts: Seq<Stmt>, frames: Stack<Frame>, place: Place) -> Stepped
     ensures { result ≡ spec.default_begins parts frames place }
 {
@@ -59,7 +59,7 @@ fn is_brace(token: &Token) -> bool
 }
 
 /// The opening brace of a `switch`.
-#[tactic(auto, unfolding(k_reader::specs::Statements::braces))]
+#[tactic(auto, unfolding(k_steps::specs::Statements::braces))]
 fn braces(
     alloc: Global,
     parts: Seq<Stmt>,
@@ -82,7 +82,7 @@ fn braces(
 }
 
 /// A label was read.
-#[tactic(auto, unfolding(k_reader::specs::Statements::labelled))]
+#[tactic(auto, unfolding(k_steps::specs::Statements::labelled))]
 fn labelled(parts: Seq<Stmt>, mut frames: Stack<Frame>, label: Part) -> Result<Stepped, NoMemory>
     ensures { IfOk result (λ fed. fed ≡ spec.labelled parts frames label) }
 {
@@ -115,7 +115,7 @@ fn labelled(parts: Seq<Stmt>, mut frames: Stack<Frame>, label: Part) -> Result<S
 }
 
 /// A token in the value of a `case`.
-#[tactic(auto, unfolding(k_reader::specs::Statements::case_value))]
+#[tactic(auto, unfolding(k_steps::specs::Statements::case_value))]
 fn case_value(
     alloc: Global,
     parts: Seq<Stmt>,
@@ -136,7 +136,7 @@ fn case_value(
 }
 
 /// The token behind `default`.
-#[tactic(auto, unfolding(k_reader::specs::Statements::default_label))]
+#[tactic(auto, unfolding(k_steps::specs::Statements::default_label))]
 fn default_label(
     parts: Seq<Stmt>,
     frames: Stack<Frame>,
@@ -152,7 +152,7 @@ fn default_label(
 }
 
 /// One more statement in the braces, and the token behind it.
-#[tactic(auto, unfolding(k_reader::specs::Statements::more_switched))]
+#[tactic(auto, unfolding(k_steps::specs::Statements::more_switched))]
 pub fn more_switched(
     alloc: Global,
     parts: Seq<Stmt>,
@@ -177,7 +177,7 @@ pub fn more_switched(
 }
 
 /// A token in a label, or before the braces of a `switch`.
-#[tactic(auto, unfolding(k_reader::specs::Statements::in_switch))]
+#[tactic(auto, unfolding(k_steps::specs::Statements::in_switch))]
 pub fn in_switch(
     alloc: Global,
     parts: Seq<Stmt>,
