@@ -1,7 +1,7 @@
 //! Token lists read as trees of syntax: the whole grammar.
 #![tactic(auto)]
 
-mod fault;
+pub mod fault;
 pub mod laws;
 mod parser;
 

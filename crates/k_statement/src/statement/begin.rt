@@ -1,6 +1,8 @@
 //! The first token of a statement.
 ghost use Rattle.std.specs.Prelude.{◌≡◌, IfOk};
+ghost use Rattle.k_steps.specs.Expressions as expressions;
 ghost use Rattle.k_steps.specs.Statements as spec;
+ghost use Rattle.k_steps.specs.declared.statement.BlockStage.TheVariants as stages;
 
 use crate::statement::switch::{case_begins, default_begins};
 use crate::statement::{await_part, inner_level, level, steps, whole};
@@ -126,38 +128,54 @@ fn jump(
 {
     let own = level(&frames)?;
     let inner = inner_level(&frames)?;
-    let (step, reach) = match word {
-        Word::If => {
-            let tested = Tested::If { place };
-            (BlockStage::Keyword { tested }, inner)
-        }
-        Word::While => {
-            let tested = Tested::While { place };
-            (BlockStage::Keyword { tested }, inner)
-        }
-        Word::Do => return await_part(parts, frames, Frame::Do { place }, inner),
-        Word::For => (BlockStage::For { place }, inner),
-        Word::Switch => {
-            let tested = Tested::Switch { place };
-            (BlockStage::Keyword { tested }, inner)
-        }
-        Word::Case => return case_begins(alloc, parts, frames, place),
-        Word::Default => return Ok(default_begins(parts, frames, place)),
-        Word::Break => {
-            let stmt = Box::new(alloc, Stmt::Break { place })?;
-            (BlockStage::Semicolon { stmt }, own)
-        }
-        Word::Continue => {
-            let stmt = Box::new(alloc, Stmt::Continue { place })?;
-            (BlockStage::Semicolon { stmt }, own)
-        }
-        Word::Return => {
-            let reading = begin_boxed(alloc, 0, inner)?;
-            (BlockStage::Return { place, reading }, own)
-        }
-        _ => return Ok(Stepped::Refused),
-    };
-    Ok(steps(parts, frames, step, reach))
+    match word {
+        Word::If => Ok(test_begins(parts, frames, Tested::If { place }, inner)),
+        Word::While => Ok(test_begins(parts, frames, Tested::While { place }, inner)),
+        Word::Do => await_part(parts, frames, Frame::Do { place }, inner),
+        Word::For => Ok(steps(parts, frames, BlockStage::For { place }, inner)),
+        Word::Switch => Ok(test_begins(parts, frames, Tested::Switch { place }, inner)),
+        Word::Case => case_begins(alloc, parts, frames, place),
+        Word::Default => Ok(default_begins(parts, frames, place)),
+        Word::Break => await_semicolon(alloc, parts, frames, Stmt::Break { place }, own),
+        Word::Continue => await_semicolon(alloc, parts, frames, Stmt::Continue { place }, own),
+        Word::Return => return_begins(alloc, parts, frames, place),
+        _ => Ok(Stepped::Refused),
+    }
+}
+
+/// A keyword behind which a test stands.
+fn test_begins(parts: Seq<Stmt>, frames: Stack<Frame>, tested: Tested, reach: usize) -> Stepped
+    ensures { result ≡ spec.steps parts frames (stages.Keyword tested) reach }
+{
+    steps(parts, frames, BlockStage::Keyword { tested }, reach)
+}
+
+/// A statement that is whole but for its semicolon.
+fn await_semicolon(
+    alloc: Global,
+    parts: Seq<Stmt>,
+    frames: Stack<Frame>,
+    stmt: Stmt,
+    reach: usize,
+) -> Result<Stepped, NoMemory>
+    ensures { IfOk result (λ fed. fed ≡ spec.steps parts frames (stages.Semicolon stmt) reach) }
+{
+    let stmt = Box::new(alloc, stmt)?;
+    Ok(steps(parts, frames, BlockStage::Semicolon { stmt }, reach))
+}
+
+/// `return`
+fn return_begins(
+    alloc: Global,
+    parts: Seq<Stmt>,
+    frames: Stack<Frame>,
+    place: Place,
+) -> Result<Stepped, NoMemory>
+    ensures { IfOk result (λ fed. fed ≡ spec.steps parts frames (stages.Return place (expressions.begin 0 (spec.inner frames))) (spec.level frames)) }
+{
+    let reach = level(&frames)?;
+    let reading = begin_boxed(alloc, 0, inner_level(&frames)?)?;
+    Ok(steps(parts, frames, BlockStage::Return { place, reading }, reach))
 }
 
 /// The first token of a statement that is an expression.

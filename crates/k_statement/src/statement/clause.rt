@@ -11,7 +11,7 @@ use k_num::{Box, NoMemory, Place, Seq};
 use k_steps::expression::Reading;
 use k_steps::reading::{Closer, Read};
 use k_steps::stack::Stack;
-use k_steps::statement::clause::Closed;
+use k_steps::statement::clause::Fitted;
 use k_steps::statement::{BlockStage, Frame, Stepped, Tested};
 use k_tree::{Expr, Stmt, Token, TokenKind, Word};
 use std::alloc::Global;
