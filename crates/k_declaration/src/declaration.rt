@@ -16,6 +16,7 @@ use k_steps::operators::{is_bracket, is_equal, is_left_brace, is_right_brace, is
 use k_steps::reading::{Closer, Maybe};
 use k_steps::stack::Stack;
 use k_steps::stars::{Stars, all_stars, constant, no_stars, star};
+use k_steps::turn::Turn;
 use k_tree::{Declarator, Init, Mark, Token, TokenKind, Word};
 use std::alloc::Global;
 
@@ -24,7 +25,7 @@ fn declares(front: Front, stage: DeclarationStage, reach: usize) -> Declared
     ensures { result ≡ spec.declares front stage reach }
 {
     let declaration = Declaration { front, stage };
-    Declared::Goes { declaration, reach }
+    Turn::Goes(declaration, reach)
 }
 
 /// A declaration whose first specifier was read.
@@ -52,13 +53,13 @@ fn word(mut front: Front, stars: Stars, word: Word) -> Result<Declared, NoMemory
 {
     if stars.pending {
         if !matches!(word, Word::Const) {
-            return Ok(Declared::Refused);
+            return Ok(Turn::Refused);
         }
         let stars = constant(stars)?;
         return Ok(declares(front, DeclarationStage::Before { stars }, 0));
     }
     if stars.done.len() > 0 || front.list.len() > 0 || !is_spec(word) {
-        return Ok(Declared::Refused);
+        return Ok(Turn::Refused);
     }
     front.specs.push(word)?;
     Ok(declares(front, DeclarationStage::Before { stars }, 0))
@@ -96,7 +97,7 @@ fn before(alloc: Global, front: Front, stars: Stars, token: &Token) -> Result<De
         TokenKind::Word(word_read) => word(front, stars, *word_read),
         TokenKind::Name(name_read) => name(alloc, front, stars, name_read, token.place),
         TokenKind::Mark(mark) => mark_before(front, stars, *mark),
-        _ => Ok(Declared::Refused),
+        _ => Ok(Turn::Refused),
     }
 }
 
@@ -110,7 +111,7 @@ fn mark_before(front: Front, stars: Stars, mark: Mark) -> Result<Declared, NoMem
             let stars = star(stars)?;
             Ok(declares(front, DeclarationStage::Before { stars }, 0))
         }
-        _ => Ok(Declared::Refused),
+        _ => Ok(Turn::Refused),
     }
 }
 
@@ -133,11 +134,11 @@ fn end(
         Mark::Semicolon => {
             front.list.push(declarator)?;
             let Front { specs, list, .. } = front;
-            Ok(Declared::Done { specs, list })
+            Ok(Turn::Done((specs, list)))
         }
         _ => {
             drop(declarator);
-            Ok(Declared::Refused)
+            Ok(Turn::Refused)
         }
     }
 }
@@ -200,7 +201,7 @@ fn behind_name(
         TokenKind::Mark(mark) => named(alloc, front, declarator, *mark),
         _ => {
             drop(declarator);
-            Ok(Declared::Refused)
+            Ok(Turn::Refused)
         }
     }
 }
@@ -224,7 +225,7 @@ fn size(
         }
     };
     match read {
-        Maybe::Goes { reading, reach } => {
+        Turn::Goes(reading, reach) => {
             Ok(declares(
                 front,
                 DeclarationStage::Size {
@@ -234,16 +235,16 @@ fn size(
                 reach,
             ))
         }
-        Maybe::Done { value } => {
+        Turn::Done(value) => {
             if let Err(NoMemory) = declarator.dims.push(unboxed(value)) {
                 drop(declarator);
                 return Err(NoMemory);
             }
             Ok(declares(front, DeclarationStage::Named { declarator }, 0))
         }
-        Maybe::Refused => {
+        Turn::Refused => {
             drop(declarator);
-            Ok(Declared::Refused)
+            Ok(Turn::Refused)
         }
     }
 }
@@ -255,7 +256,7 @@ fn behind(alloc: Global, front: Front, opened: Opened, token: &Token) -> Result<
 {
     let TokenKind::Mark(mark) = &token.what else {
         drop(opened);
-        return Ok(Declared::Refused);
+        return Ok(Turn::Refused);
     };
     match initialiser::behind(opened, *mark)? {
         After::Starts { opened } => {
@@ -267,7 +268,7 @@ fn behind(alloc: Global, front: Front, opened: Opened, token: &Token) -> Result<
             Ok(declares(front, DeclarationStage::After { declarator, braces }, 0))
         }
         After::Done { declarator } => end(alloc, front, declarator, *mark),
-        After::Refused => Ok(Declared::Refused),
+        After::Refused => Ok(Turn::Refused),
     }
 }
 
@@ -348,7 +349,7 @@ fn last_comma(front: Front, opened: Opened) -> Result<Declared, NoMemory>
     ensures { IfOk result (λ fed. fed ≡ spec.last_comma front opened) }
 {
     match initialiser::last_comma(opened)? {
-        None => Ok(Declared::Refused),
+        None => Ok(Turn::Refused),
         Some(opened) => {
             let Opened { declarator, braces } = opened;
             Ok(declares(front, DeclarationStage::After { declarator, braces }, 0))
@@ -377,7 +378,7 @@ fn first(alloc: Global, front: Front, opened: Opened, token: &Token) -> Result<D
         }
     };
     match fed {
-        Fed::Goes { reading, reach } => {
+        Turn::Goes(reading, reach) => {
             let reading = match Box::new(alloc, reading) {
                 Ok(reading) => reading,
                 Err(NoMemory) => {
@@ -394,14 +395,14 @@ fn first(alloc: Global, front: Front, opened: Opened, token: &Token) -> Result<D
             };
             Ok(declares(front, stage, reach))
         }
-        Fed::Ends { value } => {
+        Turn::Done(value) => {
             drop(value);
             drop(declarator);
-            Ok(Declared::Refused)
+            Ok(Turn::Refused)
         }
-        Fed::Refused => {
+        Turn::Refused => {
             drop(declarator);
-            Ok(Declared::Refused)
+            Ok(Turn::Refused)
         }
     }
 }
@@ -426,7 +427,7 @@ fn value(
         }
     };
     match fed {
-        Fed::Goes { reading, reach } => {
+        Turn::Goes(reading, reach) => {
             let reading = match Box::new(alloc, reading) {
                 Ok(reading) => reading,
                 Err(NoMemory) => {
@@ -443,13 +444,13 @@ fn value(
             };
             Ok(declares(front, stage, reach))
         }
-        Fed::Ends { value } => {
+        Turn::Done(value) => {
             let opened = initialiser::plug(opened, Init::One { place, value })?;
             behind(alloc, front, opened, token)
         }
-        Fed::Refused => {
+        Turn::Refused => {
             drop(opened);
-            Ok(Declared::Refused)
+            Ok(Turn::Refused)
         }
     }
 }

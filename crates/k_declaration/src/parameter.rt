@@ -10,6 +10,7 @@ use k_steps::operators::{is_bracket, is_spec, is_star};
 use k_steps::parameter::{ParameterStage, Parameters, Parametric};
 use k_steps::reading::{Closer, Maybe};
 use k_steps::stars::{Stars, all_stars, constant, no_stars, star};
+use k_steps::turn::Turn;
 use k_tree::{Mark, Param, Params, Token, TokenKind, Word};
 use std::alloc::Global;
 use std::mem;
@@ -19,7 +20,7 @@ fn follows(list: Seq<Param>, part: ParameterStage, reach: usize) -> Parametric
     ensures { result ≡ spec.follows list part reach }
 {
     let parameters = Parameters { list, part };
-    Parametric::Goes { parameters, reach }
+    Turn::Goes(parameters, reach)
 }
 
 /// No parameter was read.
@@ -38,7 +39,7 @@ fn starts(alloc: Global, list: Seq<Param>, word: Word, place: Place) -> Result<P
     ensures { IfOk result (λ fed. fed ≡ spec.starts list word place) }
 {
     if !is_spec(word) {
-        return Ok(Parametric::Refused);
+        return Ok(Turn::Refused);
     }
     let mut specs = Seq::new(alloc);
     specs.push(word)?;
@@ -59,11 +60,9 @@ fn none(list: Seq<Param>) -> Parametric
     ensures { result ≡ spec.none list }
 {
     if list.len() > 0 {
-        return Parametric::Refused;
+        return Turn::Refused;
     }
-    Parametric::Done {
-        params: Params::Empty,
-    }
+    Turn::Done(Params::Empty)
 }
 
 /// A token where a parameter begins.
@@ -74,7 +73,7 @@ fn first(alloc: Global, list: Seq<Param>, token: &Token) -> Result<Parametric, N
     match &token.what {
         TokenKind::Word(word) => starts(alloc, list, *word, token.place),
         TokenKind::Mark(mark) => Ok(mark_first(list, *mark)),
-        _ => Ok(Parametric::Refused),
+        _ => Ok(Turn::Refused),
     }
 }
 
@@ -85,7 +84,7 @@ fn mark_first(list: Seq<Param>, mark: Mark) -> Parametric
 {
     match mark {
         Mark::RightParen => none(list),
-        _ => Parametric::Refused,
+        _ => Turn::Refused,
     }
 }
 
@@ -113,18 +112,14 @@ fn end(mut list: Seq<Param>, param: Param, mark: Mark) -> Result<Parametric, NoM
         Mark::RightParen => {
             if list.len() == 0 && is_void_alone(&param) {
                 drop(param);
-                return Ok(Parametric::Done {
-                    params: Params::Void,
-                });
+                return Ok(Turn::Done(Params::Void));
             }
             list.push(param)?;
-            Ok(Parametric::Done {
-                params: Params::List(list),
-            })
+            Ok(Turn::Done(Params::List(list)))
         }
         _ => {
             drop(param);
-            Ok(Parametric::Refused)
+            Ok(Turn::Refused)
         }
     }
 }
@@ -161,7 +156,7 @@ fn behind_name(
         TokenKind::Mark(mark) => named(alloc, list, param, *mark),
         _ => {
             drop(param);
-            Ok(Parametric::Refused)
+            Ok(Turn::Refused)
         }
     }
 }
@@ -179,7 +174,7 @@ fn word(
     if stars.pending {
         if !matches!(word, Word::Const) {
             drop(param);
-            return Ok(Parametric::Refused);
+            return Ok(Turn::Refused);
         }
         let stars = match constant(stars) {
             Ok(stars) => stars,
@@ -192,7 +187,7 @@ fn word(
     }
     if stars.done.len() > 0 || !is_spec(word) {
         drop(param);
-        return Ok(Parametric::Refused);
+        return Ok(Turn::Refused);
     }
     if let Err(NoMemory) = param.specs.push(word) {
         drop(param);
@@ -258,7 +253,7 @@ fn typed(
         TokenKind::Mark(mark) => mark_typed(alloc, list, param, stars, *mark),
         _ => {
             drop(param);
-            Ok(Parametric::Refused)
+            Ok(Turn::Refused)
         }
     }
 }
@@ -307,21 +302,21 @@ fn size(
         }
     };
     match read {
-        Maybe::Goes { reading, reach } => Ok(follows(
+        Turn::Goes(reading, reach) => Ok(follows(
             list,
             ParameterStage::Size { param, reading },
             reach,
         )),
-        Maybe::Done { value } => {
+        Turn::Done(value) => {
             if let Err(NoMemory) = param.dims.push(unboxed(value)) {
                 drop(param);
                 return Err(NoMemory);
             }
             Ok(follows(list, ParameterStage::Named { param }, 0))
         }
-        Maybe::Refused => {
+        Turn::Refused => {
             drop(param);
-            Ok(Parametric::Refused)
+            Ok(Turn::Refused)
         }
     }
 }

@@ -7,7 +7,7 @@ mod types;
 
 ghost use Rattle.std.specs.Prelude.{◌≡◌, IfOk};
 ghost use Rattle.k_steps.specs.Expressions as spec;
-ghost use Rattle.k_steps.specs.declared.expression.Fed.TheVariants as feds;
+ghost use Rattle.k_steps.specs.declared.turn.Turn.TheVariants as turns;
 
 use crate::reading::is_left_paren;
 use k_num::{Box, NoMemory, Place, Seq, Text};
@@ -15,6 +15,7 @@ use k_steps::expression::{ExpressionStage, Fed, Open, Reading, Site, Term};
 use k_steps::level::plus;
 use k_steps::operators::right_rank;
 use k_steps::stack::Stack;
+use k_steps::turn::Turn;
 use k_tree::{Expr, Mark, Token};
 use std::alloc::Global;
 
@@ -23,15 +24,15 @@ fn goes(site: Site, opens: Stack<Open>, state: ExpressionStage, reach: usize) ->
     ensures { result ≡ spec.goes site opens state reach }
 {
     let reading = Reading { site, opens, state };
-    Fed::Goes { reading, reach }
+    Turn::Goes(reading, reach)
 }
 
 /// The token can't stand in the construct around it.
 fn refused(around: Open) -> Fed
-    ensures { result ≡ feds.Refused }
+    ensures { result ≡ turns.Refused }
 {
     drop(around);
-    Fed::Refused
+    Turn::Refused
 }
 
 /// The level of a node that stands in the innermost open construct.

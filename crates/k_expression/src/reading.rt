@@ -9,6 +9,7 @@ use crate::expression::feed;
 use k_num::{Box, NoMemory};
 use k_steps::expression::{ExpressionStage, Fed, Reading};
 use k_steps::reading::{Closer, Maybe, Read};
+use k_steps::turn::Turn;
 use k_tree::{Expr, Mark, Token, TokenKind};
 use std::alloc::Global;
 
@@ -98,19 +99,19 @@ pub fn read_needed(
     ensures { IfOk result (λ read. read ≡ spec.read_needed reading token.now closer) }
 {
     match feed(alloc, reading.into_inner(), token)? {
-        Fed::Goes { reading, reach } => {
+        Turn::Goes(reading, reach) => {
             let reading = Box::new(alloc, reading)?;
-            Ok(Read::Goes { reading, reach })
+            Ok(Turn::Goes(reading, reach))
         }
-        Fed::Ends { value } => {
+        Turn::Done(value) => {
             if closes(token, closer) {
                 let value = Box::new(alloc, value)?;
-                return Ok(Read::Done { value });
+                return Ok(Turn::Done(value));
             }
             drop(value);
-            Ok(Read::Refused)
+            Ok(Turn::Refused)
         }
-        Fed::Refused => Ok(Read::Refused),
+        Turn::Refused => Ok(Turn::Refused),
     }
 }
 
@@ -132,12 +133,12 @@ pub fn read_maybe(
     ensures { IfOk result (λ read. read ≡ spec.read_maybe reading token.now closer) }
 {
     if is_left_out(reading.get(), token, closer) {
-        return Ok(Maybe::Done { value: None });
+        return Ok(Turn::Done(None));
     }
     match read_needed(alloc, reading, token, closer)? {
-        Read::Goes { reading, reach } => Ok(Maybe::Goes { reading, reach }),
-        Read::Done { value } => Ok(Maybe::Done { value: Some(value) }),
-        Read::Refused => Ok(Maybe::Refused),
+        Turn::Goes(reading, reach) => Ok(Turn::Goes(reading, reach)),
+        Turn::Done(value) => Ok(Turn::Done(Some(value))),
+        Turn::Refused => Ok(Turn::Refused),
     }
 }
 

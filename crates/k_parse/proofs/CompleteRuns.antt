@@ -9,7 +9,7 @@ use Rattle.k_tree.specs.Ranked.{RankedUnit}
 use Rattle.k_tree.specs.Spelling.{Spelled, spell_item, spelling, in_row}
 use Rattle.k_steps.specs.Sources.{feed_source, begin_source}
 use Rattle.k_parse.specs.Runs.{next, runs}
-use Rattle.k_steps.specs.declared.source.Sourced.TheVariants as sourced
+use Rattle.k_steps.specs.declared.turn.Turn.TheVariants as turn
 use Rattle.k_parse.specs.declared.fault.ParseFault.TheVariants as fault
 use Rattle.k_steps.proofs.CompleteLeads.{token_at, Step, Leads}
 use Rattle.k_steps.proofs.CompleteItems.{Sources}
@@ -28,11 +28,11 @@ kinds_tail : (t : Token) (ts : List Token) (x : TokenKind) (xs : Spelled) → �
     → map (λ t. t.what) ts ≡ xs
 kinds_tail t ts x xs e = cc
 
-done_runs : (limit : ℕ) (s : Source) (t : Token) (ts : List Token) (u : source.Unit) → feed_source s t ≡ sourced.Done u → runs limit s (t ∷ ts) ≡ Some (Ok u)
+done_runs : (limit : ℕ) (s : Source) (t : Token) (ts : List Token) (u : source.Unit) → feed_source s t ≡ turn.Done u → runs limit s (t ∷ ts) ≡ Some (Ok u)
 unfolding runs
 done_runs limit s t ts u e = ap (λ v. next limit v t.place (λ x. runs limit x ts)) e
 
-goes_runs : (limit : ℕ) (s : Source) (t : Token) (ts : List Token) (z : Source) (reach : ℕ) → feed_source s t ≡ sourced.Goes z reach → reach ≤ limit
+goes_runs : (limit : ℕ) (s : Source) (t : Token) (ts : List Token) (z : Source) (reach : ℕ) → feed_source s t ≡ turn.Goes z reach → reach ≤ limit
     → runs limit s (t ∷ ts) ≡ runs limit z ts
 unfolding runs
 goes_runs limit s t ts z reach e le =
@@ -46,7 +46,7 @@ runs_to limit bound (x ∷ xs) [] s items le e l = absurd cc
 runs_to limit bound [] (t ∷ ts) s items le e l = record {
   made = unit_of l.made t.place;
   ran = done_runs limit s t ts (unit_of l.made t.place)
-      (subst (λ kind. feed_source s (token_at t.place kind) ≡ sourced.Done (unit_of l.made t.place)) (sym (kinds_head t ts token.End [] e)) (l.ends t.place));
+      (subst (λ kind. feed_source s (token_at t.place kind) ≡ turn.Done (unit_of l.made t.place)) (sym (kinds_head t ts token.End [] e)) (l.ends t.place));
   same = l.same;
 }
 runs_to limit bound (x ∷ xs) (t ∷ ts) s items le e l =

@@ -15,7 +15,7 @@ use Rattle.k_tree.proofs.Standing.{stand-kinds}
 use Rattle.k_parse.specs.Beginnings.{kinds, Begins, IsRefusalAt, IsFirstWrong}
 use Rattle.k_parse.specs.Runs.{Outcome, next, runs}
 use Rattle.k_steps.specs.Sources.{begin_source, feed_source}
-use Rattle.k_steps.specs.declared.source.Sourced.TheVariants as sourced
+use Rattle.k_steps.specs.declared.turn.Turn.TheVariants as turn
 use Rattle.k_parse.specs.declared.fault.ParseFault.TheVariants as fault
 use Rattle.k_steps.proofs.CompleteLeads.{token_at, Step, Leads, Reaches}
 use Rattle.k_steps.proofs.CompleteItems.{Sources}
@@ -26,8 +26,8 @@ use Rattle.k_steps.proofs.SourceViable.{PhaseReached, SourcedStays, source_stays
 -- a token is taken: the reading goes on no deeper than below the bound, or ends
 abbrev pub Takes : ℕ → Source → Token → Type 0
 Takes bound s t =
-    ((z : Source) × (reach : ℕ) × (feed_source s t ≡ sourced.Goes z reach) × (reach < bound))
-    ⊎ ((u : source.Unit) × (feed_source s t ≡ sourced.Done u))
+    ((z : Source) × (reach : ℕ) × (feed_source s t ≡ turn.Goes z reach) × (reach < bound))
+    ⊎ ((u : source.Unit) × (feed_source s t ≡ turn.Done u))
 
 no_more : (ts : List Token) (t : Token) (rest : Spelled) → ◌≡◌ {A = Spelled} [] (kinds (ts ++ t ∷ []) ++ rest) → ⊥
 no_more [] t rest e = cc
@@ -39,14 +39,14 @@ walk : (bound other : ℕ) (items : List Item) (xs : Spelled) (s : Source) → L
     → xs ++ token.End ∷ [] ≡ kinds (before ++ t ∷ []) ++ rest → Takes bound z t
 walk bound other items [] s l [] z r t rest e =
     let end : token.End ≡ t.what = cons_head token.End t.what [] rest e in
-    let ends : feed_source s t ≡ sourced.Done (unit_of l.made t.place) =
-    subst (λ kind. feed_source s (token_at t.place kind) ≡ sourced.Done (unit_of l.made t.place)) end (l.ends t.place) in
-    inr (unit_of l.made t.place, subst (λ y. feed_source y t ≡ sourced.Done (unit_of l.made t.place)) r ends)
+    let ends : feed_source s t ≡ turn.Done (unit_of l.made t.place) =
+    subst (λ kind. feed_source s (token_at t.place kind) ≡ turn.Done (unit_of l.made t.place)) end (l.ends t.place) in
+    inr (unit_of l.made t.place, subst (λ y. feed_source y t ≡ turn.Done (unit_of l.made t.place)) r ends)
 walk bound other items (x ∷ xs) s l [] z r t rest e =
     let kind : x ≡ t.what = cons_head x t.what (xs ++ token.End ∷ []) rest e in
     let first : Step Sources bound s t (λ y. Leads Sources bound xs y (SourceRead items)) =
     subst (λ k. Step Sources bound s (token_at t.place k) (λ y. Leads Sources bound xs y (SourceRead items))) kind (l t.place) in
-    inl (first.next, first.reach, subst (λ y. feed_source y t ≡ sourced.Goes first.next first.reach) r first.goes, first.low)
+    inl (first.next, first.reach, subst (λ y. feed_source y t ≡ turn.Goes first.next first.reach) r first.goes, first.low)
 walk bound other items [] s l (b ∷ before) z r t rest e =
     absurd (no_more before t rest (cons_tail token.End b.what [] (kinds (before ++ t ∷ []) ++ rest) e))
 walk bound other items (x ∷ xs) s l (b ∷ before) z r t rest e =
@@ -70,11 +70,11 @@ taken limit other before t z b r =
 
 -- one token more
 reaches_more : (bound : ℕ) (s z y : Source) (before : List Token) (t : Token) (reach : ℕ) → Reaches Sources bound s before z
-    → feed_source z t ≡ sourced.Goes y reach → reach < bound → Reaches Sources bound s (before ++ t ∷ []) y
+    → feed_source z t ≡ turn.Goes y reach → reach < bound → Reaches Sources bound s (before ++ t ∷ []) y
 reaches_more bound s z y [] t reach r goes low = record {
   next = y;
   reach = reach;
-  goes = subst (λ x. feed_source x t ≡ sourced.Goes y reach) (sym r) goes;
+  goes = subst (λ x. feed_source x t ≡ turn.Goes y reach) (sym r) goes;
   low = low;
   there = refl;
 }
@@ -86,27 +86,27 @@ reaches_more bound s z y (b ∷ before) t reach r goes low = record {
   there = reaches_more bound r.next z y before t reach r.there goes low;
 }
 
-refused_goes : (z : Source) (reach : ℕ) → ◌≡◌ {A = Sourced} sourced.Refused (sourced.Goes z reach) → ⊥
+refused_goes : (z : Source) (reach : ℕ) → ◌≡◌ {A = Sourced} turn.Refused (turn.Goes z reach) → ⊥
 refused_goes z reach e = cc
 
-refused_done : (u : source.Unit) → ◌≡◌ {A = Sourced} sourced.Refused (sourced.Done u) → ⊥
+refused_done : (u : source.Unit) → ◌≡◌ {A = Sourced} turn.Refused (turn.Done u) → ⊥
 refused_done u e = cc
 
-goes_done : (z : Source) (reach : ℕ) (u : source.Unit) → ◌≡◌ {A = Sourced} (sourced.Goes z reach) (sourced.Done u) → ⊥
+goes_done : (z : Source) (reach : ℕ) (u : source.Unit) → ◌≡◌ {A = Sourced} (turn.Goes z reach) (turn.Done u) → ⊥
 goes_done z reach u e = cc
 
-one_reach : (a b : Source) (m n : ℕ) → ◌≡◌ {A = Sourced} (sourced.Goes a m) (sourced.Goes b n) → m ≡ n
+one_reach : (a b : Source) (m n : ℕ) → ◌≡◌ {A = Sourced} (turn.Goes a m) (turn.Goes b n) → m ≡ n
 one_reach a b m n e = cc
 
 -- a token that is refused is not taken, at any bound
-not_taken : (bound : ℕ) (z : Source) (t : Token) → feed_source z t ≡ sourced.Refused → Takes bound z t → ⊥
+not_taken : (bound : ℕ) (z : Source) (t : Token) → feed_source z t ≡ turn.Refused → Takes bound z t → ⊥
 not_taken bound z t e takes = elim takes [
   | inl goes ↦ refused_goes goes.0 goes.1 (sym e ∙ goes.2)
   | inr done ↦ refused_done done.0 (sym e ∙ done.1)
 ]
 
 -- nor is one that reaches too deep, within the limit
-not_reached : (limit : ℕ) (z y : Source) (t : Token) (reach : ℕ) → feed_source z t ≡ sourced.Goes y reach → limit < reach → Takes (1 + limit) z t → ⊥
+not_reached : (limit : ℕ) (z y : Source) (t : Token) (reach : ℕ) → feed_source z t ≡ turn.Goes y reach → limit < reach → Takes (1 + limit) z t → ⊥
 not_reached limit z y t reach e deep takes = elim takes [
   | inl goes ↦ let same : reach ≡ goes.1 = one_reach y goes.0 reach goes.1 (sym e ∙ goes.2) in let low = goes.3 in absurd (omega (arith, same, low, deep))
   | inr done ↦ goes_done y reach done.0 (sym e ∙ done.1)
@@ -149,7 +149,7 @@ StandsFrom limit s seen = (n : ℕ) → limit ≤ n → Stands n s seen
 
 -- the refusal of a token that is not taken
 refused_at : (limit : ℕ) (s : Source) (seen : List Token) (t : Token) (ts : List Token) (f : ParseFault) → Stands limit s seen
-    → feed_source s t ≡ sourced.Refused → f ≡ fault.Syntax t.place → IsFirstWrong limit (seen ++ t ∷ ts) f
+    → feed_source s t ≡ turn.Refused → f ≡ fault.Syntax t.place → IsFirstWrong limit (seen ++ t ∷ ts) f
 refused_at limit s seen t ts f h e same =
     let stop = λ (n : ℕ) (b : Begins n (seen ++ t ∷ [])). not_taken (1 + n) s t e (taken n (1 + limit) seen t s b h.trace) in
     record {
@@ -164,7 +164,7 @@ refused_at limit s seen t ts f h e same =
 
 -- one token more was read
 stands_more : (limit : ℕ) (s y : Source) (seen : List Token) (t : Token) (reach : ℕ) → Stands limit s seen
-    → feed_source s t ≡ sourced.Goes y reach → reach ≤ limit → Stands limit y (seen ++ t ∷ [])
+    → feed_source s t ≡ turn.Goes y reach → reach ≤ limit → Stands limit y (seen ++ t ∷ [])
 stands_more limit s y seen t reach h e le = record {
   trace = reaches_more (1 + limit) begin_source s y seen t reach h.trace e (omega (arith, le));
   ok = subst (KeepsSourced limit seen t) e (source_keeps limit seen t s h.ok) le;
@@ -172,7 +172,7 @@ stands_more limit s y seen t reach h e le = record {
 }
 
 -- a token that reaches too deep, with those before it, begins a source of the nesting that it reaches
-begins_deeper : (s y : Source) (seen : List Token) (t : Token) (reach : ℕ) → Stands reach s seen → feed_source s t ≡ sourced.Goes y reach
+begins_deeper : (s y : Source) (seen : List Token) (t : Token) (reach : ℕ) → Stands reach s seen → feed_source s t ≡ turn.Goes y reach
     → Begins reach (seen ++ t ∷ [])
 begins_deeper s y seen t reach h e =
     let more : Stands reach y (seen ++ t ∷ []) = stands_more reach s y seen t reach h e (omega arith) in
@@ -180,7 +180,7 @@ begins_deeper s y seen t reach h e =
 
 -- the refusal of a token that reaches too deep
 deep_at : (limit : ℕ) (s y : Source) (seen : List Token) (t : Token) (ts : List Token) (f : ParseFault) (reach : ℕ) → StandsFrom limit s seen
-    → feed_source s t ≡ sourced.Goes y reach → limit < reach → f ≡ fault.TooDeep t.place → IsFirstWrong limit (seen ++ t ∷ ts) f
+    → feed_source s t ≡ turn.Goes y reach → limit < reach → f ≡ fault.TooDeep t.place → IsFirstWrong limit (seen ++ t ∷ ts) f
 deep_at limit s y seen t ts f reach all e deep same =
     let h : Stands limit s seen = all limit (omega arith) in
     record {
@@ -200,7 +200,7 @@ Again limit ts seen t f =
 
 module _ (limit : ℕ) where
   by_reach : (ts seen : List Token) (s : Source) (t : Token) (f : ParseFault) (y : Source) (reach : ℕ) (b : Bool) → nat_le reach limit ≡ b
-      → feed_source s t ≡ sourced.Goes y reach → StandsFrom limit s seen
+      → feed_source s t ≡ turn.Goes y reach → StandsFrom limit s seen
       → cond b (runs limit y ts) (Some (Err (fault.TooDeep t.place))) ≡ Some (Err f) → Again limit ts seen t f → IsFirstWrong limit (seen ++ t ∷ ts) f
   by_reach ts seen s t f y reach true le fed all e again =
       let low : reach ≤ limit = leb-true reach limit le in
@@ -211,9 +211,9 @@ module _ (limit : ℕ) where
 
   by_feed : (ts seen : List Token) (s : Source) (t : Token) (f : ParseFault) (x : Sourced) → feed_source s t ≡ x → StandsFrom limit s seen
       → next limit x t.place (λ y. runs limit y ts) ≡ Some (Err f) → Again limit ts seen t f → IsFirstWrong limit (seen ++ t ∷ ts) f
-  by_feed ts seen s t f (sourced.Goes y reach) fed all e again = by_reach ts seen s t f y reach (nat_le reach limit) refl fed all e again
-  by_feed ts seen s t f (sourced.Done u) fed all e again = absurd (some_done u f e)
-  by_feed ts seen s t f sourced.Refused fed all e again =
+  by_feed ts seen s t f (turn.Goes y reach) fed all e again = by_reach ts seen s t f y reach (nat_le reach limit) refl fed all e again
+  by_feed ts seen s t f (turn.Done u) fed all e again = absurd (some_done u f e)
+  by_feed ts seen s t f turn.Refused fed all e again =
       refused_at limit s seen t ts f (all limit (omega arith)) fed (sym (some_err (fault.Syntax t.place) f e))
 
   -- a list that is refused behind some tokens is refused at its first wrong token

@@ -9,7 +9,7 @@ use Rattle.k_tree.specs.declared.tree.unit.Unit as source
 use Rattle.k_tree.specs.Closed.{EndsOnce}
 use Rattle.k_parse.specs.Runs.{Outcome, next, runs}
 use Rattle.k_steps.specs.Sources.{begin_source, feed_source}
-use Rattle.k_steps.specs.declared.source.Sourced.TheVariants as sourced
+use Rattle.k_steps.specs.declared.turn.Turn.TheVariants as turn
 use Rattle.k_parse.specs.declared.fault.ParseFault.TheVariants as fault
 use Rattle.k_steps.proofs.SourceSound.{OkSource, IsUnit, KeepsSourced, source_keeps, begin_source_ok}
 
@@ -36,10 +36,10 @@ going lim us ts t u s reach false h k e again = absurd (no_outcome (fault.TooDee
 fed_sound : (lim : ℕ) (us ts : List Token) (t : Token) (u : source.Unit) (f : Sourced) → KeepsSourced lim us t f → EndsOnce (t ∷ ts)
     → next lim f t.place (λ x. runs lim x ts) ≡ Some (Ok u)
     → ((x : Source) → OkSource lim x (us ++ t ∷ []) → runs lim x ts ≡ Some (Ok u) → IsUnit lim u (us ++ t ∷ ts)) → IsUnit lim u (us ++ t ∷ ts)
-fed_sound lim us ts t u (sourced.Goes s reach) k c e again = going lim us ts t u s reach (nat_le reach lim) refl k e again
-fed_sound lim us ts t u (sourced.Done v) k c e again =
+fed_sound lim us ts t u (turn.Goes s reach) k c e again = going lim us ts t u s reach (nat_le reach lim) refl k e again
+fed_sound lim us ts t u (turn.Done v) k c e again =
     subst (λ z. IsUnit lim u (us ++ t ∷ z)) (sym (last_is_all t ts c k.1)) (subst (λ z. IsUnit lim z (us ++ t ∷ [])) (ok_is v u e) k.0)
-fed_sound lim us ts t u sourced.Refused k c e again = absurd (no_outcome (fault.Syntax t.place) u e)
+fed_sound lim us ts t u turn.Refused k c e again = absurd (no_outcome (fault.Syntax t.place) u e)
 
 pub runs_sound : (lim : ℕ) → (us ts : List Token) (s : Source) (u : source.Unit) → OkSource lim s us → EndsOnce ts
     → runs lim s ts ≡ Some (Ok u) → IsUnit lim u (us ++ ts)

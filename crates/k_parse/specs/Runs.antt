@@ -4,7 +4,7 @@ use Rattle.std.specs.declared.result.Result.{Result}
 use Rattle.k_steps.specs.Types.{Place, Token, Source, Sourced}
 use Rattle.k_parse.specs.declared.fault.ParseFault.{ParseFault}
 use Rattle.k_tree.specs.declared.tree.unit.Unit as source
-use Rattle.k_steps.specs.declared.source.Sourced.TheVariants as sourced
+use Rattle.k_steps.specs.declared.turn.Turn.TheVariants as turn
 use Rattle.k_parse.specs.declared.fault.ParseFault.TheVariants as fault
 use Rattle.k_steps.specs.Sources.{feed_source}
 
@@ -14,9 +14,9 @@ Outcome = Option (Result source.Unit ParseFault)
 
 -- what comes of a token: the source goes on, or nests too deep for the limit, or is done, or the token can't stand there
 abbrev pub next : ℕ → Sourced → Place → (Source → Outcome) → Outcome
-next limit (sourced.Goes s reach) p go = cond (nat_le reach limit) (go s) (Some (Err (fault.TooDeep p)))
-next limit (sourced.Done u) p go = Some (Ok u)
-next limit sourced.Refused p go = Some (Err (fault.Syntax p))
+next limit (turn.Goes s reach) p go = cond (nat_le reach limit) (go s) (Some (Err (fault.TooDeep p)))
+next limit (turn.Done u) p go = Some (Ok u)
+next limit turn.Refused p go = Some (Err (fault.Syntax p))
 
 -- the outcome of reading the rest of a list with this limit of levels, from what was read so far
 unfoldable pub runs : ℕ → Source → List Token → Outcome

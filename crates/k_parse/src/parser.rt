@@ -9,6 +9,7 @@ use crate::fault::ParseFault;
 use k_num::{NoMemory, Seq};
 use k_statement::source::{begin_source, feed_source};
 use k_steps::source::Sourced;
+use k_steps::turn::Turn;
 use k_tree::{Token, Unit, nodes};
 use std::alloc::Global;
 
@@ -33,15 +34,15 @@ fn read(alloc: Global, tokens: &[Token]) -> Result<Unit, ParseFault>
             Err(NoMemory) => return Err(ParseFault::Memory),
         };
         source = match fed {
-            Sourced::Goes { source, reach } => {
+            Turn::Goes(source, reach) => {
                 if reach > NESTING {
                     drop(source);
                     return Err(ParseFault::TooDeep(token.place));
                 }
                 source
             }
-            Sourced::Done { unit } => return Ok(unit),
-            Sourced::Refused => return Err(ParseFault::Syntax(token.place)),
+            Turn::Done(unit) => return Ok(unit),
+            Turn::Refused => return Err(ParseFault::Syntax(token.place)),
         };
     }
     unreachable!()

@@ -3,7 +3,7 @@ ghost use Rattle.std.specs.Prelude.{◌≡◌, IfOk};
 ghost use Rattle.k_steps.specs.Parameters.{begin_parameters};
 ghost use Rattle.k_steps.specs.Sources as spec;
 ghost use Rattle.k_steps.specs.declared.source.SourceStage.TheVariants as phases;
-ghost use Rattle.k_steps.specs.declared.source.Sourced.TheVariants as sourced;
+ghost use Rattle.k_steps.specs.declared.turn.Turn.TheVariants as turns;
 ghost use Rattle.k_steps.specs.Declarations.{feed_declaration};
 
 use crate::statement::{begin_body, feed_body};
@@ -16,6 +16,7 @@ use k_steps::operators::is_spec;
 use k_steps::parameter::{Parameters, Parametric};
 use k_steps::source::{Source, SourceStage, Sourced, Title};
 use k_steps::statement::{Body, Stepped};
+use k_steps::turn::Turn;
 use k_tree::{Declarator, Head, Item, Mark, Params, Token, TokenKind, Unit, Word};
 use std::alloc::Global;
 
@@ -23,7 +24,7 @@ fn goes_on(items: Seq<Item>, phase: SourceStage, reach: usize) -> Sourced
     ensures { result ≡ spec.goes_on items phase reach }
 {
     let source = Source { items, phase };
-    Sourced::Goes { source, reach }
+    Turn::Goes(source, reach)
 }
 
 /// No token was read.
@@ -51,18 +52,16 @@ fn starts(alloc: Global, items: Seq<Item>, token: &Token) -> Result<Sourced, NoM
 {
     let place = token.place;
     match &token.what {
-        TokenKind::End => Ok(Sourced::Done {
-            unit: Unit { items, end: place },
-        }),
+        TokenKind::End => Ok(Turn::Done(Unit { items, end: place })),
         TokenKind::Word(word) => {
             if !is_spec(*word) {
-                return Ok(Sourced::Refused);
+                return Ok(Turn::Refused);
             }
             let declaration = begin_declaration(alloc, *word, 1)?;
             let declaration = Box::new(alloc, declaration)?;
             Ok(goes_on(items, SourceStage::Declares { place, declaration }, 0))
         }
-        _ => Ok(Sourced::Refused),
+        _ => Ok(Turn::Refused),
     }
 }
 
@@ -129,10 +128,10 @@ fn parameters_begin(
 
 /// `(` at a stage where no function's parameters can begin.
 fn refused(stage: DeclarationStage) -> Sourced
-    ensures { result ≡ sourced.Refused }
+    ensures { result ≡ turns.Refused }
 {
     drop(stage);
-    Sourced::Refused
+    Turn::Refused
 }
 
 /// `(` in an item at this stage.
@@ -178,12 +177,12 @@ fn declared(
     ensures { IfOk result (λ fed. fed ≡ spec.declares_by items place (feed_declaration declaration token.now)) }
 {
     match feed_declaration(alloc, declaration.into_inner(), token)? {
-        Declared::Goes { declaration, reach } => {
+        Turn::Goes(declaration, reach) => {
             let declaration = Box::new(alloc, declaration)?;
             Ok(goes_on(items, SourceStage::Declares { place, declaration }, reach))
         }
-        Declared::Done { specs, list } => item_done(items, Item::Objects { place, specs, list }),
-        Declared::Refused => Ok(Sourced::Refused),
+        Turn::Done((specs, list)) => item_done(items, Item::Objects { place, specs, list }),
+        Turn::Refused => Ok(Turn::Refused),
     }
 }
 
@@ -243,7 +242,7 @@ fn parameters(
         }
     };
     match fed {
-        Parametric::Goes { parameters, reach } => {
+        Turn::Goes(parameters, reach) => {
             let parameters = match Box::new(alloc, parameters) {
                 Ok(parameters) => parameters,
                 Err(NoMemory) => {
@@ -258,13 +257,13 @@ fn parameters(
             };
             Ok(goes_on(items, phase, reach))
         }
-        Parametric::Done { params } => {
+        Turn::Done(params) => {
             let head = Box::new(alloc, head_of(title, params))?;
             Ok(goes_on(items, SourceStage::Headed { place, head }, 0))
         }
-        Parametric::Refused => {
+        Turn::Refused => {
             drop(title);
-            Ok(Sourced::Refused)
+            Ok(Turn::Refused)
         }
     }
 }
@@ -292,7 +291,7 @@ fn mark_headed(
             let body = begin_body(alloc);
             Ok(goes_on(items, SourceStage::Body { place, head, body }, 0))
         }
-        _ => Ok(Sourced::Refused),
+        _ => Ok(Turn::Refused),
     }
 }
 
@@ -309,7 +308,7 @@ fn headed(
 {
     match &token.what {
         TokenKind::Mark(mark) => mark_headed(alloc, items, place, head, *mark),
-        _ => Ok(Sourced::Refused),
+        _ => Ok(Turn::Refused),
     }
 }
 
@@ -326,10 +325,10 @@ fn in_body(
     ensures { IfOk result (λ fed. fed ≡ spec.in_body items place head body token.now) }
 {
     match feed_body(alloc, body, token)? {
-        Stepped::Goes { body, reach } => {
+        Turn::Goes(body, reach) => {
             Ok(goes_on(items, SourceStage::Body { place, head, body }, reach))
         }
-        Stepped::Done { parts } => {
+        Turn::Done(parts) => {
             let item = Item::Function {
                 place,
                 head: head.into_inner(),
@@ -338,7 +337,7 @@ fn in_body(
             };
             item_done(items, item)
         }
-        Stepped::Refused => Ok(Sourced::Refused),
+        Turn::Refused => Ok(Turn::Refused),
     }
 }
 

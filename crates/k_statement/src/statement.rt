@@ -16,6 +16,7 @@ use k_steps::level::plus;
 use k_steps::reading::{Closer, Maybe, Read};
 use k_steps::stack::Stack;
 use k_steps::statement::{BlockStage, Body, Frame, Stepped};
+use k_steps::turn::Turn;
 use k_tree::{Stmt, Token};
 use std::alloc::Global;
 
@@ -28,7 +29,7 @@ pub fn steps(parts: Seq<Stmt>, frames: Stack<Frame>, step: BlockStage, reach: us
         frames,
         step,
     };
-    Stepped::Goes { body, reach }
+    Turn::Goes(body, reach)
 }
 
 /// A statement ended.
@@ -95,11 +96,11 @@ fn value(
     ensures { IfOk result (λ fed. fed ≡ spec.value parts frames place reading token.now) }
 {
     match read_needed(alloc, reading, token, Closer::Semicolon)? {
-        Read::Goes { reading, reach } => {
+        Turn::Goes(reading, reach) => {
             Ok(steps(parts, frames, BlockStage::Value { place, reading }, reach))
         }
-        Read::Done { value } => whole(alloc, parts, frames, Stmt::Expr { place, value }),
-        Read::Refused => Ok(Stepped::Refused),
+        Turn::Done(value) => whole(alloc, parts, frames, Stmt::Expr { place, value }),
+        Turn::Refused => Ok(Turn::Refused),
     }
 }
 
@@ -116,11 +117,11 @@ fn returned(
     ensures { IfOk result (λ fed. fed ≡ spec.returned parts frames place reading token.now) }
 {
     match read_maybe(alloc, reading, token, Closer::Semicolon)? {
-        Maybe::Goes { reading, reach } => {
+        Turn::Goes(reading, reach) => {
             Ok(steps(parts, frames, BlockStage::Return { place, reading }, reach))
         }
-        Maybe::Done { value } => whole(alloc, parts, frames, Stmt::Return { place, value }),
-        Maybe::Refused => Ok(Stepped::Refused),
+        Turn::Done(value) => whole(alloc, parts, frames, Stmt::Return { place, value }),
+        Turn::Refused => Ok(Turn::Refused),
     }
 }
 
@@ -137,7 +138,7 @@ fn local(
     ensures { IfOk result (λ fed. fed ≡ spec.local parts frames place declaration token.now) }
 {
     match feed_declaration(alloc, declaration.into_inner(), token)? {
-        Declared::Goes { declaration, reach } => {
+        Turn::Goes(declaration, reach) => {
             let declaration = Box::new(alloc, declaration)?;
             Ok(steps(
                 parts,
@@ -146,10 +147,10 @@ fn local(
                 reach,
             ))
         }
-        Declared::Done { specs, list } => {
+        Turn::Done((specs, list)) => {
             whole(alloc, parts, frames, Stmt::Declare { place, specs, list })
         }
-        Declared::Refused => Ok(Stepped::Refused),
+        Turn::Refused => Ok(Turn::Refused),
     }
 }
 
@@ -161,7 +162,7 @@ fn semicolon(parts: Seq<Stmt>, frames: Stack<Frame>, stmt: Box<Stmt>, token: &To
     if closes(token, Closer::Semicolon) {
         steps(parts, frames, BlockStage::Whole { stmt }, 0)
     } else {
-        Stepped::Refused
+        Turn::Refused
     }
 }
 

@@ -18,7 +18,7 @@ use Rattle.k_steps.specs.Declarations.{begin_declaration}
 use Rattle.k_steps.specs.Statements.{mark_begins, jump, Parts, Frames, feed_body, begins, keyword, declares, is_in_block, block_ends, local, local_by, steps, behind, close, part, more, is_else, level, inner}
 use Rattle.k_steps.specs.declared.statement.Frame.TheVariants as frame
 use Rattle.k_steps.specs.declared.statement.BlockStage.TheVariants as step
-use Rattle.k_steps.specs.declared.statement.Stepped.TheVariants as stepped
+use Rattle.k_steps.specs.declared.turn.Turn.TheVariants as turn
 use Rattle.k_steps.proofs.CompleteLeads.{token_at, Leads, leads-then, leads-more, leads-in}
 use Rattle.k_steps.proofs.CompleteDepths.{depth_positive, above_zero}
 use Rattle.k_steps.proofs.CompleteInitialisers.{Declares}
@@ -41,11 +41,11 @@ EachPart (x ∷ parts) = PartReads x × (spell_stmt x ≢ []) × EachPart parts
 -- a declaration
 
 declares_goes : (ps : Parts) (s : Frames) (w : Word) (p : Place) → IsTrue (is_spec w) → is_in_block s ≡ true
-    → declares ps s w p ≡ stepped.Goes (body_at ps s (step.Local p (begin_declaration w (inner s)))) (level s)
+    → declares ps s w p ≡ turn.Goes (body_at ps s (step.Local p (begin_declaration w (inner s)))) (level s)
 unfolding declares is_spec_word
 declares_goes ps s w p h i =
-    ap (λ b. cond (b && is_in_block s) (steps ps s (step.Local p (begin_declaration w (inner s))) (level s)) stepped.Refused) h
-    ∙ ap (λ b. cond b (steps ps s (step.Local p (begin_declaration w (inner s))) (level s)) stepped.Refused) i
+    ap (λ b. cond (b && is_in_block s) (steps ps s (step.Local p (begin_declaration w (inner s))) (level s)) turn.Refused) h
+    ∙ ap (λ b. cond b (steps ps s (step.Local p (begin_declaration w (inner s))) (level s)) turn.Refused) i
 
 specifier_goes : (ps : Parts) (s : Frames) (w : Word) (p : Place) → IsTrue (is_spec w) → feed_body (begins_at ps s) (token_at p (token.Word w)) ≡ declares ps s w p
 unfolding feed_body begins keyword mark_begins is_semicolon is_left_brace is_right_brace jump is_spec_word

@@ -18,7 +18,7 @@ use Rattle.k_steps.specs.declared.reading.Closer.TheVariants as closer
 use Rattle.k_steps.specs.Initialisers as inits
 use Rattle.k_steps.specs.Declarations.{mark_before, feed_declaration, declaration_at, declares, front_of, begin_declaration, before, word, name, named, end, size, size_by, after}
 use Rattle.k_steps.specs.declared.declaration.DeclarationStage.TheVariants as stage
-use Rattle.k_steps.specs.declared.declaration.Declared.TheVariants as declared_
+use Rattle.k_steps.specs.declared.turn.Turn.TheVariants as turn
 use Rattle.k_steps.proofs.CompleteLeads.{token_at, Leads, leads-then, leads-more}
 use Rattle.k_steps.proofs.CompleteHolds.{Feeds}
 use Rattle.k_steps.proofs.CompleteExpressions.{Whole}
@@ -51,7 +51,7 @@ name_goes f v x p = refl
 word_goes : (vs : List Word) (level : ℕ) (w : Word) (p : Place) → IsTrue (is_spec w)
     → Declares (before_name (front_of vs [] level) no_stars) (token_at p (token.Word w)) (before_name (front_of (vs ++ w ∷ []) [] level) no_stars) 0
 unfolding feed_declaration before word is_spec_word mark_before
-word_goes vs level w p h = ap (λ b. cond b (declares (front_of (vs ++ w ∷ []) [] level) (stage.Before no_stars) 0) declared_.Refused) h
+word_goes vs level w p h = ap (λ b. cond b (declares (front_of (vs ++ w ∷ []) [] level) (stage.Before no_stars) 0) turn.Refused) h
 
 -- stars and a name were read
 pub record Titled (f : Front) (stars : List Bool) (x : List ℕ) (z : Declaration) : Type 0 where
@@ -194,14 +194,14 @@ declarator_complete bound f d h positive low =
 -- the declaration is read: its semicolon ends it
 pub record DeclarationHolds (specs : List Word) (list : List Declarator) (z : Declaration) : Type 0 where
   pub made : List Declarator
-  pub ends : (p : Place) → feed_declaration z (token_at p (token.Mark mark.Semicolon)) ≡ declared_.Done specs made
+  pub ends : (p : Place) → feed_declaration z (token_at p (token.Mark mark.Semicolon)) ≡ turn.Done (specs, made)
   pub same : map bare_declarator made ≡ map bare_declarator list
 
-comma_goes : (f : Front) (d : Declarator) → end f d mark.Comma ≡ declared_.Goes (before_name (front_of f.specs (f.list ++ d ∷ []) f.level) no_stars) 0
+comma_goes : (f : Front) (d : Declarator) → end f d mark.Comma ≡ turn.Goes (before_name (front_of f.specs (f.list ++ d ∷ []) f.level) no_stars) 0
 unfolding end
 comma_goes f d = refl
 
-semicolon_ends : (f : Front) (d : Declarator) → end f d mark.Semicolon ≡ declared_.Done f.specs (f.list ++ d ∷ [])
+semicolon_ends : (f : Front) (d : Declarator) → end f d mark.Semicolon ≡ turn.Done (f.specs, f.list ++ d ∷ [])
 unfolding end
 semicolon_ends f d = refl
 

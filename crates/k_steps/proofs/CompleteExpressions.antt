@@ -6,7 +6,7 @@ use Rattle.k_tree.specs.Nesting.{expr_depth}
 use Rattle.k_tree.specs.Ranked.{Ranked, RankedArgs, no_args, more_args, comma, assignment, conditional, binary, cast, unary, prefix, sizeof_expr, sizeof_type, index, postfix, call, name, number, character, string, paren}
 use Rattle.k_tree.specs.Spelling.{spell_expr}
 use Rattle.k_steps.specs.Expressions.{feed, begin, hole}
-use Rattle.k_steps.specs.declared.expression.Fed.TheVariants as fed
+use Rattle.k_steps.specs.declared.turn.Turn.TheVariants as turn
 use Rattle.k_steps.proofs.CompleteLeads.{Leads, leads-more}
 use Rattle.k_steps.proofs.CompleteHolds.{Feeds, awaits, Below, Holds, Reads, ended}
 use Rattle.k_steps.proofs.CompleteDepths.{depth_positive}
@@ -44,7 +44,7 @@ mutual
 -- an expression that was read whole: a token that goes on with no operand of this rank ends it
 pub record Whole (rank : ℕ) (e : Expr) (r : Reading) : Type 0 where
   pub made : Expr
-  pub ends : (t : Token) → Below rank t.what → feed r t ≡ fed.Ends made
+  pub ends : (t : Token) → Below rank t.what → feed r t ≡ turn.Done made
   pub same : bare_expr made ≡ bare_expr e
 
 site_hole : (g : Site) → hole g [] ≡ g.rank

@@ -9,7 +9,7 @@ use Rattle.k_tree.specs.Spelling.{spell_expr}
 use Rattle.k_steps.specs.Operators.{binding, takes, takes_by}
 use Rattle.k_steps.specs.Expressions.{feed, value, hole, plug, Opens, takes_token, is_left_paren, take_operator, enclose_by, closed_by, take_token}
 use Rattle.k_steps.specs.declared.expression.ExpressionStage.TheVariants as now
-use Rattle.k_steps.specs.declared.expression.Fed.TheVariants as fed
+use Rattle.k_steps.specs.declared.turn.Turn.TheVariants as turn
 use Rattle.k_steps.specs.declared.expression.plug.Plugged.TheVariants as plugged
 use Rattle.k_steps.proofs.CompleteLeads.{token_at, Moves, Leads}
 
@@ -18,7 +18,7 @@ reading g s n = record { site = g; opens = s; state = n }
 
 -- how the machine of expressions moves
 abbrev pub Feeds : Moves Reading
-Feeds r t next reach = feed r t ≡ fed.Goes next reach
+Feeds r t next reach = feed r t ≡ turn.Goes next reach
 
 -- an operand is awaited
 abbrev pub awaits : Site → Opens → Reading
@@ -64,15 +64,15 @@ parted g o s a t passed part =
 
 -- nothing is around the value
 pub ended : (g : Site) (a : Term) (t : Token)
-    → takes_token (hole g []) a.rank t.what ≡ false → value g [] a t ≡ fed.Ends a.tree
+    → takes_token (hole g []) a.rank t.what ≡ false → value g [] a t ≡ turn.Done a.tree
 unfolding value
-ended g a t passed = ap (λ v. cond v (take_token g [] a t.what t.place) (fed.Ends a.tree)) passed
+ended g a t passed = ap (λ v. cond v (take_token g [] a t.what t.place) (turn.Done a.tree)) passed
 
 -- an operator goes on with the value
 pub taken : (g : Site) (s : Opens) (a : Term) (p : Place) (op : Mark)
     → takes (hole g s) a.rank op ≡ true → value g s a (token_at p (token.Mark op)) ≡ take_operator g s a op p
 unfolding value
-taken g [] a p op takes_it = ap (λ v. cond v (take_token g [] a (token.Mark op) p) (fed.Ends a.tree)) takes_it
+taken g [] a p op takes_it = ap (λ v. cond v (take_token g [] a (token.Mark op) p) (turn.Done a.tree)) takes_it
 taken g (o ∷ s) a p op takes_it =
     ap (λ v. cond v (take_token g (o ∷ s) a (token.Mark op) p) (closed_by g s (plug o a) (token.Mark op) (λ b. value g s b (token_at p (token.Mark op))))) takes_it
 

@@ -18,8 +18,7 @@ use Rattle.k_steps.specs.Expressions.{feed, begin}
 use Rattle.k_steps.specs.Initialisers as inits
 use Rattle.k_steps.specs.Declarations.{mark_starts, feed_declaration, declaration_at, starts, kind_starts, first_token, first_by, value, value_by, after, brace, last_comma, last_comma_by, inner_level}
 use Rattle.k_steps.specs.declared.declaration.DeclarationStage.TheVariants as stage
-use Rattle.k_steps.specs.declared.declaration.Declared.TheVariants as declared_
-use Rattle.k_steps.specs.declared.expression.Fed.TheVariants as fed
+use Rattle.k_steps.specs.declared.turn.Turn.TheVariants as turn
 use Rattle.k_steps.proofs.CompleteLeads.{token_at, Moves, Step, Leads, leads-then, leads-in}
 use Rattle.k_steps.proofs.CompleteHolds.{Feeds, Below, below_none}
 use Rattle.k_steps.proofs.CompleteDepths.{depth_positive}
@@ -29,7 +28,7 @@ use Rattle.k_steps.proofs.CompleteReadings.{comma_below}
 
 -- how the machine of declarations moves
 abbrev pub Declares : Moves Declaration
-Declares d t next reach = feed_declaration d t ≡ declared_.Goes next reach
+Declares d t next reach = feed_declaration d t ≡ turn.Goes next reach
 
 -- an initialiser is awaited
 abbrev pub init_awaits : Front → Declarator → List Brace → Declaration
@@ -49,8 +48,8 @@ InitReads i = (f : Front) (d : Declarator) (s : List Brace) → Leads Declares (
 
 -- what begins an expression is no brace
 starts_first : (f : Front) (o : Opened) (t : Token) (kind : TokenKind) (next : Reading) (reach : ℕ)
-    → first_token f o t ≡ declared_.Goes (declaration_at f (stage.Value o.declarator o.braces t.place next)) reach
-    → begins_expr kind ≡ true → kind_starts f o t kind ≡ declared_.Goes (declaration_at f (stage.Value o.declarator o.braces t.place next)) reach
+    → first_token f o t ≡ turn.Goes (declaration_at f (stage.Value o.declarator o.braces t.place next)) reach
+    → begins_expr kind ≡ true → kind_starts f o t kind ≡ turn.Goes (declaration_at f (stage.Value o.declarator o.braces t.place next)) reach
 unfolding mark_starts is_left_brace is_right_brace
 starts_first f o t (token.Mark mark.LeftBrace) next reach h b = absurd cc
 starts_first f o t (token.Mark mark.RightBrace) next reach h b = absurd cc
@@ -67,7 +66,7 @@ value_moves : (f : Front) (d : Declarator) (s : List Brace) (p : Place) (r : Rea
 unfolding feed_declaration value
 value_moves f d s p r t next reach h = ap (λ v. value_by f (inits.opened d s) p v t) h
 
-value_ends : (f : Front) (d : Declarator) (s : List Brace) (p : Place) (r : Reading) (t : Token) (e : Expr) → feed r t ≡ fed.Ends e
+value_ends : (f : Front) (d : Declarator) (s : List Brace) (p : Place) (r : Reading) (t : Token) (e : Expr) → feed r t ≡ turn.Done e
     → feed_declaration (declaration_at f (stage.Value d s p r)) t ≡ after f (inits.plug (inits.opened d s) (init.One p e)) t
 unfolding feed_declaration value
 value_ends f d s p r t e h = ap (λ v. value_by f (inits.opened d s) p v t) h
@@ -121,7 +120,7 @@ brace_opens f d s p = refl
 
 comma_goes : (f : Front) (d : Declarator) (b : Brace) (s : List Brace) (i : Init) (p : Place)
     → after f (inits.plug (inits.opened d (b ∷ s)) i) (token_at p (token.Mark mark.Comma))
-    ≡ declared_.Goes (init_awaits f d (record { place = b.place; items = b.items ++ i ∷ [] } ∷ s)) 0
+    ≡ turn.Goes (init_awaits f d (record { place = b.place; items = b.items ++ i ∷ [] } ∷ s)) 0
 unfolding after inits.after inits.plug
 comma_goes f d b s i p = refl
 
@@ -130,7 +129,7 @@ after_plugged f d s i = let o : Opened = inits.plug (inits.opened d s) i in decl
 
 brace_closes : (f : Front) (d : Declarator) (b : Brace) (s : List Brace) (i : Init) (p : Place)
     → after f (inits.plug (inits.opened d (b ∷ s)) i) (token_at p (token.Mark mark.RightBrace))
-    ≡ declared_.Goes (after_plugged f d s (init.List b.place (b.items ++ i ∷ []) false)) 0
+    ≡ turn.Goes (after_plugged f d s (init.List b.place (b.items ++ i ∷ []) false)) 0
 unfolding after inits.after inits.plug after_plugged
 brace_closes f d b s i p = refl
 

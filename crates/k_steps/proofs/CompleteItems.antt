@@ -18,10 +18,8 @@ use Rattle.k_steps.specs.Parameters.{begin_parameters}
 use Rattle.k_steps.specs.Statements.{mark_begins, feed_body, begin_body, begins, block_ends, is_in_block, behind}
 use Rattle.k_steps.specs.Sources.{mark_headed, feed_source, goes_on, starts, declares, declares_by, titled, titled_by, is_titled, parameters, parameters_by, headed, in_body, body_by}
 use Rattle.k_steps.specs.declared.declaration.DeclarationStage.TheVariants as stage
-use Rattle.k_steps.specs.declared.declaration.Declared.TheVariants as declared_
-use Rattle.k_steps.specs.declared.statement.Stepped.TheVariants as stepped
+use Rattle.k_steps.specs.declared.turn.Turn.TheVariants as turn
 use Rattle.k_steps.specs.declared.source.SourceStage.TheVariants as phase
-use Rattle.k_steps.specs.declared.source.Sourced.TheVariants as sourced
 use Rattle.k_steps.proofs.CompleteLeads.{token_at, Moves, Leads, leads-then, leads-in}
 use Rattle.k_steps.proofs.CompleteInitialisers.{Declares}
 use Rattle.k_steps.proofs.CompleteDeclarations.{named_at, before_name, Titled, title_lead, DeclarationHolds, specs_lead, declaration_complete}
@@ -31,7 +29,7 @@ use Rattle.k_steps.proofs.CompleteBlocks.{Blocks, PartsHold, EachPart, parts_lea
 
 -- how the machine of sources moves
 abbrev pub Sources : Moves Source
-Sources s t next reach = feed_source s t ≡ sourced.Goes next reach
+Sources s t next reach = feed_source s t ≡ turn.Goes next reach
 
 abbrev phase_at : List Item → SourceStage → Source
 phase_at items p = record { items = items; phase = p }
@@ -51,23 +49,23 @@ pub record ItemRead (items : List Item) (i : Item) (z : Source) : Type 0 where
 spec_goes : (items : List Item) (w : Word) (p : Place) → IsTrue (is_spec w)
     → Sources (starts_at items) (token_at p (token.Word w)) (phase_at items (phase.Declares p (begin_declaration w 1))) 0
 unfolding feed_source starts is_spec_word
-spec_goes items w p h = ap (λ b. cond b (goes_on items (phase.Declares p (begin_declaration w 1)) 0) sourced.Refused) h
+spec_goes items w p h = ap (λ b. cond b (goes_on items (phase.Declares p (begin_declaration w 1)) 0) turn.Refused) h
 
 paren_refused : (f : Front) (d : Declarator) (p : Place) (kind : TokenKind) → is_left_paren kind ≡ true
-    → feed_declaration (declaration_at f (stage.Named d)) (token_at p kind) ≡ declared_.Refused
+    → feed_declaration (declaration_at f (stage.Named d)) (token_at p kind) ≡ turn.Refused
 unfolding feed_declaration named end is_bracket is_equal
 paren_refused f d p (token.Mark mark.LeftParen) h = refl
 paren_refused f d p kind h = absurd cc
 
-stage_refused : (f : Front) (n : DeclarationStage) (t : Token) → is_left_paren t.what ≡ true → titled_by f n ≡ true → feed_declaration (declaration_at f n) t ≡ declared_.Refused
+stage_refused : (f : Front) (n : DeclarationStage) (t : Token) → is_left_paren t.what ≡ true → titled_by f n ≡ true → feed_declaration (declaration_at f n) t ≡ turn.Refused
 stage_refused f (stage.Named d) t h i = paren_refused f d t.place t.what h
 stage_refused f n t h i = absurd cc
 
-titled_refused : (d : Declaration) (t : Token) → is_left_paren t.what ≡ true → is_titled d ≡ true → feed_declaration d t ≡ declared_.Refused
+titled_refused : (d : Declaration) (t : Token) → is_left_paren t.what ≡ true → is_titled d ≡ true → feed_declaration d t ≡ turn.Refused
 unfolding is_titled
 titled_refused d t h i = stage_refused d.front d.stage t h i
 
-refused_goes : (d : Declaration) (reach : ℕ) → ◌≡◌ {A = Declared} declared_.Refused (declared_.Goes d reach) → ⊥
+refused_goes : (d : Declaration) (reach : ℕ) → ◌≡◌ {A = Declared} turn.Refused (turn.Goes d reach) → ⊥
 refused_goes d reach e = cc
 
 not_titled : (d : Declaration) (t : Token) (next : Declaration) (reach : ℕ) → Declares d t next reach → (is_left_paren t.what && is_titled d) ≡ false
@@ -258,7 +256,7 @@ blocks_whole = record {
   next = whole_next;
 }
 
-whole_ends : (done : List Stmt) (p : Place) → feed_body (begins_at done []) (token_at p (token.Mark mark.RightBrace)) ≡ stepped.Done done
+whole_ends : (done : List Stmt) (p : Place) → feed_body (begins_at done []) (token_at p (token.Mark mark.RightBrace)) ≡ turn.Done done
 unfolding feed_body begins block_ends mark_begins is_semicolon is_left_brace is_right_brace
 whole_ends done p = refl
 

@@ -21,7 +21,7 @@ use Rattle.k_steps.specs.Declarations.{begin_declaration}
 use Rattle.k_steps.specs.Statements.{mark_begins, jump, Parts, Frames, feed_body, begins, keyword, in_for, for_opened, start, start_with, start_by, first_of, specifier, specifier_by, for_declares, for_declares_by, second, second_by, third, third_by, behind, close, inner}
 use Rattle.k_steps.specs.declared.expression.ExpressionStage.TheVariants as now
 use Rattle.k_steps.specs.declared.expression.Open.TheVariants as open_
-use Rattle.k_steps.specs.declared.expression.Fed.TheVariants as fed
+use Rattle.k_steps.specs.declared.turn.Turn.TheVariants as turn
 use Rattle.k_steps.specs.declared.statement.Frame.TheVariants as frame
 use Rattle.k_steps.specs.declared.statement.BlockStage.TheVariants as step
 use Rattle.k_steps.proofs.CompleteLeads.{token_at, Leads, leads-then, leads-more, leads-in}
@@ -35,23 +35,23 @@ use Rattle.k_steps.proofs.CompleteTypes.{spec_is_no_sizeof}
 
 -- a specifier is refused where an expression begins
 
-spec_refused : (g : Site) (p : Place) (w : Word) → is_spec_word w ≡ true → feed (awaits g []) (token_at p (token.Word w)) ≡ fed.Refused
+spec_refused : (g : Site) (p : Place) (w : Word) → is_spec_word w ≡ true → feed (awaits g []) (token_at p (token.Word w)) ≡ turn.Refused
 unfolding feed operand word_operand is_spec_word is_before_type
 spec_refused g p w h =
-    ap (λ b. cond b (goes g (open_.Sizeof p ∷ []) now.Operand (expr_level g [])) (cond (is_spec w && false) (type_begun g [] w) fed.Refused)) (spec_is_no_sizeof w h)
-    ∙ ap (λ b. cond (b && false) (type_begun g [] w) fed.Refused) h
+    ap (λ b. cond b (goes g (open_.Sizeof p ∷ []) now.Operand (expr_level g [])) (cond (is_spec w && false) (type_begun g [] w) turn.Refused)) (spec_is_no_sizeof w h)
+    ∙ ap (λ b. cond (b && false) (type_begun g [] w) turn.Refused) h
 
-opens_refused : (g : Site) (s : Opens) (p : Place) (w : Word) → length s ≡ 0 → is_spec_word w ≡ true → feed (awaits g s) (token_at p (token.Word w)) ≡ fed.Refused
+opens_refused : (g : Site) (s : Opens) (p : Place) (w : Word) → length s ≡ 0 → is_spec_word w ≡ true → feed (awaits g s) (token_at p (token.Word w)) ≡ turn.Refused
 opens_refused g [] p w z e = spec_refused g p w e
 opens_refused g (o ∷ s) p w z e = absurd (omega arith)
 
 state_refused : (g : Site) (s : Opens) (n : ExpressionStage) (p : Place) (w : Word) → is_fresh (reading g s n) ≡ true → is_spec_word w ≡ true
-    → feed (reading g s n) (token_at p (token.Word w)) ≡ fed.Refused
+    → feed (reading g s n) (token_at p (token.Word w)) ≡ turn.Refused
 unfolding is_fresh
 state_refused g s now.Operand p w f e = opens_refused g s p w (eqb-true (length s) 0 f) e
 state_refused g s n p w f e = absurd cc
 
-word_no_specifier : (r : Reading) (p : Place) (w : Word) → (feed r (token_at p (token.Word w)) ≡ fed.Refused → ⊥) → specifier_by r (token.Word w) ≡ None
+word_no_specifier : (r : Reading) (p : Place) (w : Word) → (feed r (token_at p (token.Word w)) ≡ turn.Refused → ⊥) → specifier_by r (token.Word w) ≡ None
 word_no_specifier r p w f =
     ⊎_elim
     (λ e. let both : (is_spec_word w ≡ true) × (is_fresh r ≡ true) = and_parts (is_spec_word w) (is_fresh r) e in
@@ -59,7 +59,7 @@ word_no_specifier r p w f =
     (λ e. ap (λ b. cond b (Some w) None) e)
     (cases_Bool (is_spec_word w && is_fresh r))
 
-kind_no_specifier : (r : Reading) (p : Place) (kind : TokenKind) → (feed r (token_at p kind) ≡ fed.Refused → ⊥) → specifier_by r kind ≡ None
+kind_no_specifier : (r : Reading) (p : Place) (kind : TokenKind) → (feed r (token_at p kind) ≡ turn.Refused → ⊥) → specifier_by r kind ≡ None
 kind_no_specifier r p (token.Word w) f = word_no_specifier r p w f
 kind_no_specifier r p kind f = refl
 

@@ -19,7 +19,7 @@ use Rattle.k_steps.specs.Readings.{read_maybe, is_fresh, closes}
 use Rattle.k_steps.specs.declared.reading.Closer.TheVariants as closer
 use Rattle.k_steps.specs.Parameters.{mark_typed, mark_first, feed_parameters, begin_parameters, follows, first_token, starts, none, typed, word, name, named, end, size, size_by, is_void, is_void_list, is_void_alone}
 use Rattle.k_steps.specs.declared.parameter.ParameterStage.TheVariants as part_
-use Rattle.k_steps.specs.declared.parameter.Parametric.TheVariants as parametric
+use Rattle.k_steps.specs.declared.turn.Turn.TheVariants as turn
 use Rattle.k_steps.proofs.CompleteLeads.{token_at, Moves, Leads, leads-then, leads-more}
 use Rattle.k_steps.proofs.CompleteHolds.{Feeds}
 use Rattle.k_steps.proofs.CompleteExpressions.{Whole}
@@ -29,7 +29,7 @@ use Rattle.k_steps.proofs.Rows.{one_more}
 
 -- how the machine of parameters moves
 abbrev pub Follows : Moves Parameters
-Follows ps t next reach = feed_parameters ps t ≡ parametric.Goes next reach
+Follows ps t next reach = feed_parameters ps t ≡ turn.Goes next reach
 
 abbrev at_part : List Param → ParameterStage → Parameters
 at_part list p = record { list = list; part = p }
@@ -47,12 +47,12 @@ named_at list p specs stars x dims = at_part list (part_.Named (param_at p specs
 first_goes : (list : List Param) (w : Word) (p : Place) → IsTrue (is_spec w)
     → Follows (at_part list part_.Starts) (token_at p (token.Word w)) (typed_at list p (w ∷ []) no_stars) 0
 unfolding feed_parameters first_token starts is_spec_word mark_first
-first_goes list w p h = ap (λ b. cond b (follows list (part_.Typed (param_at p (w ∷ []) [] None []) no_stars) 0) parametric.Refused) h
+first_goes list w p h = ap (λ b. cond b (follows list (part_.Typed (param_at p (w ∷ []) [] None []) no_stars) 0) turn.Refused) h
 
 word_goes : (list : List Param) (at : Place) (vs : List Word) (w : Word) (p : Place) → IsTrue (is_spec w)
     → Follows (typed_at list at vs no_stars) (token_at p (token.Word w)) (typed_at list at (vs ++ w ∷ []) no_stars) 0
 unfolding feed_parameters typed word is_spec_word mark_typed is_star is_bracket
-word_goes list at vs w p h = ap (λ b. cond b (follows list (part_.Typed (param_at at (vs ++ w ∷ []) [] None []) no_stars) 0) parametric.Refused) h
+word_goes list at vs w p h = ap (λ b. cond b (follows list (part_.Typed (param_at at (vs ++ w ∷ []) [] None []) no_stars) 0) turn.Refused) h
 
 star_goes : (list : List Param) (at : Place) (specs : List Word) (v : Stars) (p : Place)
     → Follows (typed_at list at specs v) (token_at p (token.Mark mark.Star)) (typed_at list at specs (star v)) 0
@@ -250,16 +250,16 @@ not_void p d e f =
 -- the parameters are read: the closing parenthesis ends them
 pub record ParamsHold (ps : Params) (z : Parameters) : Type 0 where
   pub made : Params
-  pub ends : (p : Place) → feed_parameters z (token_at p (token.Mark mark.RightParen)) ≡ parametric.Done made
+  pub ends : (p : Place) → feed_parameters z (token_at p (token.Mark mark.RightParen)) ≡ turn.Done made
   pub same : bare_params made ≡ bare_params ps
 
-comma_goes : (list : List Param) (d : Param) → end list d mark.Comma ≡ parametric.Goes (at_part (list ++ d ∷ []) part_.Starts) 0
+comma_goes : (list : List Param) (d : Param) → end list d mark.Comma ≡ turn.Goes (at_part (list ++ d ∷ []) part_.Starts) 0
 unfolding end
 comma_goes list d = refl
 
-close_ends : (list : List Param) (d : Param) → (nat_eq (length list) 0 && is_void_alone d) ≡ false → end list d mark.RightParen ≡ parametric.Done (params.List (list ++ d ∷ []))
+close_ends : (list : List Param) (d : Param) → (nat_eq (length list) 0 && is_void_alone d) ≡ false → end list d mark.RightParen ≡ turn.Done (params.List (list ++ d ∷ []))
 unfolding end
-close_ends list d h = ap (λ b. cond b (parametric.Done params.Void) (parametric.Done (params.List (list ++ d ∷ [])))) h
+close_ends list d h = ap (λ b. cond b (turn.Done params.Void) (turn.Done (params.List (list ++ d ∷ [])))) h
 
 long : (done : List Param) (d : Param) → 1 ≤ length (done ++ d ∷ [])
 long [] d = omega arith
@@ -292,7 +292,7 @@ params_lead bound (b ∷ more) r positive low d seen done e z h f = λ p. record
       (one_more bare_param done seen h.made d e h.same) y k (λ _. some_done (done ++ h.made ∷ []) (is_void_alone k.made) (long done h.made))));
 }
 
-empty_ends : (p : Place) → feed_parameters begin_parameters (token_at p (token.Mark mark.RightParen)) ≡ parametric.Done params.Empty
+empty_ends : (p : Place) → feed_parameters begin_parameters (token_at p (token.Mark mark.RightParen)) ≡ turn.Done params.Empty
 unfolding feed_parameters first_token none mark_first
 empty_ends p = refl
 
@@ -300,7 +300,7 @@ void_begins : (p : Place) → Follows begin_parameters (token_at p (token.Word w
 unfolding feed_parameters first_token starts is_spec_word mark_first
 void_begins p = refl
 
-void_ends : (at p : Place) → feed_parameters (typed_at [] at (word_.Void ∷ []) no_stars) (token_at p (token.Mark mark.RightParen)) ≡ parametric.Done params.Void
+void_ends : (at p : Place) → feed_parameters (typed_at [] at (word_.Void ∷ []) no_stars) (token_at p (token.Mark mark.RightParen)) ≡ turn.Done params.Void
 unfolding feed_parameters typed named end is_void_alone mark_typed is_star is_bracket
 void_ends at p = refl
 

@@ -9,25 +9,23 @@ use Rattle.k_steps.specs.Operators.{is_open, is_close, binding, is_prefix_mark}
 use Rattle.k_steps.specs.Expressions.{feed, operand, mark_operand, no_arguments, Opens}
 use Rattle.k_steps.specs.Readings.{read_needed, read_maybe, read_by, maybe_by, is_fresh, closes, mark_closes, kind_closes}
 use Rattle.k_steps.specs.declared.expression.ExpressionStage.TheVariants as now
-use Rattle.k_steps.specs.declared.expression.Fed.TheVariants as fed
-use Rattle.k_steps.specs.declared.reading.Read.TheVariants as read_
-use Rattle.k_steps.specs.declared.reading.Maybe.TheVariants as maybe_
+use Rattle.k_steps.specs.declared.turn.Turn.TheVariants as turn
 use Rattle.k_steps.specs.declared.reading.Closer.TheVariants as closer
 use Rattle.k_steps.proofs.CompleteLeads.{token_at}
 use Rattle.k_steps.proofs.CompleteHolds.{Feeds, reading, awaits, Below, below_none, below_by}
 use Rattle.k_steps.proofs.ReadingSound.{closing}
 use Rattle.k_steps.proofs.CompleteSteps.{bind}
 
-pub needed_goes : (r : Reading) (t : Token) (c : Closer) (next : Reading) (reach : ℕ) → Feeds r t next reach → read_needed r t c ≡ read_.Goes next reach
+pub needed_goes : (r : Reading) (t : Token) (c : Closer) (next : Reading) (reach : ℕ) → Feeds r t next reach → read_needed r t c ≡ turn.Goes next reach
 unfolding read_needed
 needed_goes r t c next reach h = ap (λ f. read_by f (closes t c)) h
 
-pub needed_ends : (r : Reading) (t : Token) (c : Closer) (e : Expr) → feed r t ≡ fed.Ends e → closes t c ≡ true → read_needed r t c ≡ read_.Done e
+pub needed_ends : (r : Reading) (t : Token) (c : Closer) (e : Expr) → feed r t ≡ turn.Done e → closes t c ≡ true → read_needed r t c ≡ turn.Done e
 unfolding read_needed
-needed_ends r t c e h i = ap (λ f. read_by f (closes t c)) h ∙ ap (λ b. cond b (read_.Done e) read_.Refused) i
+needed_ends r t c e h i = ap (λ f. read_by f (closes t c)) h ∙ ap (λ b. cond b (turn.Done e) turn.Refused) i
 
 -- a mark that closes is refused where nothing has been read yet
-mark_refused : (g : Site) (p : Place) (c : Closer) (m : Mark) → mark_closes c m ≡ true → feed (awaits g []) (token_at p (token.Mark m)) ≡ fed.Refused
+mark_refused : (g : Site) (p : Place) (c : Closer) (m : Mark) → mark_closes c m ≡ true → feed (awaits g []) (token_at p (token.Mark m)) ≡ turn.Refused
 unfolding feed operand mark_operand no_arguments is_prefix_mark is_open is_close
 mark_refused g p closer.Bracket mark.RightBracket e = refl
 mark_refused g p closer.Paren mark.RightParen e = refl
@@ -35,43 +33,43 @@ mark_refused g p closer.Semicolon mark.Semicolon e = refl
 mark_refused g p closer.Colon mark.Colon e = refl
 mark_refused g p c m e = absurd cc
 
-kind_refused : (g : Site) (p : Place) (c : Closer) (kind : TokenKind) → kind_closes c kind ≡ true → feed (awaits g []) (token_at p kind) ≡ fed.Refused
+kind_refused : (g : Site) (p : Place) (c : Closer) (kind : TokenKind) → kind_closes c kind ≡ true → feed (awaits g []) (token_at p kind) ≡ turn.Refused
 kind_refused g p c (token.Mark m) e = mark_refused g p c m e
 kind_refused g p c kind e = absurd cc
 
-opens_refused : (g : Site) (s : Opens) (p : Place) (c : Closer) (kind : TokenKind) → length s ≡ 0 → kind_closes c kind ≡ true → feed (awaits g s) (token_at p kind) ≡ fed.Refused
+opens_refused : (g : Site) (s : Opens) (p : Place) (c : Closer) (kind : TokenKind) → length s ≡ 0 → kind_closes c kind ≡ true → feed (awaits g s) (token_at p kind) ≡ turn.Refused
 opens_refused g [] p c kind z e = kind_refused g p c kind e
 opens_refused g (o ∷ s) p c kind z e = absurd (omega arith)
 
-state_refused : (g : Site) (s : Opens) (n : ExpressionStage) (t : Token) (c : Closer) → is_fresh (reading g s n) ≡ true → closes t c ≡ true → feed (reading g s n) t ≡ fed.Refused
+state_refused : (g : Site) (s : Opens) (n : ExpressionStage) (t : Token) (c : Closer) → is_fresh (reading g s n) ≡ true → closes t c ≡ true → feed (reading g s n) t ≡ turn.Refused
 unfolding is_fresh closes
 state_refused g s now.Operand t c f e = opens_refused g s t.place c t.what (eqb-true (length s) 0 f) e
 state_refused g s n t c f e = absurd cc
 
-fresh_refused : (r : Reading) (t : Token) (c : Closer) → (is_fresh r && closes t c) ≡ true → feed r t ≡ fed.Refused
+fresh_refused : (r : Reading) (t : Token) (c : Closer) → (is_fresh r && closes t c) ≡ true → feed r t ≡ turn.Refused
 fresh_refused r t c e =
     let both : (is_fresh r ≡ true) × (closes t c ≡ true) = and_parts (is_fresh r) (closes t c) e in
     state_refused r.site r.opens r.state t c both.0 both.1
 
-pub refused_goes : (r : Reading) (reach : ℕ) → ◌≡◌ {A = Fed} fed.Refused (fed.Goes r reach) → ⊥
+pub refused_goes : (r : Reading) (reach : ℕ) → ◌≡◌ {A = Fed} turn.Refused (turn.Goes r reach) → ⊥
 refused_goes r reach e = cc
 
-refused_ends : (e : Expr) → ◌≡◌ {A = Fed} fed.Refused (fed.Ends e) → ⊥
+refused_ends : (e : Expr) → ◌≡◌ {A = Fed} turn.Refused (turn.Done e) → ⊥
 refused_ends e h = cc
 
-not_fresh : (r : Reading) (t : Token) (c : Closer) → (feed r t ≡ fed.Refused → ⊥) → (is_fresh r && closes t c) ≡ false
+not_fresh : (r : Reading) (t : Token) (c : Closer) → (feed r t ≡ turn.Refused → ⊥) → (is_fresh r && closes t c) ≡ false
 not_fresh r t c f = ⊎_elim (λ e. absurd (f (fresh_refused r t c e))) (λ e. e) (cases_Bool (is_fresh r && closes t c))
 
-pub maybe_goes : (r : Reading) (t : Token) (c : Closer) (next : Reading) (reach : ℕ) → Feeds r t next reach → read_maybe r t c ≡ maybe_.Goes next reach
+pub maybe_goes : (r : Reading) (t : Token) (c : Closer) (next : Reading) (reach : ℕ) → Feeds r t next reach → read_maybe r t c ≡ turn.Goes next reach
 unfolding read_maybe
 maybe_goes r t c next reach h =
-    ap (λ b. cond b (maybe_.Done None) (maybe_by (read_needed r t c))) (not_fresh r t c (λ e. refused_goes next reach (sym e ∙ h)))
+    ap (λ b. cond b (turn.Done None) (maybe_by (read_needed r t c))) (not_fresh r t c (λ e. refused_goes next reach (sym e ∙ h)))
     ∙ ap maybe_by (needed_goes r t c next reach h)
 
-pub maybe_ends : (r : Reading) (t : Token) (c : Closer) (e : Expr) → feed r t ≡ fed.Ends e → closes t c ≡ true → read_maybe r t c ≡ maybe_.Done (Some e)
+pub maybe_ends : (r : Reading) (t : Token) (c : Closer) (e : Expr) → feed r t ≡ turn.Done e → closes t c ≡ true → read_maybe r t c ≡ turn.Done (Some e)
 unfolding read_maybe
 maybe_ends r t c e h i =
-    ap (λ b. cond b (maybe_.Done None) (maybe_by (read_needed r t c))) (not_fresh r t c (λ j. refused_ends e (sym j ∙ h)))
+    ap (λ b. cond b (turn.Done None) (maybe_by (read_needed r t c))) (not_fresh r t c (λ j. refused_ends e (sym j ∙ h)))
     ∙ ap maybe_by (needed_ends r t c e h i)
 
 -- the mark that closes an expression does so wherever it stands

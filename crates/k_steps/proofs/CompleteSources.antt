@@ -9,7 +9,7 @@ use Rattle.k_tree.specs.Nesting.{item_depth, nesting, deepest}
 use Rattle.k_tree.specs.Ranked.{RankedItem, RankedUnit}
 use Rattle.k_tree.specs.Spelling.{Spelled, spell_item, spelling, in_row}
 use Rattle.k_steps.specs.Sources.{feed_source, begin_source, starts}
-use Rattle.k_steps.specs.declared.source.Sourced.TheVariants as sourced
+use Rattle.k_steps.specs.declared.turn.Turn.TheVariants as turn
 use Rattle.k_steps.proofs.CompleteLeads.{token_at, Leads, leads-then, leads-once}
 use Rattle.k_steps.proofs.CompleteItems.{Sources, starts_at, ItemRead, item_complete}
 use Rattle.k_steps.proofs.Rows.{one_more}
@@ -20,10 +20,10 @@ unit_of items p = record { items = items; end = p }
 -- the source is read: its end ends it
 pub record SourceRead (items : List Item) (z : Source) : Type 0 where
   pub made : List Item
-  pub ends : (p : Place) → feed_source z (token_at p token.End) ≡ sourced.Done (unit_of made p)
+  pub ends : (p : Place) → feed_source z (token_at p token.End) ≡ turn.Done (unit_of made p)
   pub same : map bare_item made ≡ map bare_item items
 
-end_ends : (items : List Item) (p : Place) → feed_source (starts_at items) (token_at p token.End) ≡ sourced.Done (unit_of items p)
+end_ends : (items : List Item) (p : Place) → feed_source (starts_at items) (token_at p token.End) ≡ turn.Done (unit_of items p)
 unfolding feed_source starts
 end_ends items p = refl
 
@@ -46,13 +46,13 @@ items_lead bound (i ∷ more) r low seen done e =
 pub source_complete : (u : source.Unit) → RankedUnit u → Leads Sources (1 + nesting u) (in_row (map spell_item u.items)) begin_source (SourceRead u.items)
 source_complete u h = items_lead (1 + nesting u) u.items h (omega arith) [] [] refl
 
-one_source : (a b : Source) (m n : ℕ) → ◌≡◌ {A = Sourced} (sourced.Goes a m) (sourced.Goes b n) → a ≡ b
+one_source : (a b : Source) (m n : ℕ) → ◌≡◌ {A = Sourced} (turn.Goes a m) (turn.Goes b n) → a ≡ b
 one_source a b m n e = cc
 
 pub goes_once : (s : Source) (t : Token) (a b : Source) (m n : ℕ) → Sources s t a m → Sources s t b n → a ≡ b
 goes_once s t a b m n x y = one_source a b m n (sym x ∙ y)
 
-done_once : (a b : source.Unit) → ◌≡◌ {A = Sourced} (sourced.Done a) (sourced.Done b) → a ≡ b
+done_once : (a b : source.Unit) → ◌≡◌ {A = Sourced} (turn.Done a) (turn.Done b) → a ≡ b
 done_once a b e = cc
 
 read_once : (us vs : List Item) (z : Source) → SourceRead us z → SourceRead vs z → map bare_item us ≡ map bare_item vs

@@ -18,7 +18,7 @@ use Rattle.k_steps.specs.Readings.{read_maybe, is_fresh, closes}
 use Rattle.k_steps.specs.declared.reading.Closer.TheVariants as closer
 use Rattle.k_steps.specs.Statements.{mark_begins, jump, Parts, Frames, feed_body, begins, begins_by, expression, expression_by, keyword, value, value_by, returned, returned_by, semicolon, behind, is_else, declares, level, inner}
 use Rattle.k_steps.specs.declared.statement.BlockStage.TheVariants as step
-use Rattle.k_steps.specs.declared.statement.Stepped.TheVariants as stepped
+use Rattle.k_steps.specs.declared.turn.Turn.TheVariants as turn
 use Rattle.k_steps.proofs.CompleteLeads.{token_at, Moves, Step, Leads, leads-then, leads-more, leads-in}
 use Rattle.k_steps.proofs.CompleteHolds.{Feeds}
 use Rattle.k_steps.proofs.CompleteExpressions.{Whole, whole}
@@ -26,7 +26,7 @@ use Rattle.k_steps.proofs.CompleteReadings.{needed_goes, needed_ends, maybe_goes
 
 -- how the machine of a function's block moves
 abbrev pub Runs : Moves Body
-Runs b t next reach = feed_body b t ≡ stepped.Goes next reach
+Runs b t next reach = feed_body b t ≡ turn.Goes next reach
 
 abbrev pub body_at : Parts → Frames → BlockStage → Body
 body_at ps s n = record { parts = ps; frames = s; step = n }
@@ -72,7 +72,7 @@ expression_goes : (ps : Parts) (s : Frames) (t : Token) (next : Reading) (reach 
     → Runs (begins_at ps s) t (body_at ps s (step.Value t.place next)) reach
 unfolding feed_body begins expression mark_begins is_semicolon is_left_brace is_right_brace
 expression_goes ps s t next reach b h =
-    begins_first ps s t t.what (stepped.Goes (body_at ps s (step.Value t.place next)) reach) (ap (expression_by ps s t.place) h) b
+    begins_first ps s t t.what (turn.Goes (body_at ps s (step.Value t.place next)) reach) (ap (expression_by ps s t.place) h) b
 
 value_moves : (ps : Parts) (s : Frames) (p : Place) (r : Reading) (t : Token) (next : Reading) (reach : ℕ) → Feeds r t next reach
     → Runs (body_at ps s (step.Value p r)) t (body_at ps s (step.Value p next)) reach
@@ -274,11 +274,11 @@ return_reads p a x =
 
 -- what stands behind a statement, where the next one begins
 
-else_refused : (ps : Parts) (s : Frames) (p : Place) → feed_body (begins_at ps s) (token_at p (token.Word word.Else)) ≡ stepped.Refused
+else_refused : (ps : Parts) (s : Frames) (p : Place) → feed_body (begins_at ps s) (token_at p (token.Word word.Else)) ≡ turn.Refused
 unfolding feed_body begins keyword declares is_spec_word mark_begins is_semicolon is_left_brace is_right_brace jump
 else_refused ps s p = refl
 
-refused_goes : (b : Body) (reach : ℕ) → ◌≡◌ {A = Stepped} stepped.Refused (stepped.Goes b reach) → ⊥
+refused_goes : (b : Body) (reach : ℕ) → ◌≡◌ {A = Stepped} turn.Refused (turn.Goes b reach) → ⊥
 refused_goes b reach e = cc
 
 no_else : (ps : Parts) (s : Frames) (p : Place) (kind : TokenKind) (next : Body) (reach : ℕ) → Runs (begins_at ps s) (token_at p kind) next reach → is_else kind ≡ false

@@ -12,7 +12,7 @@ use Rattle.k_steps.specs.Top.{top}
 use Rattle.k_steps.specs.Expressions.{feed, operand, opened, mark_operand, prefix_operator, word_operand, hole, plug, Opens, goes, level, is_left_paren, take_operator, operator_opens, is_sizeof_open, posted, infix_made}
 use Rattle.k_steps.specs.declared.expression.Open.TheVariants as open_
 use Rattle.k_steps.specs.declared.expression.ExpressionStage.TheVariants as now
-use Rattle.k_steps.specs.declared.expression.Fed.TheVariants as fed
+use Rattle.k_steps.specs.declared.turn.Turn.TheVariants as turn
 use Rattle.k_steps.specs.declared.expression.plug.Plugged.TheVariants as plugged
 use Rattle.k_steps.proofs.CompleteLeads.{token_at}
 use Rattle.k_steps.proofs.CompleteHolds.{awaits}
@@ -38,7 +38,7 @@ prefix_by : (g : Site) (s : Opens) (op : Mark) (p : Place) → is_prefix_mark op
 unfolding mark_operand is_prefix_mark is_open is_close
 prefix_by g s mark.LeftParen p h = cc
 prefix_by g s mark.RightParen p h = cc
-prefix_by g s op p h = cond-true (is_prefix_mark op) (prefix_operator g s op p) fed.Refused h
+prefix_by g s op p h = cond-true (is_prefix_mark op) (prefix_operator g s op p) turn.Refused h
 
 pub prefix_opens : (g : Site) (s : Opens) (op : Mark) (p : Place) → is_prefix_mark op ≡ true
     → feed (awaits g s) (token_at p (token.Mark op)) ≡ goes g (open_.Prefix p op ∷ s) now.Operand (plus (level g s) 1)

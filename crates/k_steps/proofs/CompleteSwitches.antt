@@ -20,7 +20,7 @@ use Rattle.k_steps.specs.Statements.{mark_begins, jump, Parts, Frames, feed_body
 use Rattle.k_steps.specs.declared.statement.Frame.TheVariants as frame
 use Rattle.k_steps.specs.declared.statement.Tested.TheVariants as tested
 use Rattle.k_steps.specs.declared.statement.BlockStage.TheVariants as step
-use Rattle.k_steps.specs.declared.statement.Stepped.TheVariants as stepped
+use Rattle.k_steps.specs.declared.turn.Turn.TheVariants as turn
 use Rattle.k_steps.proofs.CompleteLeads.{token_at, Leads, leads-then, leads-more, leads-in}
 use Rattle.k_steps.proofs.CompleteHolds.{Feeds}
 use Rattle.k_steps.proofs.CompleteExpressions.{Whole, whole}
@@ -33,7 +33,7 @@ switch_goes : (ps : Parts) (s : Frames) (p : Place) → Runs (begins_at ps s) (t
 unfolding feed_body begins keyword mark_begins is_semicolon is_left_brace is_right_brace jump is_spec_word
 switch_goes ps s p = refl
 
-switch_done : (ps : Parts) (s : Frames) (p : Place) (e : Expr) → test_done ps s (tested.Switch p) e ≡ stepped.Goes (body_at ps s (step.Braces p e)) 0
+switch_done : (ps : Parts) (s : Frames) (p : Place) (e : Expr) → test_done ps s (tested.Switch p) e ≡ turn.Goes (body_at ps s (step.Braces p e)) 0
 unfolding test_done
 switch_done ps s p e = refl
 

@@ -17,7 +17,7 @@ use Rattle.k_steps.specs.Statements.{mark_begins, jump, Parts, Frames, feed_body
 use Rattle.k_steps.specs.declared.statement.Frame.TheVariants as frame
 use Rattle.k_steps.specs.declared.statement.Tested.TheVariants as tested
 use Rattle.k_steps.specs.declared.statement.BlockStage.TheVariants as step
-use Rattle.k_steps.specs.declared.statement.Stepped.TheVariants as stepped
+use Rattle.k_steps.specs.declared.turn.Turn.TheVariants as turn
 use Rattle.k_steps.proofs.CompleteLeads.{token_at, Leads, leads-then, leads-more, leads-in}
 use Rattle.k_steps.proofs.CompleteHolds.{Feeds}
 use Rattle.k_steps.proofs.CompleteExpressions.{Whole, whole}
@@ -55,7 +55,7 @@ record InTest (ps : Parts) (s : Frames) (x : Tested) (a : Expr) (z : Body) : Typ
   read : Whole 0 a reading
 
 -- a test in parentheses, whose first stands behind the keyword
-test_lead : (bound : ℕ) (ps : Parts) (s : Frames) (x : Tested) (a : Expr) (after : Expr → Body) → ((e : Expr) → test_done ps s x e ≡ stepped.Goes (after e) 0)
+test_lead : (bound : ℕ) (ps : Parts) (s : Frames) (x : Tested) (a : Expr) (after : Expr → Body) → ((e : Expr) → test_done ps s x e ≡ turn.Goes (after e) 0)
     → Ranked 0 a → 1 ≤ bound → inner s + expr_depth a ≤ bound
     → Leads Runs bound (in_parens (spell_expr a)) (body_at ps s (step.Keyword x)) (Behind after a)
 test_lead bound ps s x a after done h positive low = λ p. record {
@@ -78,7 +78,7 @@ test_lead bound ps s x a after done h positive low = λ p. record {
 
 -- a keyword, a test, and what stands behind
 pub tested_lead : (bound : ℕ) (ps : Parts) (s : Frames) (x : Tested) (a : Expr) (after : Expr → Body) (rest : Spelled) (Q : Body → Type 0)
-    → ((e : Expr) → test_done ps s x e ≡ stepped.Goes (after e) 0) → Ranked 0 a → 1 ≤ bound → inner s + expr_depth a ≤ bound
+    → ((e : Expr) → test_done ps s x e ≡ turn.Goes (after e) 0) → Ranked 0 a → 1 ≤ bound → inner s + expr_depth a ≤ bound
     → ((e : Expr) → bare_expr e ≡ bare_expr a → Leads Runs bound rest (after e) Q)
     → Leads Runs bound (in_parens (spell_expr a) ++ rest) (body_at ps s (step.Keyword x)) Q
 tested_lead bound ps s x a after rest Q done h positive low f =
@@ -86,16 +86,16 @@ tested_lead bound ps s x a after rest Q done h positive low f =
     (test_lead bound ps s x a after done h positive low)
     (λ z i. subst (λ y. Leads Runs bound rest y Q) (sym i.at) (f i.made i.same))
 
-then_done : (ps : Parts) (s : Frames) (p : Place) (e : Expr) → test_done ps s (tested.If p) e ≡ stepped.Goes (begins_at ps (frame.Then p e ∷ s)) 0
+then_done : (ps : Parts) (s : Frames) (p : Place) (e : Expr) → test_done ps s (tested.If p) e ≡ turn.Goes (begins_at ps (frame.Then p e ∷ s)) 0
 unfolding test_done
 then_done ps s p e = refl
 
-while_done : (ps : Parts) (s : Frames) (p : Place) (e : Expr) → test_done ps s (tested.While p) e ≡ stepped.Goes (begins_at ps (frame.While p e ∷ s)) 0
+while_done : (ps : Parts) (s : Frames) (p : Place) (e : Expr) → test_done ps s (tested.While p) e ≡ turn.Goes (begins_at ps (frame.While p e ∷ s)) 0
 unfolding test_done
 while_done ps s p e = refl
 
 do_done : (ps : Parts) (s : Frames) (p : Place) (b : Stmt) (e : Expr)
-    → test_done ps s (tested.Do p b) e ≡ stepped.Goes (body_at ps s (step.Semicolon (stmt.DoWhile p b e))) 0
+    → test_done ps s (tested.Do p b) e ≡ turn.Goes (body_at ps s (step.Semicolon (stmt.DoWhile p b e))) 0
 unfolding test_done
 do_done ps s p b e = refl
 
@@ -127,12 +127,12 @@ unfolding behind close
 then_behind ps s p e a t h = ap (λ b. closed_by ps s (close (frame.Then p e) a b) t (λ y. behind ps s y t)) h
 
 then_else : (ps : Parts) (s : Frames) (p : Place) (e : Expr) (a : Stmt) (at : Place)
-    → behind ps (frame.Then p e ∷ s) a (token_at at (token.Word word.Else)) ≡ stepped.Goes (begins_at ps (frame.Else p e a ∷ s)) 0
+    → behind ps (frame.Then p e ∷ s) a (token_at at (token.Word word.Else)) ≡ turn.Goes (begins_at ps (frame.Else p e a ∷ s)) 0
 unfolding behind close part
 then_else ps s p e a at = refl
 
 do_behind : (ps : Parts) (s : Frames) (p : Place) (b : Stmt) (at : Place)
-    → behind ps (frame.Do p ∷ s) b (token_at at (token.Word word.While)) ≡ stepped.Goes (body_at ps s (step.Keyword (tested.Do p b))) 0
+    → behind ps (frame.Do p ∷ s) b (token_at at (token.Word word.While)) ≡ turn.Goes (body_at ps s (step.Keyword (tested.Do p b))) 0
 unfolding behind close part do_while
 do_behind ps s p b at = refl
 

@@ -18,7 +18,7 @@ use Rattle.k_steps.specs.Stars.{no_stars, all_stars, star, constant}
 use Rattle.k_steps.specs.Expressions.{mark_of_type, feed, operand, hole, plug, Opens, goes, level, term, word_operand, is_before_type, is_sizeof, is_sizeof_open, type_begun, in_type, word_of_type, close_type, close_over}
 use Rattle.k_steps.specs.declared.expression.Open.TheVariants as open_
 use Rattle.k_steps.specs.declared.expression.ExpressionStage.TheVariants as now
-use Rattle.k_steps.specs.declared.expression.Fed.TheVariants as fed
+use Rattle.k_steps.specs.declared.turn.Turn.TheVariants as turn
 use Rattle.k_steps.specs.declared.expression.plug.Plugged.TheVariants as plugged
 use Rattle.k_steps.proofs.CompleteLeads.{token_at, Leads, leads-then, leads-more}
 use Rattle.k_steps.proofs.CompleteHolds.{Feeds, reading, awaits, Holds, Reads}
@@ -33,7 +33,7 @@ in_name g s specs stars = reading g s (now.Type specs stars)
 word_goes : (g : Site) (s : Opens) (specs : List Word) (w : Word) (p : Place) → IsTrue (is_spec w)
     → feed (in_name g s specs no_stars) (token_at p (token.Word w)) ≡ goes g s (now.Type (specs ++ w ∷ []) no_stars) 0
 unfolding feed in_type word_of_type is_spec_word mark_of_type
-word_goes g s specs w p h = ap (λ b. cond b (goes g s (now.Type (specs ++ w ∷ []) no_stars) 0) fed.Refused) h
+word_goes g s specs w p h = ap (λ b. cond b (goes g s (now.Type (specs ++ w ∷ []) no_stars) 0) turn.Refused) h
 
 words_lead : (bound : ℕ) (g : Site) (s : Opens) (specs ws : List Word) → 1 ≤ bound → All (λ w. IsTrue (is_spec w)) ws
     → Leads Feeds bound (spell_specs ws) (in_name g s specs no_stars) (λ r. r ≡ in_name g s (specs ++ ws) no_stars)
@@ -98,9 +98,9 @@ first_goes : (g : Site) (s : Opens) (w : Word) (p : Place) → IsTrue (is_spec w
     → feed (awaits g s) (token_at p (token.Word w)) ≡ goes g s (now.Type (w ∷ []) no_stars) 0
 unfolding feed operand word_operand is_spec_word
 first_goes g s w p h before =
-    ap (λ b. cond b (goes g (open_.Sizeof p ∷ s) now.Operand (level g s)) (cond (is_spec w && is_before_type g s) (type_begun g s w) fed.Refused)) (spec_is_no_sizeof w h)
-    ∙ (ap (λ b. cond (b && is_before_type g s) (type_begun g s w) fed.Refused) h
-    ∙ ap (λ b. cond b (type_begun g s w) fed.Refused) before)
+    ap (λ b. cond b (goes g (open_.Sizeof p ∷ s) now.Operand (level g s)) (cond (is_spec w && is_before_type g s) (type_begun g s w) turn.Refused)) (spec_is_no_sizeof w h)
+    ∙ (ap (λ b. cond (b && is_before_type g s) (type_begun g s w) turn.Refused) h
+    ∙ ap (λ b. cond b (type_begun g s w) turn.Refused) before)
 
 type_leads : (bound : ℕ) (g : Site) (s : Opens) (specs : List Word) (stars : List Bool) → 1 ≤ bound → Specs specs → is_before_type g s ≡ true
     → Leads Feeds bound (spell_type specs stars) (awaits g s) (Named g s specs stars)

@@ -9,34 +9,31 @@ use Rattle.k_steps.specs.Level.{plus}
 use Rattle.k_steps.specs.Operators.{is_spec_word, is_bracket, is_equal, is_left_brace, is_right_brace}
 use Rattle.k_steps.specs.Stars.{constant}
 use Rattle.k_steps.specs.Expressions.{begin, feed, is_const}
-use Rattle.k_steps.specs.declared.expression.Fed.TheVariants as fed
+use Rattle.k_steps.specs.declared.turn.Turn.TheVariants as turn
 use Rattle.k_steps.specs.Readings.{is_fresh, closes, read_by, read_needed, maybe_by, read_maybe}
 use Rattle.k_steps.specs.declared.reading.Closer.TheVariants as closer
-use Rattle.k_steps.specs.declared.reading.Read.TheVariants as read
-use Rattle.k_steps.specs.declared.reading.Maybe.TheVariants as maybe
 use Rattle.k_steps.specs.Initialisers as inits
 use Rattle.k_steps.specs.Declarations as spec
 use Rattle.k_steps.specs.declared.declaration.DeclarationStage.TheVariants as stage
-use Rattle.k_steps.specs.declared.declaration.Declared.TheVariants as declared_
 use Rattle.k_steps.proofs.Commas.{not_none}
 use Rattle.k_steps.proofs.ExpressionReach.{Reached}
 use Rattle.k_steps.proofs.ReadingReach.{Begun, feed_begun}
 
 -- an expression up to a mark
 abbrev pub ReadStays : ℕ → Read → Type 0
-ReadStays lim (read.Goes r reach) = reach ≤ lim → Reached lim r.site r.opens
+ReadStays lim (turn.Goes r reach) = reach ≤ lim → Reached lim r.site r.opens
 ReadStays lim _ = Unit {0}
 
 abbrev pub MaybeStays : ℕ → Maybe → Type 0
-MaybeStays lim (maybe.Goes r reach) = reach ≤ lim → Reached lim r.site r.opens
+MaybeStays lim (turn.Goes r reach) = reach ≤ lim → Reached lim r.site r.opens
 MaybeStays lim _ = Unit {0}
 
-fed_stays : (lim : ℕ) (x : Fed) (b : Bool) → ((next : Reading) (reach : ℕ) → x ≡ fed.Goes next reach → reach ≤ lim → Reached lim next.site next.opens)
+fed_stays : (lim : ℕ) (x : Fed) (b : Bool) → ((next : Reading) (reach : ℕ) → x ≡ turn.Goes next reach → reach ≤ lim → Reached lim next.site next.opens)
     → ReadStays lim (read_by x b)
-fed_stays lim (fed.Goes r reach) b h = λ le. h r reach refl le
-fed_stays lim (fed.Ends v) true h = tt
-fed_stays lim (fed.Ends v) false h = tt
-fed_stays lim fed.Refused b h = tt
+fed_stays lim (turn.Goes r reach) b h = λ le. h r reach refl le
+fed_stays lim (turn.Done v) true h = tt
+fed_stays lim (turn.Done v) false h = tt
+fed_stays lim turn.Refused b h = tt
 
 pub needed_stays : (lim : ℕ) → (r : Reading) (t : Token) (c : Closer) → Begun lim r → ReadStays lim (read_needed r t c)
 unfolding read_needed
@@ -44,14 +41,14 @@ needed_stays lim r t c b =
     fed_stays lim (feed r t) (closes t c) (λ next reach e le. (feed_begun lim r t next reach b e le).1)
 
 by_stays : (lim : ℕ) (x : Read) → ReadStays lim x → MaybeStays lim (maybe_by x)
-by_stays lim (read.Goes r reach) h = h
-by_stays lim (read.Done v) h = tt
-by_stays lim read.Refused h = tt
+by_stays lim (turn.Goes r reach) h = h
+by_stays lim (turn.Done v) h = tt
+by_stays lim turn.Refused h = tt
 
 pub maybe_stays : (lim : ℕ) → (r : Reading) (t : Token) (c : Closer) → Begun lim r → MaybeStays lim (read_maybe r t c)
 unfolding read_maybe
 maybe_stays lim r t c b =
-    cond_both (is_fresh r && closes t c) (maybe.Done None) (maybe_by (read_needed r t c)) (MaybeStays lim) (λ e. tt)
+    cond_both (is_fresh r && closes t c) (turn.Done None) (maybe_by (read_needed r t c)) (MaybeStays lim) (λ e. tt)
     (λ e. by_stays lim (read_needed r t c) (needed_stays lim r t c b))
 
 -- nothing was read of an expression that begins
@@ -74,7 +71,7 @@ StageReached lim f (stage.After d s) = Filled s
 StageReached lim f _ = Unit {0}
 
 abbrev pub DeclaredStays : ℕ → Declared → Type 0
-DeclaredStays lim (declared_.Goes d reach) = reach ≤ lim → StageReached lim d.front d.stage
+DeclaredStays lim (turn.Goes d reach) = reach ≤ lim → StageReached lim d.front d.stage
 DeclaredStays lim _ = Unit {0}
 
 module _ (lim : ℕ) where
@@ -85,12 +82,12 @@ module _ (lim : ℕ) where
   unfolding spec.word spec.name spec.mark_before
   before_stays f stars p (token.Word w) =
       cond_stays stars.pending
-      (cond (is_const w) (spec.declares f (stage.Before (constant stars)) 0) declared_.Refused)
+      (cond (is_const w) (spec.declares f (stage.Before (constant stars)) 0) turn.Refused)
       (cond (nat_eq (length stars.done) 0 && (nat_eq (length f.list) 0 && is_spec_word w))
-      (spec.declares (spec.front_of (f.specs ++ w ∷ []) f.list f.level) (stage.Before stars) 0) declared_.Refused)
-      (λ e. cond_stays (is_const w) (spec.declares f (stage.Before (constant stars)) 0) declared_.Refused (λ q reach. tt) (λ q. tt))
+      (spec.declares (spec.front_of (f.specs ++ w ∷ []) f.list f.level) (stage.Before stars) 0) turn.Refused)
+      (λ e. cond_stays (is_const w) (spec.declares f (stage.Before (constant stars)) 0) turn.Refused (λ q reach. tt) (λ q. tt))
       (λ e. cond_stays (nat_eq (length stars.done) 0 && (nat_eq (length f.list) 0 && is_spec_word w))
-      (spec.declares (spec.front_of (f.specs ++ w ∷ []) f.list f.level) (stage.Before stars) 0) declared_.Refused (λ q reach. tt) (λ q. tt))
+      (spec.declares (spec.front_of (f.specs ++ w ∷ []) f.list f.level) (stage.Before stars) 0) turn.Refused (λ q reach. tt) (λ q. tt))
   before_stays f stars p (token.Name x) = λ reach. tt
   before_stays f stars p (token.Mark mark.Star) = λ reach. tt
   before_stays f stars p _ = tt
@@ -117,9 +114,9 @@ module _ (lim : ℕ) where
   kind_named_stays f d _ = tt
 
   size_stays : (f : Front) (d : Declarator) (x : Maybe) → MaybeStays lim x → DeclaredStays lim (spec.size_by f d x)
-  size_stays f d (maybe.Goes r reach) h = λ le e. h le
-  size_stays f d (maybe.Done v) h = λ le. tt
-  size_stays f d maybe.Refused h = tt
+  size_stays f d (turn.Goes r reach) h = λ le e. h le
+  size_stays f d (turn.Done v) h = λ le. tt
+  size_stays f d turn.Refused h = tt
 
   -- an initialiser that ends fills the brace around it
   plug_filled : (d : Declarator) (s : List Brace) (i : Init) → Filled (inits.plug_into d s i).braces
@@ -145,11 +142,11 @@ module _ (lim : ℕ) where
       (λ e. tt) (λ e reach. plug_filled d s (inits.listed b true))
 
   first_stays : (f : Front) (o : Opened) (p : Place) (x : Fed)
-      → ((next : Reading) (reach : ℕ) → x ≡ fed.Goes next reach → reach ≤ lim → Reached lim next.site next.opens)
+      → ((next : Reading) (reach : ℕ) → x ≡ turn.Goes next reach → reach ≤ lim → Reached lim next.site next.opens)
       → DeclaredStays lim (spec.first_by f o p x)
-  first_stays f o p (fed.Goes r reach) h = λ le. h r reach refl le
-  first_stays f o p (fed.Ends v) h = tt
-  first_stays f o p fed.Refused h = tt
+  first_stays f o p (turn.Goes r reach) h = λ le. h r reach refl le
+  first_stays f o p (turn.Done v) h = tt
+  first_stays f o p turn.Refused h = tt
 
   first_token_stays : (f : Front) (o : Opened) (t : Token) → DeclaredStays lim (spec.first_token f o t)
   unfolding spec.first_token
@@ -174,12 +171,12 @@ module _ (lim : ℕ) where
   starts_stays f o t k = first_token_stays f o t
 
   value_stays : (f : Front) (d : Declarator) (s : List Brace) (p : Place) (t : Token) (x : Fed)
-      → ((next : Reading) (reach : ℕ) → x ≡ fed.Goes next reach → reach ≤ lim → Reached lim next.site next.opens)
+      → ((next : Reading) (reach : ℕ) → x ≡ turn.Goes next reach → reach ≤ lim → Reached lim next.site next.opens)
       → DeclaredStays lim (spec.value_by f (inits.opened d s) p x t)
   unfolding spec.after inits.plug
-  value_stays f d s p t (fed.Goes r reach) h = λ le. h r reach refl le
-  value_stays f d s p t (fed.Ends v) h = after_stays f (inits.plug_into d s (init.One p v)) t.what (plug_filled d s (init.One p v))
-  value_stays f d s p t fed.Refused h = tt
+  value_stays f d s p t (turn.Goes r reach) h = λ le. h r reach refl le
+  value_stays f d s p t (turn.Done v) h = after_stays f (inits.plug_into d s (init.One p v)) t.what (plug_filled d s (init.One p v))
+  value_stays f d s p t turn.Refused h = tt
 
   stage_stays : (f : Front) (n : DeclarationStage) (t : Token) → StageReached lim f n → DeclaredStays lim (spec.stage_fed f n t)
   unfolding spec.before spec.size spec.starts spec.value spec.after

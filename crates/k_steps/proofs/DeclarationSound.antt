@@ -20,14 +20,12 @@ use Rattle.k_steps.specs.Operators.{is_spec_word, is_bracket, is_equal, is_left_
 use Rattle.k_steps.proofs.Marks.{is_bracket_mark, is_equal_mark, is_left_brace_mark, is_right_brace_mark}
 use Rattle.k_steps.specs.Stars.{all_stars, star, constant}
 use Rattle.k_steps.specs.Expressions.{begin, feed, is_const}
-use Rattle.k_steps.specs.declared.expression.Fed.TheVariants as fed
+use Rattle.k_steps.specs.declared.turn.Turn.TheVariants as turn
 use Rattle.k_steps.specs.Readings.{read_maybe}
 use Rattle.k_steps.specs.declared.reading.Closer.TheVariants as closer
-use Rattle.k_steps.specs.declared.reading.Maybe.TheVariants as maybe
 use Rattle.k_steps.specs.Initialisers as inits
 use Rattle.k_steps.specs.Declarations as spec
 use Rattle.k_steps.specs.declared.declaration.DeclarationStage.TheVariants as stage
-use Rattle.k_steps.specs.declared.declaration.Declared.TheVariants as declared_
 use Rattle.k_steps.proofs.Commas.{comma, lay_each, each_push, with_last, not_none}
 use Rattle.k_steps.proofs.Rows.{row_push, deepest_more, StartsAt, starts-more, at_stands}
 use Rattle.k_steps.proofs.ExpressionState.{IsRead, Keeps}
@@ -111,8 +109,8 @@ module _ (lim : ℕ) (l : ℕ) (ts : List Token) (t : Token) where
   unfolding spec.word
   word_keeps f stars w o e st =
       declared_cond stars.pending _ _
-      (λ h. declared_cond (is_const w) _ declared_.Refused (λ k. const_keeps f stars w o e h k st) (λ k. tt))
-      (λ h. declared_cond (nat_eq (length stars.done) 0 && (nat_eq (length f.list) 0 && is_spec_word w)) _ declared_.Refused
+      (λ h. declared_cond (is_const w) _ turn.Refused (λ k. const_keeps f stars w o e h k st) (λ k. tt))
+      (λ h. declared_cond (nat_eq (length stars.done) 0 && (nat_eq (length f.list) 0 && is_spec_word w)) _ turn.Refused
       (λ k. let c : (nat_eq (length f.list) 0 && is_spec_word w) ≡ true = and_right (nat_eq (length stars.done) 0) (nat_eq (length f.list) 0 && is_spec_word w) k in
       spec_keeps f stars w o e (no_stars_yet stars h (and_left (nat_eq (length stars.done) 0) (nat_eq (length f.list) 0 && is_spec_word w) k))
       (none_yet f.list (and_left (nat_eq (length f.list) 0) (is_spec_word w) c)) (and_right (nat_eq (length f.list) 0) (is_spec_word w) c) st)
@@ -249,7 +247,7 @@ module _ (lim : ℕ) (l : ℕ) (ts : List Token) (t : Token) where
 
   size_by_keeps : (f : Front) (d : Declarator) (r : Reading) (m : Maybe) → OkFront lim l f → (k : OkSize lim l f d (At lim (site 2 f.level) r) ts)
       → KeepsMaybe lim (site 2 f.level) k.behind.back t mark.RightBracket m → KeepsDeclared lim l ts t (spec.size_by f d m)
-  size_by_keeps f d r (maybe.Goes q reach) o k h = λ z. record {
+  size_by_keeps f d r (turn.Goes q reach) o k h = λ z. record {
     front = o;
     stage = record {
       behind = record {
@@ -262,8 +260,8 @@ module _ (lim : ℕ) (l : ℕ) (ts : List Token) (t : Token) where
       bare = k.bare;
     };
   }
-  size_by_keeps f d r (maybe.Done v) o k h = λ z. record { front = o; stage = size_done f d r v o k h.0 h.1 }
-  size_by_keeps f d r maybe.Refused o k h = tt
+  size_by_keeps f d r (turn.Done v) o k h = λ z. record { front = o; stage = size_done f d r v o k h.0 h.1 }
+  size_by_keeps f d r turn.Refused o k h = tt
 
   size_keeps : (f : Front) (d : Declarator) (r : Reading) → OkFront lim l f → OkSize lim l f d (At lim (site 2 f.level) r) ts
       → KeepsDeclared lim l ts t (spec.size f d r t)
@@ -326,7 +324,7 @@ module _ (lim : ℕ) (l : ℕ) (ts : List Token) (t : Token) where
 
   first_by_keeps : (f : Front) (d : Declarator) (s : List Brace) (h : Fed) → OkFront lim l f → OkStarts lim l f d s ts
       → Keeps lim (site 1 (plus (plus f.level (length s)) 1)) [] t h → KeepsDeclared lim l ts t (spec.first_by f (inits.opened d s) t.place h)
-  first_by_keeps f d s (fed.Goes r reach) o k h = λ z. record {
+  first_by_keeps f d s (turn.Goes r reach) o k h = λ z. record {
     front = o;
     stage = record {
       behind = record { front = ts; back = t ∷ []; is = refl; stands = k.stands; rest = (h z, refl) };
@@ -334,8 +332,8 @@ module _ (lim : ℕ) (l : ℕ) (ts : List Token) (t : Token) where
       braces = k.braces;
     };
   }
-  first_by_keeps f d s (fed.Ends v) o k h = tt
-  first_by_keeps f d s fed.Refused o k h = tt
+  first_by_keeps f d s (turn.Done v) o k h = tt
+  first_by_keeps f d s turn.Refused o k h = tt
 
   first_keeps : (f : Front) (d : Declarator) (s : List Brace) → OkFront lim l f → OkStarts lim l f d s ts
       → KeepsDeclared lim l ts t (spec.first_token f (inits.opened d s) t)
@@ -381,7 +379,7 @@ module _ (lim : ℕ) (l : ℕ) (ts : List Token) (t : Token) where
       → (k : OkValue lim l f d s (λ us. At lim (site 1 (plus (plus f.level (length s)) 1)) r us × StartsAt p us) ts)
       → Keeps lim (site 1 (plus (plus f.level (length s)) 1)) k.behind.back t h → KeepsDeclared lim l ts t (spec.value_by f (inits.opened d s) p h t)
   unfolding inits.plug
-  value_by_keeps f d s p r (fed.Goes q reach) o k h = λ z. record {
+  value_by_keeps f d s p r (turn.Goes q reach) o k h = λ z. record {
     front = o;
     stage = record {
       behind = record {
@@ -395,9 +393,9 @@ module _ (lim : ℕ) (l : ℕ) (ts : List Token) (t : Token) where
       braces = k.braces;
     };
   }
-  value_by_keeps f d s p r (fed.Ends v) o k h =
+  value_by_keeps f d s p r (turn.Done v) o k h =
       after_keeps f (inits.plug_into d s (init.One p v)).declarator (inits.plug_into d s (init.One p v)).braces o (value_done f d s p r v o k h)
-  value_by_keeps f d s p r fed.Refused o k h = tt
+  value_by_keeps f d s p r turn.Refused o k h = tt
 
   value_keeps : (f : Front) (d : Declarator) (s : List Brace) (p : Place) (r : Reading) → OkFront lim l f
       → OkValue lim l f d s (λ us. At lim (site 1 (plus (plus f.level (length s)) 1)) r us × StartsAt p us) ts

@@ -10,7 +10,7 @@ use Rattle.k_tree.specs.Spelling.{the_mark, the_name, spell_specs, spell_stars}
 use Rattle.k_steps.specs.Stars.{all_stars}
 use Rattle.k_steps.specs.Level.{plus}
 use Rattle.k_steps.specs.declared.declaration.DeclarationStage.TheVariants as stage
-use Rattle.k_steps.specs.declared.declaration.Declared.TheVariants as declared_
+use Rattle.k_steps.specs.declared.turn.Turn.TheVariants as turn
 use Rattle.k_steps.proofs.Commas.{lay_each}
 use Rattle.k_steps.proofs.ReadingSound.{At, site, Behind}
 use Rattle.k_steps.proofs.Rows.{StartsAt}
@@ -111,6 +111,6 @@ pub record IsDeclared (lim : ℕ) (l : ℕ) (specs : List Word) (list : List Dec
 
 -- a token keeps it so
 abbrev pub KeepsDeclared : ℕ → ℕ → List Token → Token → Declared → Type 0
-KeepsDeclared lim l ts t (declared_.Goes d reach) = reach ≤ lim → OkDeclaration lim l d (ts ++ t ∷ [])
-KeepsDeclared lim l ts t (declared_.Done specs list) = IsDeclared lim l specs list (ts ++ t ∷ [])
-KeepsDeclared lim l ts t declared_.Refused = Unit {0}
+KeepsDeclared lim l ts t (turn.Goes d reach) = reach ≤ lim → OkDeclaration lim l d (ts ++ t ∷ [])
+KeepsDeclared lim l ts t (turn.Done (specs, list)) = IsDeclared lim l specs list (ts ++ t ∷ [])
+KeepsDeclared lim l ts t turn.Refused = Unit {0}

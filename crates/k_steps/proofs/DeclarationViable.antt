@@ -11,12 +11,11 @@ use Rattle.k_steps.specs.Operators.{binding, is_bracket, is_equal, is_left_brace
 use Rattle.k_steps.specs.Stars.{all_stars}
 use Rattle.k_steps.specs.Expressions.{level, begin, operand, feed}
 use Rattle.k_steps.specs.declared.expression.ExpressionStage.TheVariants as now
-use Rattle.k_steps.specs.declared.expression.Fed.TheVariants as fed
+use Rattle.k_steps.specs.declared.turn.Turn.TheVariants as turn
 use Rattle.k_steps.specs.declared.reading.Closer.TheVariants as closer
 use Rattle.k_steps.specs.Initialisers as inits
 use Rattle.k_steps.specs.Declarations as spec
 use Rattle.k_steps.specs.declared.declaration.DeclarationStage.TheVariants as stage
-use Rattle.k_steps.specs.declared.declaration.Declared.TheVariants as declared_
 use Rattle.k_steps.proofs.DeclarationReach.{StageReached}
 use Rattle.k_steps.proofs.DeclarationState.{OkDeclaration, OkStage}
 use Rattle.k_steps.proofs.ExpressionState.{Keeps}
@@ -31,10 +30,10 @@ abbrev pub Outcome : Type 0
 Outcome = List Word × List Declarator
 
 abbrev pub DeclarationGoes : Declaration → Token → Declaration → ℕ → Type 0
-DeclarationGoes d t next reach = spec.feed_declaration d t ≡ declared_.Goes next reach
+DeclarationGoes d t next reach = spec.feed_declaration d t ≡ turn.Goes next reach
 
 abbrev pub DeclarationEnds : Declaration → Token → Outcome → Type 0
-DeclarationEnds d t o = spec.feed_declaration d t ≡ declared_.Done o.0 o.1
+DeclarationEnds d t o = spec.feed_declaration d t ≡ turn.Done (o.0, o.1)
 
 abbrev pub DeclarationCanEnd : ℕ → Declaration → Type 0
 DeclarationCanEnd lim = CanEnd Declaration Outcome DeclarationGoes DeclarationEnds lim
@@ -146,7 +145,7 @@ module _ (lim : ℕ) (f : Front) where
       let g : Site = site 1 n in
       let r : Reading = record { site = g; opens = []; state = now.Named nowhere (97 ∷ []) } in
       let low : n ≤ lim = level_of s le in
-      let k : Keeps lim g [] a_name (fed.Goes r (level g [])) = at_keeps lim g [] a_name (begin 1 n) (begin_at lim 1 n (omega arith)) in
+      let k : Keeps lim g [] a_name (turn.Goes r (level g [])) = at_keeps lim g [] a_name (begin 1 n) (begin_at lim 1 n (omega arith)) in
       let a : At lim g r (a_name ∷ []) = k (level_above n low) in
       goes_then Declaration Outcome DeclarationGoes DeclarationEnds lim (spec.declaration_at f (stage.Starts d s))
       (spec.declaration_at f (stage.Value d s nowhere r)) a_name (level g []) refl (level_above n low)

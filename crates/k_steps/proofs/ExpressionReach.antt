@@ -12,7 +12,7 @@ use Rattle.k_steps.specs.Stars.{all_stars, constant}
 use Rattle.k_steps.specs.Expressions.{Opens, goes, level, hole, term, valued, posted, plug, is_sizeof, is_sizeof_open, opened, no_arguments, prefix_operator, mark_operand, is_before_type, type_begun, word_operand, operand_at, operand, close_over, close_type, is_const, word_of_type, mark_of_type, in_type_at, in_type, operator_opens, take_operator, argued, then_ends, paren_ends, index_ends, enclose, takes_token, take_token, closed_by, value, is_left_paren, named, feed_at, feed}
 use Rattle.k_steps.specs.declared.expression.Open.TheVariants as open_
 use Rattle.k_steps.specs.declared.expression.ExpressionStage.TheVariants as now
-use Rattle.k_steps.specs.declared.expression.Fed.TheVariants as fed
+use Rattle.k_steps.specs.declared.turn.Turn.TheVariants as turn
 use Rattle.k_steps.specs.declared.expression.plug.Plugged.TheVariants as plugged
 use Rattle.k_steps.proofs.ExpressionState.{lev}
 
@@ -31,9 +31,9 @@ Reached lim g (o ∷ s) = Room lim (lev g s) (is_sizeof_open (top s)) o × Reach
 
 -- a token whose level is within the limit keeps it so
 abbrev pub Stays : ℕ → Site → Fed → Type 0
-Stays lim g (fed.Goes r reach) = reach ≤ lim → (r.site ≡ g) × Reached lim g r.opens
-Stays lim g (fed.Ends e) = Unit {0}
-Stays lim g fed.Refused = Unit {0}
+Stays lim g (turn.Goes r reach) = reach ≤ lim → (r.site ≡ g) × Reached lim g r.opens
+Stays lim g (turn.Done e) = Unit {0}
+Stays lim g turn.Refused = Unit {0}
 
 module _ (lim : ℕ) (g : Site) where
   cond_stays : (b : Bool) (x y : Fed) → (b ≡ true → Stays lim g x) → (b ≡ false → Stays lim g y) → Stays lim g (cond b x y)
@@ -56,24 +56,24 @@ module _ (lim : ℕ) (g : Site) where
   unfolding no_arguments
   no_arguments_stays [] h = tt
   no_arguments_stays (open_.Call p x args height ∷ s) h =
-      cond_stays (nat_eq (length args) 0) (valued g s (term (expr.Call p x args) 15 1)) fed.Refused (λ e reach. (refl, h.1)) (λ e. tt)
+      cond_stays (nat_eq (length args) 0) (valued g s (term (expr.Call p x args) 15 1)) turn.Refused (λ e reach. (refl, h.1)) (λ e. tt)
   no_arguments_stays (_ ∷ s) h = tt
 
   mark_stays : (s : Opens) (m : Mark) (p : Place) → Reached lim g s → Stays lim g (mark_operand g s m p)
   unfolding mark_operand prefix_operator
   mark_stays s m p h =
-      cond_stays (is_open m) (opened g s p) (cond (is_close m) (no_arguments g s) (cond (is_prefix_mark m) (prefix_operator g s m p) fed.Refused))
+      cond_stays (is_open m) (opened g s p) (cond (is_close m) (no_arguments g s) (cond (is_prefix_mark m) (prefix_operator g s m p) turn.Refused))
       (λ e. opened_stays s p h)
-      (λ e. cond_stays (is_close m) (no_arguments g s) (cond (is_prefix_mark m) (prefix_operator g s m p) fed.Refused)
+      (λ e. cond_stays (is_close m) (no_arguments g s) (cond (is_prefix_mark m) (prefix_operator g s m p) turn.Refused)
       (λ q. no_arguments_stays s h)
-      (λ q. cond_stays (is_prefix_mark m) (prefix_operator g s m p) fed.Refused (λ k reach. (refl, (deeper s reach, h))) (λ k. tt)))
+      (λ q. cond_stays (is_prefix_mark m) (prefix_operator g s m p) turn.Refused (λ k reach. (refl, (deeper s reach, h))) (λ k. tt)))
 
   word_stays : (s : Opens) (w : Word) (p : Place) → Reached lim g s → Stays lim g (word_operand g s w p)
   unfolding word_operand
   word_stays s w p h =
       cond_stays (is_sizeof w) (goes g (open_.Sizeof p ∷ s) now.Operand (level g s))
-      (cond (is_spec_word w && is_before_type g s) (type_begun g s w) fed.Refused) (λ e reach. (refl, (tt, h)))
-      (λ e. cond_stays (is_spec_word w && is_before_type g s) (type_begun g s w) fed.Refused (λ q reach. (refl, h)) (λ q. tt))
+      (cond (is_spec_word w && is_before_type g s) (type_begun g s w) turn.Refused) (λ e reach. (refl, (tt, h)))
+      (λ e. cond_stays (is_spec_word w && is_before_type g s) (type_begun g s w) turn.Refused (λ q reach. (refl, h)) (λ q. tt))
 
   kind_stays : (s : Opens) (p : Place) (k : TokenKind) → Reached lim g s → Stays lim g (operand_at g s p k)
   kind_stays s p (token.Name x) h = λ reach. (refl, h)
@@ -104,10 +104,10 @@ module _ (lim : ℕ) (g : Site) where
   unfolding word_of_type mark_of_type
   type_stays s specs stars (token.Word w) h =
       cond_stays stars.pending
-      (cond (is_const w) (goes g s (now.Type specs (constant stars)) 0) fed.Refused)
-      (cond (nat_eq (length stars.done) 0 && is_spec_word w) (goes g s (now.Type (specs ++ w ∷ []) stars) 0) fed.Refused)
-      (λ e. cond_stays (is_const w) (goes g s (now.Type specs (constant stars)) 0) fed.Refused (λ q reach. (refl, h)) (λ q. tt))
-      (λ e. cond_stays (nat_eq (length stars.done) 0 && is_spec_word w) (goes g s (now.Type (specs ++ w ∷ []) stars) 0) fed.Refused
+      (cond (is_const w) (goes g s (now.Type specs (constant stars)) 0) turn.Refused)
+      (cond (nat_eq (length stars.done) 0 && is_spec_word w) (goes g s (now.Type (specs ++ w ∷ []) stars) 0) turn.Refused)
+      (λ e. cond_stays (is_const w) (goes g s (now.Type specs (constant stars)) 0) turn.Refused (λ q reach. (refl, h)) (λ q. tt))
+      (λ e. cond_stays (nat_eq (length stars.done) 0 && is_spec_word w) (goes g s (now.Type (specs ++ w ∷ []) stars) 0) turn.Refused
       (λ q reach. (refl, h)) (λ q. tt))
   type_stays s specs stars (token.Mark mark.Star) h = λ reach. (refl, h)
   type_stays s specs stars (token.Mark mark.RightParen) h = close_stays s specs stars h
@@ -151,7 +151,7 @@ module _ (lim : ℕ) (g : Site) where
   value_stays : (s : Opens) (a : Term) (t : Token) → Reached lim g s → Stays lim g (value g s a t)
   unfolding value
   value_stays [] a t h =
-      cond_stays (takes_token (hole g []) a.rank t.what) (take_token g [] a t.what t.place) (fed.Ends a.tree)
+      cond_stays (takes_token (hole g []) a.rank t.what) (take_token g [] a t.what t.place) (turn.Done a.tree)
       (λ e. take_stays [] a t.what t.place h) (λ e. tt)
   value_stays (o ∷ s) a t h =
       cond_stays (takes_token (hole g (o ∷ s)) a.rank t.what) (take_token g (o ∷ s) a t.what t.place)

@@ -12,7 +12,7 @@ use Rattle.k_steps.specs.Stars.{all_stars}
 use Rattle.k_steps.specs.Expressions.{Opens, hole, is_before_type}
 use Rattle.k_steps.specs.declared.expression.Open.TheVariants as open_
 use Rattle.k_steps.specs.declared.expression.ExpressionStage.TheVariants as now
-use Rattle.k_steps.specs.declared.expression.Fed.TheVariants as fed
+use Rattle.k_steps.specs.declared.turn.Turn.TheVariants as turn
 use Rattle.k_steps.proofs.Marks.{Infix}
 
 -- arguments, each with a comma behind it
@@ -92,6 +92,6 @@ pub record IsRead (lim : ℕ) (g : Site) (e : Expr) (ts : List Token) : Type 0 w
 
 -- a token keeps it so
 abbrev pub Keeps : ℕ → Site → List Token → Token → Fed → Type 0
-Keeps lim g ts t (fed.Goes r reach) = reach ≤ lim → (r.site ≡ g) × Inv lim g r.opens r.state (ts ++ t ∷ [])
-Keeps lim g ts t (fed.Ends e) = IsRead lim g e ts
-Keeps lim g ts t fed.Refused = Unit {0}
+Keeps lim g ts t (turn.Goes r reach) = reach ≤ lim → (r.site ≡ g) × Inv lim g r.opens r.state (ts ++ t ∷ [])
+Keeps lim g ts t (turn.Done e) = IsRead lim g e ts
+Keeps lim g ts t turn.Refused = Unit {0}

@@ -16,7 +16,7 @@ use Rattle.k_steps.specs.Stars.{no_stars, all_stars}
 use Rattle.k_steps.specs.Expressions.{Opens, goes, level, hole, term, opened, no_arguments, mark_operand, is_before_type, word_operand, operand, close_over, close_type, mark_of_type, in_type, infix_made, conditional, prefixed, enclosed, indexed, plug, argued, then_ends, paren_ends, index_ends, enclose, closed_by, value, is_left_paren, named, feed}
 use Rattle.k_steps.specs.declared.expression.Open.TheVariants as open_
 use Rattle.k_steps.specs.declared.expression.ExpressionStage.TheVariants as now
-use Rattle.k_steps.specs.declared.expression.Fed.TheVariants as fed
+use Rattle.k_steps.specs.declared.turn.Turn.TheVariants as turn
 use Rattle.k_steps.proofs.ExpressionState.{Fits, OkOpen, ok_infix, ok_then, ok_other, ok_index, ok_call, lev, Valid, ValidNow}
 use Rattle.k_steps.proofs.ExpressionReach.{Reached}
 use Rattle.k_steps.proofs.ExpressionDepth.{some_depth}
@@ -34,8 +34,8 @@ reading g s n = record { site = g; opens = s; state = n }
 
 -- tokens, each within the limit, that lead from a reading to the end of the expression, before a last token
 pub data Completes (lim : ℕ) (end : Token) : Reading → List Token → Expr → Type 0 where
-  completes : (r : Reading) (e : Expr) → feed r end ≡ fed.Ends e → Completes lim end r [] e
-  completes_by : (r next : Reading) (t : Token) (ts : List Token) (e : Expr) (reach : ℕ) → feed r t ≡ fed.Goes next reach
+  completes : (r : Reading) (e : Expr) → feed r end ≡ turn.Done e → Completes lim end r [] e
+  completes_by : (r next : Reading) (t : Token) (ts : List Token) (e : Expr) (reach : ℕ) → feed r t ≡ turn.Goes next reach
       → reach ≤ lim → Completes lim end next ts e → Completes lim end r (t ∷ ts) e
 
 not_taken : (k n : ℕ) (m : Mark) → binding m ≡ None → takes k n m ≡ false
@@ -64,9 +64,9 @@ right_bracket_ends = (refl, refl)
 module _ (lim : ℕ) (end : Mark) (ends : Ends_operand end) (g : Site) where
   -- the last token, or a mark of a construct that is open, ends an operand
   data Ending : Opens → Term → List Token → Expr → Type 0 where
-    at_end : (s : Opens) (a : Term) (e : Expr) → value g s a (mark_token end) ≡ fed.Ends e → Ending s a [] e
+    at_end : (s : Opens) (a : Term) (e : Expr) → value g s a (mark_token end) ≡ turn.Done e → Ending s a [] e
     at_mark : (s : Opens) (a : Term) (m : Mark) (next : Reading) (us : List Token) (e : Expr) → Ends_operand m
-        → value g s a (mark_token m) ≡ fed.Goes next 0 → Completes lim (mark_token end) next us e → Ending s a (mark_token m ∷ us) e
+        → value g s a (mark_token m) ≡ turn.Goes next 0 → Completes lim (mark_token end) next us e → Ending s a (mark_token m ∷ us) e
 
   abbrev Ended : Opens → Term → Type 0
   Ended s a = (us : List Token) × (e : Expr) × Ending s a us e
@@ -103,7 +103,7 @@ module _ (lim : ℕ) (end : Mark) (ends : Ends_operand end) (g : Site) where
 
   -- a construct that a mark of its own ends
   marked : (s : Opens) (o : Open) (a w : Term) (m : Mark) → Ends_operand m
-      → value g (o ∷ s) a (mark_token m) ≡ fed.Goes (reading g s (now.Value w)) 0 → Ended s w → Ended (o ∷ s) a
+      → value g (o ∷ s) a (mark_token m) ≡ turn.Goes (reading g s (now.Value w)) 0 → Ended s w → Ended (o ∷ s) a
   marked s o a w m h q x = (
     mark_token m ∷ x.0,
     x.1,

@@ -17,7 +17,7 @@ use Rattle.k_steps.specs.Operators.{is_open, is_close, is_prefix_mark, is_step_m
 use Rattle.k_steps.specs.Expressions.{Opens, goes, level, hole, prefix_rank, leaf, opened, no_arguments, prefix_operator, mark_operand, is_before_type, type_begun, is_sizeof, word_operand, operand_at, operand}
 use Rattle.k_steps.specs.declared.expression.Open.TheVariants as open_
 use Rattle.k_steps.specs.declared.expression.ExpressionStage.TheVariants as now
-use Rattle.k_steps.specs.declared.expression.Fed.TheVariants as fed
+use Rattle.k_steps.specs.declared.turn.Turn.TheVariants as turn
 use Rattle.k_steps.proofs.Marks.{is_open_mark, is_close_mark, Infix, is_comma, is_assign, is_binary}
 use Rattle.k_steps.proofs.ExpressionState.{lay_opens, ok_infix, ok_then, ok_other, ok_cast, ok_prefix, ok_sizeof, ok_paren, ok_index, ok_call, Valid, Keeps}
 use Rattle.k_steps.proofs.ExpressionTerms.{one_at, one, stand-more, and_left, and_right}
@@ -122,7 +122,7 @@ module _ (lim : ℕ) (g : Site) (ts : List Token) (t : Token) where
       );
     },
   )
-  no_arguments_of s p x (a ∷ args) height e st v = cond_keeps lim g ts t (nat_eq (length (a ∷ args)) 0) _ fed.Refused
+  no_arguments_of s p x (a ∷ args) height e st v = cond_keeps lim g ts t (nat_eq (length (a ∷ args)) 0) _ turn.Refused
       (λ h. absurd (some_args a args (eqb-true (length (a ∷ args)) 0 h))) (λ h. tt)
 
   no_arguments_keeps : (s : Opens) → t.what ≡ token.Mark mark.RightParen → Stand (lay_opens s) ts → Valid lim g s
@@ -133,9 +133,9 @@ module _ (lim : ℕ) (g : Site) (ts : List Token) (t : Token) where
   no_arguments_keeps (_ ∷ s) e st v = tt
 
   prefix_or_none : (s : Opens) (m : Mark) → t.what ≡ token.Mark m → Stand (lay_opens s) ts → Valid lim g s
-      → Keeps lim g ts t (cond (is_prefix_mark m) (prefix_operator g s m t.place) fed.Refused)
+      → Keeps lim g ts t (cond (is_prefix_mark m) (prefix_operator g s m t.place) turn.Refused)
   prefix_or_none s m e st v =
-      cond_keeps lim g ts t (is_prefix_mark m) (prefix_operator g s m t.place) fed.Refused (λ h. prefix_keeps s m e h st v) (λ h. tt)
+      cond_keeps lim g ts t (is_prefix_mark m) (prefix_operator g s m t.place) turn.Refused (λ h. prefix_keeps s m e h st v) (λ h. tt)
 
   mark_keeps : (s : Opens) (m : Mark) → t.what ≡ token.Mark m → Stand (lay_opens s) ts → Valid lim g s
       → Keeps lim g ts t (mark_operand g s m t.place)
@@ -176,7 +176,7 @@ module _ (lim : ℕ) (g : Site) (ts : List Token) (t : Token) where
   unfolding word_operand
   word_keeps s w e st v =
       cond_keeps lim g ts t (is_sizeof w) _ _ (λ h. sizeof_keeps s w e h st v)
-      (λ h. cond_keeps lim g ts t (is_spec_word w && is_before_type g s) (type_begun g s w) fed.Refused
+      (λ h. cond_keeps lim g ts t (is_spec_word w && is_before_type g s) (type_begun g s w) turn.Refused
       (λ k. type_begun_keeps s w e (and_left (is_spec_word w) (is_before_type g s) k) (and_right (is_spec_word w) (is_before_type g s) k) st v)
       (λ k. tt))
 

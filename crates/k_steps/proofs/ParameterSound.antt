@@ -20,10 +20,9 @@ use Rattle.k_steps.specs.Stars.{all_stars, star, constant}
 use Rattle.k_steps.specs.Expressions.{begin, is_const}
 use Rattle.k_steps.specs.Readings.{read_maybe}
 use Rattle.k_steps.specs.declared.reading.Closer.TheVariants as closer
-use Rattle.k_steps.specs.declared.reading.Maybe.TheVariants as maybe
+use Rattle.k_steps.specs.declared.turn.Turn.TheVariants as turn
 use Rattle.k_steps.specs.Parameters as spec
 use Rattle.k_steps.specs.declared.parameter.ParameterStage.TheVariants as part_
-use Rattle.k_steps.specs.declared.parameter.Parametric.TheVariants as parametric
 use Rattle.k_steps.proofs.Commas.{comma, lay_each, each_push, with_last, not_none}
 use Rattle.k_steps.proofs.Rows.{row_push, deepest_more, StartsAt, starts-more, at_stands, no_items}
 use Rattle.k_steps.proofs.ExpressionTerms.{one, stand-more, regroup, and_left, and_right}
@@ -75,9 +74,9 @@ pub record AreRead (lim : ℕ) (ps : Params) (ts : List Token) : Type 0 where
   pub within : 1 + params_depth ps ≤ lim + 1
 
 abbrev pub KeepsParametric : ℕ → List Token → Token → Parametric → Type 0
-KeepsParametric lim ts t (parametric.Goes ps reach) = reach ≤ lim → OkParameters lim ps (ts ++ t ∷ [])
-KeepsParametric lim ts t (parametric.Done ps) = AreRead lim ps (ts ++ t ∷ [])
-KeepsParametric lim ts t parametric.Refused = Unit {0}
+KeepsParametric lim ts t (turn.Goes ps reach) = reach ≤ lim → OkParameters lim ps (ts ++ t ∷ [])
+KeepsParametric lim ts t (turn.Done ps) = AreRead lim ps (ts ++ t ∷ [])
+KeepsParametric lim ts t turn.Refused = Unit {0}
 
 -- parameters that aren't `void` alone
 ranked_list : (list : List Param) (p : Param) → All RankedParam (list ++ p ∷ []) → (list ≡ [] → IsVoidAlone p → ⊥) → RankedParams (params.List (list ++ p ∷ []))
@@ -158,7 +157,7 @@ module _ (lim : ℕ) (ts : List Token) (t : Token) where
       → KeepsParametric lim ts t (spec.starts list w t.place)
   unfolding spec.starts is_spec_word
   starts_keeps list w o e st =
-      parametric_cond (is_spec_word w) _ parametric.Refused
+      parametric_cond (is_spec_word w) _ turn.Refused
       (λ h z. record {
         list = o;
         part = record {
@@ -211,7 +210,7 @@ module _ (lim : ℕ) (ts : List Token) (t : Token) where
         (stand-more (lay_each lay_param list) (lay_param p) comma ts (t ∷ []) (whole_stands list p k) (one t (token.Mark mark.Comma) e));
   }
   end_keeps list p mark.RightParen o e k =
-      parametric_cond (nat_eq (length list) 0 && spec.is_void_alone p) (parametric.Done params.Void) (parametric.Done (params.List (list ++ p ∷ [])))
+      parametric_cond (nat_eq (length list) 0 && spec.is_void_alone p) (turn.Done params.Void) (turn.Done (params.List (list ++ p ∷ [])))
       (λ h. record {
         ranked = tt;
         stands = stand-append (plain (the_word word_.Void)) (plain (the_mark mark.RightParen)) ts (t ∷ [])
@@ -305,7 +304,7 @@ module _ (lim : ℕ) (ts : List Token) (t : Token) where
   unfolding spec.word
   word_keeps list p stars w o e k =
       parametric_cond stars.pending _ _
-      (λ h. parametric_cond (is_const w) _ parametric.Refused
+      (λ h. parametric_cond (is_const w) _ turn.Refused
       (λ c z. record {
         list = o;
         part = record {
@@ -316,7 +315,7 @@ module _ (lim : ℕ) (ts : List Token) (t : Token) where
         };
       })
       (λ c. tt))
-      (λ h. parametric_cond (nat_eq (length stars.done) 0 && is_spec_word w) _ parametric.Refused
+      (λ h. parametric_cond (nat_eq (length stars.done) 0 && is_spec_word w) _ turn.Refused
       (λ c. more_spec list p stars w o e k (no_stars_yet stars h (and_left (nat_eq (length stars.done) 0) (is_spec_word w) c)) (and_right (nat_eq (length stars.done) 0) (is_spec_word w) c))
       (λ c. tt))
 
@@ -415,7 +414,7 @@ module _ (lim : ℕ) (ts : List Token) (t : Token) where
 
   size_by_keeps : (list : List Param) (p : Param) (r : Reading) (m : Maybe) → OkList lim list → (k : OkSize lim list p r ts)
       → KeepsMaybe lim (site 2 1) k.behind.rest.0.back t mark.RightBracket m → KeepsParametric lim ts t (spec.size_by list p m)
-  size_by_keeps list p r (maybe.Goes q reach) o k h = λ z. record {
+  size_by_keeps list p r (turn.Goes q reach) o k h = λ z. record {
     list = o;
     part = record {
       behind = record {
@@ -438,8 +437,8 @@ module _ (lim : ℕ) (ts : List Token) (t : Token) where
       within = k.within;
     };
   }
-  size_by_keeps list p r (maybe.Done v) o k h = λ z. record { list = o; part = size_done list p r v k h.0 h.1 }
-  size_by_keeps list p r maybe.Refused o k h = tt
+  size_by_keeps list p r (turn.Done v) o k h = λ z. record { list = o; part = size_done list p r v k h.0 h.1 }
+  size_by_keeps list p r turn.Refused o k h = tt
 
   size_keeps : (list : List Param) (p : Param) (r : Reading) → OkList lim list → OkSize lim list p r ts → KeepsParametric lim ts t (spec.size list p r t)
   unfolding spec.size

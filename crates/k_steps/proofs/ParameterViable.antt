@@ -12,10 +12,9 @@ use Rattle.k_steps.specs.Stars.{no_stars, star, constant}
 use Rattle.k_steps.specs.Expressions.{begin, is_const}
 use Rattle.k_steps.specs.Readings.{read_maybe}
 use Rattle.k_steps.specs.declared.reading.Closer.TheVariants as closer
-use Rattle.k_steps.specs.declared.reading.Maybe.TheVariants as maybe
+use Rattle.k_steps.specs.declared.turn.Turn.TheVariants as turn
 use Rattle.k_steps.specs.Parameters as spec
 use Rattle.k_steps.specs.declared.parameter.ParameterStage.TheVariants as part_
-use Rattle.k_steps.specs.declared.parameter.Parametric.TheVariants as parametric
 use Rattle.k_steps.proofs.DeclarationReach.{MaybeStays, maybe_stays, begin_begun}
 use Rattle.k_steps.proofs.ExpressionViable.{mark_token}
 use Rattle.k_steps.proofs.ParameterSound.{OkParameters, OkPart}
@@ -30,7 +29,7 @@ PartReached lim (part_.Size p r) = Begun lim r
 PartReached lim _ = Unit {0}
 
 abbrev pub ParametricStays : ℕ → Parametric → Type 0
-ParametricStays lim (parametric.Goes ps reach) = reach ≤ lim → PartReached lim ps.part
+ParametricStays lim (turn.Goes ps reach) = reach ≤ lim → PartReached lim ps.part
 ParametricStays lim _ = Unit {0}
 
 module _ (lim : ℕ) where
@@ -48,7 +47,7 @@ module _ (lim : ℕ) where
   first_stays list p (token.Word w) =
       cond_stays (is_spec_word w)
       (spec.follows list (part_.Typed (record { place = p; specs = w ∷ []; stars = []; name = None; dims = [] }) no_stars) 0)
-      parametric.Refused (λ e reach. tt) (λ e. tt)
+      turn.Refused (λ e reach. tt) (λ e. tt)
   first_stays list p (token.Mark mark.RightParen) = none_stays list
   first_stays list p _ = tt
 
@@ -56,8 +55,8 @@ module _ (lim : ℕ) where
   unfolding spec.end
   end_stays list p mark.Comma = λ reach. tt
   end_stays list p mark.RightParen =
-      cond_stays (nat_eq (length list) 0 && spec.is_void_alone p) (parametric.Done params.Void)
-      (parametric.Done (params.List (list ++ p ∷ []))) (λ e. tt) (λ e. tt)
+      cond_stays (nat_eq (length list) 0 && spec.is_void_alone p) (turn.Done params.Void)
+      (turn.Done (params.List (list ++ p ∷ []))) (λ e. tt) (λ e. tt)
   end_stays list p _ = tt
 
   named_stays : (list : List Param) (p : Param) (m : Mark) → ParametricStays lim (spec.named list p m)
@@ -74,12 +73,12 @@ module _ (lim : ℕ) where
   unfolding spec.word spec.name spec.mark_typed
   typed_stays list p stars (token.Word w) =
       cond_stays stars.pending
-      (cond (is_const w) (spec.follows list (part_.Typed p (constant stars)) 0) parametric.Refused)
+      (cond (is_const w) (spec.follows list (part_.Typed p (constant stars)) 0) turn.Refused)
       (cond (nat_eq (length stars.done) 0 && is_spec_word w)
-      (spec.follows list (part_.Typed (record p { specs = p.specs ++ w ∷ [] }) stars) 0) parametric.Refused)
-      (λ e. cond_stays (is_const w) (spec.follows list (part_.Typed p (constant stars)) 0) parametric.Refused (λ q reach. tt) (λ q. tt))
+      (spec.follows list (part_.Typed (record p { specs = p.specs ++ w ∷ [] }) stars) 0) turn.Refused)
+      (λ e. cond_stays (is_const w) (spec.follows list (part_.Typed p (constant stars)) 0) turn.Refused (λ q reach. tt) (λ q. tt))
       (λ e. cond_stays (nat_eq (length stars.done) 0 && is_spec_word w)
-      (spec.follows list (part_.Typed (record p { specs = p.specs ++ w ∷ [] }) stars) 0) parametric.Refused (λ q reach. tt) (λ q. tt))
+      (spec.follows list (part_.Typed (record p { specs = p.specs ++ w ∷ [] }) stars) 0) turn.Refused (λ q reach. tt) (λ q. tt))
   typed_stays list p stars (token.Name x) = λ reach. tt
   typed_stays list p stars (token.Mark m) =
       cond_stays (is_star m) (spec.follows list (part_.Typed p (star stars)) 0) (spec.named list (spec.starred p stars) m) (λ e reach. tt)
@@ -87,9 +86,9 @@ module _ (lim : ℕ) where
   typed_stays list p stars _ = tt
 
   size_stays : (list : List Param) (p : Param) (x : Maybe) → MaybeStays lim x → ParametricStays lim (spec.size_by list p x)
-  size_stays list p (maybe.Goes r reach) h = λ le e. h le
-  size_stays list p (maybe.Done v) h = λ le. tt
-  size_stays list p maybe.Refused h = tt
+  size_stays list p (turn.Goes r reach) h = λ le e. h le
+  size_stays list p (turn.Done v) h = λ le. tt
+  size_stays list p turn.Refused h = tt
 
   part_stays : (list : List Param) (n : ParameterStage) (t : Token) → PartReached lim n → ParametricStays lim (spec.part_fed list n t)
   unfolding spec.first_token spec.typed spec.size
@@ -105,10 +104,10 @@ unfolding spec.feed_parameters
 parameters_stay lim ps t h = part_stays lim ps.list ps.part t h
 
 abbrev pub ParametersGo : Parameters → Token → Parameters → ℕ → Type 0
-ParametersGo ps t next reach = spec.feed_parameters ps t ≡ parametric.Goes next reach
+ParametersGo ps t next reach = spec.feed_parameters ps t ≡ turn.Goes next reach
 
 abbrev pub ParametersEnd : Parameters → Token → Params → Type 0
-ParametersEnd ps t o = spec.feed_parameters ps t ≡ parametric.Done o
+ParametersEnd ps t o = spec.feed_parameters ps t ≡ turn.Done o
 
 abbrev pub ParametersCanEnd : ℕ → Parameters → Type 0
 ParametersCanEnd lim = CanEnd Parameters Params ParametersGo ParametersEnd lim
@@ -117,7 +116,7 @@ module _ (lim : ℕ) (list : List Param) where
   -- `)` behind a parameter
   end_by : (p : Param) → (n : ParameterStage) → (b : Bool)
       → spec.feed_parameters (record { list = list; part = n }) (mark_token mark.RightParen)
-      ≡ cond b (parametric.Done params.Void) (parametric.Done (params.List (list ++ p ∷ [])))
+      ≡ cond b (turn.Done params.Void) (turn.Done (params.List (list ++ p ∷ [])))
       → ParametersCanEnd lim (record { list = list; part = n })
   end_by p n true e = (mark_token mark.RightParen ∷ [], params.Void, run_ends _ (mark_token mark.RightParen) params.Void e)
   end_by p n false e = (

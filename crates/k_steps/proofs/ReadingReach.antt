@@ -10,7 +10,7 @@ use Rattle.k_steps.specs.Expressions.{Opens, goes, level, is_sizeof, opened, no_
 use Rattle.k_steps.specs.Readings.{is_operand, is_fresh}
 use Rattle.k_steps.specs.declared.expression.Open.TheVariants as open_
 use Rattle.k_steps.specs.declared.expression.ExpressionStage.TheVariants as now
-use Rattle.k_steps.specs.declared.expression.Fed.TheVariants as fed
+use Rattle.k_steps.specs.declared.turn.Turn.TheVariants as turn
 use Rattle.k_steps.proofs.ExpressionReach.{Reached, Stays, feed_stays}
 
 module _ (lim : ℕ) (g : Site) where
@@ -27,17 +27,17 @@ module _ (lim : ℕ) (g : Site) where
   unfolding word_operand is_before_type
   word_begins w p =
       cond_both (is_sizeof w) (goes g (open_.Sizeof p ∷ []) now.Operand (level g []))
-      (cond (is_spec_word w && false) (type_begun g [] w) fed.Refused) (Stays lim g) (λ e reach. (refl, (tt, at_level reach)))
-      (λ e. cond_both (is_spec_word w && false) (type_begun g [] w) fed.Refused (Stays lim g)
+      (cond (is_spec_word w && false) (type_begun g [] w) turn.Refused) (Stays lim g) (λ e reach. (refl, (tt, at_level reach)))
+      (λ e. cond_both (is_spec_word w && false) (type_begun g [] w) turn.Refused (Stays lim g)
       (λ q. absurd (false≢true (and_parts (is_spec_word w) false q).1)) (λ q. tt))
 
   mark_begins : (m : Mark) (p : Place) → Stays lim g (mark_operand g [] m p)
   unfolding mark_operand opened no_arguments prefix_operator
   mark_begins m p =
-      cond_both (is_open m) (opened g [] p) (cond (is_close m) (no_arguments g []) (cond (is_prefix_mark m) (prefix_operator g [] m p) fed.Refused))
+      cond_both (is_open m) (opened g [] p) (cond (is_close m) (no_arguments g []) (cond (is_prefix_mark m) (prefix_operator g [] m p) turn.Refused))
       (Stays lim g) (λ e reach. (refl, (one_down reach, up (one_down reach))))
-      (λ e. cond_both (is_close m) (no_arguments g []) (cond (is_prefix_mark m) (prefix_operator g [] m p) fed.Refused) (Stays lim g) (λ q. tt)
-      (λ q. cond_both (is_prefix_mark m) (prefix_operator g [] m p) fed.Refused (Stays lim g)
+      (λ e. cond_both (is_close m) (no_arguments g []) (cond (is_prefix_mark m) (prefix_operator g [] m p) turn.Refused) (Stays lim g) (λ q. tt)
+      (λ q. cond_both (is_prefix_mark m) (prefix_operator g [] m p) turn.Refused (Stays lim g)
       (λ k reach. (refl, (one_down reach, up (one_down reach)))) (λ k. tt)))
 
   kind_begins : (p : Place) (k : TokenKind) → Stays lim g (operand_at g [] p k)
@@ -80,7 +80,7 @@ fresh_or false P h = inr (h refl)
 
 -- a token within the limit makes it sure
 pub feed_begun : (lim : ℕ) → (r : Reading) (t : Token) (next : Reading) (reach : ℕ) → Begun lim r
-    → feed r t ≡ fed.Goes next reach → reach ≤ lim → (next.site ≡ r.site) × Reached lim next.site next.opens
+    → feed r t ≡ turn.Goes next reach → reach ≤ lim → (next.site ≡ r.site) × Reached lim next.site next.opens
 unfolding feed is_fresh
 feed_begun lim r t next reach b e le =
     let st : Stays lim r.site (feed r t) =

@@ -10,10 +10,8 @@ use Rattle.k_tree.specs.Ranked.{Ranked, IfGiven}
 use Rattle.k_steps.specs.Expressions.{Opens, begin, feed}
 use Rattle.k_steps.specs.Readings.{mark_closes, kind_closes, closes, is_operand, is_fresh, read_by, read_needed, maybe_by, read_maybe}
 use Rattle.k_steps.specs.declared.expression.ExpressionStage.TheVariants as now
-use Rattle.k_steps.specs.declared.expression.Fed.TheVariants as fed
+use Rattle.k_steps.specs.declared.turn.Turn.TheVariants as turn
 use Rattle.k_steps.specs.declared.reading.Closer.TheVariants as closer
-use Rattle.k_steps.specs.declared.reading.Read.TheVariants as read
-use Rattle.k_steps.specs.declared.reading.Maybe.TheVariants as maybe
 use Rattle.k_steps.proofs.ExpressionState.{laid, Inv, IsRead, Keeps}
 use Rattle.k_steps.proofs.ExpressionTerms.{and_left, and_right}
 use Rattle.k_steps.proofs.ExpressionSound.{feed_keeps}
@@ -57,9 +55,9 @@ kind_is c _ h = absurd (false_true h)
 
 -- a token keeps it so
 abbrev pub KeepsRead : ℕ → Site → List Token → Token → Mark → Read → Type 0
-KeepsRead lim g ts t m (read.Goes r reach) = reach ≤ lim → At lim g r (ts ++ t ∷ [])
-KeepsRead lim g ts t m (read.Done e) = IsRead lim g e ts × (t.what ≡ token.Mark m)
-KeepsRead lim g ts t m read.Refused = Unit {0}
+KeepsRead lim g ts t m (turn.Goes r reach) = reach ≤ lim → At lim g r (ts ++ t ∷ [])
+KeepsRead lim g ts t m (turn.Done e) = IsRead lim g e ts × (t.what ≡ token.Mark m)
+KeepsRead lim g ts t m turn.Refused = Unit {0}
 
 -- an expression that may be left out
 pub record IsMaybe (lim : ℕ) (g : Site) (v : Option Expr) (ts : List Token) : Type 0 where
@@ -68,16 +66,16 @@ pub record IsMaybe (lim : ℕ) (g : Site) (v : Option Expr) (ts : List Token) : 
   pub within : g.level + option_depth v ≤ lim + 1
 
 abbrev pub KeepsMaybe : ℕ → Site → List Token → Token → Mark → Maybe → Type 0
-KeepsMaybe lim g ts t m (maybe.Goes r reach) = reach ≤ lim → At lim g r (ts ++ t ∷ [])
-KeepsMaybe lim g ts t m (maybe.Done v) = IsMaybe lim g v ts × (t.what ≡ token.Mark m)
-KeepsMaybe lim g ts t m maybe.Refused = Unit {0}
+KeepsMaybe lim g ts t m (turn.Goes r reach) = reach ≤ lim → At lim g r (ts ++ t ∷ [])
+KeepsMaybe lim g ts t m (turn.Done v) = IsMaybe lim g v ts × (t.what ≡ token.Mark m)
+KeepsMaybe lim g ts t m turn.Refused = Unit {0}
 
 read_by_keeps : (lim : ℕ) (g : Site) (ts : List Token) (t : Token) (m : Mark) (f : Fed) (b : Bool) → (b ≡ true → t.what ≡ token.Mark m)
     → Keeps lim g ts t f → KeepsRead lim g ts t m (read_by f b)
-read_by_keeps lim g ts t m (fed.Goes r reach) b e k = k
-read_by_keeps lim g ts t m (fed.Ends v) true e k = (k, e refl)
-read_by_keeps lim g ts t m (fed.Ends v) false e k = tt
-read_by_keeps lim g ts t m fed.Refused b e k = tt
+read_by_keeps lim g ts t m (turn.Goes r reach) b e k = k
+read_by_keeps lim g ts t m (turn.Done v) true e k = (k, e refl)
+read_by_keeps lim g ts t m (turn.Done v) false e k = tt
+read_by_keeps lim g ts t m turn.Refused b e k = tt
 
 pub closes_is : (c : Closer) (t : Token) → closes t c ≡ true → t.what ≡ token.Mark (closing c)
 unfolding closes
@@ -91,9 +89,9 @@ read_keeps lim g ts t r c a =
 
 maybe_by_keeps : (lim : ℕ) (g : Site) (ts : List Token) (t : Token) (m : Mark) (f : Read)
     → KeepsRead lim g ts t m f → KeepsMaybe lim g ts t m (maybe_by f)
-maybe_by_keeps lim g ts t m (read.Goes r reach) k = k
-maybe_by_keeps lim g ts t m (read.Done v) k = (record { ranked = k.0.ranked; stands = k.0.stands; within = k.0.within }, k.1)
-maybe_by_keeps lim g ts t m read.Refused k = tt
+maybe_by_keeps lim g ts t m (turn.Goes r reach) k = k
+maybe_by_keeps lim g ts t m (turn.Done v) k = (record { ranked = k.0.ranked; stands = k.0.stands; within = k.0.within }, k.1)
+maybe_by_keeps lim g ts t m turn.Refused k = tt
 
 operand_is : (n : ExpressionStage) → is_operand n ≡ true → n ≡ now.Operand
 operand_is now.Operand h = refl
@@ -120,7 +118,7 @@ pub maybe_keeps : (lim : ℕ) → (g : Site) (ts : List Token) (t : Token) (r : 
     → KeepsMaybe lim g ts t (closing c) (read_maybe r t c)
 unfolding read_maybe
 maybe_keeps lim g ts t r c le a =
-    maybe_cond lim g ts t (closing c) (is_fresh r && closes t c) (maybe.Done None) (maybe_by (read_needed r t c))
+    maybe_cond lim g ts t (closing c) (is_fresh r && closes t c) (turn.Done None) (maybe_by (read_needed r t c))
     (λ h. (
       record { ranked = tt; stands = fresh_stands lim g ts r (and_left (is_fresh r) (closes t c) h) a; within = omega (arith, le) },
       closes_is c t (and_right (is_fresh r) (closes t c) h),

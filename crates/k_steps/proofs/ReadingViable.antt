@@ -1,17 +1,15 @@
 -- An expression inside another construct can be ended, up to the mark that closes it.
 use Rattle.std.proofs.Common.{ℕ, ◌≡◌, Bool, true, false, ◌&&◌, cond, List, [], ◌∷◌, ◌++◌, Option, Some, None, sym, ◌∙◌, ap, subst, refl, arith}
 use Rattle.std.proofs.lemmas.Bool.{cond-true, cond_both, and_parts, and_from, false≢true}
-use Rattle.k_steps.specs.Types.{Place, Token, TokenKind, Mark, Expr, Site, Reading, Closer}
+use Rattle.k_steps.specs.Types.{Place, Token, TokenKind, Mark, Expr, Site, Reading, Closer, Fed}
 use Rattle.k_tree.specs.declared.tokens.TokenKind.TheVariants as token
 use Rattle.k_tree.specs.declared.tokens.mark.Mark.TheVariants as mark
 use Rattle.k_steps.specs.Operators.{binding, is_prefix_mark, is_open, is_close}
 use Rattle.k_steps.specs.Expressions.{mark_operand, no_arguments, operand_at, operand, feed_at, feed}
 use Rattle.k_steps.specs.Readings.{mark_closes, kind_closes, closes, is_fresh, read_by, read_needed, maybe_by, read_maybe}
 use Rattle.k_steps.specs.declared.expression.ExpressionStage.TheVariants as now
-use Rattle.k_steps.specs.declared.expression.Fed.TheVariants as fed
+use Rattle.k_steps.specs.declared.turn.Turn.TheVariants as turn
 use Rattle.k_steps.specs.declared.reading.Closer.TheVariants as closer
-use Rattle.k_steps.specs.declared.reading.Read.TheVariants as read
-use Rattle.k_steps.specs.declared.reading.Maybe.TheVariants as maybe
 use Rattle.k_steps.proofs.ExpressionState.{Inv}
 use Rattle.k_steps.proofs.ExpressionReach.{Reached}
 use Rattle.k_steps.proofs.ExpressionViable.{mark_token, Ends_operand, Completes, completes, completes_by, now_completes}
@@ -35,7 +33,7 @@ closing_closes closer.Semicolon = refl
 closing_closes closer.Colon = refl
 
 -- none of them begins an expression
-mark_refused : (g : Site) (p : Place) (c : Closer) (m : Mark) → mark_closes c m ≡ true → mark_operand g [] m p ≡ fed.Refused
+mark_refused : (g : Site) (p : Place) (c : Closer) (m : Mark) → mark_closes c m ≡ true → mark_operand g [] m p ≡ turn.Refused
 unfolding mark_operand is_prefix_mark no_arguments is_open is_close
 mark_refused g p closer.Bracket mark.RightBracket e = refl
 mark_refused g p closer.Paren mark.RightParen e = refl
@@ -46,52 +44,52 @@ mark_refused g p closer.Paren _ e = absurd (false≢true e)
 mark_refused g p closer.Semicolon _ e = absurd (false≢true e)
 mark_refused g p closer.Colon _ e = absurd (false≢true e)
 
-kind_refused : (g : Site) (p : Place) (c : Closer) (k : TokenKind) → kind_closes c k ≡ true → operand_at g [] p k ≡ fed.Refused
+kind_refused : (g : Site) (p : Place) (c : Closer) (k : TokenKind) → kind_closes c k ≡ true → operand_at g [] p k ≡ turn.Refused
 kind_refused g p c (token.Mark m) e = mark_refused g p c m e
 kind_refused g p c _ e = absurd (false≢true e)
 
-fresh_refuses : (r : Reading) (t : Token) (c : Closer) → is_fresh r ≡ true → closes t c ≡ true → feed r t ≡ fed.Refused
+fresh_refuses : (r : Reading) (t : Token) (c : Closer) → is_fresh r ≡ true → closes t c ≡ true → feed r t ≡ turn.Refused
 unfolding feed is_fresh closes operand
 fresh_refuses r t c e h =
     let q : (r.state ≡ now.Operand) × (r.opens ≡ []) = fresh_is r.opens r.state e in
     ap (λ n. feed_at r.site r.opens n t) q.0
     ∙ (ap (λ s. feed_at r.site s now.Operand t) q.1 ∙ kind_refused r.site t.place c t.what h)
 
-refused_goes : (next : Reading) (reach : ℕ) → fed.Refused ≡ fed.Goes next reach → ⊥
+refused_goes : (next : Reading) (reach : ℕ) → ◌≡◌ {A = Fed} turn.Refused (turn.Goes next reach) → ⊥
 refused_goes next reach e = cc
 
-refused_ends : (e : Expr) → fed.Refused ≡ fed.Ends e → ⊥
+refused_ends : (e : Expr) → ◌≡◌ {A = Fed} turn.Refused (turn.Done e) → ⊥
 refused_ends e q = cc
 
-pub needed_goes : (r : Reading) (t : Token) (c : Closer) (next : Reading) (reach : ℕ) → feed r t ≡ fed.Goes next reach
-    → read_needed r t c ≡ read.Goes next reach
+pub needed_goes : (r : Reading) (t : Token) (c : Closer) (next : Reading) (reach : ℕ) → feed r t ≡ turn.Goes next reach
+    → read_needed r t c ≡ turn.Goes next reach
 unfolding read_needed
 needed_goes r t c next reach e = ap (λ z. read_by z (closes t c)) e
 
-pub needed_ends : (r : Reading) (t : Token) (c : Closer) (e : Expr) → feed r t ≡ fed.Ends e → closes t c ≡ true
-    → read_needed r t c ≡ read.Done e
+pub needed_ends : (r : Reading) (t : Token) (c : Closer) (e : Expr) → feed r t ≡ turn.Done e → closes t c ≡ true
+    → read_needed r t c ≡ turn.Done e
 unfolding read_needed
-needed_ends r t c e q h = ap (λ z. read_by z (closes t c)) q ∙ ap (λ b. cond b (read.Done e) read.Refused) h
+needed_ends r t c e q h = ap (λ z. read_by z (closes t c)) q ∙ ap (λ b. cond b (turn.Done e) turn.Refused) h
 
-pub maybe_goes : (r : Reading) (t : Token) (c : Closer) (next : Reading) (reach : ℕ) → feed r t ≡ fed.Goes next reach
-    → read_maybe r t c ≡ maybe.Goes next reach
+pub maybe_goes : (r : Reading) (t : Token) (c : Closer) (next : Reading) (reach : ℕ) → feed r t ≡ turn.Goes next reach
+    → read_maybe r t c ≡ turn.Goes next reach
 unfolding read_maybe
 maybe_goes r t c next reach e =
-    cond_both (is_fresh r && closes t c) (maybe.Done None) (maybe_by (read_needed r t c)) (λ z. z ≡ maybe.Goes next reach)
+    cond_both (is_fresh r && closes t c) (turn.Done None) (maybe_by (read_needed r t c)) (λ z. z ≡ turn.Goes next reach)
     (λ h. let b : (is_fresh r ≡ true) × (closes t c ≡ true) = and_parts (is_fresh r) (closes t c) h in
     absurd (refused_goes next reach (sym (fresh_refuses r t c b.0 b.1) ∙ e)))
     (λ h. ap maybe_by (needed_goes r t c next reach e))
 
-pub maybe_ends : (r : Reading) (t : Token) (c : Closer) (e : Expr) → feed r t ≡ fed.Ends e → closes t c ≡ true
-    → read_maybe r t c ≡ maybe.Done (Some e)
+pub maybe_ends : (r : Reading) (t : Token) (c : Closer) (e : Expr) → feed r t ≡ turn.Done e → closes t c ≡ true
+    → read_maybe r t c ≡ turn.Done (Some e)
 unfolding read_maybe
 maybe_ends r t c e q h =
-    cond_both (is_fresh r && closes t c) (maybe.Done None) (maybe_by (read_needed r t c)) (λ z. z ≡ maybe.Done (Some e))
+    cond_both (is_fresh r && closes t c) (turn.Done None) (maybe_by (read_needed r t c)) (λ z. z ≡ turn.Done (Some e))
     (λ k. let b : (is_fresh r ≡ true) × (closes t c ≡ true) = and_parts (is_fresh r) (closes t c) k in
     absurd (refused_ends e (sym (fresh_refuses r t c b.0 b.1) ∙ q)))
     (λ k. ap maybe_by (needed_ends r t c e q h))
 
-pub maybe_left_out : (r : Reading) (t : Token) (c : Closer) → is_fresh r ≡ true → closes t c ≡ true → read_maybe r t c ≡ maybe.Done None
+pub maybe_left_out : (r : Reading) (t : Token) (c : Closer) → is_fresh r ≡ true → closes t c ≡ true → read_maybe r t c ≡ turn.Done None
 unfolding read_maybe
 maybe_left_out r t c e h = cond-true (is_fresh r && closes t c) _ _ (and_from (is_fresh r) (closes t c) e h)
 
@@ -105,9 +103,9 @@ at_completes lim m ends g r ts a h =
 module _ (R O : Type 0) (Goes : R → Token → R → ℕ → Type 0) (Ends : R → Token → O → Type 0) (lim : ℕ) where
   -- the tokens of an expression inside, and then what comes behind it
   through : (end : Token) (r : Reading) (us : List Token) (e : Expr) → Completes lim end r us e → (inside : Reading → R)
-      → ((r : Reading) (t : Token) (next : Reading) (reach : ℕ) → feed r t ≡ fed.Goes next reach → Goes (inside r) t (inside next) reach)
+      → ((r : Reading) (t : Token) (next : Reading) (reach : ℕ) → feed r t ≡ turn.Goes next reach → Goes (inside r) t (inside next) reach)
       → (tail : List Token) (o : O)
-      → ((r : Reading) → feed r end ≡ fed.Ends e → Runs R O Goes Ends lim (inside r) (end ∷ tail) o)
+      → ((r : Reading) → feed r end ≡ turn.Done e → Runs R O Goes Ends lim (inside r) (end ∷ tail) o)
       → Runs R O Goes Ends lim (inside r) (us ++ end ∷ tail) o
   through end _ _ _ (completes r e q) inside on tail o behind = behind r q
   through end _ _ _ (completes_by r next t us e reach q le rest) inside on tail o behind =
@@ -117,8 +115,8 @@ module _ (R O : Type 0) (Goes : R → Token → R → ℕ → Type 0) (Ends : R 
   -- an expression that goes on, and behind which a state follows from which an end can be reached
   pub inner_can_end : (m : Mark) → Ends_operand m → (g : Site) (r : Reading) (ts : List Token) → At lim g r ts
       → Reached lim r.site r.opens → (inside : Reading → R) (behind : Expr → R)
-      → ((r : Reading) (t : Token) (next : Reading) (reach : ℕ) → feed r t ≡ fed.Goes next reach → Goes (inside r) t (inside next) reach)
-      → ((r : Reading) (e : Expr) → feed r (mark_token m) ≡ fed.Ends e → Goes (inside r) (mark_token m) (behind e) 0)
+      → ((r : Reading) (t : Token) (next : Reading) (reach : ℕ) → feed r t ≡ turn.Goes next reach → Goes (inside r) t (inside next) reach)
+      → ((r : Reading) (e : Expr) → feed r (mark_token m) ≡ turn.Done e → Goes (inside r) (mark_token m) (behind e) 0)
       → ((e : Expr) → CanEnd R O Goes Ends lim (behind e)) → CanEnd R O Goes Ends lim (inside r)
   inner_can_end m ends g r ts a h inside behind on off rest =
       let x : (us : List Token) × (e : Expr) × Completes lim (mark_token m) r us e = at_completes lim m ends g r ts a h in
@@ -132,8 +130,8 @@ module _ (R O : Type 0) (Goes : R → Token → R → ℕ → Type 0) (Ends : R 
   -- an expression whose mark ends all
   pub inner_ends : (m : Mark) → Ends_operand m → (g : Site) (r : Reading) (ts : List Token) → At lim g r ts
       → Reached lim r.site r.opens → (inside : Reading → R) (whole : Expr → O)
-      → ((r : Reading) (t : Token) (next : Reading) (reach : ℕ) → feed r t ≡ fed.Goes next reach → Goes (inside r) t (inside next) reach)
-      → ((r : Reading) (e : Expr) → feed r (mark_token m) ≡ fed.Ends e → Ends (inside r) (mark_token m) (whole e))
+      → ((r : Reading) (t : Token) (next : Reading) (reach : ℕ) → feed r t ≡ turn.Goes next reach → Goes (inside r) t (inside next) reach)
+      → ((r : Reading) (e : Expr) → feed r (mark_token m) ≡ turn.Done e → Ends (inside r) (mark_token m) (whole e))
       → CanEnd R O Goes Ends lim (inside r)
   inner_ends m ends g r ts a h inside whole on off =
       let x : (us : List Token) × (e : Expr) × Completes lim (mark_token m) r us e = at_completes lim m ends g r ts a h in (
@@ -145,8 +143,8 @@ module _ (R O : Type 0) (Goes : R → Token → R → ℕ → Type 0) (Ends : R 
   -- one that may be left out
   pub maybe_can_end : (c : Closer) (g : Site) (r : Reading) (ts : List Token) → At lim g r ts
       → Begun lim r → (inside : Reading → R) (behind : Option Expr → R)
-      → ((r : Reading) (t : Token) (next : Reading) (reach : ℕ) → read_maybe r t c ≡ maybe.Goes next reach → Goes (inside r) t (inside next) reach)
-      → ((r : Reading) (t : Token) (v : Option Expr) → read_maybe r t c ≡ maybe.Done v → Goes (inside r) t (behind v) 0)
+      → ((r : Reading) (t : Token) (next : Reading) (reach : ℕ) → read_maybe r t c ≡ turn.Goes next reach → Goes (inside r) t (inside next) reach)
+      → ((r : Reading) (t : Token) (v : Option Expr) → read_maybe r t c ≡ turn.Done v → Goes (inside r) t (behind v) 0)
       → ((v : Option Expr) → CanEnd R O Goes Ends lim (behind v)) → CanEnd R O Goes Ends lim (inside r)
   maybe_can_end c g r ts a b inside behind on off rest = by (is_fresh r) refl
     where

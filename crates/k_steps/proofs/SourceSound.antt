@@ -18,14 +18,11 @@ use Rattle.k_steps.specs.Operators.{is_spec_word}
 use Rattle.k_steps.specs.Expressions.{is_left_paren}
 use Rattle.k_steps.specs.Declarations.{begin_declaration}
 use Rattle.k_steps.specs.declared.declaration.DeclarationStage.TheVariants as stage
-use Rattle.k_steps.specs.declared.declaration.Declared.TheVariants as declared_
+use Rattle.k_steps.specs.declared.turn.Turn.TheVariants as turn
 use Rattle.k_steps.specs.Parameters.{begin_parameters}
-use Rattle.k_steps.specs.declared.parameter.Parametric.TheVariants as parametric
 use Rattle.k_steps.specs.Statements.{begin_body}
-use Rattle.k_steps.specs.declared.statement.Stepped.TheVariants as stepped
 use Rattle.k_steps.specs.Sources as spec
 use Rattle.k_steps.specs.declared.source.SourceStage.TheVariants as phase
-use Rattle.k_steps.specs.declared.source.Sourced.TheVariants as sourced
 use Rattle.k_steps.proofs.Commas.{lay_each}
 use Rattle.k_steps.proofs.Rows.{row_push, deepest_more, StartsAt, starts-more, at_stands, no_items}
 use Rattle.k_steps.proofs.ExpressionTerms.{one_at, one, stand-more, three, and_left, and_right}
@@ -76,9 +73,9 @@ pub record IsUnit (lim : ℕ) (u : source.Unit) (ts : List Token) : Type 0 where
   pub within : nesting u ≤ lim
 
 abbrev pub KeepsSourced : ℕ → List Token → Token → Sourced → Type 0
-KeepsSourced lim ts t (sourced.Goes s reach) = reach ≤ lim → OkSource lim s (ts ++ t ∷ [])
-KeepsSourced lim ts t (sourced.Done u) = IsUnit lim u (ts ++ t ∷ []) × (t.what ≡ token.End)
-KeepsSourced lim ts t sourced.Refused = Unit {0}
+KeepsSourced lim ts t (turn.Goes s reach) = reach ≤ lim → OkSource lim s (ts ++ t ∷ [])
+KeepsSourced lim ts t (turn.Done u) = IsUnit lim u (ts ++ t ∷ []) × (t.what ≡ token.End)
+KeepsSourced lim ts t turn.Refused = Unit {0}
 
 title_laid : (f : Front) (d : Declarator) → f.list ≡ [] → d.dims ≡ [] → lay_front f ++ lay_bare d ≡ lay_title (spec.title_of f d)
 title_laid f d a b =
@@ -132,7 +129,7 @@ module _ (lim : ℕ) (ts : List Token) (t : Token) where
     e,
   )
   kind_starts_keeps items (token.Word w) o e st =
-      sourced_cond (is_spec_word w) _ sourced.Refused
+      sourced_cond (is_spec_word w) _ turn.Refused
       (λ h. goes items (phase.Declares t.place (begin_declaration w 1)) 0 o (λ z. record {
         front = ts;
         back = t ∷ [];
@@ -148,13 +145,13 @@ module _ (lim : ℕ) (ts : List Token) (t : Token) where
   declares_by_keeps : (items : List Item) (p : Place) (d : Declaration) (m : Declared) → OkItems items
       → (b : Behind (lay_items items) (λ us. OkDeclaration lim 1 d us × StartsAt p us) ts)
       → KeepsDeclared lim 1 b.back t m → KeepsSourced lim ts t (spec.declares_by items p m)
-  declares_by_keeps items p d (declared_.Goes q reach) o b h =
+  declares_by_keeps items p d (turn.Goes q reach) o b h =
       goes items (phase.Declares p q) reach o (λ z. pushed ts t (lay_items items) _ _ b (h z, starts-more p b.back (t ∷ []) b.rest.1))
-  declares_by_keeps items p d (declared_.Done specs list) o b h =
+  declares_by_keeps items p d (turn.Done (specs, list)) o b h =
       done items (item.Objects p specs list) o h.ranked (omega (arith, h.within))
       (all_pushed (lay_items items) (at p (lay_declaration specs list)) _ b
       (at_stands p (lay_declaration specs list) (b.back ++ t ∷ []) (starts-more p b.back (t ∷ []) b.rest.1) h.stands))
-  declares_by_keeps items p d declared_.Refused o b h = tt
+  declares_by_keeps items p d turn.Refused o b h = tt
 
   titled_keeps : (items : List Item) (p : Place) (f : Front) (g : DeclarationStage) → OkItems items → t.what ≡ token.Mark mark.LeftParen → spec.titled_by f g ≡ true
       → Behind (lay_items items) (λ us. OkDeclaration lim 1 (record { front = f; stage = g }) us × StartsAt p us) ts
@@ -190,7 +187,7 @@ module _ (lim : ℕ) (ts : List Token) (t : Token) where
 
   parameters_by_keeps : (items : List Item) (p : Place) (title : Title) (ps : Parameters) (m : Parametric) → OkItems items
       → (b : Behind (lay_items items) (OkTitle lim title ps p) ts) → KeepsParametric lim b.rest.behind.back t m → KeepsSourced lim ts t (spec.parameters_by items p title m)
-  parameters_by_keeps items p title ps (parametric.Goes q reach) o b h =
+  parameters_by_keeps items p title ps (turn.Goes q reach) o b h =
       goes items (phase.Parameters p title q) reach o (λ z. pushed ts t (lay_items items) _ _ b (record {
         behind = record {
           front = b.rest.behind.front;
@@ -202,7 +199,7 @@ module _ (lim : ℕ) (ts : List Token) (t : Token) where
         starts = starts-more p b.back (t ∷ []) b.rest.starts;
         specs = b.rest.specs;
       }))
-  parameters_by_keeps items p title ps (parametric.Done q) o b h =
+  parameters_by_keeps items p title ps (turn.Done q) o b h =
       goes items (phase.Headed p (spec.head_of title q)) 0 o (λ z. (
         pushed ts t (lay_items items) _ _ b (record {
           stands = head_stands title q (b.back ++ t ∷ [])
@@ -213,7 +210,7 @@ module _ (lim : ℕ) (ts : List Token) (t : Token) where
         }),
         ((b.rest.specs, h.ranked), omega (arith, h.within)),
       ))
-  parameters_by_keeps items p title ps parametric.Refused o b h = tt
+  parameters_by_keeps items p title ps turn.Refused o b h = tt
 
   parameters_keep_on : (items : List Item) (p : Place) (title : Title) (ps : Parameters) → OkItems items → Behind (lay_items items) (OkTitle lim title ps p) ts
       → KeepsSourced lim ts t (spec.parameters items p title ps t)
@@ -251,14 +248,14 @@ module _ (lim : ℕ) (ts : List Token) (t : Token) where
   body_by_keeps : (items : List Item) (p : Place) (h : Head) (d : Body) (m : Stepped) → OkItems items → IsHead lim h
       → (b : Behind (lay_items items ++ (at p (lay_head h) ++ left_brace)) (OkBody lim d) ts) → KeepsStepped lim b.back t m
       → KeepsSourced lim ts t (spec.body_by items p h t.place m)
-  body_by_keeps items p h d (stepped.Goes q reach) o i b k =
+  body_by_keeps items p h d (turn.Goes q reach) o i b k =
       goes items (phase.Body p h q) reach o (λ z. (pushed ts t (lay_items items ++ (at p (lay_head h) ++ left_brace)) _ _ b (k z), i))
-  body_by_keeps items p h d (stepped.Done parts) o i b k =
+  body_by_keeps items p h d (turn.Done parts) o i b k =
       done items (item.Function p h parts t.place) o (i.0, k.0.0) (omega (arith, i.1, k.0.1))
       (three (lay_items items) (at p (lay_head h)) left_brace (lay_stmts parts ++ at t.place (plain (the_mark mark.RightBrace))) (ts ++ t ∷ [])
       (stand-more (lay_items items ++ (at p (lay_head h) ++ left_brace)) (lay_stmts parts) _ ts (t ∷ [])
       (behind_all (lay_items items ++ (at p (lay_head h) ++ left_brace)) (lay_stmts parts) _ ts b k.1) (one_at t (token.Mark mark.RightBrace) k.2)))
-  body_by_keeps items p h d stepped.Refused o i b k = tt
+  body_by_keeps items p h d turn.Refused o i b k = tt
 
   phase_keeps : (items : List Item) (x : SourceStage) → OkItems items → OkPhase lim items x ts → KeepsSourced lim ts t (spec.phase_fed items x t)
   unfolding spec.starts spec.headed spec.in_body

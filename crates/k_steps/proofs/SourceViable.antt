@@ -11,14 +11,11 @@ use Rattle.k_steps.specs.Operators.{is_spec_word, is_bracket, is_equal}
 use Rattle.k_steps.specs.Expressions.{is_left_paren}
 use Rattle.k_steps.specs.Declarations.{begin_declaration, feed_declaration, end, named, kind_named, stage_fed}
 use Rattle.k_steps.specs.declared.declaration.DeclarationStage.TheVariants as stage
-use Rattle.k_steps.specs.declared.declaration.Declared.TheVariants as declared_
+use Rattle.k_steps.specs.declared.turn.Turn.TheVariants as turn
 use Rattle.k_steps.specs.Parameters.{feed_parameters}
-use Rattle.k_steps.specs.declared.parameter.Parametric.TheVariants as parametric
 use Rattle.k_steps.specs.Statements.{Parts, feed_body}
-use Rattle.k_steps.specs.declared.statement.Stepped.TheVariants as stepped
 use Rattle.k_steps.specs.Sources as spec
 use Rattle.k_steps.specs.declared.source.SourceStage.TheVariants as phase
-use Rattle.k_steps.specs.declared.source.Sourced.TheVariants as sourced
 use Rattle.k_steps.proofs.DeclarationReach.{StageReached, DeclaredStays, declaration_stays}
 use Rattle.k_steps.proofs.DeclarationState.{OkDeclaration}
 use Rattle.k_steps.proofs.DeclarationViable.{Outcome, DeclarationGoes, DeclarationEnds, declaration_viable}
@@ -40,14 +37,14 @@ PhaseReached lim (phase.Headed p h) = Unit {0}
 PhaseReached lim (phase.Body p h b) = BodyReached lim b
 
 abbrev pub SourcedStays : ℕ → Sourced → Type 0
-SourcedStays lim (sourced.Goes s reach) = reach ≤ lim → PhaseReached lim s.phase
+SourcedStays lim (turn.Goes s reach) = reach ≤ lim → PhaseReached lim s.phase
 SourcedStays lim _ = Unit {0}
 
 module _ (lim : ℕ) (items : List Item) where
   starts_stays : (p : Place) (k : TokenKind) → SourcedStays lim (spec.kind_starts items p k)
   starts_stays p token.End = tt
   starts_stays p (token.Word w) =
-      cond_both (is_spec_word w) (spec.goes_on items (phase.Declares p (begin_declaration w 1)) 0) sourced.Refused (SourcedStays lim)
+      cond_both (is_spec_word w) (spec.goes_on items (phase.Declares p (begin_declaration w 1)) 0) turn.Refused (SourcedStays lim)
       (λ e le. tt) (λ e. tt)
   starts_stays p _ = tt
 
@@ -56,14 +53,14 @@ module _ (lim : ℕ) (items : List Item) where
   titled_stays p f _ = tt
 
   declared_stays : (p : Place) (x : Declared) → DeclaredStays lim x → SourcedStays lim (spec.declares_by items p x)
-  declared_stays p (declared_.Goes d reach) h = h
-  declared_stays p (declared_.Done specs list) h = λ le. tt
-  declared_stays p declared_.Refused h = tt
+  declared_stays p (turn.Goes d reach) h = h
+  declared_stays p (turn.Done (specs, list)) h = λ le. tt
+  declared_stays p turn.Refused h = tt
 
   parameters_stays : (p : Place) (t : Title) (x : Parametric) → ParametricStays lim x → SourcedStays lim (spec.parameters_by items p t x)
-  parameters_stays p t (parametric.Goes ps reach) h = h
-  parameters_stays p t (parametric.Done ps) h = λ le. tt
-  parameters_stays p t parametric.Refused h = tt
+  parameters_stays p t (turn.Goes ps reach) h = h
+  parameters_stays p t (turn.Done ps) h = λ le. tt
+  parameters_stays p t turn.Refused h = tt
 
   mark_headed_stays : (p : Place) (h : Head) (m : Mark) → SourcedStays lim (spec.mark_headed items p h m)
   unfolding spec.mark_headed
@@ -76,9 +73,9 @@ module _ (lim : ℕ) (items : List Item) where
   headed_stays p h _ = tt
 
   in_body_stays : (p : Place) (h : Head) (q : Place) (x : Stepped) → BodyStays lim x → SourcedStays lim (spec.body_by items p h q x)
-  in_body_stays p h q (stepped.Goes b reach) k = k
-  in_body_stays p h q (stepped.Done parts) k = λ le. tt
-  in_body_stays p h q stepped.Refused k = tt
+  in_body_stays p h q (turn.Goes b reach) k = k
+  in_body_stays p h q (turn.Done parts) k = λ le. tt
+  in_body_stays p h q turn.Refused k = tt
 
   phase_stays : (n : SourceStage) (t : Token) → PhaseReached lim n → SourcedStays lim (spec.phase_fed items n t)
   unfolding spec.starts spec.declares spec.titled spec.parameters spec.headed spec.in_body
@@ -98,10 +95,10 @@ unfolding spec.feed_source
 source_stays lim s t h = phase_stays lim s.items s.phase t h
 
 abbrev pub SourceGoes : Source → Token → Source → ℕ → Type 0
-SourceGoes s t next reach = spec.feed_source s t ≡ sourced.Goes next reach
+SourceGoes s t next reach = spec.feed_source s t ≡ turn.Goes next reach
 
 abbrev pub SourceEnds : Source → Token → source.Unit → Type 0
-SourceEnds s t u = spec.feed_source s t ≡ sourced.Done u
+SourceEnds s t u = spec.feed_source s t ≡ turn.Done u
 
 -- tokens, each within the limit, that lead from a source to its end
 abbrev pub SourceRuns : ℕ → Source → List Token → source.Unit → Type 0
@@ -116,17 +113,17 @@ pub source_runs_sound : (lim : ℕ) → (s : Source) (us : List Token) (u : sour
 source_runs_sound lim s us u ts runs ok =
     runs_keep Source source.Unit SourceGoes SourceEnds lim (OkSource lim) (IsUnit lim)
     (λ d t next reach ts e le k. (subst (λ z. KeepsSourced lim ts t z) e (source_keeps lim ts t d k)) le)
-    (λ d t o ts e k. let q : KeepsSourced lim ts t (sourced.Done o) = subst (λ z. KeepsSourced lim ts t z) e (source_keeps lim ts t d k) in q.0)
+    (λ d t o ts e k. let q : KeepsSourced lim ts t (turn.Done o) = subst (λ z. KeepsSourced lim ts t z) e (source_keeps lim ts t d k) in q.0)
     s us u ts runs ok
 
 -- `(` behind the name of a first declarator goes on with no declaration
-kind_refused : (f : Front) (d : Declarator) (k : TokenKind) → is_left_paren k ≡ true → kind_named f d k ≡ declared_.Refused
+kind_refused : (f : Front) (d : Declarator) (k : TokenKind) → is_left_paren k ≡ true → kind_named f d k ≡ turn.Refused
 unfolding named end is_bracket is_equal
 kind_refused f d (token.Mark mark.LeftParen) h = refl
 kind_refused f d _ h = absurd (false≢true h)
 
 stage_refused : (f : Front) (n : DeclarationStage) (t : Token) → is_left_paren t.what ≡ true → spec.titled_by f n ≡ true
-    → stage_fed f n t ≡ declared_.Refused
+    → stage_fed f n t ≡ turn.Refused
 stage_refused f (stage.Named d) t h e = kind_refused f d t.what h
 stage_refused f (stage.Before stars) t h e = absurd (false≢true e)
 stage_refused f (stage.Size d r) t h e = absurd (false≢true e)
@@ -134,22 +131,22 @@ stage_refused f (stage.Starts d s) t h e = absurd (false≢true e)
 stage_refused f (stage.Value d s p r) t h e = absurd (false≢true e)
 stage_refused f (stage.After d s) t h e = absurd (false≢true e)
 
-title_refused : (d : Declaration) (t : Token) → (is_left_paren t.what && spec.is_titled d) ≡ true → feed_declaration d t ≡ declared_.Refused
+title_refused : (d : Declaration) (t : Token) → (is_left_paren t.what && spec.is_titled d) ≡ true → feed_declaration d t ≡ turn.Refused
 unfolding feed_declaration spec.is_titled
 title_refused d t e =
     let b : (is_left_paren t.what ≡ true) × (spec.titled_by d.front d.stage ≡ true) =
     and_parts (is_left_paren t.what) (spec.titled_by d.front d.stage) e in
     stage_refused d.front d.stage t b.0 b.1
 
-no_goes : (next : Declaration) (reach : ℕ) → declared_.Goes next reach ≡ declared_.Refused → ⊥
+no_goes : (next : Declaration) (reach : ℕ) → ◌≡◌ {A = Declared} (turn.Goes next reach) turn.Refused → ⊥
 no_goes next reach e = cc
 
-no_done : (specs : List Word) (list : List Declarator) → declared_.Done specs list ≡ declared_.Refused → ⊥
+no_done : (specs : List Word) (list : List Declarator) → ◌≡◌ {A = Declared} (turn.Done (specs, list)) turn.Refused → ⊥
 no_done specs list e = cc
 
 -- what a declaration makes of a token, an item makes too
 declared_on : (items : List Item) (p : Place) (d : Declaration) (t : Token) (x : Declared) → feed_declaration d t ≡ x
-    → (x ≡ declared_.Refused → ⊥) → spec.declares items p d t ≡ spec.declares_by items p x
+    → (x ≡ turn.Refused → ⊥) → spec.declares items p d t ≡ spec.declares_by items p x
 unfolding spec.declares
 declared_on items p d t x e no_refusal =
     cond_both (is_left_paren t.what && spec.is_titled d) (spec.titled items p d) (spec.declares_by items p (feed_declaration d t))
@@ -205,8 +202,8 @@ module _ (lim : ℕ) where
       inside_can_end Declaration Outcome DeclarationGoes DeclarationEnds Source source.Unit SourceGoes SourceEnds lim
       (λ q. record { items = items; phase = phase.Declares p q })
       (λ o c. record { items = items ++ item.Objects p o.0 o.1 ∷ []; phase = phase.Starts })
-      (λ q u next reach e. declared_on items p q u (declared_.Goes next reach) e (λ z. no_goes next reach z))
-      (λ q u o e. declared_on items p q u (declared_.Done o.0 o.1) e (λ z. no_done o.0 o.1 z))
+      (λ q u next reach e. declared_on items p q u (turn.Goes next reach) e (λ z. no_goes next reach z))
+      (λ q u o e. declared_on items p q u (turn.Done (o.0, o.1)) e (λ z. no_done o.0 o.1 z))
       d (declaration_viable lim 1 d ts ok k) (λ o c. starts_ended (items ++ item.Objects p o.0 o.1 ∷ []))
 
   phase_ended : (items : List Item) (n : SourceStage) (ts : List Token) → OkPhase lim items n ts → PhaseReached lim n

@@ -8,19 +8,15 @@ use Rattle.k_tree.specs.declared.tree.statement.Part.TheVariants as part_
 use Rattle.k_tree.specs.Places.{stmt_place}
 use Rattle.k_steps.specs.Operators.{is_spec_word, is_semicolon, is_left_brace, is_right_brace}
 use Rattle.k_steps.specs.Expressions.{begin, feed, is_left_paren, is_sizeof}
-use Rattle.k_steps.specs.declared.expression.Fed.TheVariants as fed
+use Rattle.k_steps.specs.declared.turn.Turn.TheVariants as turn
 use Rattle.k_steps.specs.Readings.{closes, read_needed, read_maybe}
 use Rattle.k_steps.specs.declared.reading.Closer.TheVariants as closer
-use Rattle.k_steps.specs.declared.reading.Read.TheVariants as read
-use Rattle.k_steps.specs.declared.reading.Maybe.TheVariants as maybe
 use Rattle.k_steps.specs.Declarations.{begin_declaration, feed_declaration}
-use Rattle.k_steps.specs.declared.declaration.Declared.TheVariants as declared_
 use Rattle.k_steps.specs.Statements as spec
 use Rattle.k_steps.specs.Statements.{Parts, Frames}
 use Rattle.k_steps.specs.declared.statement.Frame.TheVariants as frame
 use Rattle.k_steps.specs.declared.statement.Tested.TheVariants as tested
 use Rattle.k_steps.specs.declared.statement.BlockStage.TheVariants as step
-use Rattle.k_steps.specs.declared.statement.Stepped.TheVariants as stepped
 use Rattle.k_steps.proofs.DeclarationReach.{ReadStays, MaybeStays, needed_stays, maybe_stays, begin_begun, StageReached, DeclaredStays, declaration_stays}
 use Rattle.k_steps.proofs.ExpressionReach.{Reached}
 use Rattle.k_steps.proofs.ReadingReach.{Begun, feed_begun}
@@ -56,18 +52,18 @@ abbrev pub BodyReached : ℕ → Body → Type 0
 BodyReached lim b = FramesReached lim b.frames × StepReached lim b.frames b.step
 
 abbrev pub BodyStays : ℕ → Stepped → Type 0
-BodyStays lim (stepped.Goes b reach) = reach ≤ lim → BodyReached lim b
+BodyStays lim (turn.Goes b reach) = reach ≤ lim → BodyReached lim b
 BodyStays lim _ = Unit {0}
 
 module _ (lim : ℕ) (ps : Parts) where
   -- the first token of a statement
 
   first_stays : (s : Frames) (p : Place) (x : Fed) → FramesReached lim s
-      → ((next : Reading) (reach : ℕ) → x ≡ fed.Goes next reach → reach ≤ lim → ReadingReached lim next)
+      → ((next : Reading) (reach : ℕ) → x ≡ turn.Goes next reach → reach ≤ lim → ReadingReached lim next)
       → BodyStays lim (spec.expression_by ps s p x)
-  first_stays s p (fed.Goes r reach) h k = λ le. (h, k r reach refl le)
-  first_stays s p (fed.Ends e) h k = tt
-  first_stays s p fed.Refused h k = tt
+  first_stays s p (turn.Goes r reach) h k = λ le. (h, k r reach refl le)
+  first_stays s p (turn.Done e) h k = tt
+  first_stays s p turn.Refused h k = tt
 
   expression_stays : (s : Frames) (t : Token) → FramesReached lim s → BodyStays lim (spec.expression ps s t)
   unfolding spec.expression
@@ -79,19 +75,19 @@ module _ (lim : ℕ) (ps : Parts) where
   unfolding spec.declares
   declares_stays s w p h =
       cond_both (is_spec_word w && spec.is_in_block s)
-      (spec.steps ps s (step.Local p (begin_declaration w (spec.inner s))) (spec.level s)) stepped.Refused (BodyStays lim)
+      (spec.steps ps s (step.Local p (begin_declaration w (spec.inner s))) (spec.level s)) turn.Refused (BodyStays lim)
       (λ e reach. (h, tt)) (λ e. tt)
 
   case_begins_stays : (s : Frames) (p : Place) → FramesReached lim s → BodyStays lim (spec.case_begins ps s p)
   unfolding spec.case_begins
   case_begins_stays s p h =
-      cond_both (spec.is_in_switch s) (spec.steps ps s (step.Case p (begin 2 (spec.level s))) (spec.level s)) stepped.Refused (BodyStays lim)
+      cond_both (spec.is_in_switch s) (spec.steps ps s (step.Case p (begin 2 (spec.level s))) (spec.level s)) turn.Refused (BodyStays lim)
       (λ e reach. (h, reach)) (λ e. tt)
 
   default_begins_stays : (s : Frames) (p : Place) → FramesReached lim s → BodyStays lim (spec.default_begins ps s p)
   unfolding spec.default_begins
   default_begins_stays s p h =
-      cond_both (spec.is_in_switch s) (spec.steps ps s (step.Default p) 0) stepped.Refused (BodyStays lim) (λ e reach. (h, tt)) (λ e. tt)
+      cond_both (spec.is_in_switch s) (spec.steps ps s (step.Default p) 0) turn.Refused (BodyStays lim) (λ e reach. (h, tt)) (λ e. tt)
 
   jump_stays : (s : Frames) (w : Word) (p : Place) → FramesReached lim s → BodyStays lim (spec.jump ps s w p)
   unfolding spec.jump
@@ -144,40 +140,40 @@ module _ (lim : ℕ) (ps : Parts) where
   -- expressions and declarations
 
   value_stays : (s : Frames) (p : Place) (x : Read) → FramesReached lim s → ReadStays lim x → BodyStays lim (spec.value_by ps s p x)
-  value_stays s p (read.Goes r reach) h k = λ le. (h, k le)
-  value_stays s p (read.Done e) h k = λ le. (h, tt)
-  value_stays s p read.Refused h k = tt
+  value_stays s p (turn.Goes r reach) h k = λ le. (h, k le)
+  value_stays s p (turn.Done e) h k = λ le. (h, tt)
+  value_stays s p turn.Refused h k = tt
 
   returned_stays : (s : Frames) (p : Place) (x : Maybe) → FramesReached lim s → MaybeStays lim x → BodyStays lim (spec.returned_by ps s p x)
-  returned_stays s p (maybe.Goes r reach) h k = λ le. (h, λ e. k le)
-  returned_stays s p (maybe.Done e) h k = λ le. (h, tt)
-  returned_stays s p maybe.Refused h k = tt
+  returned_stays s p (turn.Goes r reach) h k = λ le. (h, λ e. k le)
+  returned_stays s p (turn.Done e) h k = λ le. (h, tt)
+  returned_stays s p turn.Refused h k = tt
 
   local_stays : (s : Frames) (p : Place) (x : Declared) → FramesReached lim s → DeclaredStays lim x → BodyStays lim (spec.local_by ps s p x)
-  local_stays s p (declared_.Goes d reach) h k = λ le. (h, k le)
-  local_stays s p (declared_.Done specs list) h k = λ le. (h, tt)
-  local_stays s p declared_.Refused h k = tt
+  local_stays s p (turn.Goes d reach) h k = λ le. (h, k le)
+  local_stays s p (turn.Done (specs, list)) h k = λ le. (h, tt)
+  local_stays s p turn.Refused h k = tt
 
   semicolon_stays : (s : Frames) (x : Stmt) (t : Token) → FramesReached lim s → BodyStays lim (spec.semicolon ps s x t)
   unfolding spec.semicolon
   semicolon_stays s x t h =
-      cond_both (closes t closer.Semicolon) (spec.whole ps s x) stepped.Refused (BodyStays lim) (λ e le. (h, tt)) (λ e. tt)
+      cond_both (closes t closer.Semicolon) (spec.whole ps s x) turn.Refused (BodyStays lim) (λ e le. (h, tt)) (λ e. tt)
 
   opened_stays : (s : Frames) (x : Tested) (t : Token) → FramesReached lim s → spec.inner s ≤ lim → BodyStays lim (spec.opened ps s x t)
   unfolding spec.opened
   opened_stays s x t h i =
-      cond_both (is_left_paren t.what) (spec.steps ps s (step.Test x (begin 0 (spec.inner s))) 0) stepped.Refused (BodyStays lim)
+      cond_both (is_left_paren t.what) (spec.steps ps s (step.Test x (begin 0 (spec.inner s))) 0) turn.Refused (BodyStays lim)
       (λ e le. (h, (i, i))) (λ e. tt)
 
   test_stays : (s : Frames) (x : Tested) (y : Read) → FramesReached lim s → spec.inner s ≤ lim → ReadStays lim y
       → BodyStays lim (spec.test_by ps s x y)
   unfolding spec.test_done
-  test_stays s x (read.Goes r reach) h i k = λ le. (h, (i, k le))
-  test_stays s (tested.If p) (read.Done e) h i k = λ le. ((i, h), tt)
-  test_stays s (tested.While p) (read.Done e) h i k = λ le. ((i, h), tt)
-  test_stays s (tested.Switch p) (read.Done e) h i k = λ le. (h, tt)
-  test_stays s (tested.Do p b) (read.Done e) h i k = λ le. (h, tt)
-  test_stays s x read.Refused h i k = tt
+  test_stays s x (turn.Goes r reach) h i k = λ le. (h, (i, k le))
+  test_stays s (tested.If p) (turn.Done e) h i k = λ le. ((i, h), tt)
+  test_stays s (tested.While p) (turn.Done e) h i k = λ le. ((i, h), tt)
+  test_stays s (tested.Switch p) (turn.Done e) h i k = λ le. (h, tt)
+  test_stays s (tested.Do p b) (turn.Done e) h i k = λ le. (h, tt)
+  test_stays s x turn.Refused h i k = tt
 
   -- the token behind a statement
 
@@ -185,7 +181,7 @@ module _ (lim : ℕ) (ps : Parts) where
       → BodyStays lim (spec.do_while ps s p x t)
   unfolding spec.do_while
   do_stays s p x t h i =
-      cond_both (spec.is_while t.what) (spec.steps ps s (step.Keyword (tested.Do p x)) 0) stepped.Refused (BodyStays lim)
+      cond_both (spec.is_while t.what) (spec.steps ps s (step.Keyword (tested.Do p x)) 0) turn.Refused (BodyStays lim)
       (λ e le. (h, i)) (λ e. tt)
 
   closed_stays : (s : Frames) (f : Frame) (x : Stmt) (other : Bool) (t : Token) (again : Stmt → Stepped) → FramesReached lim (f ∷ s)
@@ -206,7 +202,7 @@ module _ (lim : ℕ) (ps : Parts) where
   for_opened_stays : (s : Frames) (p : Place) (t : Token) → FramesReached lim s → spec.inner s ≤ lim → BodyStays lim (spec.for_opened ps s p t)
   unfolding spec.for_opened
   for_opened_stays s p t h i =
-      cond_both (is_left_paren t.what) (spec.steps ps s (step.Start p (begin 0 (spec.inner s))) 0) stepped.Refused (BodyStays lim)
+      cond_both (is_left_paren t.what) (spec.steps ps s (step.Start p (begin 0 (spec.inner s))) 0) turn.Refused (BodyStays lim)
       (λ e le. (h, (i, i))) (λ e. tt)
 
   start_stays : (s : Frames) (p : Place) (r : Reading) (t : Token) (w : Option Word) → FramesReached lim s → spec.inner s ≤ lim
@@ -215,34 +211,34 @@ module _ (lim : ℕ) (ps : Parts) where
   start_stays s p r t None h i k = by (read_maybe r t closer.Semicolon) (maybe_stays lim r t closer.Semicolon (λ e. k))
     where
       by : (x : Maybe) → MaybeStays lim x → BodyStays lim (spec.start_by ps s p x)
-      by (maybe.Goes u reach) m = λ le. (h, (i, m le))
-      by (maybe.Done e) m = λ le. (h, (i, i))
-      by maybe.Refused m = tt
+      by (turn.Goes u reach) m = λ le. (h, (i, m le))
+      by (turn.Done e) m = λ le. (h, (i, i))
+      by turn.Refused m = tt
 
   for_declares_stays : (s : Frames) (p : Place) (x : Declared) → FramesReached lim s → spec.inner s ≤ lim → DeclaredStays lim x
       → BodyStays lim (spec.for_declares_by ps s p x)
-  for_declares_stays s p (declared_.Goes d reach) h i k = λ le. (h, (i, k le))
-  for_declares_stays s p (declared_.Done specs list) h i k = λ le. (h, (i, i))
-  for_declares_stays s p declared_.Refused h i k = tt
+  for_declares_stays s p (turn.Goes d reach) h i k = λ le. (h, (i, k le))
+  for_declares_stays s p (turn.Done (specs, list)) h i k = λ le. (h, (i, i))
+  for_declares_stays s p turn.Refused h i k = tt
 
   second_stays : (s : Frames) (p : Place) (start : First) (x : Maybe) → FramesReached lim s → spec.inner s ≤ lim → MaybeStays lim x
       → BodyStays lim (spec.second_by ps s p start x)
-  second_stays s p start (maybe.Goes r reach) h i k = λ le. (h, (i, k le))
-  second_stays s p start (maybe.Done e) h i k = λ le. (h, (i, i))
-  second_stays s p start maybe.Refused h i k = tt
+  second_stays s p start (turn.Goes r reach) h i k = λ le. (h, (i, k le))
+  second_stays s p start (turn.Done e) h i k = λ le. (h, (i, i))
+  second_stays s p start turn.Refused h i k = tt
 
   third_stays : (s : Frames) (p : Place) (start : First) (test : Option Expr) (x : Maybe) → FramesReached lim s → spec.inner s ≤ lim
       → MaybeStays lim x → BodyStays lim (spec.third_by ps s p start test x)
-  third_stays s p start test (maybe.Goes r reach) h i k = λ le. (h, (i, k le))
-  third_stays s p start test (maybe.Done e) h i k = λ le. ((i, h), tt)
-  third_stays s p start test maybe.Refused h i k = tt
+  third_stays s p start test (turn.Goes r reach) h i k = λ le. (h, (i, k le))
+  third_stays s p start test (turn.Done e) h i k = λ le. ((i, h), tt)
+  third_stays s p start test turn.Refused h i k = tt
 
   -- the braces of a `switch`
 
   braces_stays : (s : Frames) (p : Place) (e : Expr) (t : Token) → FramesReached lim s → BodyStays lim (spec.braces ps s p e t)
   unfolding spec.braces
   braces_stays s p e t h =
-      cond_both (spec.is_brace t.what) (spec.await_part ps s (frame.Switch p e []) 0) stepped.Refused (BodyStays lim) (λ q le. ((tt, h), tt)) (λ q. tt)
+      cond_both (spec.is_brace t.what) (spec.await_part ps s (frame.Switch p e []) 0) turn.Refused (BodyStays lim) (λ q le. ((tt, h), tt)) (λ q. tt)
 
   labelled_stays : (s : Frames) (x : Part) → FramesReached lim s → BodyStays lim (spec.labelled ps s x)
   unfolding spec.labelled
@@ -251,14 +247,14 @@ module _ (lim : ℕ) (ps : Parts) where
   labelled_stays (_ ∷ s) x h = tt
 
   case_stays : (s : Frames) (p : Place) (x : Read) → FramesReached lim s → ReadStays lim x → BodyStays lim (spec.case_by ps s p x)
-  case_stays s p (read.Goes r reach) h k = λ le. (h, k le)
-  case_stays s p (read.Done e) h k = labelled_stays s (part_.Case p e) h
-  case_stays s p read.Refused h k = tt
+  case_stays s p (turn.Goes r reach) h k = λ le. (h, k le)
+  case_stays s p (turn.Done e) h k = labelled_stays s (part_.Case p e) h
+  case_stays s p turn.Refused h k = tt
 
   default_stays : (s : Frames) (p : Place) (t : Token) → FramesReached lim s → BodyStays lim (spec.default_label ps s p t)
   unfolding spec.default_label
   default_stays s p t h =
-      cond_both (closes t closer.Colon) (spec.labelled ps s (part_.Default p)) stepped.Refused (BodyStays lim)
+      cond_both (closes t closer.Colon) (spec.labelled ps s (part_.Default p)) turn.Refused (BodyStays lim)
       (λ e. labelled_stays s (part_.Default p) h) (λ e. tt)
 
 behind_stays : (lim : ℕ) → (ps : Parts) (s : Frames) (x : Stmt) (t : Token) → FramesReached lim s → BodyStays lim (spec.behind ps s x t)

@@ -17,19 +17,15 @@ use Rattle.k_tree.proofs.Standing.{stand-append}
 use Rattle.k_steps.specs.Operators.{is_spec_word, is_semicolon, is_left_brace, is_right_brace}
 use Rattle.k_steps.proofs.Marks.{is_semicolon_mark, is_left_brace_mark, is_right_brace_mark, false_true, left_paren_is}
 use Rattle.k_steps.specs.Expressions.{begin, is_left_paren, is_sizeof}
-use Rattle.k_steps.specs.declared.expression.Fed.TheVariants as fed
+use Rattle.k_steps.specs.declared.turn.Turn.TheVariants as turn
 use Rattle.k_steps.specs.Readings.{closes, is_fresh}
 use Rattle.k_steps.specs.declared.reading.Closer.TheVariants as closer
-use Rattle.k_steps.specs.declared.reading.Read.TheVariants as read
-use Rattle.k_steps.specs.declared.reading.Maybe.TheVariants as maybe
 use Rattle.k_steps.specs.Declarations.{begin_declaration}
-use Rattle.k_steps.specs.declared.declaration.Declared.TheVariants as declared_
 use Rattle.k_steps.specs.Statements as spec
 use Rattle.k_steps.specs.Statements.{Parts, Frames, inner, level, is_in_block, is_in_switch}
 use Rattle.k_steps.specs.declared.statement.Frame.TheVariants as frame
 use Rattle.k_steps.specs.declared.statement.Tested.TheVariants as tested
 use Rattle.k_steps.specs.declared.statement.BlockStage.TheVariants as step
-use Rattle.k_steps.specs.declared.statement.Stepped.TheVariants as stepped
 use Rattle.k_steps.proofs.Rows.{row_push, deepest_more, StartsAt, starts-more, at_stands}
 use Rattle.k_steps.proofs.ExpressionState.{Keeps}
 use Rattle.k_steps.proofs.ExpressionTerms.{one_at, one, stand-more, regroup, three, four, five, and_left, and_right}
@@ -64,9 +60,9 @@ module _ (lim : ℕ) (ts : List Token) (t : Token) where
   value_by_keeps : (ps : Parts) (s : Frames) (p : Place) (r : Reading) (m : Read) → OkParts lim ps → OkFrames lim s
       → (b : Behind (lay_base ps s) (λ us. At lim (site 0 (inner s)) r us × StartsAt p us) ts)
       → KeepsRead lim (site 0 (inner s)) b.back t mark.Semicolon m → KeepsStepped lim ts t (spec.value_by ps s p m)
-  value_by_keeps ps s p r (read.Goes q reach) o f b h =
+  value_by_keeps ps s p r (turn.Goes q reach) o f b h =
       goes ps s (step.Value p q) reach o f (λ z. pushed ts t (lay_base ps s) _ _ b (h z, starts-more p b.back (t ∷ []) b.rest.1))
-  value_by_keeps ps s p r (read.Done e) o f b h =
+  value_by_keeps ps s p r (turn.Done e) o f b h =
       goes ps s (step.Whole (stmt.Expr p e)) 0 o f (λ z. record {
         stands = subst (λ x. Stand (lay_base ps s ++ x) (ts ++ t ∷ [])) (sym (stmt_Expr Pieces Pieces lay_part_step lay_stmt_step p e))
             (behind_all (lay_base ps s) (at p (lay_expr e ++ semicolon)) _ (ts ++ t ∷ [])
@@ -77,7 +73,7 @@ module _ (lim : ℕ) (ts : List Token) (t : Token) where
         shut = stmt_Expr (Unit {0}) Bool ends_open_part ends_open_step p e;
         within = omega (arith, stmt_Expr ℕ ℕ part_depth_step stmt_depth_step p e, true_inner s (expr_depth e) h.0.within);
       })
-  value_by_keeps ps s p r read.Refused o f b h = tt
+  value_by_keeps ps s p r turn.Refused o f b h = tt
 
   pub value_keeps : (ps : Parts) (s : Frames) (p : Place) (r : Reading) → OkParts lim ps → OkFrames lim s
       → Behind (lay_base ps s) (λ us. At lim (site 0 (inner s)) r us × StartsAt p us) ts → KeepsStepped lim ts t (spec.value ps s p r t)
@@ -89,9 +85,9 @@ module _ (lim : ℕ) (ts : List Token) (t : Token) where
   returned_by_keeps : (ps : Parts) (s : Frames) (p : Place) (r : Reading) (m : Maybe) → OkParts lim ps → OkFrames lim s
       → (b : OkBehind lim s (lay_base ps s ++ word_at p word.Return) (At lim (site 0 (inner s)) r) ts)
       → KeepsMaybe lim (site 0 (inner s)) b.behind.back t mark.Semicolon m → KeepsStepped lim ts t (spec.returned_by ps s p m)
-  returned_by_keeps ps s p r (maybe.Goes q reach) o f b h =
+  returned_by_keeps ps s p r (turn.Goes q reach) o f b h =
       goes ps s (step.Return p q) reach o f (λ z. record { behind = pushed ts t (lay_base ps s ++ word_at p word.Return) _ _ b.behind (h z); room = b.room })
-  returned_by_keeps ps s p r (maybe.Done e) o f b h =
+  returned_by_keeps ps s p r (turn.Done e) o f b h =
       goes ps s (step.Whole (stmt.Return p e)) 0 o f (λ z. record {
         stands = subst (λ x. Stand (lay_base ps s ++ x) (ts ++ t ∷ [])) (sym (stmt_Return Pieces Pieces lay_part_step lay_stmt_step p e))
             (regroup (lay_base ps s) (word_at p word.Return) (lay_option e ++ semicolon) (ts ++ t ∷ [])
@@ -101,7 +97,7 @@ module _ (lim : ℕ) (ts : List Token) (t : Token) where
         shut = stmt_Return (Unit {0}) Bool ends_open_part ends_open_step p e;
         within = omega (arith, stmt_Return ℕ ℕ part_depth_step stmt_depth_step p e, true_inner s (option_depth e) h.0.within);
       })
-  returned_by_keeps ps s p r maybe.Refused o f b h = tt
+  returned_by_keeps ps s p r turn.Refused o f b h = tt
 
   pub returned_keeps : (ps : Parts) (s : Frames) (p : Place) (r : Reading) → OkParts lim ps → OkFrames lim s
       → OkBehind lim s (lay_base ps s ++ word_at p word.Return) (At lim (site 0 (inner s)) r) ts → KeepsStepped lim ts t (spec.returned ps s p r t)
@@ -113,7 +109,7 @@ module _ (lim : ℕ) (ts : List Token) (t : Token) where
   local_by_keeps : (ps : Parts) (s : Frames) (p : Place) (d : Declaration) (m : Declared) → OkParts lim ps → OkFrames lim s → is_in_block s ≡ true
       → (b : OkBehind lim s (lay_base ps s) (λ us. OkDeclaration lim (inner s) d us × StartsAt p us) ts)
       → KeepsDeclared lim (inner s) b.behind.back t m → KeepsStepped lim ts t (spec.local_by ps s p m)
-  local_by_keeps ps s p d (declared_.Goes q reach) o f i b h =
+  local_by_keeps ps s p d (turn.Goes q reach) o f i b h =
       goes ps s (step.Local p q) reach o f (λ z. (
         record {
           behind = pushed ts t (lay_base ps s) _ _ b.behind (h z, starts-more p b.behind.back (t ∷ []) b.behind.rest.1);
@@ -121,7 +117,7 @@ module _ (lim : ℕ) (ts : List Token) (t : Token) where
         },
         i,
       ))
-  local_by_keeps ps s p d (declared_.Done specs list) o f i b h =
+  local_by_keeps ps s p d (turn.Done (specs, list)) o f i b h =
       goes ps s (step.Whole (stmt.Declare p specs list)) 0 o f (λ z. record {
         stands = subst (λ x. Stand (lay_base ps s ++ x) (ts ++ t ∷ [])) (sym (stmt_Declare Pieces Pieces lay_part_step lay_stmt_step p specs list))
             (behind_all (lay_base ps s) (at p (lay_declaration specs list)) _ (ts ++ t ∷ [])
@@ -131,7 +127,7 @@ module _ (lim : ℕ) (ts : List Token) (t : Token) where
         shut = stmt_Declare (Unit {0}) Bool ends_open_part ends_open_step p specs list;
         within = omega (arith, stmt_Declare ℕ ℕ part_depth_step stmt_depth_step p specs list, true_inner s (declarators_depth list) h.within);
       })
-  local_by_keeps ps s p d declared_.Refused o f i b h = tt
+  local_by_keeps ps s p d turn.Refused o f i b h = tt
 
   pub local_keeps : (ps : Parts) (s : Frames) (p : Place) (d : Declaration) → OkParts lim ps → OkFrames lim s → is_in_block s ≡ true
       → OkBehind lim s (lay_base ps s) (λ us. OkDeclaration lim (inner s) d us × StartsAt p us) ts → KeepsStepped lim ts t (spec.local ps s p d t)
@@ -144,7 +140,7 @@ module _ (lim : ℕ) (ts : List Token) (t : Token) where
       → KeepsStepped lim ts t (spec.semicolon ps s x t)
   unfolding spec.semicolon
   semicolon_keeps ps s x o f h =
-      stepped_cond (closes t closer.Semicolon) _ stepped.Refused
+      stepped_cond (closes t closer.Semicolon) _ turn.Refused
       (λ e. goes ps s (step.Whole x) 0 o f (λ z. record {
         stands = subst (λ y. Stand (lay_base ps s ++ y) (ts ++ t ∷ [])) (sym h.laid)
             (stand-more (lay_base ps s) h.most semicolon ts (t ∷ []) h.stands (one t (token.Mark mark.Semicolon) (closes_is closer.Semicolon t e)));
@@ -193,7 +189,7 @@ module _ (lim : ℕ) (ts : List Token) (t : Token) where
       → KeepsStepped lim ts t (spec.declares ps s w t.place)
   unfolding spec.declares
   declares_keeps ps s w o f e st =
-      stepped_cond (is_spec_word w && is_in_block s) _ stepped.Refused
+      stepped_cond (is_spec_word w && is_in_block s) _ turn.Refused
       (λ h. goes ps s (step.Local t.place (begin_declaration w (inner s))) (level s) o f (λ z. (
         record {
           behind = record {
@@ -225,7 +221,7 @@ module _ (lim : ℕ) (ts : List Token) (t : Token) where
       → KeepsStepped lim ts t (spec.case_begins ps s t.place)
   unfolding spec.case_begins
   case_begins_keeps ps s o f e st =
-      stepped_cond (is_in_switch s) _ stepped.Refused
+      stepped_cond (is_in_switch s) _ turn.Refused
       (λ h. goes ps s (step.Case t.place (begin 2 (level s))) (level s) o f (λ z. (
         behind_now (lay_base ps s ++ word_at t.place word.Case) _ (ts ++ t ∷ []) (at_word ps s word.Case e st) (begin_at lim 2 (level s) (omega arith)),
         h,
@@ -236,7 +232,7 @@ module _ (lim : ℕ) (ts : List Token) (t : Token) where
       → KeepsStepped lim ts t (spec.default_begins ps s t.place)
   unfolding spec.default_begins
   default_begins_keeps ps s o f e st =
-      stepped_cond (is_in_switch s) _ stepped.Refused
+      stepped_cond (is_in_switch s) _ turn.Refused
       (λ h. goes ps s (step.Default t.place) 0 o f (λ z. (at_word ps s word.Default e st, h))) (λ h. tt)
 
   jump_word_keeps : (ps : Parts) (s : Frames) (w : Word) → OkParts lim ps → OkFrames lim s → t.what ≡ token.Word w → Stand (lay_base ps s) ts
@@ -269,10 +265,10 @@ module _ (lim : ℕ) (ts : List Token) (t : Token) where
 
   expression_by_keeps : (ps : Parts) (s : Frames) (h : Fed) → OkParts lim ps → OkFrames lim s → Stand (lay_base ps s) ts
       → Keeps lim (site 0 (inner s)) [] t h → KeepsStepped lim ts t (spec.expression_by ps s t.place h)
-  expression_by_keeps ps s (fed.Goes r reach) o f st h =
+  expression_by_keeps ps s (turn.Goes r reach) o f st h =
       goes ps s (step.Value t.place r) reach o f (λ z. record { front = ts; back = t ∷ []; is = refl; stands = st; rest = (h z, refl) })
-  expression_by_keeps ps s (fed.Ends e) o f st h = tt
-  expression_by_keeps ps s fed.Refused o f st h = tt
+  expression_by_keeps ps s (turn.Done e) o f st h = tt
+  expression_by_keeps ps s turn.Refused o f st h = tt
 
   expression_keeps : (ps : Parts) (s : Frames) → OkParts lim ps → OkFrames lim s → Stand (lay_base ps s) ts → KeepsStepped lim ts t (spec.expression ps s t)
   unfolding spec.expression
@@ -316,7 +312,7 @@ module _ (lim : ℕ) (ts : List Token) (t : Token) where
       → Stand (lay_base ps s ++ lay_tested x) ts → OkTested lim (1 + length s) x → KeepsStepped lim ts t (spec.opened ps s x t)
   unfolding spec.opened
   opened_keeps ps s x o f st h =
-      stepped_cond (is_left_paren t.what) _ stepped.Refused
+      stepped_cond (is_left_paren t.what) _ turn.Refused
       (λ e. goes ps s (step.Test x (begin 0 (inner s))) 0 o f (λ z. (
         behind_now (lay_base ps s ++ (lay_tested x ++ left_paren)) _ (ts ++ t ∷ [])
             (stand-more (lay_base ps s) (lay_tested x) left_paren ts (t ∷ []) st (one t (token.Mark mark.LeftParen) (left_paren_is t.what e))) (begin_at lim 0 (inner s) (omega arith)),
@@ -352,14 +348,14 @@ module _ (lim : ℕ) (ts : List Token) (t : Token) where
   test_by_keeps : (ps : Parts) (s : Frames) (x : Tested) (r : Reading) (m : Read) → OkParts lim ps → OkFrames lim s → OkTested lim (1 + length s) x
       → (b : Behind (lay_base ps s ++ (lay_tested x ++ left_paren)) (At lim (site 0 (inner s)) r) ts)
       → KeepsRead lim (site 0 (inner s)) b.back t mark.RightParen m → KeepsStepped lim ts t (spec.test_by ps s x m)
-  test_by_keeps ps s x r (read.Goes q reach) o f h b k =
+  test_by_keeps ps s x r (turn.Goes q reach) o f h b k =
       goes ps s (step.Test x q) reach o f (λ z. (pushed ts t (lay_base ps s ++ (lay_tested x ++ left_paren)) _ _ b (k z), h))
-  test_by_keeps ps s x r (read.Done e) o f h b k =
+  test_by_keeps ps s x r (turn.Done e) o f h b k =
       test_done_keeps ps s x e o f h (k.0.ranked, true_inner s (expr_depth e) k.0.within)
       (three (lay_base ps s) (lay_tested x) left_paren (lay_expr e ++ plain (the_mark mark.RightParen)) (ts ++ t ∷ [])
       (stand-more (lay_base ps s ++ (lay_tested x ++ left_paren)) (lay_expr e) (plain (the_mark mark.RightParen)) ts (t ∷ [])
       (behind_all (lay_base ps s ++ (lay_tested x ++ left_paren)) (lay_expr e) _ ts b k.0.stands) (one t (token.Mark mark.RightParen) k.1)))
-  test_by_keeps ps s x r read.Refused o f h b k = tt
+  test_by_keeps ps s x r turn.Refused o f h b k = tt
 
   pub test_keeps : (ps : Parts) (s : Frames) (x : Tested) (r : Reading) → OkParts lim ps → OkFrames lim s → OkTested lim (1 + length s) x
       → Behind (lay_base ps s ++ (lay_tested x ++ left_paren)) (At lim (site 0 (inner s)) r) ts → KeepsStepped lim ts t (spec.test ps s x r t)
@@ -447,7 +443,7 @@ module _ (lim : ℕ) (ts : List Token) (t : Token) where
       → Ended ps (frame.Do p ∷ s) x → KeepsStepped lim ts t (spec.do_while ps s p x t)
   unfolding is_in_block spec.do_while
   do_keeps ps s p x o f k =
-      stepped_cond (spec.is_while t.what) _ stepped.Refused
+      stepped_cond (spec.is_while t.what) _ turn.Refused
       (λ e. goes ps s (step.Keyword (tested.Do p x)) 0 o f.1 (λ z. (
         three (lay_base ps s) (word_at p word.Do) (lay_stmt x) (plain (the_word word.While)) (ts ++ t ∷ [])
             (stand-append _ (plain (the_word word.While)) ts (t ∷ []) (regroup (lay_base ps s) (word_at p word.Do) (lay_stmt x) ts (around ps (frame.Do p) s x k.stands))
@@ -511,7 +507,7 @@ module _ (lim : ℕ) (ts : List Token) (t : Token) where
       → Stand (lay_base ps s ++ word_at p word.For) ts → inner s ≤ lim → KeepsStepped lim ts t (spec.for_opened ps s p t)
   unfolding spec.for_opened
   for_opened_keeps ps s p o f st h =
-      stepped_cond (is_left_paren t.what) _ stepped.Refused
+      stepped_cond (is_left_paren t.what) _ turn.Refused
       (λ e. goes ps s (step.Start p (begin 0 (inner s))) 0 o f (λ z. record {
         behind = behind_now (lay_base ps s ++ For_at p) _ (ts ++ t ∷ [])
             (stand-more (lay_base ps s) (word_at p word.For) left_paren ts (t ∷ []) st (one t (token.Mark mark.LeftParen) (left_paren_is t.what e))) (begin_at lim 0 (inner s) (omega arith));
@@ -543,15 +539,15 @@ module _ (lim : ℕ) (ts : List Token) (t : Token) where
   start_by_keeps : (ps : Parts) (s : Frames) (p : Place) (r : Reading) (m : Maybe) → OkParts lim ps → OkFrames lim s
       → (b : OkBehind lim s (lay_base ps s ++ For_at p) (At lim (site 0 (inner s)) r) ts)
       → KeepsMaybe lim (site 0 (inner s)) b.behind.back t mark.Semicolon m → KeepsStepped lim ts t (spec.start_by ps s p m)
-  start_by_keeps ps s p r (maybe.Goes q reach) o f b h =
+  start_by_keeps ps s p r (turn.Goes q reach) o f b h =
       goes ps s (step.Start p q) reach o f (λ z. record { behind = pushed ts t (lay_base ps s ++ For_at p) _ _ b.behind (h z); room = b.room })
-  start_by_keeps ps s p r (maybe.Done v) o f b h =
+  start_by_keeps ps s p r (turn.Done v) o f b h =
       second_begins_keeps ps s p (spec.first_of v) o f b.room
       (subst (λ y. Stand ((lay_base ps s ++ For_at p) ++ y) (ts ++ t ∷ [])) (sym (first_laid v))
       (stand-more (lay_base ps s ++ For_at p) (lay_option v) semicolon ts (t ∷ [])
       (behind_all (lay_base ps s ++ For_at p) (lay_option v) _ ts b.behind h.0.stands) (one t (token.Mark mark.Semicolon) h.1)))
       (first_ok s v h.0.ranked (true_inner s (option_depth v) h.0.within))
-  start_by_keeps ps s p r maybe.Refused o f b h = tt
+  start_by_keeps ps s p r turn.Refused o f b h = tt
 
   for_declares_begins : (ps : Parts) (s : Frames) (p : Place) (r : Reading) (w : Word) → OkParts lim ps → OkFrames lim s → t.what ≡ token.Word w
       → is_spec_word w ≡ true → is_fresh r ≡ true → (b : OkBehind lim s (lay_base ps s ++ For_at p) (At lim (site 0 (inner s)) r) ts)
@@ -588,21 +584,21 @@ module _ (lim : ℕ) (ts : List Token) (t : Token) where
   for_declares_by_keeps : (ps : Parts) (s : Frames) (p : Place) (d : Declaration) (m : Declared) → OkParts lim ps → OkFrames lim s
       → (b : OkBehind lim s (lay_base ps s ++ For_at p) (OkDeclaration lim (inner s) d) ts)
       → KeepsDeclared lim (inner s) b.behind.back t m → KeepsStepped lim ts t (spec.for_declares_by ps s p m)
-  for_declares_by_keeps ps s p d (declared_.Goes q reach) o f b h =
+  for_declares_by_keeps ps s p d (turn.Goes q reach) o f b h =
       goes ps s (step.Declares p q) reach o f (λ z. record { behind = pushed ts t (lay_base ps s ++ For_at p) _ _ b.behind (h z); room = b.room })
-  for_declares_by_keeps ps s p d (declared_.Done specs list) o f b h =
+  for_declares_by_keeps ps s p d (turn.Done (specs, list)) o f b h =
       second_begins_keeps ps s p (first.Declare specs list) o f b.room
       (behind_all (lay_base ps s ++ For_at p) (lay_declaration specs list) (λ us. Unit {0}) (ts ++ t ∷ []) (pushed ts t (lay_base ps s ++ For_at p) _ (λ us. Unit {0}) b.behind tt) h.stands)
       (h.ranked, true_inner s (declarators_depth list) h.within)
-  for_declares_by_keeps ps s p d declared_.Refused o f b h = tt
+  for_declares_by_keeps ps s p d turn.Refused o f b h = tt
 
   second_by_keeps : (ps : Parts) (s : Frames) (p : Place) (start : First) (r : Reading) (m : Maybe) → OkParts lim ps → OkFrames lim s
       → (b : OkBehind lim s ((lay_base ps s ++ For_at p) ++ lay_first start) (At lim (site 0 (inner s)) r) ts)
       → RankedFirst start × (((1 + length s) + 1) + first_depth start ≤ lim + 1)
       → KeepsMaybe lim (site 0 (inner s)) b.behind.back t mark.Semicolon m → KeepsStepped lim ts t (spec.second_by ps s p start m)
-  second_by_keeps ps s p start r (maybe.Goes q reach) o f b k h =
+  second_by_keeps ps s p start r (turn.Goes q reach) o f b k h =
       goes ps s (step.Second p start q) reach o f (λ z. (record { behind = pushed ts t ((lay_base ps s ++ For_at p) ++ lay_first start) _ _ b.behind (h z); room = b.room }, k))
-  second_by_keeps ps s p start r (maybe.Done v) o f b k h =
+  second_by_keeps ps s p start r (turn.Done v) o f b k h =
       goes ps s (step.Third p start v (begin 0 (inner s))) 0 o f (λ z. (
         record {
           behind = behind_now ((lay_base ps s ++ For_at p) ++ (lay_first start ++ (lay_option v ++ semicolon))) _ (ts ++ t ∷ [])
@@ -615,7 +611,7 @@ module _ (lim : ℕ) (ts : List Token) (t : Token) where
         k,
         (h.0.ranked, true_inner s (option_depth v) h.0.within),
       ))
-  second_by_keeps ps s p start r maybe.Refused o f b k h = tt
+  second_by_keeps ps s p start r turn.Refused o f b k h = tt
 
   for_laid : (b w l x y m z r : Pieces) (us : List Token) → Stand (((b ++ (w ++ l)) ++ (x ++ (y ++ m))) ++ (z ++ r)) us
       → Stand (b ++ (w ++ (l ++ ((x ++ (y ++ (m ++ z))) ++ r)))) us
@@ -630,7 +626,7 @@ module _ (lim : ℕ) (ts : List Token) (t : Token) where
       → RankedFirst start × (((1 + length s) + 1) + first_depth start ≤ lim + 1)
       → IfGiven (Ranked 0) test × (((1 + length s) + 1) + option_depth test ≤ lim + 1)
       → KeepsMaybe lim (site 0 (inner s)) b.behind.back t mark.RightParen m → KeepsStepped lim ts t (spec.third_by ps s p start test m)
-  third_by_keeps ps s p start test r (maybe.Goes q reach) o f b k q2 h =
+  third_by_keeps ps s p start test r (turn.Goes q reach) o f b k q2 h =
       goes ps s (step.Third p start test q) reach o f (λ z. (
         record {
           behind = pushed ts t ((lay_base ps s ++ For_at p) ++ (lay_first start ++ (lay_option test ++ semicolon))) _ _ b.behind (h z);
@@ -639,12 +635,12 @@ module _ (lim : ℕ) (ts : List Token) (t : Token) where
         k,
         q2,
       ))
-  third_by_keeps ps s p start test r (maybe.Done v) o f b k q2 h =
+  third_by_keeps ps s p start test r (turn.Done v) o f b k q2 h =
       await_keeps ps s (frame.For p start test v) 0 o f (λ z. (k, q2, (h.0.ranked, true_inner s (option_depth v) h.0.within)))
       (for_laid (lay_base ps s) (word_at p word.For) left_paren (lay_first start) (lay_option test) semicolon (lay_option v) (plain (the_mark mark.RightParen)) (ts ++ t ∷ [])
       (stand-more ((lay_base ps s ++ For_at p) ++ (lay_first start ++ (lay_option test ++ semicolon))) (lay_option v) (plain (the_mark mark.RightParen)) ts (t ∷ [])
       (behind_all ((lay_base ps s ++ For_at p) ++ (lay_first start ++ (lay_option test ++ semicolon))) (lay_option v) _ ts b.behind h.0.stands) (one t (token.Mark mark.RightParen) h.1)))
-  third_by_keeps ps s p start test r maybe.Refused o f b k q2 h = tt
+  third_by_keeps ps s p start test r turn.Refused o f b k q2 h = tt
 
   -- the braces of a `switch`
 
@@ -652,7 +648,7 @@ module _ (lim : ℕ) (ts : List Token) (t : Token) where
       → Stand (lay_base ps s ++ (word_at p word.Switch ++ lay_in_parens (lay_expr e))) ts → KeepsStepped lim ts t (spec.braces ps s p e t)
   unfolding spec.braces
   braces_keeps ps s p e o f b st =
-      stepped_cond (spec.is_brace t.what) _ stepped.Refused
+      stepped_cond (spec.is_brace t.what) _ turn.Refused
       (λ h. await_keeps ps s (frame.Switch p e []) 0 o f (λ z. (b, (no_labels, omega (arith, b.1))))
       (three (lay_base ps s) (word_at p word.Switch) (lay_in_parens (lay_expr e)) left_brace (ts ++ t ∷ [])
       (stand-append (lay_base ps s ++ (word_at p word.Switch ++ lay_in_parens (lay_expr e))) left_brace ts (t ∷ []) st
@@ -684,22 +680,22 @@ module _ (lim : ℕ) (ts : List Token) (t : Token) where
   case_by_keeps : (ps : Parts) (s : Frames) (p : Place) (m : Read) → OkParts lim ps → OkFrames lim s → is_in_switch s ≡ true
       → (r : Reading) (b : Behind (lay_base ps s ++ word_at p word.Case) (At lim (site 2 (level s)) r) ts)
       → KeepsRead lim (site 2 (level s)) b.back t mark.Colon m → KeepsStepped lim ts t (spec.case_by ps s p m)
-  case_by_keeps ps s p (read.Goes q reach) o f i r b h =
+  case_by_keeps ps s p (turn.Goes q reach) o f i r b h =
       goes ps s (step.Case p q) reach o f (λ z. (pushed ts t (lay_base ps s ++ word_at p word.Case) _ _ b (h z), i))
-  case_by_keeps ps s p (read.Done e) o f i r b h =
+  case_by_keeps ps s p (turn.Done e) o f i r b h =
       labelled_keeps ps (part_.Case p e) o s i f (case_label p e [] h.0.ranked no_labels)
       (λ z. omega (arith, h.0.within, part_Case ℕ ℕ part_depth_step stmt_depth_step p e))
       (subst (λ x. Stand (lay_base ps s ++ x) (ts ++ t ∷ [])) (sym (part_Case Pieces Pieces lay_part_step lay_stmt_step p e))
       (regroup (lay_base ps s) (word_at p word.Case) (lay_expr e ++ plain (the_mark mark.Colon)) (ts ++ t ∷ [])
       (stand-more (lay_base ps s ++ word_at p word.Case) (lay_expr e) (plain (the_mark mark.Colon)) ts (t ∷ [])
       (behind_all (lay_base ps s ++ word_at p word.Case) (lay_expr e) _ ts b h.0.stands) (one t (token.Mark mark.Colon) h.1))))
-  case_by_keeps ps s p read.Refused o f i r b h = tt
+  case_by_keeps ps s p turn.Refused o f i r b h = tt
 
   default_label_keeps : (ps : Parts) (s : Frames) (p : Place) → OkParts lim ps → OkFrames lim s → is_in_switch s ≡ true
       → Stand (lay_base ps s ++ word_at p word.Default) ts → KeepsStepped lim ts t (spec.default_label ps s p t)
   unfolding spec.default_label
   default_label_keeps ps s p o f i st =
-      stepped_cond (closes t closer.Colon) _ stepped.Refused
+      stepped_cond (closes t closer.Colon) _ turn.Refused
       (λ e. labelled_keeps ps (part_.Default p) o s i f (default_label p [] no_labels)
       (λ z. omega (arith, z, part_Default ℕ ℕ part_depth_step stmt_depth_step p))
       (subst (λ x. Stand (lay_base ps s ++ x) (ts ++ t ∷ [])) (sym (part_Default Pieces Pieces lay_part_step lay_stmt_step p))

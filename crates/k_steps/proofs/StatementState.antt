@@ -13,7 +13,7 @@ use Rattle.k_steps.specs.Statements.{Parts, Frames, inner, level, is_in_block, i
 use Rattle.k_steps.specs.declared.statement.Frame.TheVariants as frame
 use Rattle.k_steps.specs.declared.statement.Tested.TheVariants as tested
 use Rattle.k_steps.specs.declared.statement.BlockStage.TheVariants as step
-use Rattle.k_steps.specs.declared.statement.Stepped.TheVariants as stepped
+use Rattle.k_steps.specs.declared.turn.Turn.TheVariants as turn
 use Rattle.k_steps.proofs.ReadingSound.{At, site, Behind}
 use Rattle.k_steps.proofs.Rows.{StartsAt}
 use Rattle.k_steps.proofs.DeclarationState.{OkDeclaration}
@@ -149,6 +149,6 @@ pub record OkBody (lim : ℕ) (b : Body) (ts : List Token) : Type 0 where
 
 -- a token keeps it so; the last is the closing brace
 abbrev pub KeepsStepped : ℕ → List Token → Token → Stepped → Type 0
-KeepsStepped lim ts t (stepped.Goes b reach) = reach ≤ lim → OkBody lim b (ts ++ t ∷ [])
-KeepsStepped lim ts t (stepped.Done ps) = OkParts lim ps × Stand (lay_stmts ps) ts × (t.what ≡ token.Mark mark.RightBrace)
-KeepsStepped lim ts t stepped.Refused = Unit {0}
+KeepsStepped lim ts t (turn.Goes b reach) = reach ≤ lim → OkBody lim b (ts ++ t ∷ [])
+KeepsStepped lim ts t (turn.Done ps) = OkParts lim ps × Stand (lay_stmts ps) ts × (t.what ≡ token.Mark mark.RightBrace)
+KeepsStepped lim ts t turn.Refused = Unit {0}

@@ -15,16 +15,14 @@ use Rattle.k_steps.specs.Operators.{is_spec_word, is_semicolon, is_left_brace, i
 use Rattle.k_steps.specs.Expressions.{begin, is_sizeof, is_before_type, type_begun, word_operand, operand, feed_at, feed, goes, level}
 use Rattle.k_steps.specs.declared.expression.ExpressionStage.TheVariants as now
 use Rattle.k_steps.specs.declared.expression.Open.TheVariants as open_
-use Rattle.k_steps.specs.declared.expression.Fed.TheVariants as fed
+use Rattle.k_steps.specs.declared.turn.Turn.TheVariants as turn
 use Rattle.k_steps.specs.Readings.{is_fresh, closes, read_by, read_needed, maybe_by, read_maybe}
 use Rattle.k_steps.specs.declared.reading.Closer.TheVariants as closer
-use Rattle.k_steps.specs.declared.reading.Maybe.TheVariants as maybe
 use Rattle.k_steps.specs.Statements as spec
 use Rattle.k_steps.specs.Statements.{Parts, Frames}
 use Rattle.k_steps.specs.declared.statement.Frame.TheVariants as frame
 use Rattle.k_steps.specs.declared.statement.Tested.TheVariants as tested
 use Rattle.k_steps.specs.declared.statement.BlockStage.TheVariants as step
-use Rattle.k_steps.specs.declared.statement.Stepped.TheVariants as stepped
 use Rattle.k_steps.proofs.DeclarationReach.{StageReached}
 use Rattle.k_steps.proofs.DeclarationState.{OkDeclaration}
 use Rattle.k_steps.proofs.DeclarationViable.{Outcome, DeclarationGoes, DeclarationEnds, declaration_viable}
@@ -38,10 +36,10 @@ use Rattle.k_steps.proofs.SwitchTerms.{switch_split}
 use Rattle.k_steps.proofs.StatementState.{OkStep, OkBody}
 
 abbrev pub BodyGoes : Body → Token → Body → ℕ → Type 0
-BodyGoes b t next reach = spec.feed_body b t ≡ stepped.Goes next reach
+BodyGoes b t next reach = spec.feed_body b t ≡ turn.Goes next reach
 
 abbrev pub BodyEnds : Body → Token → Parts → Type 0
-BodyEnds b t o = spec.feed_body b t ≡ stepped.Done o
+BodyEnds b t o = spec.feed_body b t ≡ turn.Done o
 
 abbrev pub BodyCanEnd : ℕ → Body → Type 0
 BodyCanEnd lim = CanEnd Body Parts BodyGoes BodyEnds lim
@@ -52,15 +50,15 @@ unfolding is_spec_word
 not_sizeof word.Sizeof h = absurd (false≢true h)
 not_sizeof _ h = refl
 
-spec_refused : (g : Site) (w : Word) (p : Place) → is_spec_word w ≡ true → word_operand g [] w p ≡ fed.Refused
+spec_refused : (g : Site) (w : Word) (p : Place) → is_spec_word w ≡ true → word_operand g [] w p ≡ turn.Refused
 unfolding word_operand is_before_type
 spec_refused g w p h =
     cond-false (is_sizeof w) (goes g (open_.Sizeof p ∷ []) now.Operand (level g []))
-    (cond (is_spec_word w && false) (type_begun g [] w) fed.Refused) (not_sizeof w h)
-    ∙ ap (λ b. cond (b && false) (type_begun g [] w) fed.Refused) h
+    (cond (is_spec_word w && false) (type_begun g [] w) turn.Refused) (not_sizeof w h)
+    ∙ ap (λ b. cond (b && false) (type_begun g [] w) turn.Refused) h
 
 fresh_refused : (r : Reading) (p : Place) (w : Word) → is_fresh r ≡ true → is_spec_word w ≡ true
-    → feed r (record { what = token.Word w; place = p }) ≡ fed.Refused
+    → feed r (record { what = token.Word w; place = p }) ≡ turn.Refused
 unfolding feed is_fresh operand
 fresh_refused r p w e h =
     let t : Token = record { what = token.Word w; place = p } in
@@ -71,16 +69,16 @@ no_token : (b : Bool) → (b && false) ≡ true → ⊥
 no_token b e = false≢true (and_parts b false e).1
 
 spec_read : (r : Reading) (p : Place) (w : Word) → is_fresh r ≡ true → is_spec_word w ≡ true
-    → read_maybe r (record { what = token.Word w; place = p }) closer.Semicolon ≡ maybe.Refused
+    → read_maybe r (record { what = token.Word w; place = p }) closer.Semicolon ≡ turn.Refused
 unfolding read_maybe read_needed closes
 spec_read r p w e h =
     let t : Token = record { what = token.Word w; place = p } in
-    cond_both (is_fresh r && false) (maybe.Done None) (maybe_by (read_by (feed r t) false)) (λ z. z ≡ maybe.Refused)
+    cond_both (is_fresh r && false) (turn.Done None) (maybe_by (read_by (feed r t) false)) (λ z. z ≡ turn.Refused)
     (λ q. absurd (no_token (is_fresh r) q)) (λ q. ap (λ z. maybe_by (read_by z false)) (fresh_refused r p w e h))
 
 -- what is read of an expression begins no declaration
 not_specifier : (r : Reading) (p : Place) (k : TokenKind) (m : Maybe) → read_maybe r (record { what = k; place = p }) closer.Semicolon ≡ m
-    → (m ≡ maybe.Refused → ⊥) → spec.specifier_by r k ≡ None
+    → (m ≡ turn.Refused → ⊥) → spec.specifier_by r k ≡ None
 not_specifier r p (token.Word w) m e no_refusal =
     cond_both (is_spec_word w && is_fresh r) (Some w) None (λ z. z ≡ None)
     (λ q. let b : (is_spec_word w ≡ true) × (is_fresh r ≡ true) = and_parts (is_spec_word w) (is_fresh r) q in
@@ -88,10 +86,10 @@ not_specifier r p (token.Word w) m e no_refusal =
     (λ q. refl)
 not_specifier r p _ m e no_refusal = refl
 
-goes_on : (next : Reading) (reach : ℕ) → maybe.Goes next reach ≡ maybe.Refused → ⊥
+goes_on : (next : Reading) (reach : ℕ) → ◌≡◌ {A = Maybe} (turn.Goes next reach) turn.Refused → ⊥
 goes_on next reach e = cc
 
-closed_so : (v : Option Expr) → maybe.Done v ≡ maybe.Refused → ⊥
+closed_so : (v : Option Expr) → ◌≡◌ {A = Maybe} (turn.Done v) turn.Refused → ⊥
 closed_so v e = cc
 
 module _ (lim : ℕ) (ps : Parts) where
@@ -103,14 +101,14 @@ module _ (lim : ℕ) (ps : Parts) where
 
   -- what a token makes can be ended
   abbrev Leads : Stepped → Type 0
-  Leads (stepped.Goes b reach) = (reach ≤ lim) × BodyCanEnd lim b
-  Leads (stepped.Done o) = Unit {0}
-  Leads stepped.Refused = ⊥
+  Leads (turn.Goes b reach) = (reach ≤ lim) × BodyCanEnd lim b
+  Leads (turn.Done o) = Unit {0}
+  Leads turn.Refused = ⊥
 
   ended_by : (b : Body) (t : Token) (x : Stepped) → spec.feed_body b t ≡ x → Leads x → BodyCanEnd lim b
-  ended_by b t (stepped.Goes next reach) e h = goes_then Body Parts BodyGoes BodyEnds lim b next t reach e h.0 h.1
-  ended_by b t (stepped.Done o) e h = (t ∷ [], o, run_ends b t o e)
-  ended_by b t stepped.Refused e h = absurd h
+  ended_by b t (turn.Goes next reach) e h = goes_then Body Parts BodyGoes BodyEnds lim b next t reach e h.0 h.1
+  ended_by b t (turn.Done o) e h = (t ∷ [], o, run_ends b t o e)
+  ended_by b t turn.Refused e h = absurd h
 
   -- a token behind a statement, and no `else`
   abbrev Behind : Frames → Stmt → Type 0
@@ -132,7 +130,7 @@ module _ (lim : ℕ) (ps : Parts) where
   tested_body s (tested.Switch p) e = body s (step.Braces p e)
   tested_body s (tested.Do p b) e = body s (step.Semicolon (stmt.DoWhile p b e))
 
-  tested_goes : (s : Frames) (x : Tested) (e : Expr) → spec.test_done ps s x e ≡ stepped.Goes (tested_body s x e) 0
+  tested_goes : (s : Frames) (x : Tested) (e : Expr) → spec.test_done ps s x e ≡ turn.Goes (tested_body s x e) 0
   unfolding spec.test_done tested_body
   tested_goes s (tested.If p) e = refl
   tested_goes s (tested.While p) e = refl
@@ -320,10 +318,10 @@ module _ (lim : ℕ) (ps : Parts) where
       maybe_can_end Body Parts BodyGoes BodyEnds lim closer.Semicolon g r ts a (λ e. k)
       (λ u. body s (step.Start p u)) (λ v. body s (step.Second p (spec.first_of v) (begin 0 (spec.inner s))))
       (λ u t next reach e.
-      ap (λ w. spec.start_with ps s p u t w) (not_specifier u t.place t.what (maybe.Goes next reach) e (goes_on next reach))
+      ap (λ w. spec.start_with ps s p u t w) (not_specifier u t.place t.what (turn.Goes next reach) e (goes_on next reach))
       ∙ ap (λ z. spec.start_by ps s p z) e)
       (λ u t v e.
-      ap (λ w. spec.start_with ps s p u t w) (not_specifier u t.place t.what (maybe.Done v) e (closed_so v))
+      ap (λ w. spec.start_with ps s p u t w) (not_specifier u t.place t.what (turn.Done v) e (closed_so v))
       ∙ ap (λ z. spec.start_by ps s p z) e)
       (λ v. seconds s p (spec.first_of v) h i)
 

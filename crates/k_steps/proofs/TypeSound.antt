@@ -18,7 +18,7 @@ use Rattle.k_steps.specs.Stars.{all_stars, star, constant}
 use Rattle.k_steps.specs.Expressions.{Opens, goes, hole, term, valued, is_before_type, cast_opened, close_over, close_type, is_const, word_of_type, mark_of_type, in_type_at, in_type}
 use Rattle.k_steps.specs.declared.expression.Open.TheVariants as open_
 use Rattle.k_steps.specs.declared.expression.ExpressionStage.TheVariants as now
-use Rattle.k_steps.specs.declared.expression.Fed.TheVariants as fed
+use Rattle.k_steps.specs.declared.turn.Turn.TheVariants as turn
 use Rattle.k_steps.proofs.ExpressionState.{lay_opens, OkOpen, ok_cast, ok_sizeof, lev, ValidNow, Inv, Keeps}
 use Rattle.k_steps.proofs.ExpressionTerms.{one, stand-more, regroup, and_left, and_right}
 use Rattle.k_steps.proofs.OperandSound.{cond_keeps}
@@ -116,8 +116,8 @@ module _ (lim : ℕ) (g : Site) (ts : List Token) (t : Token) where
   unfolding word_of_type
   word_keeps s specs stars w e i =
       cond_keeps lim g ts t stars.pending _ _
-      (λ h. cond_keeps lim g ts t (is_const w) _ fed.Refused (λ k. const_keeps s specs stars w e h k i) (λ k. tt))
-      (λ h. cond_keeps lim g ts t (nat_eq (length stars.done) 0 && is_spec_word w) _ fed.Refused
+      (λ h. cond_keeps lim g ts t (is_const w) _ turn.Refused (λ k. const_keeps s specs stars w e h k i) (λ k. tt))
+      (λ h. cond_keeps lim g ts t (nat_eq (length stars.done) 0 && is_spec_word w) _ turn.Refused
       (λ k. spec_keeps s specs stars w e h (and_left (nat_eq (length stars.done) 0) (is_spec_word w) k) (and_right (nat_eq (length stars.done) 0) (is_spec_word w) k) i)
       (λ k. tt))
 

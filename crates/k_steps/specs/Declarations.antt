@@ -8,14 +8,12 @@ use Rattle.k_steps.specs.Operators.{is_spec_word, is_bracket, is_equal, is_left_
 use Rattle.k_steps.specs.Level.{plus}
 use Rattle.k_steps.specs.Stars.{no_stars, all_stars, star, constant}
 use Rattle.k_steps.specs.Expressions.{begin, feed, is_const}
-use Rattle.k_steps.specs.declared.expression.Fed.TheVariants as fed
+use Rattle.k_steps.specs.declared.turn.Turn.TheVariants as turn
 use Rattle.k_steps.specs.Readings.{read_maybe}
 use Rattle.k_steps.specs.declared.reading.Closer.TheVariants as closer
-use Rattle.k_steps.specs.declared.reading.Maybe.TheVariants as maybe
 use Rattle.k_steps.specs.Initialisers as inits
 use Rattle.k_steps.specs.declared.declaration.initialiser.After.TheVariants as after_
 use Rattle.k_steps.specs.declared.declaration.DeclarationStage.TheVariants as stage
-use Rattle.k_steps.specs.declared.declaration.Declared.TheVariants as declared_
 
 -- a declaration with this front, of which the reading stands at this stage
 abbrev pub declaration_at : Front → DeclarationStage → Declaration
@@ -23,7 +21,7 @@ declaration_at f s = record { front = f; stage = s }
 
 -- the declaration goes on at this stage, and the token makes sure that a node lies at this level
 abbrev pub declares : Front → DeclarationStage → ℕ → Declared
-declares f s reach = declared_.Goes (declaration_at f s) reach
+declares f s reach = turn.Goes (declaration_at f s) reach
 
 -- what stands before a declarator: the specifiers, the declarators so far, and the level of a node in a declarator
 abbrev pub front_of : List Word → List Declarator → ℕ → Front
@@ -37,9 +35,9 @@ begin_declaration w level = declaration_at (front_of (w ∷ []) [] level) (stage
 unfoldable pub word : Front → Stars → Word → Declared
 word f stars w =
     cond stars.pending
-    (cond (is_const w) (declares f (stage.Before (constant stars)) 0) declared_.Refused)
+    (cond (is_const w) (declares f (stage.Before (constant stars)) 0) turn.Refused)
     (cond (nat_eq (length stars.done) 0 && (nat_eq (length f.list) 0 && is_spec_word w))
-    (declares (front_of (f.specs ++ w ∷ []) f.list f.level) (stage.Before stars) 0) declared_.Refused)
+    (declares (front_of (f.specs ++ w ∷ []) f.list f.level) (stage.Before stars) 0) turn.Refused)
 
 -- the name of a declarator: behind it, a dimension or an initialiser may come (C17 6.7.6)
 unfoldable pub name : Front → Stars → List ℕ → Place → Declared
@@ -49,14 +47,14 @@ name f stars x p =
 -- a mark before the name of a declarator: only one more star can stand there (C17 6.7.6.1)
 unfoldable pub mark_before : Front → Stars → Mark → Declared
 mark_before f stars mark.Star = declares f (stage.Before (star stars)) 0
-mark_before f stars _ = declared_.Refused
+mark_before f stars _ = turn.Refused
 
 -- a token of this kind before the name of a declarator: a word, the name, or a star
 abbrev pub kind_before : Front → Stars → Place → TokenKind → Declared
 kind_before f stars p (token.Word w) = word f stars w
 kind_before f stars p (token.Name x) = name f stars x p
 kind_before f stars p (token.Mark m) = mark_before f stars m
-kind_before f stars p _ = declared_.Refused
+kind_before f stars p _ = turn.Refused
 
 -- a token before the name of a declarator
 unfoldable pub before : Front → Stars → Token → Declared
@@ -65,8 +63,8 @@ before f stars t = kind_before f stars t.place t.what
 -- the mark behind a declarator
 unfoldable pub end : Front → Declarator → Mark → Declared
 end f d mark.Comma = declares (front_of f.specs (f.list ++ d ∷ []) f.level) (stage.Before no_stars) 0
-end f d mark.Semicolon = declared_.Done f.specs (f.list ++ d ∷ [])
-end f d _ = declared_.Refused
+end f d mark.Semicolon = turn.Done (f.specs, f.list ++ d ∷ [])
+end f d _ = turn.Refused
 
 -- a mark behind the name of a declarator, or behind a dimension
 unfoldable pub named : Front → Declarator → Mark → Declared
@@ -77,7 +75,7 @@ named f d m =
 -- a token of this kind behind the name of a declarator, or behind a dimension: only a mark can stand there
 abbrev pub kind_named : Front → Declarator → TokenKind → Declared
 kind_named f d (token.Mark m) = named f d m
-kind_named f d _ = declared_.Refused
+kind_named f d _ = turn.Refused
 
 -- a declarator with one more dimension, of which the size may be left out (C17 6.7.6.2)
 abbrev pub sized : Declarator → Option Expr → Declarator
@@ -85,9 +83,9 @@ sized d size = record d { dims = d.dims ++ size ∷ [] }
 
 -- the dimension goes on, or its `]` was read and the declarator has it, or the token can't stand there
 abbrev pub size_by : Front → Declarator → Maybe → Declared
-size_by f d (maybe.Goes r reach) = declares f (stage.Size d r) reach
-size_by f d (maybe.Done value) = declares f (stage.Named (sized d value)) 0
-size_by f d maybe.Refused = declared_.Refused
+size_by f d (turn.Goes r reach) = declares f (stage.Size d r) reach
+size_by f d (turn.Done value) = declares f (stage.Named (sized d value)) 0
+size_by f d turn.Refused = turn.Refused
 
 -- a token in a dimension
 unfoldable pub size : Front → Declarator → Reading → Token → Declared
@@ -98,12 +96,12 @@ abbrev pub after_by : Front → After → Mark → Declared
 after_by f (after_.Starts o) m = declares f (stage.Starts o.declarator o.braces) 0
 after_by f (after_.Closed o) m = declares f (stage.After o.declarator o.braces) 0
 after_by f (after_.Done d) m = end f d m
-after_by f after_.Refused m = declared_.Refused
+after_by f after_.Refused m = turn.Refused
 
 -- a token of this kind behind an initialiser: only a mark can stand there
 abbrev pub kind_after : Front → Opened → TokenKind → Declared
 kind_after f o (token.Mark m) = after_by f (inits.after o m) m
-kind_after f o _ = declared_.Refused
+kind_after f o _ = turn.Refused
 
 -- the token behind an initialiser
 unfoldable pub after : Front → Opened → Token → Declared
@@ -119,7 +117,7 @@ brace f o p = declares f (stage.Starts o.declarator (record { place = p; items =
 
 -- `}` behind a comma closed a brace, or it can't stand there
 abbrev pub last_comma_by : Front → Option Opened → Declared
-last_comma_by f None = declared_.Refused
+last_comma_by f None = turn.Refused
 last_comma_by f (Some o) = declares f (stage.After o.declarator o.braces) 0
 
 -- a closing brace behind a comma
@@ -128,9 +126,9 @@ last_comma f o = last_comma_by f (inits.last_comma o)
 
 -- an expression that is an initialiser began, or the token can't stand there
 abbrev pub first_by : Front → Opened → Place → Fed → Declared
-first_by f o p (fed.Goes r reach) = declares f (stage.Value o.declarator o.braces p r) reach
-first_by f o p (fed.Ends value) = declared_.Refused
-first_by f o p fed.Refused = declared_.Refused
+first_by f o p (turn.Goes r reach) = declares f (stage.Value o.declarator o.braces p r) reach
+first_by f o p (turn.Done value) = turn.Refused
+first_by f o p turn.Refused = turn.Refused
 
 -- the first token of an expression that is an initialiser
 unfoldable pub first_token : Front → Opened → Token → Declared
@@ -151,9 +149,9 @@ starts f o t = kind_starts f o t t.what
 
 -- the expression goes on, or it ended before the token and is the initialiser, or the token can't stand there
 abbrev pub value_by : Front → Opened → Place → Fed → Token → Declared
-value_by f o p (fed.Goes r reach) t = declares f (stage.Value o.declarator o.braces p r) reach
-value_by f o p (fed.Ends value) t = after f (inits.plug o (init.One p value)) t
-value_by f o p fed.Refused t = declared_.Refused
+value_by f o p (turn.Goes r reach) t = declares f (stage.Value o.declarator o.braces p r) reach
+value_by f o p (turn.Done value) t = after f (inits.plug o (init.One p value)) t
+value_by f o p turn.Refused t = turn.Refused
 
 -- a token in an expression that is an initialiser
 unfoldable pub value : Front → Opened → Place → Reading → Token → Declared

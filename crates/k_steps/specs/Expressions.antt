@@ -11,7 +11,7 @@ use Rattle.k_steps.specs.Operators.{own_rank, right_rank, takes, is_prefix_mark,
 use Rattle.k_steps.specs.Stars.{no_stars, all_stars, star, constant}
 use Rattle.k_steps.specs.declared.expression.Open.TheVariants as open_
 use Rattle.k_steps.specs.declared.expression.ExpressionStage.TheVariants as now
-use Rattle.k_steps.specs.declared.expression.Fed.TheVariants as fed
+use Rattle.k_steps.specs.declared.turn.Turn.TheVariants as turn
 use Rattle.k_steps.specs.declared.expression.plug.Plugged.TheVariants as plugged
 
 -- the constructs of which an operand is awaited, the innermost first
@@ -20,7 +20,7 @@ Opens = List Open
 
 -- the reading goes on in this state, and the token makes sure that a node lies at this level
 abbrev pub goes : Site → Opens → ExpressionStage → ℕ → Fed
-goes g s n reach = fed.Goes (record { site = g; opens = s; state = n }) reach
+goes g s n reach = turn.Goes (record { site = g; opens = s; state = n }) reach
 
 -- the level of a node in the innermost open construct
 abbrev pub level : Site → Opens → ℕ
@@ -70,10 +70,10 @@ opened g s p = goes g (open_.Paren p ∷ s) now.Operand (cond (is_sizeof_open (t
 
 -- `)` where an operand is awaited: only that of a call without arguments can stand there (C17 6.5.2.2)
 unfoldable pub no_arguments : Site → Opens → Fed
-no_arguments g [] = fed.Refused
+no_arguments g [] = turn.Refused
 no_arguments g (open_.Call place name args height ∷ s) =
-    cond (nat_eq (length args) 0) (valued g s (term (expr.Call place name args) 15 1)) fed.Refused
-no_arguments g (_ ∷ s) = fed.Refused
+    cond (nat_eq (length args) 0) (valued g s (term (expr.Call place name args) 15 1)) turn.Refused
+no_arguments g (_ ∷ s) = turn.Refused
 
 -- an operator before its operand (C17 6.5.3)
 unfoldable pub prefix_operator : Site → Opens → Mark → Place → Fed
@@ -82,7 +82,7 @@ prefix_operator g s op p = goes g (open_.Prefix p op ∷ s) now.Operand (plus (l
 -- a mark where an operand begins: `(`, the `)` of a call without arguments, or a prefix operator
 unfoldable pub mark_operand : Site → Opens → Mark → Place → Fed
 mark_operand g s m p =
-    cond (is_open m) (opened g s p) (cond (is_close m) (no_arguments g s) (cond (is_prefix_mark m) (prefix_operator g s m p) fed.Refused))
+    cond (is_open m) (opened g s p) (cond (is_close m) (no_arguments g s) (cond (is_prefix_mark m) (prefix_operator g s m p) turn.Refused))
 
 -- does `(` stand before a token that begins a type?
 unfoldable pub is_before_type : Site → Opens → Bool
@@ -103,7 +103,7 @@ is_sizeof _ = false
 unfoldable pub word_operand : Site → Opens → Word → Place → Fed
 word_operand g s w p =
     cond (is_sizeof w) (goes g (open_.Sizeof p ∷ s) now.Operand (level g s))
-    (cond (is_spec_word w && is_before_type g s) (type_begun g s w) fed.Refused)
+    (cond (is_spec_word w && is_before_type g s) (type_begun g s w) turn.Refused)
 
 -- a token of this kind where an operand begins: a name, a constant, a string, a mark or a word (C17 6.5.1)
 abbrev pub operand_at : Site → Opens → Place → TokenKind → Fed
@@ -113,7 +113,7 @@ operand_at g s p (token.Char value) = leaf g s (expr.Char p value)
 operand_at g s p (token.Str bytes) = leaf g s (expr.Str p bytes)
 operand_at g s p (token.Mark m) = mark_operand g s m p
 operand_at g s p (token.Word w) = word_operand g s w p
-operand_at g s p token.End = fed.Refused
+operand_at g s p token.End = turn.Refused
 
 -- the first token of an operand
 unfoldable pub operand : Site → Opens → Token → Fed
@@ -131,9 +131,9 @@ close_over g (o ∷ s) p specs stars = cast_opened g (o ∷ s) (open_.Cast p spe
 
 -- the closing parenthesis of a type
 unfoldable pub close_type : Site → Opens → List Word → Stars → Fed
-close_type g [] specs stars = fed.Refused
+close_type g [] specs stars = turn.Refused
 close_type g (open_.Paren p ∷ s) specs stars = close_over g s p specs (all_stars stars)
-close_type g (_ ∷ s) specs stars = fed.Refused
+close_type g (_ ∷ s) specs stars = turn.Refused
 
 -- is it `const`?
 abbrev pub is_const : Word → Bool
@@ -144,20 +144,20 @@ is_const _ = false
 unfoldable pub word_of_type : Site → Opens → List Word → Stars → Word → Fed
 word_of_type g s specs stars w =
     cond stars.pending
-    (cond (is_const w) (goes g s (now.Type specs (constant stars)) 0) fed.Refused)
-    (cond (nat_eq (length stars.done) 0 && is_spec_word w) (goes g s (now.Type (specs ++ w ∷ []) stars) 0) fed.Refused)
+    (cond (is_const w) (goes g s (now.Type specs (constant stars)) 0) turn.Refused)
+    (cond (nat_eq (length stars.done) 0 && is_spec_word w) (goes g s (now.Type (specs ++ w ∷ []) stars) 0) turn.Refused)
 
 -- a mark in the name of a type: one more star, or the closing parenthesis (C17 6.7.7)
 unfoldable pub mark_of_type : Site → Opens → List Word → Stars → Mark → Fed
 mark_of_type g s specs stars mark.Star = goes g s (now.Type specs (star stars)) 0
 mark_of_type g s specs stars mark.RightParen = close_type g s specs stars
-mark_of_type g s specs stars _ = fed.Refused
+mark_of_type g s specs stars _ = turn.Refused
 
 -- a token of this kind in the name of a type: only a word or a mark can stand there
 abbrev pub in_type_at : Site → Opens → List Word → Stars → TokenKind → Fed
 in_type_at g s specs stars (token.Word w) = word_of_type g s specs stars w
 in_type_at g s specs stars (token.Mark m) = mark_of_type g s specs stars m
-in_type_at g s specs stars _ = fed.Refused
+in_type_at g s specs stars _ = turn.Refused
 
 -- a token in the name of a type
 unfoldable pub in_type : Site → Opens → List Word → Stars → Token → Fed
@@ -220,22 +220,22 @@ colon g s p a b = goes g (open_.Other p a b ∷ s) now.Operand 0
 unfoldable pub argued : Site → Opens → Called → Mark → Fed
 argued g s c mark.Comma = goes g (open_.Call c.place c.name c.args c.height ∷ s) now.Operand 0
 argued g s c mark.RightParen = valued g s (term (expr.Call c.place c.name c.args) 15 (plus c.height 1))
-argued g s c _ = fed.Refused
+argued g s c _ = turn.Refused
 
 -- the mark behind `test ? then`: only `:` can stand there
 unfoldable pub then_ends : Site → Opens → Place → Term → Term → Mark → Fed
 then_ends g s p a b mark.Colon = colon g s p a b
-then_ends g s p a b _ = fed.Refused
+then_ends g s p a b _ = turn.Refused
 
 -- the mark behind an expression in parentheses: only `)` can stand there
 unfoldable pub paren_ends : Site → Opens → Place → Term → Mark → Fed
 paren_ends g s p a mark.RightParen = valued g s (enclosed p a)
-paren_ends g s p a _ = fed.Refused
+paren_ends g s p a _ = turn.Refused
 
 -- the mark behind `base [ index`: only `]` can stand there
 unfoldable pub index_ends : Site → Opens → Place → Term → Term → Mark → Fed
 index_ends g s p a b mark.RightBracket = valued g s (indexed p a b)
-index_ends g s p a b _ = fed.Refused
+index_ends g s p a b _ = turn.Refused
 
 -- the construct around a value goes on with the mark behind it
 unfoldable pub enclose : Site → Opens → Open → Term → Mark → Fed
@@ -244,12 +244,12 @@ enclose g s (open_.Paren p) a m = paren_ends g s p a m
 enclose g s (open_.Index p a) b m = index_ends g s p a b m
 enclose g s (open_.Call p name args height) a m =
     argued g s (record { place = p; name = name; args = args ++ a.tree ∷ []; height = max height a.height }) m
-enclose g s o a m = fed.Refused
+enclose g s o a m = turn.Refused
 
 -- a token of this kind behind a value in a construct that awaits a mark there
 abbrev pub enclose_by : Site → Opens → Open → Term → TokenKind → Fed
 enclose_by g s o a (token.Mark m) = enclose g s o a m
-enclose_by g s o a _ = fed.Refused
+enclose_by g s o a _ = turn.Refused
 
 -- is the token an operator that takes a value of this rank as its left operand, in a place that takes the first rank or a higher one?
 abbrev pub takes_token : ℕ → ℕ → TokenKind → Bool
@@ -259,7 +259,7 @@ takes_token k rank _ = false
 -- a token that is an operator takes the value before it as its left operand
 abbrev pub take_token : Site → Opens → Term → TokenKind → Place → Fed
 take_token g s a (token.Mark m) p = take_operator g s a m p
-take_token g s a _ p = fed.Refused
+take_token g s a _ p = turn.Refused
 
 -- a construct that is whole is a value before the same token; one that still lacks a mark gets the token
 abbrev pub closed_by : Site → Opens → Plugged → TokenKind → (Term → Fed) → Fed
@@ -268,7 +268,7 @@ closed_by g s (plugged.Part o a) t again = enclose_by g s o a t
 
 -- the token behind an operand
 unfoldable pub value : Site → Opens → Term → Token → Fed
-value g [] a t = cond (takes_token (hole g []) a.rank t.what) (take_token g [] a t.what t.place) (fed.Ends a.tree)
+value g [] a t = cond (takes_token (hole g []) a.rank t.what) (take_token g [] a t.what t.place) (turn.Done a.tree)
 value g (o ∷ s) a t =
     cond (takes_token (hole g (o ∷ s)) a.rank t.what) (take_token g (o ∷ s) a t.what t.place)
     (closed_by g s (plug o a) t.what (λ b. value g s b t))

@@ -4,9 +4,7 @@ use Rattle.k_steps.specs.Types.{Token, TokenKind, Mark, ExpressionStage, Reading
 use Rattle.k_tree.specs.declared.tokens.TokenKind.TheVariants as token
 use Rattle.k_tree.specs.declared.tokens.mark.Mark.TheVariants as mark
 use Rattle.k_steps.specs.declared.expression.ExpressionStage.TheVariants as now
-use Rattle.k_steps.specs.declared.expression.Fed.TheVariants as fed
-use Rattle.k_steps.specs.declared.reading.Read.TheVariants as read_
-use Rattle.k_steps.specs.declared.reading.Maybe.TheVariants as maybe_
+use Rattle.k_steps.specs.declared.turn.Turn.TheVariants as turn
 use Rattle.k_steps.specs.Expressions.{feed}
 use Rattle.k_steps.specs.declared.reading.Closer.TheVariants as closer
 
@@ -38,9 +36,9 @@ is_fresh r = is_operand r.state && nat_eq (length r.opens) 0
 
 -- the expression goes on, or it ended before the token, which must be the mark that closes it
 abbrev pub read_by : Fed → Bool → Read
-read_by (fed.Goes r reach) closed = read_.Goes r reach
-read_by (fed.Ends value) closed = cond closed (read_.Done value) read_.Refused
-read_by fed.Refused closed = read_.Refused
+read_by (turn.Goes r reach) closed = turn.Goes r reach
+read_by (turn.Done value) closed = cond closed (turn.Done value) turn.Refused
+read_by turn.Refused closed = turn.Refused
 
 -- the next token of an expression up to a mark
 unfoldable pub read_needed : Reading → Token → Closer → Read
@@ -48,10 +46,10 @@ read_needed r t c = read_by (feed r t) (closes t c)
 
 -- what a token does in an expression that was not left out
 abbrev pub maybe_by : Read → Maybe
-maybe_by (read_.Goes r reach) = maybe_.Goes r reach
-maybe_by (read_.Done value) = maybe_.Done (Some value)
-maybe_by read_.Refused = maybe_.Refused
+maybe_by (turn.Goes r reach) = turn.Goes r reach
+maybe_by (turn.Done value) = turn.Done (Some value)
+maybe_by turn.Refused = turn.Refused
 
 -- the next token of an expression that may be left out, up to a mark
 unfoldable pub read_maybe : Reading → Token → Closer → Maybe
-read_maybe r t c = cond (is_fresh r && closes t c) (maybe_.Done None) (maybe_by (read_needed r t c))
+read_maybe r t c = cond (is_fresh r && closes t c) (turn.Done None) (maybe_by (read_needed r t c))

@@ -8,17 +8,14 @@ use Rattle.k_steps.specs.Operators.{is_spec_word}
 use Rattle.k_steps.specs.Expressions.{is_left_paren}
 use Rattle.k_steps.specs.Declarations.{begin_declaration, feed_declaration}
 use Rattle.k_steps.specs.declared.declaration.DeclarationStage.TheVariants as stage
-use Rattle.k_steps.specs.declared.declaration.Declared.TheVariants as declared_
+use Rattle.k_steps.specs.declared.turn.Turn.TheVariants as turn
 use Rattle.k_steps.specs.Parameters.{begin_parameters, feed_parameters}
-use Rattle.k_steps.specs.declared.parameter.Parametric.TheVariants as parametric
 use Rattle.k_steps.specs.Statements.{begin_body, feed_body}
-use Rattle.k_steps.specs.declared.statement.Stepped.TheVariants as stepped
 use Rattle.k_steps.specs.declared.source.SourceStage.TheVariants as phase
-use Rattle.k_steps.specs.declared.source.Sourced.TheVariants as sourced
 
 -- the source goes on in this phase, and the token makes sure that a node lies at this level
 abbrev pub goes_on : List Item → SourceStage → ℕ → Sourced
-goes_on items p reach = sourced.Goes (record { items = items; phase = p }) reach
+goes_on items p reach = turn.Goes (record { items = items; phase = p }) reach
 
 -- nothing was read yet
 abbrev pub begin_source : Source
@@ -30,9 +27,9 @@ item_done items i = goes_on (items ++ i ∷ []) phase.Starts 0
 
 -- a token of this kind where an item begins: the end of the source, or the first specifier of a declaration or a function
 abbrev pub kind_starts : List Item → Place → TokenKind → Sourced
-kind_starts items p token.End = sourced.Done (record { items = items; end = p })
-kind_starts items p (token.Word w) = cond (is_spec_word w) (goes_on items (phase.Declares p (begin_declaration w 1)) 0) sourced.Refused
-kind_starts items p _ = sourced.Refused
+kind_starts items p token.End = turn.Done (record { items = items; end = p })
+kind_starts items p (token.Word w) = cond (is_spec_word w) (goes_on items (phase.Declares p (begin_declaration w 1)) 0) turn.Refused
+kind_starts items p _ = turn.Refused
 
 -- a token where an item begins
 unfoldable pub starts : List Item → Token → Sourced
@@ -54,7 +51,7 @@ title_of f d = record { specs = f.specs; stars = d.stars; name = d.name; name_pl
 -- `(` behind the name of the first declarator: the parameters of a function begin (C17 6.7.6.3)
 abbrev pub titled_at : List Item → Place → Front → DeclarationStage → Sourced
 titled_at items p f (stage.Named d) = goes_on items (phase.Parameters p (title_of f d) begin_parameters) 0
-titled_at items p f _ = sourced.Refused
+titled_at items p f _ = turn.Refused
 
 -- `(` in an item of which just the name of the first declarator was read: it is a function
 unfoldable pub titled : List Item → Place → Declaration → Sourced
@@ -62,9 +59,9 @@ titled items p d = titled_at items p d.front d.stage
 
 -- the declaration goes on, or its semicolon was read and it is an item, or the token can't stand there (C17 6.9.2)
 abbrev pub declares_by : List Item → Place → Declared → Sourced
-declares_by items p (declared_.Goes d reach) = goes_on items (phase.Declares p d) reach
-declares_by items p (declared_.Done specs list) = item_done items (item.Objects p specs list)
-declares_by items p declared_.Refused = sourced.Refused
+declares_by items p (turn.Goes d reach) = goes_on items (phase.Declares p d) reach
+declares_by items p (turn.Done (specs, list)) = item_done items (item.Objects p specs list)
+declares_by items p turn.Refused = turn.Refused
 
 -- a token in an item that may be a declaration or a function
 unfoldable pub declares : List Item → Place → Declaration → Token → Sourced
@@ -77,9 +74,9 @@ head_of t ps = record { specs = t.specs; stars = t.stars; name = t.name; name_pl
 
 -- the parameters go on, or their `)` was read and the head is done, or the token can't stand there
 abbrev pub parameters_by : List Item → Place → Title → Parametric → Sourced
-parameters_by items p t (parametric.Goes ps reach) = goes_on items (phase.Parameters p t ps) reach
-parameters_by items p t (parametric.Done ps) = goes_on items (phase.Headed p (head_of t ps)) 0
-parameters_by items p t parametric.Refused = sourced.Refused
+parameters_by items p t (turn.Goes ps reach) = goes_on items (phase.Parameters p t ps) reach
+parameters_by items p t (turn.Done ps) = goes_on items (phase.Headed p (head_of t ps)) 0
+parameters_by items p t turn.Refused = turn.Refused
 
 -- a token in the parameters of a function (C17 6.7.6.3)
 unfoldable pub parameters : List Item → Place → Title → Parameters → Token → Sourced
@@ -89,12 +86,12 @@ parameters items p title ps t = parameters_by items p title (feed_parameters ps 
 unfoldable pub mark_headed : List Item → Place → Head → Mark → Sourced
 mark_headed items p h mark.Semicolon = item_done items (item.Prototype p h)
 mark_headed items p h mark.LeftBrace = goes_on items (phase.Body p h begin_body) 0
-mark_headed items p h _ = sourced.Refused
+mark_headed items p h _ = turn.Refused
 
 -- a token of this kind behind the head of a function: only a mark can stand there
 abbrev pub kind_headed : List Item → Place → Head → TokenKind → Sourced
 kind_headed items p h (token.Mark m) = mark_headed items p h m
-kind_headed items p h _ = sourced.Refused
+kind_headed items p h _ = turn.Refused
 
 -- the token behind the head of a function
 unfoldable pub headed : List Item → Place → Head → Token → Sourced
@@ -102,9 +99,9 @@ headed items p h t = kind_headed items p h t.what
 
 -- the block goes on, or its `}` was read and the function is an item, or the token can't stand there
 abbrev pub body_by : List Item → Place → Head → Place → Stepped → Sourced
-body_by items p h q (stepped.Goes b reach) = goes_on items (phase.Body p h b) reach
-body_by items p h q (stepped.Done parts) = item_done items (item.Function p h parts q)
-body_by items p h q stepped.Refused = sourced.Refused
+body_by items p h q (turn.Goes b reach) = goes_on items (phase.Body p h b) reach
+body_by items p h q (turn.Done parts) = item_done items (item.Function p h parts q)
+body_by items p h q turn.Refused = turn.Refused
 
 -- a token in the block of a function
 unfoldable pub in_body : List Item → Place → Head → Body → Token → Sourced

@@ -12,17 +12,13 @@ use Rattle.k_steps.specs.Operators.{is_spec_word, is_semicolon, is_left_brace, i
 use Rattle.k_steps.specs.Top.{top}
 use Rattle.k_steps.specs.Level.{plus}
 use Rattle.k_steps.specs.Expressions.{begin, feed, is_left_paren, is_sizeof}
-use Rattle.k_steps.specs.declared.expression.Fed.TheVariants as fed
+use Rattle.k_steps.specs.declared.turn.Turn.TheVariants as turn
 use Rattle.k_steps.specs.Readings.{closes, is_fresh, read_needed, read_maybe}
 use Rattle.k_steps.specs.declared.reading.Closer.TheVariants as closer
-use Rattle.k_steps.specs.declared.reading.Read.TheVariants as read
-use Rattle.k_steps.specs.declared.reading.Maybe.TheVariants as maybe
 use Rattle.k_steps.specs.Declarations.{begin_declaration, feed_declaration}
-use Rattle.k_steps.specs.declared.declaration.Declared.TheVariants as declared_
 use Rattle.k_steps.specs.declared.statement.Frame.TheVariants as frame
 use Rattle.k_steps.specs.declared.statement.Tested.TheVariants as tested
 use Rattle.k_steps.specs.declared.statement.BlockStage.TheVariants as step
-use Rattle.k_steps.specs.declared.statement.Stepped.TheVariants as stepped
 use Rattle.k_steps.specs.declared.statement.clause.Fitted.TheVariants as closed
 
 -- statements of a block, in their order
@@ -35,7 +31,7 @@ Frames = List Frame
 
 -- the block goes on at this step, and the token makes sure that a node lies at this level
 abbrev pub steps : Parts → Frames → BlockStage → ℕ → Stepped
-steps ps s n reach = stepped.Goes (record { parts = ps; frames = s; step = n }) reach
+steps ps s n reach = turn.Goes (record { parts = ps; frames = s; step = n }) reach
 
 -- this statement was read to its end
 abbrev pub whole : Parts → Frames → Stmt → Stepped
@@ -59,9 +55,9 @@ begin_body = record { parts = []; frames = []; step = step.Begins }
 
 -- the expression goes on, or its semicolon was read and it is a statement, or the token can't stand there (C17 6.8.3)
 abbrev pub value_by : Parts → Frames → Place → Read → Stepped
-value_by ps s p (read.Goes r reach) = steps ps s (step.Value p r) reach
-value_by ps s p (read.Done e) = whole ps s (stmt.Expr p e)
-value_by ps s p read.Refused = stepped.Refused
+value_by ps s p (turn.Goes r reach) = steps ps s (step.Value p r) reach
+value_by ps s p (turn.Done e) = whole ps s (stmt.Expr p e)
+value_by ps s p turn.Refused = turn.Refused
 
 -- a token in an expression that is a statement (C17 6.8.3)
 unfoldable pub value : Parts → Frames → Place → Reading → Token → Stepped
@@ -69,9 +65,9 @@ value ps s p r t = value_by ps s p (read_needed r t closer.Semicolon)
 
 -- the value of `return` goes on, or the semicolon was read, or the token can't stand there (C17 6.8.6.4)
 abbrev pub returned_by : Parts → Frames → Place → Maybe → Stepped
-returned_by ps s p (maybe.Goes r reach) = steps ps s (step.Return p r) reach
-returned_by ps s p (maybe.Done e) = whole ps s (stmt.Return p e)
-returned_by ps s p maybe.Refused = stepped.Refused
+returned_by ps s p (turn.Goes r reach) = steps ps s (step.Return p r) reach
+returned_by ps s p (turn.Done e) = whole ps s (stmt.Return p e)
+returned_by ps s p turn.Refused = turn.Refused
 
 -- a token behind `return` (C17 6.8.6.4)
 unfoldable pub returned : Parts → Frames → Place → Reading → Token → Stepped
@@ -79,9 +75,9 @@ returned ps s p r t = returned_by ps s p (read_maybe r t closer.Semicolon)
 
 -- the declaration goes on, or its semicolon was read, or the token can't stand there (C17 6.8.2)
 abbrev pub local_by : Parts → Frames → Place → Declared → Stepped
-local_by ps s p (declared_.Goes d reach) = steps ps s (step.Local p d) reach
-local_by ps s p (declared_.Done specs list) = whole ps s (stmt.Declare p specs list)
-local_by ps s p declared_.Refused = stepped.Refused
+local_by ps s p (turn.Goes d reach) = steps ps s (step.Local p d) reach
+local_by ps s p (turn.Done (specs, list)) = whole ps s (stmt.Declare p specs list)
+local_by ps s p turn.Refused = turn.Refused
 
 -- a token in a declaration in a block (C17 6.8.2)
 unfoldable pub local : Parts → Frames → Place → Declaration → Token → Stepped
@@ -89,7 +85,7 @@ local ps s p d t = local_by ps s p (feed_declaration d t)
 
 -- the token behind a statement that lacks only its semicolon
 unfoldable pub semicolon : Parts → Frames → Stmt → Token → Stepped
-semicolon ps s x t = cond (closes t closer.Semicolon) (whole ps s x) stepped.Refused
+semicolon ps s x t = cond (closes t closer.Semicolon) (whole ps s x) turn.Refused
 
 -- the first token of a statement
 
@@ -114,23 +110,23 @@ is_in_switch s = in_switch_by (top s)
 
 -- `}` where a statement begins: the innermost block or `switch` ends, or the block of the function, or it can't stand there (C17 6.8.2)
 unfoldable pub block_ends : Parts → Frames → Stepped
-block_ends ps [] = stepped.Done ps
+block_ends ps [] = turn.Done ps
 block_ends ps (frame.Block p parts ∷ s) = whole ps s (stmt.Block p parts)
 block_ends ps (frame.Switch p e parts ∷ s) = whole ps s (stmt.Switch p e parts)
-block_ends ps (_ ∷ s) = stepped.Refused
+block_ends ps (_ ∷ s) = turn.Refused
 
 -- a specifier where a statement begins: the first one of a declaration, which only a block may have (C17 6.8.2)
 unfoldable pub declares : Parts → Frames → Word → Place → Stepped
 declares ps s w p =
-    cond (is_spec_word w && is_in_block s) (steps ps s (step.Local p (begin_declaration w (inner s))) (level s)) stepped.Refused
+    cond (is_spec_word w && is_in_block s) (steps ps s (step.Local p (begin_declaration w (inner s))) (level s)) turn.Refused
 
 -- `case` where a statement begins: its value begins, right in the braces of a `switch` alone (C17 6.8.1)
 unfoldable pub case_begins : Parts → Frames → Place → Stepped
-case_begins ps s p = cond (is_in_switch s) (steps ps s (step.Case p (begin 2 (level s))) (level s)) stepped.Refused
+case_begins ps s p = cond (is_in_switch s) (steps ps s (step.Case p (begin 2 (level s))) (level s)) turn.Refused
 
 -- `default` where a statement begins, right in the braces of a `switch` alone (C17 6.8.1)
 unfoldable pub default_begins : Parts → Frames → Place → Stepped
-default_begins ps s p = cond (is_in_switch s) (steps ps s (step.Default p) 0) stepped.Refused
+default_begins ps s p = cond (is_in_switch s) (steps ps s (step.Default p) 0) turn.Refused
 
 -- a word that begins a statement: `if`, `switch`, a loop, `break`, `continue` or `return`; or one that begins a label (C17 6.8.1 to 6.8.6)
 unfoldable pub jump : Parts → Frames → Word → Place → Stepped
@@ -144,7 +140,7 @@ jump ps s word.Default p = default_begins ps s p
 jump ps s word.Break p = steps ps s (step.Semicolon (stmt.Break p)) (level s)
 jump ps s word.Continue p = steps ps s (step.Semicolon (stmt.Continue p)) (level s)
 jump ps s word.Return p = steps ps s (step.Return p (begin 0 (inner s))) (level s)
-jump ps s _ p = stepped.Refused
+jump ps s _ p = turn.Refused
 
 -- a word where a statement begins: a specifier, or one that begins a statement
 unfoldable pub keyword : Parts → Frames → Word → Place → Stepped
@@ -152,9 +148,9 @@ keyword ps s w p = cond (is_spec_word w) (declares ps s w p) (jump ps s w p)
 
 -- an expression that is a statement began, or the token can't stand there
 abbrev pub expression_by : Parts → Frames → Place → Fed → Stepped
-expression_by ps s p (fed.Goes r reach) = steps ps s (step.Value p r) reach
-expression_by ps s p (fed.Ends e) = stepped.Refused
-expression_by ps s p fed.Refused = stepped.Refused
+expression_by ps s p (turn.Goes r reach) = steps ps s (step.Value p r) reach
+expression_by ps s p (turn.Done e) = turn.Refused
+expression_by ps s p turn.Refused = turn.Refused
 
 -- the first token of an expression that is a statement (C17 6.8.3)
 unfoldable pub expression : Parts → Frames → Token → Stepped
@@ -188,7 +184,7 @@ begins ps s t = begins_by ps s t t.what
 
 -- the token behind a word that a test belongs to: only `(` can stand there
 unfoldable pub opened : Parts → Frames → Tested → Token → Stepped
-opened ps s x t = cond (is_left_paren t.what) (steps ps s (step.Test x (begin 0 (inner s))) 0) stepped.Refused
+opened ps s x t = cond (is_left_paren t.what) (steps ps s (step.Test x (begin 0 (inner s))) 0) turn.Refused
 
 -- the `)` of a test was read: its statement is awaited, or behind `do` the semicolon, or the braces of a `switch` (C17 6.8.4, 6.8.5.1, 6.8.5.2)
 unfoldable pub test_done : Parts → Frames → Tested → Expr → Stepped
@@ -199,9 +195,9 @@ test_done ps s (tested.Do p b) e = steps ps s (step.Semicolon (stmt.DoWhile p b 
 
 -- the test goes on, or its `)` was read, or the token can't stand there
 abbrev pub test_by : Parts → Frames → Tested → Read → Stepped
-test_by ps s x (read.Goes r reach) = steps ps s (step.Test x r) reach
-test_by ps s x (read.Done e) = test_done ps s x e
-test_by ps s x read.Refused = stepped.Refused
+test_by ps s x (turn.Goes r reach) = steps ps s (step.Test x r) reach
+test_by ps s x (turn.Done e) = test_done ps s x e
+test_by ps s x turn.Refused = turn.Refused
 
 -- a token in the test of `if`, `while`, `do` or `switch` (C17 6.8.4, 6.8.5.1, 6.8.5.2)
 unfoldable pub test : Parts → Frames → Tested → Reading → Token → Stepped
@@ -229,7 +225,7 @@ is_while _ = false
 
 -- the token behind the statement of `do`: only `while` can stand there (C17 6.8.5.2)
 unfoldable pub do_while : Parts → Frames → Place → Stmt → Token → Stepped
-do_while ps s p b t = cond (is_while t.what) (steps ps s (step.Keyword (tested.Do p b)) 0) stepped.Refused
+do_while ps s p b t = cond (is_while t.what) (steps ps s (step.Keyword (tested.Do p b)) 0) turn.Refused
 
 -- the token behind a statement of a block, where the next one begins or the block ends (C17 6.8.2)
 unfoldable pub more : Parts → Frames → Place → Parts → Stmt → Token → Stepped
@@ -250,7 +246,7 @@ part ps s (frame.Then p e) a t = otherwise ps s p e a
 part ps s (frame.Do p) a t = do_while ps s p a t
 part ps s (frame.Block p parts) a t = more ps s p parts a t
 part ps s (frame.Switch p e parts) a t = more_switched ps s p e parts a t
-part ps s _ a t = stepped.Refused
+part ps s _ a t = turn.Refused
 
 -- a construct that is whole is a statement before the same token; one that isn't gets the token
 abbrev pub closed_by : Parts → Frames → Fitted → Token → (Stmt → Stepped) → Stepped
@@ -266,7 +262,7 @@ behind ps (f ∷ s) x t = closed_by ps s (close f x (is_else t.what)) t (λ y. b
 
 -- the token behind `for`: only `(` can stand there (C17 6.8.5.3)
 unfoldable pub for_opened : Parts → Frames → Place → Token → Stepped
-for_opened ps s p t = cond (is_left_paren t.what) (steps ps s (step.Start p (begin 0 (inner s))) 0) stepped.Refused
+for_opened ps s p t = cond (is_left_paren t.what) (steps ps s (step.Start p (begin 0 (inner s))) 0) turn.Refused
 
 -- the first part of a `for` was read, and the second one begins (C17 6.8.5.3)
 abbrev pub second_begins : Parts → Frames → Place → First → Stepped
@@ -288,9 +284,9 @@ specifier r t = specifier_by r t.what
 
 -- the first part of a `for` goes on, or its semicolon was read, or the token can't stand there
 abbrev pub start_by : Parts → Frames → Place → Maybe → Stepped
-start_by ps s p (maybe.Goes r reach) = steps ps s (step.Start p r) reach
-start_by ps s p (maybe.Done e) = second_begins ps s p (first_of e)
-start_by ps s p maybe.Refused = stepped.Refused
+start_by ps s p (turn.Goes r reach) = steps ps s (step.Start p r) reach
+start_by ps s p (turn.Done e) = second_begins ps s p (first_of e)
+start_by ps s p turn.Refused = turn.Refused
 
 -- the token in the first part of a `for`: this specifier begins a declaration, else it belongs to an expression
 abbrev pub start_with : Parts → Frames → Place → Reading → Token → Option Word → Stepped
@@ -303,9 +299,9 @@ start ps s p r t = start_with ps s p r t (specifier r t)
 
 -- the declaration in a `for` goes on, or its semicolon was read, or the token can't stand there
 abbrev pub for_declares_by : Parts → Frames → Place → Declared → Stepped
-for_declares_by ps s p (declared_.Goes d reach) = steps ps s (step.Declares p d) reach
-for_declares_by ps s p (declared_.Done specs list) = second_begins ps s p (first.Declare specs list)
-for_declares_by ps s p declared_.Refused = stepped.Refused
+for_declares_by ps s p (turn.Goes d reach) = steps ps s (step.Declares p d) reach
+for_declares_by ps s p (turn.Done (specs, list)) = second_begins ps s p (first.Declare specs list)
+for_declares_by ps s p turn.Refused = turn.Refused
 
 -- a token in a declaration that is the first part of a `for` (C17 6.8.5.3)
 unfoldable pub for_declares : Parts → Frames → Place → Declaration → Token → Stepped
@@ -313,9 +309,9 @@ for_declares ps s p d t = for_declares_by ps s p (feed_declaration d t)
 
 -- the second part of a `for` goes on, or its semicolon was read, or the token can't stand there
 abbrev pub second_by : Parts → Frames → Place → First → Maybe → Stepped
-second_by ps s p start (maybe.Goes r reach) = steps ps s (step.Second p start r) reach
-second_by ps s p start (maybe.Done e) = steps ps s (step.Third p start e (begin 0 (inner s))) 0
-second_by ps s p start maybe.Refused = stepped.Refused
+second_by ps s p start (turn.Goes r reach) = steps ps s (step.Second p start r) reach
+second_by ps s p start (turn.Done e) = steps ps s (step.Third p start e (begin 0 (inner s))) 0
+second_by ps s p start turn.Refused = turn.Refused
 
 -- a token in the second part of a `for`, its test (C17 6.8.5.3)
 unfoldable pub second : Parts → Frames → Place → First → Reading → Token → Stepped
@@ -327,9 +323,9 @@ body_begins ps s p start test step = await_part ps s (frame.For p start test ste
 
 -- the third part of a `for` goes on, or its `)` was read, or the token can't stand there
 abbrev pub third_by : Parts → Frames → Place → First → Option Expr → Maybe → Stepped
-third_by ps s p start test (maybe.Goes r reach) = steps ps s (step.Third p start test r) reach
-third_by ps s p start test (maybe.Done e) = body_begins ps s p start test e
-third_by ps s p start test maybe.Refused = stepped.Refused
+third_by ps s p start test (turn.Goes r reach) = steps ps s (step.Third p start test r) reach
+third_by ps s p start test (turn.Done e) = body_begins ps s p start test e
+third_by ps s p start test turn.Refused = turn.Refused
 
 -- a token in the third part of a `for`, what is done behind each round (C17 6.8.5.3)
 unfoldable pub third : Parts → Frames → Place → First → Option Expr → Reading → Token → Stepped
@@ -344,18 +340,18 @@ is_brace _ = false
 
 -- the token behind the parentheses of a `switch`: only `{` can stand there (C17 6.8.4.2)
 unfoldable pub braces : Parts → Frames → Place → Expr → Token → Stepped
-braces ps s p e t = cond (is_brace t.what) (await_part ps s (frame.Switch p e []) 0) stepped.Refused
+braces ps s p e t = cond (is_brace t.what) (await_part ps s (frame.Switch p e []) 0) turn.Refused
 
 -- a label was read in the braces of a `switch`, and the next part begins (C17 6.8.1)
 unfoldable pub labelled : Parts → Frames → Part → Stepped
 labelled ps (frame.Switch p e parts ∷ s) x = steps ps (frame.Switch p e (parts ++ x ∷ []) ∷ s) step.Begins 0
-labelled ps _ x = stepped.Refused
+labelled ps _ x = turn.Refused
 
 -- the value of a `case` goes on, or its `:` was read, or the token can't stand there
 abbrev pub case_by : Parts → Frames → Place → Read → Stepped
-case_by ps s p (read.Goes r reach) = steps ps s (step.Case p r) reach
-case_by ps s p (read.Done e) = labelled ps s (part_.Case p e)
-case_by ps s p read.Refused = stepped.Refused
+case_by ps s p (turn.Goes r reach) = steps ps s (step.Case p r) reach
+case_by ps s p (turn.Done e) = labelled ps s (part_.Case p e)
+case_by ps s p turn.Refused = turn.Refused
 
 -- a token in the value of a `case`, a conditional expression (C17 6.8.1)
 unfoldable pub case_value : Parts → Frames → Place → Reading → Token → Stepped
@@ -363,14 +359,14 @@ case_value ps s p r t = case_by ps s p (read_needed r t closer.Colon)
 
 -- the token behind `default`: only `:` can stand there (C17 6.8.1)
 unfoldable pub default_label : Parts → Frames → Place → Token → Stepped
-default_label ps s p t = cond (closes t closer.Colon) (labelled ps s (part_.Default p)) stepped.Refused
+default_label ps s p t = cond (closes t closer.Colon) (labelled ps s (part_.Default p)) turn.Refused
 
 -- a token in a label, or before the braces of a `switch` (C17 6.8.1, 6.8.4.2)
 unfoldable pub in_switch : Parts → Frames → BlockStage → Token → Stepped
 in_switch ps s (step.Braces p e) t = braces ps s p e t
 in_switch ps s (step.Case p r) t = case_value ps s p r t
 in_switch ps s (step.Default p) t = default_label ps s p t
-in_switch ps s _ t = stepped.Refused
+in_switch ps s _ t = turn.Refused
 
 -- a token in the parentheses of a `for` or before them, or one of a `switch` (C17 6.8.4.2, 6.8.5.3)
 unfoldable pub in_for : Parts → Frames → BlockStage → Token → Stepped

@@ -5,6 +5,7 @@ use crate::declaration::initialiser::{After, Brace};
 use crate::expression::Reading;
 use crate::stack::Stack;
 use crate::stars::Stars;
+use crate::turn::Turn;
 use k_num::{Box, Place, Seq};
 use k_tree::{Declarator, Word};
 
@@ -59,19 +60,5 @@ pub struct Declaration {
     pub stage: DeclarationStage,
 }
 
-/// What a token does in a declaration.
-#[derive(Drop)]
-pub enum Declared {
-    /// The declaration goes on; `reach` is the deepest level that the token makes sure.
-    Goes {
-        declaration: Declaration,
-        reach: usize,
-    },
-    /// The token is the semicolon.
-    Done {
-        specs: Seq<Word>,
-        list: Seq<Declarator>,
-    },
-    /// The token can't stand here.
-    Refused,
-}
+/// What a token does in a declaration. It is done with its semicolon: the specifiers, and the declarators.
+pub type Declared = Turn<Declaration, (Seq<Word>, Seq<Declarator>)>;

@@ -4,6 +4,7 @@ pub mod plug;
 
 use crate::stack::Stack;
 use crate::stars::Stars;
+use crate::turn::Turn;
 use k_num::{Place, Seq, Text};
 use k_tree::{Expr, Mark, Word};
 
@@ -96,13 +97,5 @@ pub struct Reading {
     pub state: ExpressionStage,
 }
 
-/// What a token does.
-#[derive(Drop)]
-pub enum Fed {
-    /// The expression goes on; `reach` is the deepest level that the token makes sure.
-    Goes { reading: Reading, reach: usize },
-    /// The expression ended before the token.
-    Ends { value: Expr },
-    /// The token can't stand here.
-    Refused,
-}
+/// What a token does in an expression. It is done before the token, which belongs to what stands around it.
+pub type Fed = Turn<Reading, Expr>;

@@ -18,3 +18,4 @@ pub mod stars;
 pub mod statement;
 #[cfg(test)]
 mod tests;
+pub mod turn;

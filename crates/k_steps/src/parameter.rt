@@ -2,6 +2,7 @@
 
 use crate::expression::Reading;
 use crate::stars::Stars;
+use crate::turn::Turn;
 use k_num::{Box, Seq};
 use k_tree::{Param, Params};
 
@@ -25,18 +26,5 @@ pub struct Parameters {
     pub part: ParameterStage,
 }
 
-/// What a token does among parameters.
-#[derive(Drop)]
-pub enum Parametric {
-    /// The parameters go on; `reach` is the deepest level that the token makes sure.
-    Goes {
-        parameters: Parameters,
-        reach: usize,
-    },
-    /// The token is the closing parenthesis.
-    Done {
-        params: Params,
-    },
-    /// The token can't stand here.
-    Refused,
-}
+/// What a token does among parameters. They are done with the closing parenthesis.
+pub type Parametric = Turn<Parameters, Params>;

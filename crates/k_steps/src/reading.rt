@@ -1,30 +1,15 @@
 //! An expression up to the mark that closes it.
 
 use crate::expression::Reading;
+use crate::turn::Turn;
 use k_num::Box;
 use k_tree::Expr;
 
-/// What a token does in an expression that a mark closes.
-#[derive(Drop)]
-pub enum Read {
-    /// The expression goes on; `reach` is the deepest level that the token makes sure.
-    Goes { reading: Box<Reading>, reach: usize },
-    /// The token is the mark.
-    Done { value: Box<Expr> },
-    /// The token can't stand here.
-    Refused,
-}
+/// What a token does in an expression that a mark closes. It is done with that mark.
+pub type Read = Turn<Box<Reading>, Box<Expr>>;
 
 /// What a token does in an expression that may be left out, and that a mark closes.
-#[derive(Drop)]
-pub enum Maybe {
-    /// The expression goes on; `reach` is the deepest level that the token makes sure.
-    Goes { reading: Box<Reading>, reach: usize },
-    /// The token is the mark.
-    Done { value: Option<Box<Expr>> },
-    /// The token can't stand here.
-    Refused,
-}
+pub type Maybe = Turn<Box<Reading>, Option<Box<Expr>>>;
 
 /// A mark that closes an expression.
 #[derive(Clone, Copy, Debug, PartialEq, Eq)]

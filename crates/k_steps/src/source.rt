@@ -3,6 +3,7 @@
 use crate::declaration::Declaration;
 use crate::parameter::Parameters;
 use crate::statement::Body;
+use crate::turn::Turn;
 use k_num::{Box, Place, Seq, Text};
 use k_tree::{Head, Item, Unit, Word};
 
@@ -51,13 +52,5 @@ pub struct Source {
     pub phase: SourceStage,
 }
 
-/// What a token does in a source.
-#[derive(Drop)]
-pub enum Sourced {
-    /// The source goes on; `reach` is the deepest level that the token makes sure.
-    Goes { source: Source, reach: usize },
-    /// The token is the end.
-    Done { unit: Unit },
-    /// The token can't stand here.
-    Refused,
-}
+/// What a token does in a source. It is done with the end.
+pub type Sourced = Turn<Source, Unit>;

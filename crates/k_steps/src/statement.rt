@@ -4,6 +4,7 @@ pub mod clause;
 use crate::declaration::Declaration;
 use crate::expression::Reading;
 use crate::stack::Stack;
+use crate::turn::Turn;
 use k_num::{Box, Place, Seq};
 use k_tree::{Expr, First, Part, Stmt};
 
@@ -148,13 +149,5 @@ pub struct Body {
     pub step: BlockStage,
 }
 
-/// What a token does in the block of a function.
-#[derive(Drop)]
-pub enum Stepped {
-    /// The block goes on; `reach` is the deepest level that the token makes sure.
-    Goes { body: Body, reach: usize },
-    /// The token is the closing brace of the block.
-    Done { parts: Seq<Stmt> },
-    /// The token can't stand here.
-    Refused,
-}
+/// What a token does in the block of a function. It is done with its closing brace.
+pub type Stepped = Turn<Body, Seq<Stmt>>;

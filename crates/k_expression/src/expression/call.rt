@@ -8,6 +8,7 @@ use k_steps::expression::call::Called;
 use k_steps::expression::{ExpressionStage, Fed, Open, Site, Term};
 use k_steps::level::plus;
 use k_steps::stack::Stack;
+use k_steps::turn::Turn;
 use k_tree::{Expr, Mark};
 
 /// The mark behind an argument.
@@ -45,6 +46,6 @@ pub fn argued(
             };
             Ok(goes(site, opens, ExpressionStage::Value { term }, 0))
         }
-        _ => Ok(Fed::Refused),
+        _ => Ok(Turn::Refused),
     }
 }

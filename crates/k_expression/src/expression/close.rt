@@ -13,6 +13,7 @@ use k_steps::expression::{ExpressionStage, Fed, Open, Site, Term};
 use k_steps::level::{above, plus};
 use k_steps::operators::{is_bracket, is_question, is_step, takes};
 use k_steps::stack::Stack;
+use k_steps::turn::Turn;
 use k_tree::{Expr, Mark, Token, TokenKind};
 use std::alloc::Global;
 
@@ -140,7 +141,7 @@ fn then_ends(
         _ => {
             drop(test);
             drop(then);
-            Ok(Fed::Refused)
+            Ok(Turn::Refused)
         }
     }
 }
@@ -164,7 +165,7 @@ fn paren_ends(
         }
         _ => {
             drop(term);
-            Ok(Fed::Refused)
+            Ok(Turn::Refused)
         }
     }
 }
@@ -190,7 +191,7 @@ fn index_ends(
         _ => {
             drop(base);
             drop(index);
-            Ok(Fed::Refused)
+            Ok(Turn::Refused)
         }
     }
 }
@@ -258,7 +259,7 @@ fn take_token(
         TokenKind::Mark(mark) => take(alloc, site, opens, term, *mark, token.place),
         _ => {
             drop(term);
-            Ok(Fed::Refused)
+            Ok(Turn::Refused)
         }
     }
 }
@@ -300,7 +301,7 @@ pub fn value(
             if goes_on {
                 return take_token(alloc, site, opens, term, token);
             }
-            Ok(Fed::Ends { value: term.tree })
+            Ok(Turn::Done(term.tree))
         }
         Some(around) => {
             if goes_on {

@@ -12,6 +12,7 @@ use k_steps::level::plus;
 use k_steps::operators::{is_close, is_open, is_spec, is_step};
 use k_steps::stack::Stack;
 use k_steps::stars::no_stars;
+use k_steps::turn::Turn;
 use k_tree::{Expr, Mark, Token, TokenKind, Word};
 use std::alloc::Global;
 
@@ -63,7 +64,7 @@ fn no_arguments(site: Site, mut opens: Stack<Open>) -> Fed
             },
         ) => {
             if !has_none(&args) {
-                return Fed::Refused;
+                return Turn::Refused;
             }
             let term = Term {
                 tree: Expr::Call { place, name, args },
@@ -73,7 +74,7 @@ fn no_arguments(site: Site, mut opens: Stack<Open>) -> Fed
             goes(site, opens, ExpressionStage::Value { term }, 0)
         }
         Some(around) => refused(around),
-        None => Fed::Refused,
+        None => Turn::Refused,
     }
 }
 
@@ -119,7 +120,7 @@ fn mark(site: Site, opens: Stack<Open>, mark: Mark, place: Place) -> Result<Fed,
     if is_prefix(mark) {
         return prefix(site, opens, mark, place);
     }
-    Ok(Fed::Refused)
+    Ok(Turn::Refused)
 }
 
 /// May the name of a type begin here? Then a `(` stands before it, and that may begin a cast, or follows `sizeof`.
@@ -169,10 +170,10 @@ fn word(
         return Ok(goes(site, opens, ExpressionStage::Operand, reach));
     }
     if !is_spec(word) {
-        return Ok(Fed::Refused);
+        return Ok(Turn::Refused);
     }
     if !is_before_type(site, &mut opens)? {
-        return Ok(Fed::Refused);
+        return Ok(Turn::Refused);
     }
     type_begins(alloc, site, opens, word)
 }
@@ -228,6 +229,6 @@ pub fn operand(
         }
         TokenKind::Mark(mark_read) => mark(site, opens, *mark_read, place),
         TokenKind::Word(word_read) => word(alloc, site, opens, *word_read, place),
-        TokenKind::End => Ok(Fed::Refused),
+        TokenKind::End => Ok(Turn::Refused),
     }
 }

@@ -8,6 +8,7 @@ use k_steps::expression::{ExpressionStage, Fed, Open, Site, Term};
 use k_steps::operators::is_spec;
 use k_steps::stack::Stack;
 use k_steps::stars::{Stars, all_stars, constant, star};
+use k_steps::turn::Turn;
 use k_tree::{Expr, Mark, Token, TokenKind, Word};
 
 /// The closing parenthesis of a type.
@@ -24,7 +25,7 @@ fn close(
     match opens.pop() {
         Some(Open::Paren { place }) => close_over(site, opens, place, specs, stars),
         Some(around) => Ok(refused(around)),
-        None => Ok(Fed::Refused),
+        None => Ok(Turn::Refused),
     }
 }
 
@@ -98,13 +99,13 @@ fn word(
 {
     if stars.pending {
         if !matches!(word, Word::Const) {
-            return Ok(Fed::Refused);
+            return Ok(Turn::Refused);
         }
         let stars = constant(stars)?;
         return Ok(goes(site, opens, ExpressionStage::Type { specs, stars }, 0));
     }
     if stars.done.len() > 0 || !is_spec(word) {
-        return Ok(Fed::Refused);
+        return Ok(Turn::Refused);
     }
     specs.push(word)?;
     Ok(goes(site, opens, ExpressionStage::Type { specs, stars }, 0))
@@ -127,7 +128,7 @@ fn mark(
             Ok(goes(site, opens, ExpressionStage::Type { specs, stars }, 0))
         }
         Mark::RightParen => close(site, opens, specs, stars),
-        _ => Ok(Fed::Refused),
+        _ => Ok(Turn::Refused),
     }
 }
 
@@ -145,6 +146,6 @@ pub fn in_type(
     match &token.what {
         TokenKind::Word(word_read) => word(site, opens, specs, stars, *word_read),
         TokenKind::Mark(mark_read) => mark(site, opens, specs, stars, *mark_read),
-        _ => Ok(Fed::Refused),
+        _ => Ok(Turn::Refused),
     }
 }

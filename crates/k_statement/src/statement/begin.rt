@@ -13,6 +13,7 @@ use k_steps::expression::Fed;
 use k_steps::operators::{is_left_brace, is_right_brace, is_semicolon, is_spec};
 use k_steps::stack::Stack;
 use k_steps::statement::{BlockStage, Frame, Stepped, Tested};
+use k_steps::turn::Turn;
 use k_tree::{Mark, Stmt, Token, TokenKind, Word};
 use std::alloc::Global;
 
@@ -34,7 +35,7 @@ fn block_ends(
     ensures { IfOk result (λ fed. fed ≡ spec.block_ends parts frames) }
 {
     match frames.pop() {
-        None => Ok(Stepped::Done { parts }),
+        None => Ok(Turn::Done(parts)),
         Some(
             Frame::Block {
                 place,
@@ -67,7 +68,7 @@ fn block_ends(
         ),
         Some(frame) => {
             drop(frame);
-            Ok(Stepped::Refused)
+            Ok(Turn::Refused)
         }
     }
 }
@@ -84,7 +85,7 @@ fn declares(
     ensures { IfOk result (λ fed. fed ≡ spec.declares parts frames word place) }
 {
     if !is_spec(word) || !is_in_block(&frames) {
-        return Ok(Stepped::Refused);
+        return Ok(Turn::Refused);
     }
     let reach = level(&frames)?;
     let declaration = begin_declaration(alloc, word, inner_level(&frames)?)?;
@@ -139,7 +140,7 @@ fn jump(
         Word::Break => await_semicolon(alloc, parts, frames, Stmt::Break { place }, own),
         Word::Continue => await_semicolon(alloc, parts, frames, Stmt::Continue { place }, own),
         Word::Return => return_begins(alloc, parts, frames, place),
-        _ => Ok(Stepped::Refused),
+        _ => Ok(Turn::Refused),
     }
 }
 
@@ -190,16 +191,16 @@ fn expression(
 {
     let reading = begin(alloc, 0, inner_level(&frames)?);
     match feed(alloc, reading, token)? {
-        Fed::Goes { reading, reach } => {
+        Turn::Goes(reading, reach) => {
             let reading = Box::new(alloc, reading)?;
             let place = token.place;
             Ok(steps(parts, frames, BlockStage::Value { place, reading }, reach))
         }
-        Fed::Ends { value } => {
+        Turn::Done(value) => {
             drop(value);
-            Ok(Stepped::Refused)
+            Ok(Turn::Refused)
         }
-        Fed::Refused => Ok(Stepped::Refused),
+        Turn::Refused => Ok(Turn::Refused),
     }
 }
 

@@ -13,6 +13,7 @@ use k_steps::reading::{Closer, Read};
 use k_steps::stack::Stack;
 use k_steps::statement::clause::Fitted;
 use k_steps::statement::{BlockStage, Frame, Stepped, Tested};
+use k_steps::turn::Turn;
 use k_tree::{Expr, Stmt, Token, TokenKind, Word};
 use std::alloc::Global;
 
@@ -28,7 +29,7 @@ pub fn opened(
     ensures { IfOk result (λ fed. fed ≡ spec.opened parts frames tested token.now) }
 {
     if !is_left_paren(token) {
-        return Ok(Stepped::Refused);
+        return Ok(Turn::Refused);
     }
     let reading = begin_boxed(alloc, 0, inner_level(&frames)?)?;
     Ok(steps(parts, frames, BlockStage::Test { tested, reading }, 0))
@@ -71,11 +72,11 @@ pub fn test(
     ensures { IfOk result (λ fed. fed ≡ spec.test parts frames tested reading token.now) }
 {
     match read_needed(alloc, reading, token, Closer::Paren)? {
-        Read::Goes { reading, reach } => {
+        Turn::Goes(reading, reach) => {
             Ok(steps(parts, frames, BlockStage::Test { tested, reading }, reach))
         }
-        Read::Done { value } => test_done(alloc, parts, frames, tested, value),
-        Read::Refused => Ok(Stepped::Refused),
+        Turn::Done(value) => test_done(alloc, parts, frames, tested, value),
+        Turn::Refused => Ok(Turn::Refused),
     }
 }
 
@@ -165,7 +166,7 @@ fn do_while(
     ensures { result ≡ spec.do_while parts frames place body token.now }
 {
     if !is_while(token) {
-        return Stepped::Refused;
+        return Turn::Refused;
     }
     let tested = Tested::Do { place, body };
     steps(parts, frames, BlockStage::Keyword { tested }, 0)
@@ -219,7 +220,7 @@ fn part(
         } => more_switched(alloc, parts, frames, place, on, inner, stmt, token),
         frame => {
             drop(frame);
-            Ok(Stepped::Refused)
+            Ok(Turn::Refused)
         }
     }
 }

@@ -14,6 +14,7 @@ use k_steps::operators::is_spec;
 use k_steps::reading::{Closer, Maybe};
 use k_steps::stack::Stack;
 use k_steps::statement::{BlockStage, Frame, Stepped};
+use k_steps::turn::Turn;
 use k_tree::{Expr, First, Stmt, Token, TokenKind, Word};
 use std::alloc::Global;
 
@@ -29,7 +30,7 @@ fn opened(
     ensures { IfOk result (λ fed. fed ≡ spec.for_opened parts frames place token.now) }
 {
     if !is_left_paren(token) {
-        return Ok(Stepped::Refused);
+        return Ok(Turn::Refused);
     }
     let reading = begin_boxed(alloc, 0, inner_level(&frames)?)?;
     Ok(steps(parts, frames, BlockStage::Start { place, reading }, 0))
@@ -104,11 +105,11 @@ fn start(
         ));
     }
     match read_maybe(alloc, reading, token, Closer::Semicolon)? {
-        Maybe::Goes { reading, reach } => {
+        Turn::Goes(reading, reach) => {
             Ok(steps(parts, frames, BlockStage::Start { place, reading }, reach))
         }
-        Maybe::Done { value } => second_begins(alloc, parts, frames, place, first_of(value)),
-        Maybe::Refused => Ok(Stepped::Refused),
+        Turn::Done(value) => second_begins(alloc, parts, frames, place, first_of(value)),
+        Turn::Refused => Ok(Turn::Refused),
     }
 }
 
@@ -125,7 +126,7 @@ fn declares(
     ensures { IfOk result (λ fed. fed ≡ spec.for_declares parts frames place declaration token.now) }
 {
     match feed_declaration(alloc, declaration.into_inner(), token)? {
-        Declared::Goes { declaration, reach } => {
+        Turn::Goes(declaration, reach) => {
             let declaration = Box::new(alloc, declaration)?;
             Ok(steps(
                 parts,
@@ -134,10 +135,10 @@ fn declares(
                 reach,
             ))
         }
-        Declared::Done { specs, list } => {
+        Turn::Done((specs, list)) => {
             second_begins(alloc, parts, frames, place, First::Declare(specs, list))
         }
-        Declared::Refused => Ok(Stepped::Refused),
+        Turn::Refused => Ok(Turn::Refused),
     }
 }
 
@@ -155,7 +156,7 @@ fn second(
     ensures { IfOk result (λ fed. fed ≡ spec.second parts frames place start reading token.now) }
 {
     match read_maybe(alloc, reading, token, Closer::Semicolon)? {
-        Maybe::Goes { reading, reach } => {
+        Turn::Goes(reading, reach) => {
             let step = BlockStage::Second {
                 place,
                 start,
@@ -163,7 +164,7 @@ fn second(
             };
             Ok(steps(parts, frames, step, reach))
         }
-        Maybe::Done { value: test } => {
+        Turn::Done(test) => {
             let reading = begin_boxed(alloc, 0, inner_level(&frames)?)?;
             let step = BlockStage::Third {
                 place,
@@ -173,7 +174,7 @@ fn second(
             };
             Ok(steps(parts, frames, step, 0))
         }
-        Maybe::Refused => Ok(Stepped::Refused),
+        Turn::Refused => Ok(Turn::Refused),
     }
 }
 
@@ -212,7 +213,7 @@ fn third(
     ensures { IfOk result (λ fed. fed ≡ spec.third parts frames place start test reading token.now) }
 {
     match read_maybe(alloc, reading, token, Closer::Paren)? {
-        Maybe::Goes { reading, reach } => {
+        Turn::Goes(reading, reach) => {
             let step = BlockStage::Third {
                 place,
                 start,
@@ -221,8 +222,8 @@ fn third(
             };
             Ok(steps(parts, frames, step, reach))
         }
-        Maybe::Done { value } => body_begins(parts, frames, place, start, test, value),
-        Maybe::Refused => Ok(Stepped::Refused),
+        Turn::Done(value) => body_begins(parts, frames, place, start, test, value),
+        Turn::Refused => Ok(Turn::Refused),
     }
 }
 

@@ -11,6 +11,7 @@ use k_steps::expression::Reading;
 use k_steps::reading::{Closer, Read};
 use k_steps::stack::Stack;
 use k_steps::statement::{BlockStage, Frame, Stepped};
+use k_steps::turn::Turn;
 use k_tree::{Expr, Mark, Part, Stmt, Token, TokenKind};
 use std::alloc::Global;
 
@@ -33,7 +34,7 @@ pub fn case_begins(
     ensures { IfOk result (λ fed. fed ≡ spec.case_begins parts frames place) }
 {
     if !is_in_switch(&frames) {
-        return Ok(Stepped::Refused);
+        return Ok(Turn::Refused);
     }
     let reach = level(&frames)?;
     let reading = begin_boxed(alloc, 2, reach)?;
@@ -46,7 +47,7 @@ pub fn default_begins(parts: Seq<Stmt>, frames: Stack<Frame>, place: Place) -> S
     ensures { result ≡ spec.default_begins parts frames place }
 {
     if !is_in_switch(&frames) {
-        return Stepped::Refused;
+        return Turn::Refused;
     }
     steps(parts, frames, BlockStage::Default { place }, 0)
 }
@@ -71,7 +72,7 @@ fn braces(
     ensures { IfOk result (λ fed. fed ≡ spec.braces parts frames place on token.now) }
 {
     if !is_brace(token) {
-        return Ok(Stepped::Refused);
+        return Ok(Turn::Refused);
     }
     let frame = Frame::Switch {
         place,
@@ -105,11 +106,11 @@ fn labelled(parts: Seq<Stmt>, mut frames: Stack<Frame>, label: Part) -> Result<S
         Some(frame) => {
             drop(frame);
             drop(label);
-            Ok(Stepped::Refused)
+            Ok(Turn::Refused)
         }
         None => {
             drop(label);
-            Ok(Stepped::Refused)
+            Ok(Turn::Refused)
         }
     }
 }
@@ -127,11 +128,11 @@ fn case_value(
     ensures { IfOk result (λ fed. fed ≡ spec.case_value parts frames place reading token.now) }
 {
     match read_needed(alloc, reading, token, Closer::Colon)? {
-        Read::Goes { reading, reach } => {
+        Turn::Goes(reading, reach) => {
             Ok(steps(parts, frames, BlockStage::Case { place, reading }, reach))
         }
-        Read::Done { value } => labelled(parts, frames, Part::Case { place, value }),
-        Read::Refused => Ok(Stepped::Refused),
+        Turn::Done(value) => labelled(parts, frames, Part::Case { place, value }),
+        Turn::Refused => Ok(Turn::Refused),
     }
 }
 
@@ -146,7 +147,7 @@ fn default_label(
     ensures { IfOk result (λ fed. fed ≡ spec.default_label parts frames place token.now) }
 {
     if !closes(token, Closer::Colon) {
-        return Ok(Stepped::Refused);
+        return Ok(Turn::Refused);
     }
     labelled(parts, frames, Part::Default { place })
 }
@@ -193,6 +194,9 @@ pub fn in_switch(
             alloc, parts, frames, place, reading, token,
         ),
         BlockStage::Default { place } => default_label(parts, frames, place, token),
-        _step => Ok(Stepped::Refused),
+        step => {
+            drop(step);
+            Ok(Turn::Refused)
+        }
     }
 }
