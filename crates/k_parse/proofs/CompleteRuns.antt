@@ -1,6 +1,7 @@
 -- A token list that spells a ranked source within the limit is read whole, as that source up to places.
 use Rattle.std.proofs.Common.{ℕ, ◌≡◌, ◌+◌, ◌<◌, ◌≤◌, cond, List, [], ◌∷◌, ◌++◌, map, Some, Ok, Err, sym, ap, ◌∙◌, subst, arith, le-leb}
-use Rattle.k_steps.specs.Types.{Token, TokenKind, Item, Source}
+use Rattle.k_steps.specs.Types.{Token, TokenKind, Item}
+use Rattle.k_steps.specs.declared.source.Source.{Source}
 use Rattle.k_tree.specs.declared.tokens.TokenKind.TheVariants as token
 use Rattle.k_tree.specs.declared.tree.unit.Unit as source
 use Rattle.k_tree.specs.Bare.{bare_item}

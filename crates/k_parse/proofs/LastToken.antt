@@ -1,7 +1,24 @@
 -- Behind the end of a source no reading goes on.
 use Rattle.std.proofs.Common.{ℕ, ◌≡◌, ◌+◌, ◌<◌, false, ◌&&◌, cond, List, [], ◌∷◌, ◌++◌, length, get_or, drop, None, refl, sym, ap, subst, ◌∙◌}
 use Rattle.std.proofs.Math.Bool.{and-false}
-use Rattle.k_steps.specs.Types.{Place, Token, Stmt, Term, ExpressionStage, Site, Reading, Fed, Plugged, Closer, Front, DeclarationStage, Declaration, Opened, ParameterStage, Parameters, Frame, BlockStage, Body, SourceStage, Source, Sourced, Param, Item}
+use Rattle.k_steps.specs.Types.{Place, Token, Stmt, Fed, Sourced, Param, Item}
+use Rattle.k_steps.specs.declared.expression.Term.{Term}
+use Rattle.k_steps.specs.declared.expression.ExpressionStage.{ExpressionStage}
+use Rattle.k_steps.specs.declared.expression.Site.{Site}
+use Rattle.k_steps.specs.declared.expression.Reading.{Reading}
+use Rattle.k_steps.specs.declared.expression.plug.Plugged.{Plugged}
+use Rattle.k_steps.specs.declared.reading.Closer.{Closer}
+use Rattle.k_steps.specs.declared.declaration.Front.{Front}
+use Rattle.k_steps.specs.declared.declaration.DeclarationStage.{DeclarationStage}
+use Rattle.k_steps.specs.declared.declaration.Declaration.{Declaration}
+use Rattle.k_steps.specs.declared.declaration.initialiser.Opened.{Opened}
+use Rattle.k_steps.specs.declared.parameter.ParameterStage.{ParameterStage}
+use Rattle.k_steps.specs.declared.parameter.Parameters.{Parameters}
+use Rattle.k_steps.specs.declared.statement.Frame.{Frame}
+use Rattle.k_steps.specs.declared.statement.BlockStage.{BlockStage}
+use Rattle.k_steps.specs.declared.statement.Body.{Body}
+use Rattle.k_steps.specs.declared.source.SourceStage.{SourceStage}
+use Rattle.k_steps.specs.declared.source.Source.{Source}
 use Rattle.k_tree.specs.declared.tokens.TokenKind.TheVariants as token
 use Rattle.k_tree.specs.declared.tree.statement.Part.TheVariants as labels
 use Rattle.k_steps.specs.Expressions as expressions

@@ -1,7 +1,8 @@
 -- How a whole token list is read: to the tree at its end, or to the first token that can't stand.
 use Rattle.std.specs.Prelude.{ℕ, cond, nat_le, List, [], ◌∷◌, Option, Some, None, Ok, Err}
 use Rattle.std.specs.declared.result.Result.{Result}
-use Rattle.k_steps.specs.Types.{Place, Token, Source, Sourced}
+use Rattle.k_steps.specs.Types.{Place, Token, Sourced}
+use Rattle.k_steps.specs.declared.source.Source.{Source}
 use Rattle.k_parse.specs.declared.fault.ParseFault.{ParseFault}
 use Rattle.k_tree.specs.declared.tree.unit.Unit as source
 use Rattle.k_steps.specs.declared.turn.Turn.TheVariants as turn
