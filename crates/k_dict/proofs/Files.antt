@@ -1,6 +1,7 @@
 -- A file has one reading: lines lead to one place, and no file goes wrong.
 use Rattle.std.proofs.Common.{◌≡◌, ◌≢◌, ℕ, ℤ, zero, suc, ◌+◌, ◌^◌, ◌<◌, ◌≤◌, ◌⊎◌, inl, inr, List, [], ◌∷◌, ◌++◌, length, Option, Some, None, slice_get, refl, sym, ap, ◌∙◌, subst, append-nil, append_assoc, length-append, arith}
 use Rattle.std.specs.Prelude.{codes}
+use Rattle.std.specs.Fmt.{decimal, signed_decimal}
 use Rattle.std.proofs.lemmas.Option.{none-some, same_Some}
 use Rattle.k_optab.specs.declared.region.Region.{Region}
 use Rattle.k_scan.specs.Pieces.{word_at}
@@ -52,7 +53,7 @@ one_line Named line line' rest left next other small one two is =
     let P : Stage → Type 0 = IsSmall in
     record {
       stage = one.3 ∙ sym two.3;
-      text = (same_read exit_at one.0 two.0 _ _ rest left texts (exit_again one.0 rest one.1) (exit_again two.0 left two.1)).1;
+      text = (same_read exit_at one.0 two.0 (named_line (codes "exit ") (signed_decimal one.0)) (named_line (codes "exit ") (signed_decimal two.0)) rest left texts (exit_again one.0 rest one.1) (exit_again two.0 left two.1)).1;
       small = subst P (sym one.3) tt;
     }
 one_line Exited line line' rest left next other small one two is =
@@ -60,19 +61,19 @@ one_line Exited line line' rest left next other small one two is =
     let P : Stage → Type 0 = IsSmall in
     record {
       stage = one.3 ∙ sym two.3;
-      text = (same_read (named_at (codes "ops ") 0 1000000000) one.0 two.0 _ _ rest left texts
+      text = (same_read (named_at (codes "ops ") 0 1000000000) one.0 two.0 (named_line (codes "ops ") (decimal one.0)) (named_line (codes "ops ") (decimal two.0)) rest left texts
         (named_again (codes "ops ") 0 1000000000 one.0 rest (omega arith) one.1 (omega arith)) (named_again (codes "ops ") 0 1000000000 two.0 left (omega arith) two.1 (omega arith))).1;
       small = subst P (sym one.3) tt;
     }
 one_line Counted line line' rest left next other small one two is =
     let texts = ap (λ l. l ++ rest) (sym one.3) ∙ is ∙ ap (λ l. l ++ left) two.3 in
-    let both = same_read (named_at (codes "regions ") 1 524288) one.0 two.0 _ _ rest left texts
+    let both = same_read (named_at (codes "regions ") 1 524288) one.0 two.0 (named_line (codes "regions ") (decimal one.0)) (named_line (codes "regions ") (decimal two.0)) rest left texts
     (named_again (codes "regions ") 1 524288 one.0 rest one.1 one.2 (omega arith)) (named_again (codes "regions ") 1 524288 two.0 left two.1 two.2 (omega arith)) in
     let P : Stage → Type 0 = IsSmall in
     record { stage = one.4 ∙ ap (λ n. InRegions n []) both.0 ∙ sym two.4; text = both.1; small = subst P (sym one.4) one.2 }
 one_line (InRegions count regions) line line' rest left next other small (inl one) (inl two) is =
     let texts = ap (λ l. l ++ rest) (sym one.line_is) ∙ is ∙ ap (λ l. l ++ left) two.line_is in
-    let both = same_read region_at one.region two.region _ _ rest left texts (region_again one.region rest one.right) (region_again two.region left two.right) in
+    let both = same_read region_at one.region two.region (region_line one.region) (region_line two.region) rest left texts (region_again one.region rest one.right) (region_again two.region left two.right) in
     let P : Stage → Type 0 = IsSmall in
     record {
       stage = one.next_is ∙ ap (λ r. InRegions count (regions ++ r ∷ [])) both.0 ∙ sym two.next_is;
@@ -83,7 +84,7 @@ one_line (InRegions count regions) line line' rest left next other small (inl on
 one_line (InRegions count regions) line line' rest left next other small (inr one) (inl two) is = let few = two.few in let all = one.all in absurd (omega arith)
 one_line (InRegions count regions) line line' rest left next other small (inr one) (inr two) is =
     let texts = ap (λ l. l ++ rest) (sym one.line_is) ∙ is ∙ ap (λ l. l ++ left) two.line_is in
-    let both = same_read (named_at (codes "entries ") 1 1048576) one.entries two.entries _ _ rest left texts
+    let both = same_read (named_at (codes "entries ") 1 1048576) one.entries two.entries (named_line (codes "entries ") (decimal one.entries)) (named_line (codes "entries ") (decimal two.entries)) rest left texts
     (named_again (codes "entries ") 1 1048576 one.entries rest one.some one.few (omega arith)) (named_again (codes "entries ") 1 1048576 two.entries left two.some two.few (omega arith)) in
     let all = one.all in
     let P : Stage → Type 0 = IsSmall in
@@ -95,7 +96,7 @@ one_line (InRegions count regions) line line' rest left next other small (inr on
 one_line (InEntries regions count entries) line line' rest left next other small one two is =
     let texts = ap (λ l. l ++ rest) (sym one.line_is) ∙ is ∙ ap (λ l. l ++ left) two.line_is in
     let few = one.few in let most = small.0 in let bound = small.1 in
-    let both = same_read (entry_at (length regions) (length entries)) one.entry two.entry _ _ rest left texts
+    let both = same_read (entry_at (length regions) (length entries)) one.entry two.entry (entry_line one.entry) (entry_line two.entry) rest left texts
     (next_again (length regions) entries one.entry rest (omega arith) (omega arith) one.right) (next_again (length regions) entries two.entry left (omega arith) (omega arith) two.right) in
     let P : Stage → Type 0 = IsSmall in
     record {

@@ -97,7 +97,7 @@ module _ (entries : List Entry) (earlier : NameEarlier entries) where
   unmarked : (n : ℕ) → n < length entries → get_or (replicate (length entries) false) n false ≡ true → ⊥
   unmarked n less h = false≢true (sym (get_or-replicate (length entries) n false false less) ∙ h)
 
-  below_marks : AllNameBelow (length (replicate (length entries) false)) entries
+  pub below_marks : AllNameBelow (length (replicate (length entries) false)) entries
   below_marks = let P : ℕ → Type 0 = λ k. AllNameBelow k entries in subst P (sym (length-replicate (length entries) false)) (all_below entries earlier)
 
   -- the marks tell whether each entry but the last is named

@@ -1,19 +1,50 @@
 -- A whole file: what its parts tell together.
-use Rattle.std.proofs.Common.{◌≡◌, ◌≢◌, ℕ, ℤ, ◌+◌, ◌<◌, ◌≤◌, ◌⊎◌, inl, inr, List, [], ◌∷◌, ◌++◌, length, Option, Some, None, Result, Ok, Err, refl, sym, ap, ◌∙◌, subst, append_assoc, arith}
-use Rattle.std.specs.Prelude.{codes}
+use Rattle.std.proofs.Common.{◌≡◌, ◌≢◌, ◌↔◌, ◌==◌, Bool, true, false, IsTrue, suc, ℕ, ℤ, ◌+◌, ◌<◌, ◌≤◌, ◌⊎◌, inl, inr, List, [], ◌∷◌, ◌++◌, length, Option, Some, None, Result, Ok, Err, refl, sym, ap, ◌∙◌, subst, append_assoc, arith}
+use Rattle.std.specs.Prelude.{codes, IfOk}
+use Rattle.std.proofs.lemmas.Bool.{false≢true}
+use Rattle.std.proofs.lemmas.Option.{none-some, same_Some}
+use Rattle.k_scan.specs.Pieces.{word_at}
+use Rattle.k_scan.proofs.Front.{word_again, word_takes}
 use Rattle.std.specs.List.{flat_map}
 use Rattle.std.specs.Fmt.{decimal}
 use Rattle.k_optab.specs.declared.region.Region.{Region}
 use Rattle.k_dict.specs.Lines.{Follows, GoesWrong, InEntries, InRegions, IsClosed, IsCountLine, IsEntryLine, IsRegionLine, IsWhole, IsWrong, Leads, MayEnd, Opened, Stage, last_of}
 use Rattle.k_dict.specs.Profile.{AreRegions, IsSaved}
-use Rattle.k_dict.specs.Reading.{AllEntries, AllRegions, Ends, FoundCount, HasHead}
+use Rattle.k_dict.specs.Reading.{AllEntries, AllRegions, Ends, Finishes, FoundCount, HasHead, ReadsAll}
 use Rattle.k_dict.specs.Rules.{AreProfile}
 use Rattle.k_dict.specs.SavedText.{entry_line, head_text, named_line, region_line, saved_text}
 use Rattle.k_dict.specs.declared.entry.Entry.{Entry}
+use Rattle.k_dict.specs.declared.reading.stop.Halt.{Halt}
+use Rattle.k_dict.specs.declared.reading.stop.Halt.TheVariants as halts
 use Rattle.k_dict.specs.declared.saved.Saved.{Saved}
 use Rattle.k_dict.proofs.HeadSteps.{first_line}
 use Rattle.k_dict.proofs.Leading.{leads_once, leads_through, wrong_behind, wrong_here}
 use Rattle.k_dict.proofs.RegionSteps.{linked_paired}
+
+-- what a call tells of one fact it tells of two, where the other holds
+pub both_hold : {A B E : Type 0} (r : Result Bool E) → B → IfOk r (λ t. IsTrue t ↔ A) → IfOk r (λ t. IsTrue t ↔ (B × A))
+both_hold (Ok t) here tells = (λ h. (here, tells.0 h), λ both. tells.1 both.1)
+both_hold (Err e) here tells = tells
+
+-- and of three
+pub all_hold : {A B C E : Type 0} (r : Result Bool E) → C → IfOk r (λ t. IsTrue t ↔ (B × A)) → IfOk r (λ t. IsTrue t ↔ (C × B × A))
+all_hold (Ok t) here tells = (λ h. let both = tells.0 h in (here, both.0, both.1), λ all. tells.1 (all.1, all.2))
+all_hold (Err e) here tells = tells
+
+-- the last line is not there
+pub no_end_here : (text : List ℕ) → word_at (codes "end\n") text ≡ None → text ≡ codes "end\n" → ⊥
+no_end_here text none is =
+    let nothing : List ℕ = [] in none-some nothing (sym none ∙ ap (word_at (codes "end\n")) is ∙ word_again (codes "end\n") [])
+
+-- the last line is all that is there, where nothing stands behind it
+pub end_alone : (text behind : List ℕ) (empty : Bool) → word_at (codes "end\n") text ≡ Some behind → empty ≡ (length behind == 0) → IsTrue empty ↔ (text ≡ codes "end\n")
+end_alone text [] empty found is = (λ h. word_takes (codes "end\n") text [] found, λ h. is)
+end_alone text (b ∷ behind) empty found is =
+    (λ h. absurd (false≢true (sym is ∙ h)),
+      λ h. absurd (other (same_Some (b ∷ behind) [] (sym found ∙ ap (word_at (codes "end\n")) h ∙ word_again (codes "end\n") []))))
+  where
+    other : ◌≡◌ {A = List ℕ} (b ∷ behind) [] → ⊥
+    other same = let long : suc (length behind) ≡ 0 = ap length same in absurd (omega arith)
 
 -- the lines of a head
 abbrev pub head_lines : ℤ → ℕ → ℕ → List ℕ
@@ -99,3 +130,21 @@ module _ (exit : ℤ) (ops count : ℕ) (text region_text : List ℕ) (head : Ha
           main = ends.1;
           named = ends.2;
         }
+
+        -- how the reading of a file finishes
+        pub finished : (result : Result Saved Halt) → Finishes exit ops list dict end result → ReadsAll text result
+        finished (Ok saved) ends =
+            let P : Saved → Type 0 = λ v. IsSaved v × (text ≡ saved_text v) in
+            subst P (sym ends.1) (is_saved ends.0, text_is ends.0.0)
+        finished (Err (halts.Wrong left)) ends = let P : ℕ → Type 0 = GoesWrong Opened text in subst P (sym ends.1) (wrong_at_end ends.0)
+        finished (Err halts.Memory) ends = tt
+
+      -- what a refusal among the entries says
+      pub refused_entries : (halt : Halt) → AllEntries list number entry_text (Err halt) → ReadsAll text (Err halt)
+      refused_entries (halts.Wrong left) wrong = wrong_in_entries left wrong
+      refused_entries halts.Memory wrong = tt
+
+  -- what a refusal among the regions says
+  pub refused_regions : (halt : Halt) → AllRegions count region_text (Err halt) → ReadsAll text (Err halt)
+  refused_regions (halts.Wrong left) wrong = wrong_in_regions left wrong
+  refused_regions halts.Memory wrong = tt

@@ -141,6 +141,12 @@ FoundCount regions text None = (count : ℕ) (later : List ℕ) → IsClosed (la
 abbrev pub Ends : List Region → List Entry → List ℕ → Type 0
 Ends regions entries text = (text ≡ codes "end\n") × EndsInMain regions entries × AreNamed entries
 
+-- the profile of these parts, where the end stands here and may
+abbrev pub Finishes : ℤ → ℕ → List Region → List Entry → List ℕ → Result Saved Halt → Type 0
+Finishes exit ops regions entries text (Ok saved) = Ends regions entries text × (saved ≡ record { exit = exit; ops = ops; regions = regions; dict = entries })
+Finishes exit ops regions entries text (Err (halts.Wrong left)) = (¬ Ends regions entries text) × (left ≡ length text)
+Finishes exit ops regions entries text (Err halts.Memory) = Unit {0}
+
 -- what reading a whole file answers: the profile that it spells, or how many bytes are left at its first wrong line
 abbrev pub ReadsAll : List ℕ → Result Saved Halt → Type 0
 ReadsAll text (Ok saved) = IsSaved saved × (text ≡ saved_text saved)

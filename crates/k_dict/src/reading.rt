@@ -1,7 +1,9 @@
 //! The file of a saved profile, read line by line. A file is refused at its first wrong line.
-ghost use Rattle.std.specs.Prelude.{◌≡◌, ◌+◌, ◌≤◌, IsTrue, ◌↔◌, IfOk, length, option_map};
+ghost use Rattle.std.specs.Prelude.{◌≡◌, ◌+◌, ◌≤◌, IsTrue, ◌↔◌, IfOk, length, option_map, codes};
+ghost use Rattle.k_dict.specs.Entries.{NameEarlier};
+ghost use Rattle.k_dict.specs.Lines.{AreNamed, EndsInMain};
 ghost use Rattle.k_dict.specs.Profile.{Reads};
-ghost use Rattle.k_dict.specs.Reading.{Ends, FoundCount, FoundHead, ReadsAll, seen};
+ghost use Rattle.k_dict.specs.Reading.{Ends, Finishes, FoundCount, FoundHead, ReadsAll, seen};
 ghost use Rattle.k_dict.specs.Reading as spec;
 ghost use Rattle.k_scan.specs.Pieces.{Finds};
 
@@ -16,6 +18,7 @@ mod stop;
 mod tests;
 
 use crate::dict::Dict;
+use crate::entry::Entry;
 use crate::saved::{Saved, SavedFault};
 use ending::{are_named, ends_in_main};
 use entry_lines::entries;
@@ -61,21 +64,74 @@ fn head(text: &[u8]) -> Result<(i32, u64, u32, &[u8]), Halt>
 fn count_line<'a>(regions: &[Region], text: &'a [u8]) -> Option<(u32, &'a [u8])>
     ensures { FoundCount regions.now text.now (option_map (λ found. (found.0, found.1.now)) result) }
 {
-    if !are_closed(regions) {
-        return None;
+    match named(b"entries ", 1, 1_048_576, text) {
+        None => None,
+        Some((count, rest)) => {
+            if are_closed(regions) {
+                Some((count as u32, rest))
+            } else {
+                None
+            }
+        }
     }
-    let (count, rest) = named(b"entries ", 1, 1_048_576, text)?;
-    Some((count as u32, rest))
+}
+
+/// Whether the last line of a file stands here, and nothing behind it.
+fn is_end(text: &[u8]) -> bool
+    ensures { IsTrue result ↔ (text.now ≡ codes "end\n") }
+{
+    match word(b"end\n", text) {
+        None => false,
+        Some(behind) => behind.is_empty(),
+    }
+}
+
+/// Whether the last of these entries is of main, and each other is named.
+fn are_complete(alloc: Global, regions: &[Region], entries: &[Entry]) -> Result<bool, NoMemory>
+    requires { NameEarlier entries.now }
+    ensures { IfOk result (λ complete. IsTrue complete ↔ (EndsInMain regions.now entries.now × AreNamed entries.now)) }
+{
+    if ends_in_main(regions, entries) {
+        are_named(alloc, entries)
+    } else {
+        Ok(false)
+    }
 }
 
 /// Whether the end may stand behind these entries, and nothing behind it.
-fn may_end(alloc: Global, regions: &[Region], dict: &Dict, text: &[u8]) -> Result<bool, NoMemory>
-    ensures { IfOk result (λ ends. IsTrue ends ↔ Ends regions.now dict.now text.now) }
+fn may_end(alloc: Global, regions: &[Region], entries: &[Entry], text: &[u8]) -> Result<bool, NoMemory>
+    requires { NameEarlier entries.now }
+    ensures { IfOk result (λ ends. IsTrue ends ↔ Ends regions.now entries.now text.now) }
 {
-    if text != b"end\n".as_slice() || !ends_in_main(regions, dict.entries()) {
-        return Ok(false);
+    if is_end(text) {
+        are_complete(alloc, regions, entries)
+    } else {
+        Ok(false)
     }
-    are_named(alloc, dict.entries())
+}
+
+/// The profile of these parts, where the end of the file stands here and may.
+fn finish(alloc: Global, exit: i32, ops: u64, regions: Seq<Region>, dict: Dict, text: &[u8]) -> Result<Saved, Halt>
+    ensures { Finishes exit ops regions dict text.now result }
+{
+    match may_end(alloc, regions.as_slice(), dict.entries(), text) {
+        Err(NoMemory) => {
+            drop(regions);
+            drop(dict);
+            Err(Halt::Memory)
+        }
+        Ok(false) => {
+            drop(regions);
+            drop(dict);
+            Err(Halt::Wrong(text.len()))
+        }
+        Ok(true) => Ok(Saved {
+            exit,
+            ops,
+            regions,
+            dict,
+        }),
+    }
 }
 
 /// The profile of a whole file.
@@ -83,20 +139,21 @@ fn read_all(alloc: Global, text: &[u8]) -> Result<Saved, Halt>
     ensures { ReadsAll text.now result }
 {
     let (exit, ops, count, region_text) = head(text)?;
-    let (list, count_text) = regions(alloc, count, region_text)?;
-    let Some((count, entry_text)) = count_line(list.as_slice(), count_text) else {
-        return Err(Halt::Wrong(count_text.len()));
-    };
-    let (dict, end) = entries(alloc, list.len() as u32, count, entry_text)?;
-    match may_end(alloc, list.as_slice(), &dict, end) {
-        Err(NoMemory) => Err(Halt::Memory),
-        Ok(false) => Err(Halt::Wrong(end.len())),
-        Ok(true) => Ok(Saved {
-            exit,
-            ops,
-            regions: list,
-            dict,
-        }),
+    match regions(alloc, count, region_text) {
+        Err(halt) => Err(halt),
+        Ok((list, count_text)) => match count_line(list.as_slice(), count_text) {
+            None => {
+                drop(list);
+                Err(Halt::Wrong(count_text.len()))
+            }
+            Some((number, entry_text)) => match entries(alloc, list.len() as u32, number, entry_text) {
+                Err(halt) => {
+                    drop(list);
+                    Err(halt)
+                }
+                Ok((dict, end)) => finish(alloc, exit, ops, list, dict, end),
+            },
+        },
     }
 }
 

@@ -70,12 +70,20 @@ fn are_marked(marks: &[bool]) -> bool
     true
 }
 
+/// Whether each entry but the last is named by another, where nothing is marked yet.
+fn marks_tell(marks: &mut [bool], entries: &[Entry]) -> bool
+    requires { spec.AllNameBelow (length marks.old) entries.now }
+    ensures { result ≡ spec.are_marked (spec.marked_all marks.old entries.now) }
+{
+    mark_all(marks, entries);
+    are_marked(marks)
+}
+
 /// Whether each entry but the last is named by another.
 pub(crate) fn are_named(alloc: Global, entries: &[Entry]) -> Result<bool, NoMemory>
     requires { NameEarlier entries.now }
     ensures { IfOk result (λ named. IsTrue named ↔ AreNamed entries.now) }
 {
     let mut marks = vec![in alloc; false; entries.len()]?;
-    mark_all(&mut marks, entries);
-    Ok(are_marked(&marks))
+    Ok(marks_tell(&mut marks, entries))
 }

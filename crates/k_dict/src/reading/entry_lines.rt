@@ -61,8 +61,10 @@ fn add(dict: &mut Dict, extents: &mut Seq<Extent>, entry: Entry) -> Result<(), S
     match dict.intern(entry) {
         Err(DictFault::Memory) => Err(Stop::Memory),
         Err(DictFault::Full(_)) => Err(Stop::Wrong),
-        Ok(number) if number < high => Err(Stop::Wrong),
-        Ok(_) => {
+        Ok(number) => {
+            if number < high {
+                return Err(Stop::Wrong);
+            }
             extents.push(extent)?;
             Ok(())
         }
@@ -82,13 +84,21 @@ fn next_entry<'a>(
     ensures answer { NextEntry regions dict.old dict.new text.now (seen (λ rest. rest.now) result) }
     ensures each { OnOk result (extents.new ≡ extents_of dict.new) }
 {
-    let (entry, rest) = entry(alloc, regions, dict.len(), text)?;
-    if !are_runs(dict.len(), entry.runs.as_slice()) {
-        drop(entry);
-        return Err(Stop::Wrong);
+    let high = dict.len();
+    match entry(alloc, regions, high, text) {
+        Err(stop) => Err(stop),
+        Ok((entry, rest)) => {
+            if are_runs(high, entry.runs.as_slice()) {
+                match add(dict, extents, entry) {
+                    Err(stop) => Err(stop),
+                    Ok(()) => Ok(rest),
+                }
+            } else {
+                drop(entry);
+                Err(Stop::Wrong)
+            }
+        }
     }
-    add(dict, extents, entry)?;
-    Ok(rest)
 }
 
 /// The lines of so many entries.

@@ -2,7 +2,8 @@
 ghost use Rattle.std.specs.Prelude.{◌≡◌, ◌≤◌, true};
 ghost use Rattle.k_dict.specs.Lines.{IsClosed, MayStand, StandsBehind, last_of};
 ghost use Rattle.k_dict.specs.Reading.{AllRegions, NextRegion, seen};
-ghost use Rattle.std.specs.Prelude.{◌↔◌, IsTrue};
+ghost use Rattle.std.specs.Prelude.{◌↔◌, ◌≢◌, IsTrue};
+ghost use Rattle.k_optab.specs.declared.region.RegionKind.TheVariants.{Loop};
 
 use crate::reading::lines::region;
 use crate::reading::stop::{Halt, Stop};
@@ -30,13 +31,20 @@ fn may_stand(before: &[Region], region: &Region) -> bool
     }
 }
 
+/// Whether no body is missing behind this one.
+fn is_no_loop(last: &Region) -> bool
+    ensures { IsTrue result ↔ (last.now.kind ≢ Loop) }
+{
+    last.kind != RegionKind::Loop
+}
+
 /// Whether no body is missing behind these.
 pub(crate) fn are_closed(regions: &[Region]) -> bool
     ensures { IsTrue result ↔ IsClosed (last_of regions.now) }
 {
     match regions.split_last() {
         None => true,
-        Some((last, _)) => last.kind != RegionKind::Loop,
+        Some((last, _)) => is_no_loop(last),
     }
 }
 
@@ -44,12 +52,16 @@ pub(crate) fn are_closed(regions: &[Region]) -> bool
 fn next_region<'a>(alloc: Global, before: &[Region], text: &'a [u8]) -> Result<(Region, &'a [u8]), Stop>
     ensures { NextRegion before.now text.now (seen (λ found. (found.0, found.1.now)) result) }
 {
-    let (region, rest) = region(alloc, text)?;
-    if may_stand(before, &region) {
-        Ok((region, rest))
-    } else {
-        drop(region);
-        Err(Stop::Wrong)
+    match region(alloc, text) {
+        Err(stop) => Err(stop),
+        Ok((region, rest)) => {
+            if may_stand(before, &region) {
+                Ok((region, rest))
+            } else {
+                drop(region);
+                Err(Stop::Wrong)
+            }
+        }
     }
 }
 

@@ -1,14 +1,10 @@
-use Rattle.std.proofs.Common.{rules, ◌≡◌, ◌+◌, ◌≤◌, IsTrue, ◌↔◌, IfOk, length, option_map, ℕ, ◌-◌, ◌*◌, ◌<◌, ◌/◌, ◌%◌, Bool, true, false, nat_eq, nat_lt, List, [], ◌∷◌, ◌++◌, slice_index_or, slice_set, bit_and, bit_or, Fits, w8, w32, w64, Bor, MutBor}
-use Rattle.k_dict.specs.Profile.{Reads}
-use Rattle.k_dict.specs.Reading.{Ends, FoundCount, FoundHead, ReadsAll, seen}
-use Rattle.k_dict.specs.Reading as spec
-use Rattle.k_scan.specs.Pieces.{Finds}
+use Rattle.std.proofs.Common.{sym, ◌∙◌}
+use Rattle.std.proofs.lemmas.Bool.{false≢true}
+use Rattle.k_dict.proofs.Whole.{all_hold}
 use Rattle.k_dict.proofs.reading.may_end.Goals as goal
 
--- src/reading.rt:78:5
-pub are_named-requires : goal.are_named-requires
-are_named-requires c = ?
+pub returns-then-is_end : goal.returns-then-is_end
+returns-then-is_end c = all_hold _ (c.is_end.ensures.0 c.if-is_end.true) c.are_complete.ensures
 
--- src/reading.rt:72:1
-pub returns : goal.returns
-returns c = ?
+pub returns-else-is_end : goal.returns-else-is_end
+returns-else-is_end c = (λ h. absurd (false≢true h), λ ends. sym c.if-is_end.false ∙ c.is_end.ensures.1 ends.0)

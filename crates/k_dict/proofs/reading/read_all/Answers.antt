@@ -1,26 +1,31 @@
-use Rattle.std.proofs.Common.{rules, ◌≡◌, ◌+◌, ◌≤◌, IsTrue, ◌↔◌, IfOk, length, option_map, ℕ, ◌-◌, ◌*◌, ◌<◌, ◌/◌, ◌%◌, Bool, true, false, nat_eq, nat_lt, List, [], ◌∷◌, ◌++◌, slice_index_or, slice_set, bit_and, bit_or, Fits, w8, w32, w64, Bor, MutBor}
-use Rattle.k_dict.specs.Profile.{Reads}
-use Rattle.k_dict.specs.Reading.{Ends, FoundCount, FoundHead, ReadsAll, seen}
-use Rattle.k_dict.specs.Reading as spec
-use Rattle.k_scan.specs.Pieces.{Finds}
+use Rattle.std.proofs.Common.{◌≡◌, List, ℤ, ℕ, refl, sym, subst, ap, ◌∙◌, Option, None, Some}
+use Rattle.std.specs.Int.{w32}
+use Rattle.std.proofs.lemmas.Int.{to_z-of_z}
+use Rattle.k_optab.specs.declared.region.Region.{Region}
+use Rattle.k_dict.specs.Reading.{FoundCount, HasHead}
+use Rattle.k_dict.proofs.Whole.{finished, refused_entries, refused_regions, wrong_at_count}
 use Rattle.k_dict.proofs.reading.read_all.Goals as goal
 
--- src/reading.rt:86:30
-pub returns-in_err-list : goal.returns-in_err-list
-returns-in_err-list c = ?
+pub returns-in-Err : goal.returns-in-Err
+returns-in-Err c = refused_regions c.in_ok-exit.exit c.in_ok-exit.ops c.in_ok-exit.count c.args.text.now c.in_ok-exit.region_text.now c.in_ok-exit.ensures c.in-Err.halt c.in-Err.ensures
 
--- src/reading.rt:88:9
-pub returns-in_default : goal.returns-in_default
-returns-in_default c = ?
+pub returns-in-None : goal.returns-in-None
+returns-in-None c =
+    let P : List Region → Type 0 = λ l. FoundCount l c.in-Ok.count_text.now None in
+    wrong_at_count c.in_ok-exit.exit c.in_ok-exit.ops c.in_ok-exit.count c.args.text.now c.in_ok-exit.region_text.now c.in_ok-exit.ensures c.in-Ok.list c.in-Ok.count_text.now c.in-Ok.ensures
+    (subst P c.as_slice.ensures c.in-None.ensures)
 
--- src/reading.rt:90:23
-pub returns-in_err-dict : goal.returns-in_err-dict
-returns-in_err-dict c = ?
+pub returns-in-Err-entries : goal.returns-in-Err-entries
+returns-in-Err-entries c =
+    let P : List Region → Type 0 = λ l. FoundCount l c.in-Ok.count_text.now (Some (c.in-Some.number, c.in-Some.entry_text.now)) in
+    refused_entries c.in_ok-exit.exit c.in_ok-exit.ops c.in_ok-exit.count c.args.text.now c.in_ok-exit.region_text.now c.in_ok-exit.ensures c.in-Ok.list c.in-Ok.count_text.now c.in-Ok.ensures
+    c.in-Some.number c.in-Some.entry_text.now (subst P c.as_slice.ensures c.in-Some.ensures) c.in-Err-entries.halt (c.in-Err-entries.ensures c.in-Ok.list (sym c.len.ensures))
 
--- src/reading.rt:82:1
-pub returns-in-Ok-true : goal.returns-in-Ok-true
-returns-in-Ok-true c = ?
-
--- src/reading.rt:82:1
-pub returns-in-Ok-false : goal.returns-in-Ok-false
-returns-in-Ok-false c = ?
+pub returns-in-Ok-entries : goal.returns-in-Ok-entries
+returns-in-Ok-entries c =
+    let P : List Region → Type 0 = λ l. FoundCount l c.in-Ok.count_text.now (Some (c.in-Some.number, c.in-Some.entry_text.now)) in
+    let H : ℤ → Type 0 = λ z. HasHead z c.in_ok-exit.ops c.in_ok-exit.count c.args.text.now c.in_ok-exit.region_text.now in
+    let head = subst H (sym (to_z-of_z w32 c.in_ok-exit.exit c.in_ok-exit.ensures.exit_fits)) c.in_ok-exit.ensures in
+    finished _ c.in_ok-exit.ops c.in_ok-exit.count c.args.text.now c.in_ok-exit.region_text.now head c.in-Ok.list c.in-Ok.count_text.now c.in-Ok.ensures
+    c.in-Some.number c.in-Some.entry_text.now (subst P c.as_slice.ensures c.in-Some.ensures) c.in-Ok-entries.dict c.in-Ok-entries.end.now
+    (c.in-Ok-entries.ensures c.in-Ok.list (sym c.len.ensures)) c.finish.result c.finish.ensures

@@ -1,15 +1,20 @@
-use Rattle.std.proofs.Common.{rules, ◌≡◌, ◌≤◌, ◌↔◌, IsTrue, IfOk, length, codes, ℕ, ◌+◌, ◌-◌, ◌*◌, ◌<◌, ◌/◌, ◌%◌, Bool, true, false, nat_eq, nat_lt, List, [], ◌∷◌, ◌++◌, slice_index_or, slice_set, bit_and, bit_or, Fits, w8, w32, w64, Bor, MutBor}
-use Rattle.k_optab.specs.declared.region.RegionKind.TheVariants.{Func}
-use Rattle.k_dict.specs.Extents.{NameBelow}
-use Rattle.k_dict.specs.Entries.{NameEarlier}
-use Rattle.k_dict.specs.Lines.{AreNamed, EndsInMain}
-use Rattle.k_dict.specs.Reading as spec
+use Rattle.std.proofs.Common.{◌≡◌, Bool, true, false, List, length, replicate, sym, ap, ◌∙◌, subst, length-replicate}
+use Rattle.k_dict.specs.Reading.{AllNameBelow, are_marked, marked_all}
+use Rattle.k_dict.proofs.Marks.{below_marks, marks_tell}
 use Rattle.k_dict.proofs.reading.ending.are_named.Goals as goal
 
--- src/reading/ending.rt:79:5
-pub mark_all-requires : goal.mark_all-requires
-mark_all-requires c = ?
+pub marks_tell-requires : goal.marks_tell-requires
+marks_tell-requires c =
+    let none : c.deref_mut.result.now ≡ replicate (length c.args.entries.now) false =
+    c.deref_mut.ensures.value ∙ c.in_ok-marks.ensures.items_if_clones_equal (λ y same. same) in
+    let P : List Bool → Type 0 = λ marks. AllNameBelow (length marks) c.args.entries.now in
+    subst P (sym none) (below_marks c.args.entries.now c.requires)
 
--- src/reading/ending.rt:74:1
 pub returns : goal.returns
-returns c = ?
+returns c =
+    let none : c.deref_mut.result.now ≡ replicate (length c.args.entries.now) false =
+    c.deref_mut.ensures.value ∙ c.in_ok-marks.ensures.items_if_clones_equal (λ y same. same) in
+    let is : c.marks_tell.result ≡ are_marked (marked_all (replicate (length c.args.entries.now) false) c.args.entries.now) =
+    c.marks_tell.ensures ∙ ap (λ marks. are_marked (marked_all marks c.args.entries.now)) none in
+    let tell = marks_tell c.args.entries.now c.requires in
+    (λ h. tell.0 (sym is ∙ h), λ named. is ∙ tell.1 named)

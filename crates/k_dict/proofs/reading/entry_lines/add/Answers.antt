@@ -1,18 +1,23 @@
-use Rattle.std.proofs.Common.{rules, ◌≡◌, ◌<◌, ◌≤◌, ◌↔◌, IsTrue, OnOk, length, List, ℕ, ◌+◌, ◌-◌, ◌*◌, ◌/◌, ◌%◌, Bool, true, false, nat_eq, nat_lt, [], ◌∷◌, ◌++◌, slice_index_or, slice_set, bit_and, bit_or, Fits, w8, w32, w64, Bor, MutBor}
-use Rattle.k_optab.specs.declared.region.Region.{Region as RegionValue}
-use Rattle.k_dict.specs.Entries.{AreRuns}
-use Rattle.k_dict.specs.Extents.{extents_of}
-use Rattle.k_dict.specs.Reading.{Adds, AllEntries, HasExtent, NextEntry, seen}
+use Rattle.std.proofs.Common.{◌≡◌, List, sym, ap, ◌∙◌, subst}
+use Rattle.k_dict.specs.Extents.{extent_of}
+use Rattle.k_dict.specs.Entries.{tree_of, trees_of}
+use Rattle.k_dict.specs.Reading.{IsWithinRules}
+use Rattle.k_dict.specs.declared.entry.Entry.{Entry}
+use Rattle.k_dict.proofs.EntrySteps.{adds, adds_extent, adds_not}
 use Rattle.k_dict.proofs.reading.entry_lines.add.Goals as goal
 
--- src/reading/entry_lines.rt:49:1
-pub returns-in-Ok-clause-answer : goal.returns-in-Ok-clause-answer
-returns-in-Ok-clause-answer c = ?
+pub returns-then-number-high-clause-answer : goal.returns-then-number-high-clause-answer
+returns-then-number-high-clause-answer c =
+    adds_not c.args.dict.now c.intern.new.self c.args.entry c.in-Ok.number c.len-high.result c.in-Ok.ensures.answer c.len-high.ensures.count c.if-number-high.true
 
--- src/reading/entry_lines.rt:49:1
-pub returns-in_ok-push-in-Ok-2-clause-answer : goal.returns-in_ok-push-in-Ok-2-clause-answer
-returns-in_ok-push-in-Ok-2-clause-answer c = ?
+pub returns-in_ok-push-clause-answer : goal.returns-in_ok-push-clause-answer
+returns-in_ok-push-clause-answer c =
+    let P : List Entry → Type 0 = λ l. IsWithinRules l c.args.entry in
+    adds c.args.dict.now c.intern.new.self c.args.entry c.in-Ok.number c.len-high.result c.in-Ok.ensures.answer c.len-high.ensures.count c.if-number-high.false
+    c.in-Ok.ensures.interned (subst P c.entries.ensures.value c.in-Some.ensures.0) _
 
--- src/reading/entry_lines.rt:49:1
-pub returns-in_ok-push-in-Ok-2-clause-each : goal.returns-in_ok-push-in-Ok-2-clause-each
-returns-in_ok-push-in-Ok-2-clause-each c = ?
+pub returns-in_ok-push-clause-each : goal.returns-in_ok-push-clause-each
+returns-in_ok-push-clause-each c =
+    adds_extent c.args.dict.now c.intern.new.self c.args.entry c.in-Ok.number c.len-high.result c.in-Ok.ensures.answer c.len-high.ensures.count c.if-number-high.false
+    c.args.extents.now c.push.new.self c.in-Some.extent c.requires.each
+    (c.in-Some.ensures.1 ∙ ap (λ l. extent_of (tree_of (trees_of l) c.args.entry)) c.entries.ensures.value) c.in_ok-push.ensures.ok

@@ -1,14 +1,12 @@
-use Rattle.std.proofs.Common.{rules, ◌≡◌, ◌<◌, ◌≤◌, ◌↔◌, IsTrue, OnOk, length, List, ℕ, ◌+◌, ◌-◌, ◌*◌, ◌/◌, ◌%◌, Bool, true, false, nat_eq, nat_lt, [], ◌∷◌, ◌++◌, slice_index_or, slice_set, bit_and, bit_or, Fits, w8, w32, w64, Bor, MutBor}
-use Rattle.k_optab.specs.declared.region.Region.{Region as RegionValue}
-use Rattle.k_dict.specs.Entries.{AreRuns}
-use Rattle.k_dict.specs.Extents.{extents_of}
-use Rattle.k_dict.specs.Reading.{Adds, AllEntries, HasExtent, NextEntry, seen}
+use Rattle.std.proofs.Common.{◌≡◌, sym, ◌∙◌, subst, refl, length, ◌<◌, ◌≤◌, ℕ, arith}
+use Rattle.k_dict.proofs.EntrySteps.{entries_done, entries_more, entries_start, wrong_entry}
 use Rattle.k_dict.proofs.reading.entry_lines.entries.Goals as goal
 
--- src/reading/entry_lines.rt:102:5
 pub lines-init : goal.lines-init
-lines-init c = ?
+lines-init c =
+    entries_start c.args.regions c.args.count c.args.text.now c.new-dict.result c.new-extents.result c.new-dict.ensures c.new-extents.ensures
 
--- src/reading/entry_lines.rt:102:5
 pub lines-preserved : goal.lines-preserved
-lines-preserved c = ?
+lines-preserved c =
+    entries_more c.args.regions c.args.count c.args.text.now c.lines.rest.now c.in-Ok.behind.now c.lines.dict c.next_entry.new.dict c.lines.extents c.next_entry.new.extents
+    c.lines.invariant (omega (arith, c.lines-test.true, c.len.ensures.count)) c.len.ensures.interned c.in-Ok.ensures.answer c.in-Ok.ensures.each

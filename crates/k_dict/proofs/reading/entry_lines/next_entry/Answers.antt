@@ -1,22 +1,29 @@
-use Rattle.std.proofs.Common.{rules, ◌≡◌, ◌<◌, ◌≤◌, ◌↔◌, IsTrue, OnOk, length, List, ℕ, ◌+◌, ◌-◌, ◌*◌, ◌/◌, ◌%◌, Bool, true, false, nat_eq, nat_lt, [], ◌∷◌, ◌++◌, slice_index_or, slice_set, bit_and, bit_or, Fits, w8, w32, w64, Bor, MutBor}
-use Rattle.k_optab.specs.declared.region.Region.{Region as RegionValue}
+use Rattle.std.proofs.Common.{◌≡◌, ◌≤◌, ◌<◌, ◌^◌, List, length, sym, ap, ◌∙◌, subst, arith}
+use Rattle.std.proofs.lemmas.Bool.{false≢true}
 use Rattle.k_dict.specs.Entries.{AreRuns}
-use Rattle.k_dict.specs.Extents.{extents_of}
-use Rattle.k_dict.specs.Reading.{Adds, AllEntries, HasExtent, NextEntry, seen}
+use Rattle.k_dict.specs.declared.entry.Run.{Run}
+use Rattle.k_dict.proofs.EntrySteps.{added_entry, refused_add, refused_entry, wrong_runs}
 use Rattle.k_dict.proofs.reading.entry_lines.next_entry.Goals as goal
 
--- src/reading/entry_lines.rt:85:25
-pub returns-in_err-entry-clause-answer : goal.returns-in_err-entry-clause-answer
-returns-in_err-entry-clause-answer c = ?
+pub returns-in-Err-clause-answer : goal.returns-in-Err-clause-answer
+returns-in-Err-clause-answer c =
+    refused_entry _ c.args.regions c.len-high.result c.args.dict.now c.args.dict.now c.args.text.now c.in-Err.stop c.len-high.ensures.count (omega arith) c.len-high.ensures.interned.few
+    c.in-Err.ensures
 
--- src/reading/entry_lines.rt:88:9
-pub returns-then-not-are_runs-clause-answer : goal.returns-then-not-are_runs-clause-answer
-returns-then-not-are_runs-clause-answer c = ?
+pub returns-in-Err-add-clause-answer : goal.returns-in-Err-add-clause-answer
+returns-in-Err-add-clause-answer c =
+    refused_add c.args.regions c.len-high.result c.args.dict.now c.add.new.dict c.args.text.now c.in-Ok.rest.now c.in-Ok.entry c.len-high.ensures.count (omega arith)
+    c.len-high.ensures.interned.few c.in-Ok.ensures c.in-Err-add.stop c.in-Err-add.ensures.answer
 
--- src/reading/entry_lines.rt:90:5
-pub returns-in_err-add-clause-answer : goal.returns-in_err-add-clause-answer
-returns-in_err-add-clause-answer c = ?
+pub returns-in-Ok-add-clause-answer : goal.returns-in-Ok-add-clause-answer
+returns-in-Ok-add-clause-answer c =
+    let P : List Run → Type 0 = AreRuns 0 c.len-high.result in
+    added_entry c.args.regions c.len-high.result c.args.dict.now c.add.new.dict c.args.text.now c.in-Ok.rest.now c.in-Ok.entry c.len-high.ensures.count (omega arith)
+    c.len-high.ensures.interned.few c.in-Ok.ensures _ (subst P c.as_slice.ensures (c.are_runs.ensures.0 c.if-are_runs.true)) c.in-Ok-add.ensures.answer
 
--- src/reading/entry_lines.rt:73:1
-pub returns-clause-answer : goal.returns-clause-answer
-returns-clause-answer c = ?
+pub returns-else-are_runs-clause-answer : goal.returns-else-are_runs-clause-answer
+returns-else-are_runs-clause-answer c =
+    let P : List Run → Type 0 = AreRuns 0 c.len-high.result in
+    wrong_runs c.args.regions c.len-high.result c.args.dict.now c.args.dict.now c.args.text.now c.in-Ok.rest.now c.in-Ok.entry c.len-high.ensures.count (omega arith)
+    c.len-high.ensures.interned.few c.in-Ok.ensures
+    (λ runs. false≢true (sym c.if-are_runs.false ∙ c.are_runs.ensures.1 (subst P (sym c.as_slice.ensures) runs)))

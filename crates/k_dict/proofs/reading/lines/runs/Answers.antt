@@ -1,24 +1,29 @@
-use Rattle.std.proofs.Common.{rules, ◌≡◌, ◌<◌, ◌≤◌, Some, IfSome, ℕ, ◌+◌, ◌-◌, ◌*◌, length, ◌/◌, ◌%◌, Bool, true, false, nat_eq, nat_lt, List, [], ◌∷◌, ◌++◌, slice_index_or, slice_set, bit_and, bit_or, Fits, w8, w32, w64, Bor, MutBor}
-use Rattle.k_scan.specs.Pieces.{Finds}
-use Rattle.k_dict.specs.Syntax.{Gives, entry_at, kind_at, named_at, number_then, numbers_at, part_at, place_at, region_at, region_of, run_at, runs_at}
+use Rattle.std.proofs.Common.{◌≡◌, ◌∷◌, [], ◌++◌, List, sym, subst, ◌-◌, ◌+◌}
+use Rattle.k_dict.specs.Syntax.{runs_at}
+use Rattle.k_dict.specs.declared.entry.Run.{Run}
+use Rattle.k_dict.proofs.ReadingRuns.{ends_here, goes_on, no_room, no_run, with_front}
 use Rattle.k_dict.proofs.reading.lines.runs.Goals as goal
 
--- src/reading/lines.rt:128:13
 pub returns-in-Some : goal.returns-in-Some
-returns-in-Some c = ?
+returns-in-Some c =
+    ends_here c.loop.runs c.args.high c.loop.counter c.loop.rest.now (runs_at c.args.high 1048576 c.args.text.now) c.in-Some.behind.now c.in-Some.ensures c.loop.invariant
 
--- src/reading/lines.rt:131:13
 pub returns-in_default-run : goal.returns-in_default-run
-returns-in_default-run c = ?
+returns-in_default-run c =
+    no_run c.loop.runs c.args.high c.loop.counter c.loop.rest.now (runs_at c.args.high 1048576 c.args.text.now) c.loop-test.true c.in_default.ensures c.in_default-run.ensures
+    c.loop.invariant
 
--- src/reading/lines.rt:126:5
 pub loop-preserved : goal.loop-preserved
-loop-preserved c = ?
+loop-preserved c =
+    let P : List Run → Type 0 = λ l. with_front l (runs_at c.args.high (1048576 - (c.loop.counter + 1)) c.in-Some-run.behind.now) ≡ runs_at c.args.high 1048576 c.args.text.now in
+    subst P (sym c.in_default-push.ensures.ok)
+    (goes_on c.loop.runs c.args.high c.loop.counter c.loop.rest.now (runs_at c.args.high 1048576 c.args.text.now) c.in-Some-run.next c.in-Some-run.behind.now c.loop-test.true
+      c.in_default.ensures c.in-Some-run.ensures c.loop.invariant)
 
--- src/reading/lines.rt:123:1
 pub returns-in-Some-word : goal.returns-in-Some-word
-returns-in-Some-word c = ?
+returns-in-Some-word c =
+    ends_here c.loop.runs c.args.high c.loop.counter c.loop.rest.now (runs_at c.args.high 1048576 c.args.text.now) c.in-Some-word.behind.now c.in-Some-word.ensures c.loop.invariant
 
--- src/reading/lines.rt:121:1
 pub returns : goal.returns
-returns c = ?
+returns c =
+    no_room c.loop.runs c.args.high c.loop.counter c.loop.rest.now (runs_at c.args.high 1048576 c.args.text.now) c.loop-test.false c.in-None.ensures c.loop.invariant

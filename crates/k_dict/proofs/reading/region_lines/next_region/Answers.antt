@@ -1,16 +1,19 @@
-use Rattle.std.proofs.Common.{rules, ◌≡◌, ◌≤◌, true, ◌↔◌, IsTrue, ℕ, ◌+◌, ◌-◌, ◌*◌, ◌<◌, length, ◌/◌, ◌%◌, Bool, false, nat_eq, nat_lt, List, [], ◌∷◌, ◌++◌, slice_index_or, slice_set, bit_and, bit_or, Fits, w8, w32, w64, Bor, MutBor}
-use Rattle.k_dict.specs.Lines.{IsClosed, MayStand, StandsBehind, last_of}
-use Rattle.k_dict.specs.Reading.{AllRegions, NextRegion, seen}
+use Rattle.std.proofs.Common.{◌≡◌, sym, ◌∙◌}
+use Rattle.std.proofs.lemmas.Bool.{false≢true}
+use Rattle.k_dict.specs.Lines.{last_of}
+use Rattle.k_dict.proofs.RegionSteps.{no_other_region, refused_region}
+use Rattle.k_dict.proofs.Spelled.{region_takes}
 use Rattle.k_dict.proofs.reading.region_lines.next_region.Goals as goal
 
--- src/reading/region_lines.rt:47:26
-pub returns-in_err-region : goal.returns-in_err-region
-returns-in_err-region c = ?
+pub returns-in-Err : goal.returns-in-Err
+returns-in-Err c = refused_region _ c.args.before.now c.args.text.now c.in-Err.stop c.in-Err.ensures
 
--- src/reading/region_lines.rt:44:1
 pub returns-then-may_stand : goal.returns-then-may_stand
-returns-then-may_stand c = ?
+returns-then-may_stand c =
+    let takes = region_takes c.args.text.now c.in-Ok.region c.in-Ok.rest.now c.in-Ok.ensures in
+    (takes.1, c.may_stand.ensures.0 c.if-may_stand.true, takes.0)
 
--- src/reading/region_lines.rt:44:1
 pub returns-else-may_stand : goal.returns-else-may_stand
-returns-else-may_stand c = ?
+returns-else-may_stand c =
+    no_other_region (last_of c.args.before.now) c.args.text.now c.in-Ok.rest.now c.in-Ok.region c.in-Ok.ensures
+    (λ stands. false≢true (sym c.if-may_stand.false ∙ c.may_stand.ensures.1 stands))

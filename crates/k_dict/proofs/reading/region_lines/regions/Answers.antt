@@ -1,12 +1,11 @@
-use Rattle.std.proofs.Common.{rules, ◌≡◌, ◌≤◌, true, ◌↔◌, IsTrue, ℕ, ◌+◌, ◌-◌, ◌*◌, ◌<◌, length, ◌/◌, ◌%◌, Bool, false, nat_eq, nat_lt, List, [], ◌∷◌, ◌++◌, slice_index_or, slice_set, bit_and, bit_or, Fits, w8, w32, w64, Bor, MutBor}
-use Rattle.k_dict.specs.Lines.{IsClosed, MayStand, StandsBehind, last_of}
-use Rattle.k_dict.specs.Reading.{AllRegions, NextRegion, seen}
+use Rattle.std.proofs.Common.{◌≡◌, refl}
+use Rattle.k_dict.proofs.RegionSteps.{regions_done, regions_more, regions_start, wrong_region}
 use Rattle.k_dict.proofs.reading.region_lines.regions.Goals as goal
 
--- src/reading/region_lines.rt:62:5
 pub lines-init : goal.lines-init
-lines-init c = ?
+lines-init c = regions_start c.args.count c.args.text.now c.new-regions.result c.new-regions.ensures
 
--- src/reading/region_lines.rt:62:5
 pub lines-preserved : goal.lines-preserved
-lines-preserved c = ?
+lines-preserved c =
+    regions_more c.args.count c.args.text.now c.lines.rest.now c.in-Ok.behind.now c.lines.regions c.push.new.self c.in-Ok.region c.lines.invariant c.lines-test.true
+    c.in-Ok.ensures c.in_default.ensures.ok
