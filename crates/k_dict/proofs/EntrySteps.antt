@@ -105,7 +105,7 @@ module _ (regions high : ℕ) (old new : List Entry) (text rest : List ℕ) (e :
   read_here = ap (λ n. entry_at regions n text) (sym is) ∙ read
 
   -- what a refusal to add one says
-  pub refused_add : {T : Type 0} (stop : Stop) → Adds {T} old e new (Err stop) → NextEntry regions old new text (Err stop)
+  pub refused_add : (stop : Stop) → Adds {T = Unit {0}} old e new (Err stop) → NextEntry regions old new text (Err stop)
   refused_add stops.Wrong adds = no_other_entry regions old text small few e rest read_here (λ next. over next)
     where
       over : IsNextEntry regions old e → ⊥
@@ -120,7 +120,7 @@ module _ (regions high : ℕ) (old new : List Entry) (text rest : List ℕ) (e :
       (λ next. let P : ℕ → Type 0 = λ n. AreRuns 0 n e.runs in wrong (subst P (sym is) next.runs))
 
   -- one that was added
-  pub added_entry : {T : Type 0} (x : T) → AreRuns 0 high e.runs → Adds {T} old e new (Ok x) → NextEntry regions old new text (Ok rest)
+  pub added_entry : (x : Unit {0}) → AreRuns 0 high e.runs → Adds {T = Unit {0}} old e new (Ok x) → NextEntry regions old new text (Ok rest)
   added_entry x runs adds =
       let takes = entry_takes regions high text e rest read in
       let P : ℕ → Type 0 = λ n. AreRuns 0 n e.runs in
@@ -128,10 +128,10 @@ module _ (regions high : ℕ) (old new : List Entry) (text rest : List ℕ) (e :
 
 -- what adding an entry comes to
 module _ (old new : List Entry) (e : Entry) (n high : ℕ) (has : HasNumber old new e n) (is : high ≡ length old) where
-  pub adds_not : n < high → {T : Type 0} → Adds {T} old e new (Err stops.Wrong)
+  pub adds_not : n < high → Adds {T = Unit {0}} old e new (Err stops.Wrong)
   adds_not low rules absent = absurd (absent (got_earlier old new e n has (omega arith)))
 
-  pub adds : high ≤ n → AreInterned new → IsWithinRules old e → {T : Type 0} (x : T) → Adds {T} old e new (Ok x)
+  pub adds : high ≤ n → AreInterned new → IsWithinRules old e → (x : Unit {0}) → Adds {T = Unit {0}} old e new (Ok x)
   adds above interned rules x =
       let got = got_last old new e n has (omega arith) in
       let runs : all_runs new ≡ all_runs old + length e.runs = ap all_runs got.1 ∙ all_runs-push old e in

@@ -172,7 +172,7 @@ one_end _ _ t _ u small (onward s line m lines _ first rest) (onward _ line' m' 
     let P : Stage → Type 0 = λ k. Leads k lines' u in
     one_end m lines t lines' u same.small rest (subst P (sym same.stage) rest') same.text whole other
 
-regions_of : Stage → List Region
+abbrev regions_of : Stage → List Region
 regions_of Opened = []
 regions_of Named = []
 regions_of Exited = []
@@ -180,7 +180,7 @@ regions_of Counted = []
 regions_of (InRegions count regions) = []
 regions_of (InEntries regions count entries) = regions
 
-entries_of : Stage → List Entry
+abbrev entries_of : Stage → List Entry
 entries_of Opened = []
 entries_of Named = []
 entries_of Exited = []

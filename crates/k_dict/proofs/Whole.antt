@@ -1,5 +1,5 @@
 -- A whole file: what its parts tell together.
-use Rattle.std.proofs.Common.{◌≡◌, ◌≢◌, ◌↔◌, ◌==◌, Bool, true, false, IsTrue, suc, ℕ, ℤ, ◌+◌, ◌<◌, ◌≤◌, ◌⊎◌, inl, inr, List, [], ◌∷◌, ◌++◌, length, Option, Some, None, Result, Ok, Err, refl, sym, ap, ◌∙◌, subst, append_assoc, arith}
+use Rattle.std.proofs.Common.{◌≡◌, ◌≢◌, ◌↔◌, ◌==◌, Bool, true, false, IsTrue, suc, ℕ, ℤ, ◌+◌, ◌<◌, ◌≤◌, ◌⊎◌, inl, inr, List, [], ◌∷◌, ◌++◌, length, Option, Some, None, Result, Ok, Err, refl, sym, ap, ◌∙◌, subst, append_assoc, arith, ne_eqb}
 use Rattle.std.specs.Prelude.{codes, IfOk}
 use Rattle.std.proofs.lemmas.Bool.{false≢true}
 use Rattle.std.proofs.lemmas.Option.{none-some, same_Some}
@@ -22,14 +22,14 @@ use Rattle.k_dict.proofs.Leading.{leads_once, leads_through, wrong_behind, wrong
 use Rattle.k_dict.proofs.RegionSteps.{linked_paired}
 
 -- what a call tells of one fact it tells of two, where the other holds
-pub both_hold : {A B E : Type 0} (r : Result Bool E) → B → IfOk r (λ t. IsTrue t ↔ A) → IfOk r (λ t. IsTrue t ↔ (B × A))
-both_hold (Ok t) here tells = (λ h. (here, tells.0 h), λ both. tells.1 both.1)
-both_hold (Err e) here tells = tells
+pub both_hold : (A B : Type 0) {E : Type 0} (r : Result Bool E) → B → IfOk r (λ t. IsTrue t ↔ A) → IfOk r (λ t. IsTrue t ↔ (B × A))
+both_hold A B (Ok t) here tells = (λ h. (here, tells.0 h), λ both. tells.1 both.1)
+both_hold A B (Err e) here tells = tells
 
 -- and of three
-pub all_hold : {A B C E : Type 0} (r : Result Bool E) → C → IfOk r (λ t. IsTrue t ↔ (B × A)) → IfOk r (λ t. IsTrue t ↔ (C × B × A))
-all_hold (Ok t) here tells = (λ h. let both = tells.0 h in (here, both.0, both.1), λ all. tells.1 (all.1, all.2))
-all_hold (Err e) here tells = tells
+pub all_hold : (A B C : Type 0) {E : Type 0} (r : Result Bool E) → C → IfOk r (λ t. IsTrue t ↔ (B × A)) → IfOk r (λ t. IsTrue t ↔ (C × B × A))
+all_hold A B C (Ok t) here tells = (λ h. let both = tells.0 h in (here, both.0, both.1), λ all. tells.1 (all.1, all.2))
+all_hold A B C (Err e) here tells = tells
 
 -- the last line is not there
 pub no_end_here : (text : List ℕ) → word_at (codes "end\n") text ≡ None → text ≡ codes "end\n" → ⊥
@@ -40,7 +40,7 @@ no_end_here text none is =
 pub end_alone : (text behind : List ℕ) (empty : Bool) → word_at (codes "end\n") text ≡ Some behind → empty ≡ (length behind == 0) → IsTrue empty ↔ (text ≡ codes "end\n")
 end_alone text [] empty found is = (λ h. word_takes (codes "end\n") text [] found, λ h. is)
 end_alone text (b ∷ behind) empty found is =
-    (λ h. absurd (false≢true (sym is ∙ h)),
+    (λ h. absurd (false≢true (sym (is ∙ ne_eqb (suc (length behind)) 0 (λ e. absurd (omega arith))) ∙ h)),
       λ h. absurd (other (same_Some (b ∷ behind) [] (sym found ∙ ap (word_at (codes "end\n")) h ∙ word_again (codes "end\n") []))))
   where
     other : ◌≡◌ {A = List ℕ} (b ∷ behind) [] → ⊥

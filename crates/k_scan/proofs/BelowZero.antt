@@ -81,5 +81,5 @@ signed_again (negsuc n) rest fits alone =
     let back : suc n - 1 ≡ n = omega arith in
     ap (option_and_then below) (number_again (suc n) rest (omega arith) alone)
     ∙ ap (λ t. if t then Some (negsuc (suc n - 1), rest) else None)
-      (and_from (nat_le 1 (suc n)) (nat_le (suc n) 2147483648) (le-leb 1 (suc n) (omega arith)) (le-leb (suc n) 2147483648 bound))
+    (and_from (nat_le 1 (suc n)) (nat_le (suc n) 2147483648) (le-leb 1 (suc n) (omega arith)) (le-leb (suc n) 2147483648 bound))
     ∙ ap (λ k. Some (negsuc k, rest)) back

@@ -1,4 +1,4 @@
-use Rattle.std.proofs.Common.{◌≡◌, Bool, true, false, List, length, replicate, sym, ap, ◌∙◌, subst, length-replicate}
+use Rattle.std.proofs.Common.{◌≡◌, Bool, true, false, List, length, replicate, sym, ap, ◌∙◌, subst}
 use Rattle.k_dict.specs.Reading.{AllNameBelow, are_marked, marked_all}
 use Rattle.k_dict.proofs.Marks.{below_marks, marks_tell}
 use Rattle.k_dict.proofs.reading.ending.are_named.Goals as goal

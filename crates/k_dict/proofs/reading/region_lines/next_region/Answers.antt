@@ -1,4 +1,5 @@
-use Rattle.std.proofs.Common.{◌≡◌, sym, ◌∙◌}
+use Rattle.std.proofs.Common.{◌≡◌, sym, ◌∙◌, ℕ, List, Bor}
+use Rattle.k_optab.specs.declared.region.Region.{Region}
 use Rattle.std.proofs.lemmas.Bool.{false≢true}
 use Rattle.k_dict.specs.Lines.{last_of}
 use Rattle.k_dict.proofs.RegionSteps.{no_other_region, refused_region}
@@ -6,7 +7,9 @@ use Rattle.k_dict.proofs.Spelled.{region_takes}
 use Rattle.k_dict.proofs.reading.region_lines.next_region.Goals as goal
 
 pub returns-in-Err : goal.returns-in-Err
-returns-in-Err c = refused_region _ c.args.before.now c.args.text.now c.in-Err.stop c.in-Err.ensures
+returns-in-Err c =
+    let view : Region × Bor (List ℕ) → Region × List ℕ = λ found. (found.0, found.1.now) in
+    refused_region view c.args.before.now c.args.text.now c.in-Err.stop c.in-Err.ensures
 
 pub returns-then-may_stand : goal.returns-then-may_stand
 returns-then-may_stand c =
