@@ -89,7 +89,13 @@ got_earlier old new e n has low = elim has.list [
 pub next_is : (regions : ℕ) (entries : List Entry) (e : Entry) → e.region < regions → AreRuns 0 (length entries) e.runs → IsWithinRules entries e → ¬ Contains entries e
     → all_runs entries + length e.runs ≤ 16777216 → IsNextEntry regions entries e
 next_is regions entries e region runs rules absent few = record {
-  region = region; runs = runs; new = absent; few_runs = few; numbers = rules.numbers; levels = rules.levels; instances = rules.instances;
+  region = region;
+  runs = runs;
+  new = absent;
+  few_runs = few;
+  numbers = rules.numbers;
+  levels = rules.levels;
+  instances = rules.instances;
 }
 
 -- what a refusal to read an entry says
@@ -177,6 +183,7 @@ entries_more regions count text rest behind entries new extents after at less in
     cut : text ≡ flat_map entry_line (entries ++ next.0 ∷ []) ++ behind
     cut = at.cut ∙ ap (λ l. flat_map entry_line entries ++ l) next.2 ∙ sym (append_assoc (flat_map entry_line entries) (entry_line next.0) behind)
         ∙ ap (λ l. l ++ behind) (sym (flat_map-push entry_line entries next.0))
+
     leads : (list : List Region) → length list ≡ regions → Leads (InEntries list count []) (flat_map entry_line (entries ++ next.0 ∷ [])) (InEntries list count (entries ++ next.0 ∷ []))
     leads list same =
         let Q : List ℕ → Type 0 = λ l. Leads (InEntries list count []) l (InEntries list count (entries ++ next.0 ∷ [])) in
@@ -193,12 +200,13 @@ pub wrong_entry : (regions count : ℕ) (text rest : List ℕ) (entries new : Li
 wrong_entry regions count text rest entries new extents left at less left_is none list same =
     let P : ℕ → Type 0 = GoesWrong (InEntries list count []) text in
     subst P (sym left_is) (wrong_behind (InEntries list count []) (flat_map entry_line entries) (InEntries list count entries) text rest (length rest) (at.leads list same) at.cut
-      (wrong_here (InEntries list count entries) rest (record { no_line = here; no_end = λ whole is. at_end whole })))
+    (wrong_here (InEntries list count entries) rest (record { no_line = here; no_end = λ whole is. at_end whole })))
   where
     here : (line later : List ℕ) (next : Stage) → Follows (InEntries list count entries) line next → rest ≢ line ++ later
     here line later next one is =
         let R : ℕ → Type 0 = λ n. IsNextEntry n entries one.entry in
         none one.entry later (subst R same one.right) (is ∙ ap (λ l. l ++ later) one.line_is)
+
     at_end : MayEnd list count entries → ⊥
     at_end whole = let all = whole.all in absurd (omega arith)
 

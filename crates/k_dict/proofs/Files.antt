@@ -62,7 +62,7 @@ one_line Exited line line' rest left next other small one two is =
     record {
       stage = one.3 ∙ sym two.3;
       text = (same_read (named_at (codes "ops ") 0 1000000000) one.0 two.0 (named_line (codes "ops ") (decimal one.0)) (named_line (codes "ops ") (decimal two.0)) rest left texts
-        (named_again (codes "ops ") 0 1000000000 one.0 rest (omega arith) one.1 (omega arith)) (named_again (codes "ops ") 0 1000000000 two.0 left (omega arith) two.1 (omega arith))).1;
+          (named_again (codes "ops ") 0 1000000000 one.0 rest (omega arith) one.1 (omega arith)) (named_again (codes "ops ") 0 1000000000 two.0 left (omega arith) two.1 (omega arith))).1;
       small = subst P (sym one.3) tt;
     }
 one_line Counted line line' rest left next other small one two is =

@@ -29,8 +29,8 @@ exit_takes text exit rest h =
     let P : ℤ × List ℕ → Type 0 = λ q. (text ≡ named_line (codes "exit ") (signed_decimal q.0) ++ q.1) × FitsSigned w32 q.0 in
     subst P pair (
       word_takes (codes "exit ") text a.0 a.1
-      ∙ ap (λ l. codes "exit " ++ l) (takes.0 ∙ ap (λ l. signed_decimal b.0.0 ++ l) (word_takes (codes "\n") b.0.1 c.0 c.1))
-      ∙ sym (named_parts (codes "exit ") (signed_decimal b.0.0) c.0),
+          ∙ ap (λ l. codes "exit " ++ l) (takes.0 ∙ ap (λ l. signed_decimal b.0.0 ++ l) (word_takes (codes "\n") b.0.1 c.0 c.1))
+          ∙ sym (named_parts (codes "exit ") (signed_decimal b.0.0) c.0),
       takes.1,
     )
 
@@ -96,8 +96,8 @@ pub head_leads : (exit : ℤ) (ops count : ℕ) → FitsSigned w32 exit → ops 
 head_leads exit ops count fits few some most =
     leads_on Opened (head_text first_line exit ops) Counted (named_line (codes "regions ") (decimal count)) (InRegions count [])
     (leads_on Opened (first_line ++ named_line (codes "exit ") (signed_decimal exit)) Exited (named_line (codes "ops ") (decimal ops)) Counted
-      (leads_on Opened first_line Named (named_line (codes "exit ") (signed_decimal exit)) Exited (leads_once Opened first_line Named (refl, refl)) (exit, fits, refl, refl))
-      (ops, few, refl, refl))
+    (leads_on Opened first_line Named (named_line (codes "exit ") (signed_decimal exit)) Exited (leads_once Opened first_line Named (refl, refl)) (exit, fits, refl, refl))
+    (ops, few, refl, refl))
     (count, some, most, refl, refl)
 
 module _ (text exit_text : List ℕ) (first : word_at first_line text ≡ Some exit_text) where
@@ -112,7 +112,7 @@ module _ (text exit_text : List ℕ) (first : word_at first_line text ≡ Some e
     wrong_third left wrong =
         let takes = exit_takes exit_text exit ops_text second in
         wrong_second left (wrong_behind Named (named_line (codes "exit ") (signed_decimal exit)) Exited exit_text ops_text left
-          (leads_once Named (named_line (codes "exit ") (signed_decimal exit)) Exited (exit, takes.1, refl, refl)) takes.0 wrong)
+        (leads_once Named (named_line (codes "exit ") (signed_decimal exit)) Exited (exit, takes.1, refl, refl)) takes.0 wrong)
 
     module _ (ops : ℕ) (regions_text : List ℕ) (third : named_at (codes "ops ") 0 1000000000 ops_text ≡ Some (ops, regions_text)) where
       -- wrong behind the third
@@ -120,7 +120,7 @@ module _ (text exit_text : List ℕ) (first : word_at first_line text ≡ Some e
       wrong_fourth left wrong =
           let takes = named_takes (codes "ops ") 0 1000000000 ops_text ops regions_text third in
           wrong_third left (wrong_behind Exited (named_line (codes "ops ") (decimal ops)) Counted ops_text regions_text left
-            (leads_once Exited (named_line (codes "ops ") (decimal ops)) Counted (ops, takes.2, refl, refl)) takes.0 wrong)
+          (leads_once Exited (named_line (codes "ops ") (decimal ops)) Counted (ops, takes.2, refl, refl)) takes.0 wrong)
 
       -- the whole head
       pub has_head : (count : ℕ) (rest : List ℕ) → named_at (codes "regions ") 1 524288 regions_text ≡ Some (count, rest) → HasHead exit ops count text rest
@@ -134,9 +134,9 @@ module _ (text exit_text : List ℕ) (first : word_at first_line text ≡ Some e
             some = c.1;
             few = c.2;
             cut = word_takes first_line text exit_text first
-              ∙ ap (λ l. first_line ++ l) (a.0 ∙ ap (λ l. named_line (codes "exit ") (signed_decimal exit) ++ l)
+                ∙ ap (λ l. first_line ++ l) (a.0 ∙ ap (λ l. named_line (codes "exit ") (signed_decimal exit) ++ l)
                 (b.0 ∙ ap (λ l. named_line (codes "ops ") (decimal ops) ++ l) c.0))
-              ∙ sym (head_parts first_line exit ops count rest);
+                ∙ sym (head_parts first_line exit ops count rest);
             leads = head_leads exit ops count a.1 b.2 c.1 c.2;
           }
 

@@ -114,5 +114,6 @@ rules_more regions entries e earlier have next = record {
     lower : (n m : ℕ) (runs : List Run) → n ≤ m → NameBelow n runs → NameBelow m runs
     lower n m [] le below = tt
     lower n m (run ∷ runs) le below = let here = below.0 in (omega arith, below.1, lower n m runs le below.2)
+
     last_or : (n : ℕ) → n < length (entries ++ e ∷ []) → (n < length entries) ⊎ (n ≡ length entries)
     last_or n less = let count = length-append entries (e ∷ []) in elim (cases_lt n (length entries)) [ inl k ↦ inl k | inr k ↦ inr (omega arith) ]

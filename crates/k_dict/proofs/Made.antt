@@ -74,9 +74,9 @@ next_entry regions before e after are named =
       region = named (length before) e place;
       runs = runs;
       new = λ there.
-        let at : slice_get before there.0 ≡ Some e = slice_get-get_or before there.0 e there.1 ∙ ap Some there.2 in
-        let same = are.interned.apart there.0 (length before) e (place_kept before (e ∷ after) there.0 e at) place in
-        let less = there.1 in absurd (omega arith);
+          let at : slice_get before there.0 ≡ Some e = slice_get-get_or before there.0 e there.1 ∙ ap Some there.2 in
+          let same = are.interned.apart there.0 (length before) e (place_kept before (e ∷ after) there.0 e at) place in
+          let less = there.1 in absurd (omega arith);
       few_runs = omega arith;
       numbers = numbers_down before (e ∷ after) e (below_bound 0 (length before) e.runs runs) (are.numbers (length before) e place);
       levels = subst P here (are.levels (length before) (omega arith));
@@ -120,7 +120,7 @@ module _ (v : Saved) (saved : IsSaved v) where
       leads_through (InRegions (length v.regions) []) (flat_map region_line v.regions) (InRegions (length v.regions) v.regions)
       (count_line (length v.dict) ++ flat_map entry_line v.dict) (InEntries v.regions (length v.dict) v.dict) regions.0
       (onward (InRegions (length v.regions) v.regions) (count_line (length v.dict)) (InEntries v.regions (length v.dict) []) (flat_map entry_line v.dict)
-        (InEntries v.regions (length v.dict) v.dict) line (leads_entries v.regions (length v.dict) [] v.dict saved.profile saved.in_list (omega arith)))
+      (InEntries v.regions (length v.dict) v.dict) line (leads_entries v.regions (length v.dict) [] v.dict saved.profile saved.in_list (omega arith)))
 
   pub ends_whole : MayEnd v.regions (length v.dict) v.dict
   ends_whole = record { all = refl; main = saved.main; named = saved.named }
@@ -201,6 +201,7 @@ one_text v w one other is =
     parts : (u : Saved) (lines : List ℕ) → (head_lines u.exit u.ops (length u.regions) ++ lines) ++ codes "end\n"
         ≡ first_line ++ (named_line (codes "exit ") (signed_decimal u.exit) ++ (named_line (codes "ops ") (decimal u.ops) ++ (named_line (codes "regions ") (decimal (length u.regions)) ++ (lines ++ codes "end\n"))))
     parts u lines = append_assoc (head_lines u.exit u.ops (length u.regions)) lines (codes "end\n") ∙ head_parts first_line u.exit u.ops (length u.regions) (lines ++ codes "end\n")
+
     heads : (x y : List ℕ) → first_line ++ (named_line (codes "exit ") (signed_decimal v.exit) ++ (named_line (codes "ops ") (decimal v.ops) ++ (named_line (codes "regions ") (decimal (length v.regions)) ++ x)))
         ≡ first_line ++ (named_line (codes "exit ") (signed_decimal w.exit) ++ (named_line (codes "ops ") (decimal w.ops) ++ (named_line (codes "regions ") (decimal (length w.regions)) ++ y)))
         → (v.exit ≡ w.exit) × (v.ops ≡ w.ops)
@@ -210,13 +211,13 @@ one_text v w one other is =
         let a : named_line (codes "exit ") (signed_decimal v.exit) ++ ops_v ≡ named_line (codes "exit ") (signed_decimal w.exit) ++ ops_w =
         same_Some (named_line (codes "exit ") (signed_decimal v.exit) ++ ops_v) (named_line (codes "exit ") (signed_decimal w.exit) ++ ops_w)
         (sym (word_again first_line (named_line (codes "exit ") (signed_decimal v.exit) ++ ops_v)) ∙ ap (word_at first_line) same
-          ∙ word_again first_line (named_line (codes "exit ") (signed_decimal w.exit) ++ ops_w)) in
+        ∙ word_again first_line (named_line (codes "exit ") (signed_decimal w.exit) ++ ops_w)) in
         let b = same_Some (v.exit, ops_v) (w.exit, ops_w) (sym (exit_again v.exit ops_v one.exit) ∙ ap exit_at a ∙ exit_again w.exit ops_w other.exit) in
         let tails : ops_v ≡ ops_w = ap (λ p. p.1) b in
         let c = same_Some (v.ops, named_line (codes "regions ") (decimal (length v.regions)) ++ x) (w.ops, named_line (codes "regions ") (decimal (length w.regions)) ++ y)
         (sym (named_again (codes "ops ") 0 1000000000 v.ops (named_line (codes "regions ") (decimal (length v.regions)) ++ x) (omega arith) one.ops (omega arith))
-          ∙ ap (named_at (codes "ops ") 0 1000000000) tails
-          ∙ named_again (codes "ops ") 0 1000000000 w.ops (named_line (codes "regions ") (decimal (length w.regions)) ++ y) (omega arith) other.ops (omega arith)) in
+        ∙ ap (named_at (codes "ops ") 0 1000000000) tails
+        ∙ named_again (codes "ops ") 0 1000000000 w.ops (named_line (codes "regions ") (decimal (length w.regions)) ++ y) (omega arith) other.ops (omega arith)) in
         (ap (λ p. p.0) b, ap (λ p. p.0) c)
 
 -- the file of a profile is read as that profile

@@ -23,17 +23,20 @@ marked_set marks (run ∷ runs) n below =
     let P : ℕ → Type 0 = λ k. NameBelow k runs in
     let later = marked_set (set marks run.entry true) runs n (subst P (sym (length-set marks run.entry true)) below.2) in
     let here : run.entry ≡ n → get_or (set marks run.entry true) n false ≡ true =
-    λ same. ap (λ k. get_or (set marks run.entry true) k false) (sym same) ∙ get_or-set_same marks run.entry true false below.0 in
-    (λ h. elim (later.0 h) [ inl k ↦ first k | inr k ↦ inr (inr k) ],
-      λ h. later.1 (elim h [ inl k ↦ inl (before k) | inr k ↦ elim k [ inl same ↦ inl (here same) | inr more ↦ inr more ] ]))
+    λ same. ap (λ k. get_or (set marks run.entry true) k false) (sym same) ∙ get_or-set_same marks run.entry true false below.0 in (
+      λ h. elim (later.0 h) [ inl k ↦ first k | inr k ↦ inr (inr k) ],
+      λ h. later.1 (elim h [ inl k ↦ inl (before k) | inr k ↦ elim k [ inl same ↦ inl (here same) | inr more ↦ inr more ] ]),
+    )
   where
     other : (run.entry ≡ n → ⊥) → get_or (set marks run.entry true) n false ≡ get_or marks n false
     other apart = get_or-set_other marks run.entry n true false (λ e. apart (sym e))
+
     first : get_or (set marks run.entry true) n false ≡ true → (get_or marks n false ≡ true) ⊎ Names n (run ∷ runs)
     first k = elim (cases_order run.entry n) [
       | inl same ↦ inr (inl same)
       | inr order ↦ inl (sym (other (λ e. elim order [ inl less ↦ absurd (omega arith) | inr more ↦ absurd (omega arith) ])) ∙ k)
     ]
+
     before : get_or marks n false ≡ true → get_or (set marks run.entry true) n false ≡ true
     before k = elim (cases_order run.entry n) [
       | inl same ↦ ap (λ m. get_or (set marks run.entry true) m false) (sym same) ∙ get_or-set_same marks run.entry true false below.0
@@ -48,9 +51,10 @@ marked_all_set marks [] n below = (λ h. inl h, λ h. elim h [ inl k ↦ k | inr
 marked_all_set marks (e ∷ entries) n below =
     let P : ℕ → Type 0 = λ k. AllNameBelow k entries in
     let one = marked_set marks e.runs n below.0 in
-    let later = marked_all_set (marked marks e.runs) entries n (subst P (sym (length-marked marks e.runs)) below.1) in
-    (λ h. elim (later.0 h) [ inl k ↦ elim (one.0 k) [ inl set ↦ inl set | inr named ↦ inr (inl named) ] | inr k ↦ inr (inr k) ],
-      λ h. later.1 (elim h [ inl k ↦ inl (one.1 (inl k)) | inr k ↦ elim k [ inl named ↦ inl (one.1 (inr named)) | inr more ↦ inr more ] ]))
+    let later = marked_all_set (marked marks e.runs) entries n (subst P (sym (length-marked marks e.runs)) below.1) in (
+      λ h. elim (later.0 h) [ inl k ↦ elim (one.0 k) [ inl set ↦ inl set | inr named ↦ inr (inl named) ] | inr k ↦ inr (inr k) ],
+      λ h. later.1 (elim h [ inl k ↦ inl (one.1 (inl k)) | inr k ↦ elim k [ inl named ↦ inl (one.1 (inr named)) | inr more ↦ inr more ] ]),
+    )
 
 length-marked_all : (marks : List Bool) (entries : List Entry) → length (marked_all marks entries) ≡ length marks
 length-marked_all marks [] = refl
@@ -76,16 +80,19 @@ all_below entries earlier = by 0 entries (λ n e h. first n e h) (omega arith)
   where
     first : (n : ℕ) (e : Entry) → slice_get entries n ≡ Some e → AreRuns 0 (0 + n) e.runs
     first n e h = let P : ℕ → Type 0 = λ k. AreRuns 0 k e.runs in let place : n ≡ 0 + n = omega arith in subst P place (earlier n e h)
+
     raise : (n m : ℕ) (runs : List Run) → n ≤ m → NameBelow n runs → NameBelow m runs
     raise n m [] le below = tt
     raise n m (run ∷ runs) le below = let here = below.0 in (omega arith, below.1, raise n m runs le below.2)
+
     by : (start : ℕ) (list : List Entry) → ((n : ℕ) (e : Entry) → slice_get list n ≡ Some e → AreRuns 0 (start + n) e.runs) → start + length list ≤ length entries
         → AllNameBelow (length entries) list
     by start [] each few = tt
     by start (e ∷ list) each few =
-        let P : ℕ → Type 0 = λ k. k ≤ length entries in
-        (raise (start + 0) (length entries) e.runs (omega arith) (below_bound 0 (start + 0) e.runs (each 0 e refl)),
-          by (suc start) list (λ n x h. shift n x h) (omega arith))
+        let P : ℕ → Type 0 = λ k. k ≤ length entries in (
+          raise (start + 0) (length entries) e.runs (omega arith) (below_bound 0 (start + 0) e.runs (each 0 e refl)),
+          by (suc start) list (λ n x h. shift n x h) (omega arith),
+        )
       where
         shift : (n : ℕ) (x : Entry) → slice_get list n ≡ Some x → AreRuns 0 (suc start + n) x.runs
         shift n x h = let P : ℕ → Type 0 = λ k. AreRuns 0 k x.runs in let place : start + suc n ≡ suc start + n = omega arith in subst P place (each (suc n) x h)
@@ -104,9 +111,10 @@ module _ (entries : List Entry) (earlier : NameEarlier entries) where
   pub marks_tell : (are_marked (marked_all (replicate (length entries) false) entries) ≡ true → AreNamed entries)
       × (AreNamed entries → are_marked (marked_all (replicate (length entries) false) entries) ≡ true)
   marks_tell =
-      let both = all_but_last (marked_all (replicate (length entries) false) entries) in let count = marks_length in
-      (λ h n less. elim ((marked_all_set (replicate (length entries) false) entries n below_marks).0 (both.0 h n (omega arith))) [
-        | inl k ↦ absurd (unmarked n (omega arith) k)
-        | inr named ↦ named
-      ],
-        λ named. both.1 (λ n less. (marked_all_set (replicate (length entries) false) entries n below_marks).1 (inr (named n (omega arith)))))
+      let both = all_but_last (marked_all (replicate (length entries) false) entries) in let count = marks_length in (
+        λ h n less. elim ((marked_all_set (replicate (length entries) false) entries n below_marks).0 (both.0 h n (omega arith))) [
+          | inl k ↦ absurd (unmarked n (omega arith) k)
+          | inr named ↦ named
+        ],
+        λ named. both.1 (λ n less. (marked_all_set (replicate (length entries) false) entries n below_marks).1 (inr (named n (omega arith)))),
+      )

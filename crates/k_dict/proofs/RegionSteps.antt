@@ -79,9 +79,9 @@ regions_more count text rest behind regions new r at less next is =
     let P : List Region → Type 0 = AtRegions count text behind in
     subst P (sym is) (record {
       cut = at.cut ∙ ap (λ l. flat_map region_line regions ++ l) next.2 ∙ sym (append_assoc (flat_map region_line regions) (region_line r) behind)
-        ∙ ap (λ l. l ++ behind) (sym (flat_map-push region_line regions r));
+          ∙ ap (λ l. l ++ behind) (sym (flat_map-push region_line regions r));
       leads = subst Q (sym (flat_map-push region_line regions r))
-        (leads_on (InRegions count []) (flat_map region_line regions) (InRegions count regions) (region_line r) (InRegions count (regions ++ r ∷ [])) at.leads line);
+          (leads_on (InRegions count []) (flat_map region_line regions) (InRegions count regions) (region_line r) (InRegions count (regions ++ r ∷ [])) at.leads line);
       few = omega (arith, length-append regions (r ∷ []));
       each = each_more regions r at.each next.0;
       linked = linked_more None regions r at.linked next.1;
@@ -93,7 +93,7 @@ pub wrong_region : (count : ℕ) (text rest : List ℕ) (regions : List Region) 
 wrong_region count text rest regions left at less left_is none =
     let P : ℕ → Type 0 = GoesWrong (InRegions count []) text in
     subst P (sym left_is) (wrong_behind (InRegions count []) (flat_map region_line regions) (InRegions count regions) text rest (length rest) at.leads at.cut
-      (wrong_here (InRegions count regions) rest (record { no_line = here; no_end = λ whole is. whole })))
+    (wrong_here (InRegions count regions) rest (record { no_line = here; no_end = λ whole is. whole })))
   where
     here : (line later : List ℕ) (next : Stage) → Follows (InRegions count regions) line next → rest ≢ line ++ later
     here line later next (inl one) is = none one.region later one.right one.stands (is ∙ ap (λ l. l ++ later) one.line_is)

@@ -68,9 +68,12 @@ named_takes name low high text n rest h =
     let c = found_is (nat_le low b.0.0 && nat_le b.0.0 high) b.0 (n, rest) b.2 in
     let bounds = and_parts (nat_le low b.0.0) (nat_le b.0.0 high) c.0 in
     let one : b.0.0 ≡ n = ap (λ p. p.0) c.1 in let other : b.0.1 ≡ rest = ap (λ p. p.1) c.1 in
-    let low_is : low ≤ b.0.0 = leb-true low b.0.0 bounds.0 in let high_is : b.0.0 ≤ high = leb-true b.0.0 high bounds.1 in
-    (word_takes name text a.0 a.1 ∙ ap (λ l. name ++ l) (number_then_takes 10 a.0 b.0.0 b.0.1 b.1).0
-        ∙ (λ i. name ++ (decimal (one i) ++ 10 ∷ other i)) ∙ sym (named_parts name (decimal n) rest), omega arith, omega arith)
+    let low_is : low ≤ b.0.0 = leb-true low b.0.0 bounds.0 in let high_is : b.0.0 ≤ high = leb-true b.0.0 high bounds.1 in (
+      word_takes name text a.0 a.1 ∙ ap (λ l. name ++ l) (number_then_takes 10 a.0 b.0.0 b.0.1 b.1).0
+          ∙ (λ i. name ++ (decimal (one i) ++ 10 ∷ other i)) ∙ sym (named_parts name (decimal n) rest),
+      omega arith,
+      omega arith,
+    )
 
 -- the line of a name and a number is read
 pub named_again : (name : List ℕ) (low high n : ℕ) (rest : List ℕ) → low ≤ n → n ≤ high → high < 2 ^ 64
@@ -92,6 +95,7 @@ kind_takes text k rest h = by (word_at (codes "func ") text) (word_at (codes "lo
   where
     spelled : (l : RegionKind) (more : List ℕ) → ◌≡◌ {A = RegionKind × List ℕ} (l, more) (k, rest) → text ≡ (kind_text l ++ codes " ") ++ more → text ≡ (kind_text k ++ codes " ") ++ rest
     spelled l more pair is = is ∙ ap (λ p. (kind_text p.0 ++ codes " ") ++ p.1) pair
+
     by : (one two three : Option (List ℕ)) → word_at (codes "func ") text ≡ one → word_at (codes "loop ") text ≡ two → word_at (codes "body ") text ≡ three
         → first_kind one two three ≡ Some (k, rest) → text ≡ (kind_text k ++ codes " ") ++ rest
     by (Some more) two three a b c is = spelled Func more (same_Some (Func, more) (k, rest) is) (word_takes (codes "func ") text more a)
@@ -145,7 +149,7 @@ place_again : (p : Place) (rest : List ℕ) → IsPlace p → place_at (place_te
 unfolding place_at place_text
 place_again p rest is =
     ap (λ o. o >>= λ line. part_at 10 line.1 >>= λ column. Some (record { line = line.0; column = column.0 }, column.1))
-      (part_again 58 p.line (decimal p.column ++ 10 ∷ rest) is.line_low is.line_high refl)
+    (part_again 58 p.line (decimal p.column ++ 10 ∷ rest) is.line_low is.line_high refl)
     ∙ ap (λ o. o >>= λ column. Some (record { line = p.line; column = column.0 }, column.1)) (part_again 10 p.column rest is.column_low is.column_high refl)
 
 region_parts : (r : Region) (rest : List ℕ) → region_line r ++ rest ≡ (kind_text r.kind ++ codes " ") ++ (r.func ++ (32 ∷ place_text r.place rest))
@@ -178,9 +182,9 @@ region_again r rest is =
     let place : IsPlace r.place = record { line_low = is.line.0; line_high = is.line.1; column_low = is.column.0; column_high = is.column.1 } in
     ap region_at (region_parts r rest)
     ∙ ap (λ o. o >>= λ kind. name_at kind.1 >>= λ name. word_at (codes " ") name.1 >>= λ rest. place_at rest >>= λ place. Some (region_of kind.0 name.0 place.0, place.1))
-      (kind_again r.kind (r.func ++ (32 ∷ place_text r.place rest)))
+    (kind_again r.kind (r.func ++ (32 ∷ place_text r.place rest)))
     ∙ ap (λ o. o >>= λ name. word_at (codes " ") name.1 >>= λ rest. place_at rest >>= λ place. Some (region_of r.kind name.0 place.0, place.1))
-      (name_again r.func (32 ∷ place_text r.place rest) is.func refl)
+    (name_again r.func (32 ∷ place_text r.place rest) is.func refl)
     ∙ ap (λ o. o >>= λ rest. place_at rest >>= λ place. Some (region_of r.kind r.func place.0, place.1)) (word_again (codes " ") (place_text r.place rest))
     ∙ ap (λ o. o >>= λ place. Some (region_of r.kind r.func place.0, place.1)) (place_again r.place rest place)
 
@@ -205,8 +209,8 @@ run_takes high text run rest h =
     let P : Run × List ℕ → Type 0 = λ q. (text ≡ run_text q.0 ++ q.1) × (q.0.entry < high) × (1 ≤ q.0.count) in
     subst P d.1 (
       word_takes (codes " ") text a.0 a.1
-      ∙ ap (λ l. 32 ∷ l) ((number_then_takes 42 a.0 b.0.0 b.0.1 b.1).0 ∙ ap (λ l. decimal b.0.0 ++ 42 ∷ l) (number_takes b.0.1 c.0.0 c.0.1 c.1).0)
-      ∙ sym (run_parts (run_made b.0 c.0).0 c.0.1),
+          ∙ ap (λ l. 32 ∷ l) ((number_then_takes 42 a.0 b.0.0 b.0.1 b.1).0 ∙ ap (λ l. decimal b.0.0 ++ 42 ∷ l) (number_takes b.0.1 c.0.0 c.0.1 c.1).0)
+          ∙ sym (run_parts (run_made b.0 c.0).0 c.0.1),
       ltb-true b.0.0 high bounds.0,
       leb-true 1 c.0.0 bounds.1,
     )
@@ -217,10 +221,10 @@ unfolding run_at
 run_again high run rest below small some fits alone =
     ap (run_at high) (run_parts run rest)
     ∙ ap (λ o. o >>= λ entry. number_at entry.1 >>= λ count. found_if (nat_lt entry.0 high && nat_le 1 count.0) (run_made entry count))
-      (number_then_again 42 run.entry (decimal run.count ++ rest) (omega arith) refl)
+    (number_then_again 42 run.entry (decimal run.count ++ rest) (omega arith) refl)
     ∙ ap (λ o. o >>= λ count. found_if (nat_lt run.entry high && nat_le 1 count.0) (record { entry = run.entry; count = count.0 }, count.1)) (number_again run.count rest fits alone)
     ∙ is_found (nat_lt run.entry high && nat_le 1 run.count) (run, rest)
-      (and_from (nat_lt run.entry high) (nat_le 1 run.count) (lt-ltb run.entry high below) (le-leb 1 run.count some))
+    (and_from (nat_lt run.entry high) (nat_le 1 run.count) (lt-ltb run.entry high below) (le-leb 1 run.count some))
 
 -- the counts of runs fit 64 bits
 abbrev pub AreSmall : List Run → Type 0
@@ -288,7 +292,7 @@ runs_again high (suc most) (run ∷ runs) rest few below fits small =
     ap (λ o. ended o (runs_more high most (runs_text (run ∷ runs) rest))) no_end
     ∙ ap (runs_more high most) (runs_text-cons run runs rest)
     ∙ ap (λ o. o >>= λ found. runs_at high most found.1 >>= λ others. Some (found.0 ∷ others.0, others.1))
-      (run_again high run (runs_text runs rest) below.0 fits below.1 small.0 (no_digit_first runs rest))
+    (run_again high run (runs_text runs rest) below.0 fits below.1 small.0 (no_digit_first runs rest))
     ∙ ap (λ o. o >>= λ others. Some (run ∷ others.0, others.1)) (runs_again high most runs rest (omega arith) below.2 fits small.1)
 
 abbrev numbers_then : Entry → List ℕ → List ℕ
@@ -313,8 +317,8 @@ numbers_takes regions text t rest h =
     let P : Triple × List ℕ → Type 0 = λ q. (text ≡ decimal q.0.0 ++ 32 ∷ (decimal q.0.1 ++ 32 ∷ (decimal q.0.2 ++ q.1))) × (q.0.0 < regions) in
     subst P d.1 (
       (number_then_takes 32 text a.0.0 a.0.1 a.1).0
-      ∙ ap (λ l. decimal a.0.0 ++ 32 ∷ l) ((number_then_takes 32 a.0.1 b.0.0 b.0.1 b.1).0
-        ∙ ap (λ l. decimal b.0.0 ++ 32 ∷ l) (number_takes b.0.1 c.0.0 c.0.1 c.1).0),
+          ∙ ap (λ l. decimal a.0.0 ++ 32 ∷ l) ((number_then_takes 32 a.0.1 b.0.0 b.0.1 b.1).0
+          ∙ ap (λ l. decimal b.0.0 ++ 32 ∷ l) (number_takes b.0.1 c.0.0 c.0.1 c.1).0),
       ltb-true a.0.0 regions d.0,
     )
 
@@ -323,9 +327,9 @@ numbers_again : (regions : ℕ) (e : Entry) (rest : List ℕ) → e.region < reg
 unfolding numbers_at
 numbers_again regions e rest below small work path alone =
     ap (λ o. o >>= λ region. number_then 32 region.1 >>= λ work. number_at work.1 >>= λ path. found_if (nat_lt region.0 regions) ((region.0, work.0, path.0), path.1))
-      (number_then_again 32 e.region (decimal e.work ++ 32 ∷ (decimal e.path ++ rest)) (omega arith) refl)
+    (number_then_again 32 e.region (decimal e.work ++ 32 ∷ (decimal e.path ++ rest)) (omega arith) refl)
     ∙ ap (λ o. o >>= λ work. number_at work.1 >>= λ path. found_if (nat_lt e.region regions) ((e.region, work.0, path.0), path.1))
-      (number_then_again 32 e.work (decimal e.path ++ rest) work refl)
+    (number_then_again 32 e.work (decimal e.path ++ rest) work refl)
     ∙ ap (λ o. o >>= λ path. found_if (nat_lt e.region regions) ((e.region, e.work, path.0), path.1)) (number_again e.path rest path alone)
     ∙ is_found (nat_lt e.region regions) ((e.region, e.work, e.path), rest) (lt-ltb e.region regions below)
 
@@ -354,7 +358,7 @@ unfolding entry_at
 entry_again regions high e rest below small work path few names high_fits counts =
     ap (entry_at regions high) (entry_parts e rest)
     ∙ ap (λ o. o >>= λ numbers. runs_at high 1048576 numbers.1 >>= λ runs.
-      Some (record { region = numbers.0.0; work = numbers.0.1; path = numbers.0.2; runs = runs.0 }, runs.1))
-      (numbers_again regions e (runs_text e.runs rest) below small work path (no_digit_first e.runs rest))
+    Some (record { region = numbers.0.0; work = numbers.0.1; path = numbers.0.2; runs = runs.0 }, runs.1))
+    (numbers_again regions e (runs_text e.runs rest) below small work path (no_digit_first e.runs rest))
     ∙ ap (λ o. o >>= λ runs. Some (record { region = e.region; work = e.work; path = e.path; runs = runs.0 }, runs.1))
-      (runs_again high 1048576 e.runs rest few names high_fits counts)
+    (runs_again high 1048576 e.runs rest few names high_fits counts)

@@ -44,7 +44,6 @@ size-laid trees (run ∷ runs) below =
 
 -- ---- the sums
 
-
 capped-more : (a b : ℕ) → capped (capped a + b) ≡ capped (a + b)
 capped-more a b = omega arith
 
@@ -81,6 +80,7 @@ sums_are entries extents s (run ∷ runs) cap =
   where
     sum : (a b c : ℕ) → capped (capped (a + b) + c) ≡ capped (a + (b + c))
     sum a b c = omega arith
+
     level : (a b c : ℕ) → max (max a b) c ≡ max a (max b c)
     level a b c = omega arith
 
@@ -102,7 +102,6 @@ below_longest entries extents s (run ∷ runs) path low are =
 -- ---- the rules
 
 module _ (entries : List Entry) (e : Entry) (below : NameBelow (length entries) e.runs) where
-
   below_trees : NameBelow (length (trees_of entries)) e.runs
   below_trees = let P : ℕ → Type 0 = λ n. NameBelow n e.runs in subst P (sym (length-trees entries)) below
 
@@ -173,10 +172,10 @@ module _ (entries : List Entry) (e : Entry) (below : NameBelow (length entries) 
       (and_from (nat_le s.works e.work) _ (le-leb s.works e.work (omega arith))
       (and_from (nat_le e.path e.work) _ (le-leb e.path e.work work)
       (and_from (nat_le s.longest e.path) _
-        (le-leb s.longest e.path (below_longest entries (extents_of entries) no_sums e.runs e.path (omega arith) are.numbers.child))
+      (le-leb s.longest e.path (below_longest entries (extents_of entries) no_sums e.runs e.path (omega arith) are.numbers.child))
       (and_from (nat_le (e.path - s.paths) (e.work - s.works)) _ (le-leb (e.path - s.paths) (e.work - s.works) (omega arith))
       (and_from (nat_lt s.levels 32) (nat_lt s.instances 576460752303423488) (lt-ltb s.levels 32 (omega arith))
-        (lt-ltb s.instances 576460752303423488 (omega arith)))))))
+      (lt-ltb s.instances 576460752303423488 (omega arith)))))))
 
   -- the extent of the tree over its children
   pub extent_is : IsWithinRules entries e → extent_over (sums_from entries (extents_of entries) no_sums e.runs) ≡ extent_of (tree_of (trees_of entries) e)

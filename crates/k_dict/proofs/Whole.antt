@@ -39,9 +39,10 @@ no_end_here text none is =
 -- the last line is all that is there, where nothing stands behind it
 pub end_alone : (text behind : List ℕ) (empty : Bool) → word_at (codes "end\n") text ≡ Some behind → empty ≡ (length behind == 0) → IsTrue empty ↔ (text ≡ codes "end\n")
 end_alone text [] empty found is = (λ h. word_takes (codes "end\n") text [] found, λ h. is)
-end_alone text (b ∷ behind) empty found is =
-    (λ h. absurd (false≢true (sym (is ∙ ne_eqb (suc (length behind)) 0 (λ e. absurd (omega arith))) ∙ h)),
-      λ h. absurd (other (same_Some (b ∷ behind) [] (sym found ∙ ap (word_at (codes "end\n")) h ∙ word_again (codes "end\n") []))))
+end_alone text (b ∷ behind) empty found is = (
+  λ h. absurd (false≢true (sym (is ∙ ne_eqb (suc (length behind)) 0 (λ e. absurd (omega arith))) ∙ h)),
+  λ h. absurd (other (same_Some (b ∷ behind) [] (sym found ∙ ap (word_at (codes "end\n")) h ∙ word_again (codes "end\n") []))),
+)
   where
     other : ◌≡◌ {A = List ℕ} (b ∷ behind) [] → ⊥
     other same = let long : suc (length behind) ≡ 0 = ap length same in absurd (omega arith)
@@ -87,7 +88,7 @@ module _ (exit : ℤ) (ops count : ℕ) (text region_text : List ℕ) (head : Ha
         pub wrong_at_end : ¬ Ends list dict end → GoesWrong Opened text (length end)
         wrong_at_end not_ended =
             wrong_in_entries (length end) (wrong_behind (InEntries list number []) (flat_map entry_line dict) (InEntries list number dict) entry_text end (length end)
-              these.2 these.0 (wrong_here (InEntries list number dict) end (record { no_line = at; no_end = λ whole is. not_ended (is, whole.main, whole.named) })))
+            these.2 these.0 (wrong_here (InEntries list number dict) end (record { no_line = at; no_end = λ whole is. not_ended (is, whole.main, whole.named) })))
           where
             at : (line later : List ℕ) (next : Stage) → Follows (InEntries list number dict) line next → end ≢ line ++ later
             at line later next one is = let few = one.few in let same = these.1 in absurd (omega arith)
@@ -100,10 +101,10 @@ module _ (exit : ℤ) (ops count : ℕ) (text region_text : List ℕ) (head : Ha
         pub text_is : end ≡ codes "end\n" → text ≡ saved_text the_saved
         text_is ended =
             head.cut ∙ ap (λ l. head_lines exit ops count ++ l) (all.0 ∙ ap (λ l. flat_map region_line list ++ l) (found.3 ∙ ap (λ l. count_line number ++ l)
-              (these.0 ∙ ap (λ l. flat_map entry_line dict ++ l) ended)))
+            (these.0 ∙ ap (λ l. flat_map entry_line dict ++ l) ended)))
             ∙ (λ i. head_lines exit ops (sym all.1 i) ++ (flat_map region_line list ++ (count_line (sym these.1 i) ++ (flat_map entry_line dict ++ codes "end\n"))))
             ∙ regroup (head_text first_line exit ops) (named_line (codes "regions ") (decimal (length list))) (flat_map region_line list) (count_line (length dict))
-              (flat_map entry_line dict) (codes "end\n")
+            (flat_map entry_line dict) (codes "end\n")
           where
             regroup : (a b c d e f : List ℕ) → (a ++ b) ++ (c ++ (d ++ (e ++ f))) ≡ ((a ++ (b ++ c)) ++ (d ++ e)) ++ f
             regroup a b c d e f = simp append_assoc

@@ -13,7 +13,6 @@ mod extents;
 mod lines;
 mod region_lines;
 mod stop;
-
 #[cfg(test)]
 mod tests;
 
@@ -99,7 +98,12 @@ fn are_complete(alloc: Global, regions: &[Region], entries: &[Entry]) -> Result<
 }
 
 /// Whether the end may stand behind these entries, and nothing behind it.
-fn may_end(alloc: Global, regions: &[Region], entries: &[Entry], text: &[u8]) -> Result<bool, NoMemory>
+fn may_end(
+    alloc: Global,
+    regions: &[Region],
+    entries: &[Entry],
+    text: &[u8],
+) -> Result<bool, NoMemory>
     requires { NameEarlier entries.now }
     ensures { IfOk result (λ ends. IsTrue ends ↔ Ends regions.now entries.now text.now) }
 {
@@ -111,7 +115,14 @@ fn may_end(alloc: Global, regions: &[Region], entries: &[Entry], text: &[u8]) ->
 }
 
 /// The profile of these parts, where the end of the file stands here and may.
-fn finish(alloc: Global, exit: i32, ops: u64, regions: Seq<Region>, dict: Dict, text: &[u8]) -> Result<Saved, Halt>
+fn finish(
+    alloc: Global,
+    exit: i32,
+    ops: u64,
+    regions: Seq<Region>,
+    dict: Dict,
+    text: &[u8],
+) -> Result<Saved, Halt>
     ensures { Finishes exit ops regions dict text.now result }
 {
     match may_end(alloc, regions.as_slice(), dict.entries(), text) {
@@ -146,7 +157,12 @@ fn read_all(alloc: Global, text: &[u8]) -> Result<Saved, Halt>
                 drop(list);
                 Err(Halt::Wrong(count_text.len()))
             }
-            Some((number, entry_text)) => match entries(alloc, list.len() as u32, number, entry_text) {
+            Some((number, entry_text)) => match entries(
+                alloc,
+                list.len() as u32,
+                number,
+                entry_text,
+            ) {
                 Err(halt) => {
                     drop(list);
                     Err(halt)

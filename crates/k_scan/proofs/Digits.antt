@@ -1,12 +1,10 @@
 -- Numbers at the front: what is taken off was spelled there, and what is spelled there is taken off.
-use Rattle.std.proofs.Common.{◌≡◌, ℕ, ℤ, pos, negsuc, zero, suc, ◌+◌, ◌-◌, ◌*◌, ◌/◌, ◌%◌, ◌^◌, ◌<◌, ◌≤◌, Bool, true, false, ◌&&◌, List, [], ◌∷◌, ◌++◌, Option, Some, None, leb, ltb, eqb, nat_le, nat_lt, refl, sym, ap, ◌∙◌, subst, inl, inr, arith, append_assoc, if◌then◌else◌, ◌==◌, lt-ltb, le-ltb, ne_eqb, eq-eqb}
-use Rattle.std.specs.Fmt.{decimal, signed_decimal}
-use Rattle.std.specs.Prelude.{option_and_then}
+use Rattle.std.proofs.Common.{◌≡◌, ℕ, zero, suc, ◌+◌, ◌-◌, ◌*◌, ◌/◌, ◌%◌, ◌^◌, ◌<◌, ◌≤◌, true, List, [], ◌∷◌, ◌++◌, Some, None, nat_le, nat_lt, refl, sym, ap, ◌∙◌, subst, inl, inr, arith, append_assoc, if◌then◌else◌, ◌==◌, lt-ltb, ne_eqb, eq-eqb}
+use Rattle.std.specs.Fmt.{decimal}
 use Rattle.std.proofs.lemmas.Bool.{and_parts, and_from, cases_Bool, eqb-true, false≢true, ltb-true, leb-true, le-leb}
-use Rattle.std.proofs.lemmas.Bool.Decides.{nat_tests}
 use Rattle.std.proofs.lemmas.Fmt.{decimal_by_steps, decimal_digit, decimal_step}
 use Rattle.std.proofs.lemmas.Option.{none-some, same_Some}
-use Rattle.k_scan.specs.Numbers.{NoDigit, below, digits_at, is_digit, number_at, signed_at, small}
+use Rattle.k_scan.specs.Numbers.{NoDigit, digits_at, is_digit, number_at}
 use Rattle.k_scan.proofs.Front.{chosen}
 
 abbrev limit : ℕ

@@ -1,5 +1,5 @@
 -- A piece at the front of a text.
-use Rattle.std.specs.Prelude.{ℕ, ◌≡◌, Bool, List, [], ◌∷◌, Option, Some, None, ◌==◌, if◌then◌else◌}
+use Rattle.std.specs.Prelude.{ℕ, ◌≡◌, List, [], ◌∷◌, Option, Some, None, ◌==◌, if◌then◌else◌}
 
 -- the call found what reading the list gives
 abbrev pub Finds : {X Y : Type 0} → (X → Y) → Option X → Option Y → Type 0

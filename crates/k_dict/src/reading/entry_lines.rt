@@ -102,7 +102,12 @@ fn next_entry<'a>(
 }
 
 /// The lines of so many entries.
-pub(crate) fn entries(alloc: Global, regions: u32, count: u32, text: &[u8]) -> Result<(Dict, &[u8]), Halt>
+pub(crate) fn entries(
+    alloc: Global,
+    regions: u32,
+    count: u32,
+    text: &[u8],
+) -> Result<(Dict, &[u8]), Halt>
     requires { count ≤ 1048576 }
     ensures { (list : List RegionValue) → length list ≡ regions → AllEntries list count text.now (seen (λ found. (found.0, found.1.now)) result) }
 {

@@ -158,7 +158,12 @@ fn numbers(regions: u32, text: &[u8]) -> Option<((u32, u64, u64), &[u8])>
 
 /// The line of an entry, where there are so many regions, and so many entries before it.
 #[tactic(auto, unfolding(crate::specs::Syntax::entry_at))]
-pub(crate) fn entry(alloc: Global, regions: u32, high: u32, text: &[u8]) -> Result<(Entry, &[u8]), Stop>
+pub(crate) fn entry(
+    alloc: Global,
+    regions: u32,
+    high: u32,
+    text: &[u8],
+) -> Result<(Entry, &[u8]), Stop>
     ensures { Gives (λ found. (found.0, found.1.now)) result (entry_at regions high text.now) }
 {
     let Some(((region, work, path), rest)) = numbers(regions, text) else {

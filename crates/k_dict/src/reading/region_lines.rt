@@ -49,7 +49,11 @@ pub(crate) fn are_closed(regions: &[Region]) -> bool
 }
 
 /// The line of a region that may stand behind these.
-fn next_region<'a>(alloc: Global, before: &[Region], text: &'a [u8]) -> Result<(Region, &'a [u8]), Stop>
+fn next_region<'a>(
+    alloc: Global,
+    before: &[Region],
+    text: &'a [u8],
+) -> Result<(Region, &'a [u8]), Stop>
     ensures { NextRegion before.now text.now (seen (λ found. (found.0, found.1.now)) result) }
 {
     match region(alloc, text) {

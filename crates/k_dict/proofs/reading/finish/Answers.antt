@@ -20,8 +20,7 @@ returns-in-Ok-false c =
 pub returns-in-Ok-true : goal.returns-in-Ok-true
 returns-in-Ok-true c =
     let Q : List Region → Type 0 = λ l. Ends l c.args.dict c.args.text.now in
-    let R : List Entry → Type 0 = λ d. Ends c.as_slice.result.now d c.args.text.now in
-    (
+    let R : List Entry → Type 0 = λ d. Ends c.as_slice.result.now d c.args.text.now in (
       subst Q c.as_slice.ensures (subst R c.entries.ensures.value (c.in-Ok-true.ensures.0 c.in-Ok-true.field-0-test)),
       λ i. record { exit = to_z-of_z w32 c.args.exit (search rules) i; ops = c.args.ops; regions = c.args.regions; dict = c.args.dict },
     )

@@ -18,7 +18,7 @@ loop-preserved c =
     let P : List Run → Type 0 = λ l. with_front l (runs_at c.args.high (1048576 - (c.loop.counter + 1)) c.in-Some-run.behind.now) ≡ runs_at c.args.high 1048576 c.args.text.now in
     subst P (sym c.in_default-push.ensures.ok)
     (goes_on c.loop.runs c.args.high c.loop.counter c.loop.rest.now (runs_at c.args.high 1048576 c.args.text.now) c.in-Some-run.next c.in-Some-run.behind.now c.loop-test.true
-      c.in_default.ensures c.in-Some-run.ensures c.loop.invariant)
+    c.in_default.ensures c.in-Some-run.ensures c.loop.invariant)
 
 pub returns-in-Some-word : goal.returns-in-Some-word
 returns-in-Some-word c =
