@@ -49,9 +49,8 @@ last_behind last (r ∷ regions) = last_behind (Some r) regions
 abbrev pub last_of : List Region → Option Region
 last_of regions = last_behind None regions
 
--- the runs name entries before this number by rising number, each once, with counts of at least 1; an entry may stand behind these
--- where it names a region of the list, is not there yet, leaves all runs within their limit, has bounded numbers, and its tree has
--- at most 32 levels and 2 ^ 59 instances
+-- an entry may stand behind these where it names a region of the list and, by rising number and each once, earlier entries, is not
+-- there yet, leaves all runs within their limit, and has bounded numbers and a tree of at most 32 levels and 2 ^ 59 instances
 pub record IsNextEntry (regions : ℕ) (entries : List Entry) (e : Entry) : Type 0 where
   pub region : e.region < regions
   pub runs : AreRuns 0 (length entries) e.runs
