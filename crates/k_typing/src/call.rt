@@ -1,0 +1,227 @@
+//! The rules of calls (C17 6.5.2.2, 7.21).
+ghost use Rattle.std.specs.Prelude.{◌≡◌, ℕ, List, Some, None, IfOk};
+ghost use Rattle.std.specs.Option.{option_copied};
+ghost use Rattle.k_typed.specs.Calls as rules;
+ghost use Rattle.k_typed.specs.Made.{Fine};
+ghost use Rattle.k_typing.specs.Views.{typed, Agrees};
+ghost use Rattle.k_typing.specs.Arguments.{typed_all};
+
+use crate::arguments::{all_formatted, next, passing};
+use crate::conversion::{at, passed};
+use crate::judged::Judged;
+use crate::view::{TypeView, lent, told};
+use k_num::{Box, Kind, Place, Seq};
+use k_typed::{Library, Meaning, Signature, TExpr, TType, TypeFault};
+use std::alloc::Global;
+use std::collections::VecDeque;
+
+/// A call by what the name means: of a function alone (C17 6.5.2.2p1).
+pub(crate) fn called<'a>(
+    alloc: Global,
+    place: Place,
+    meaning: &'a Meaning,
+    args: VecDeque<Judged<'a>>,
+) -> Result<Judged<'a>, TypeFault>
+    ensures { (name : List ℕ) (ts : List (List ℕ)) → Agrees result (rules.all_taken (typed_all args.entry.items ts)) (rules.called place name (typed_all args.entry.items ts) (Some meaning.now)) }
+{
+    match meaning {
+        Meaning::Variable { .. } | Meaning::Object { .. } => {
+            drop(args);
+            Err(TypeFault::Kinds(place))
+        }
+        Meaning::Function(signature) => function_called(alloc, place, signature, args),
+        Meaning::Library(library) => library_called(alloc, place, *library, args),
+    }
+}
+
+/// A call of a function (C17 6.5.2.2).
+fn function_called<'a>(
+    alloc: Global,
+    place: Place,
+    signature: &'a Signature,
+    args: VecDeque<Judged<'a>>,
+) -> Result<Judged<'a>, TypeFault>
+    ensures { (ts : List (List ℕ)) → Agrees result (rules.all_taken (typed_all args.entry.items ts)) (rules.function_called place signature.now (typed_all args.entry.items ts)) }
+{
+    let args = passing(alloc, place, signature.params.as_slice(), args)?;
+    let of = lent(&signature.result);
+    let node = at(place, told(of)?);
+    let tree = Box::new(
+        alloc,
+        TExpr::Call {
+            node,
+            function: signature.number,
+            args,
+        },
+    )?;
+    Ok(Judged {
+        tree,
+        of,
+        place: None,
+    })
+}
+
+/// A call of a library function.
+fn library_called<'a>(
+    alloc: Global,
+    place: Place,
+    library: Library,
+    args: VecDeque<Judged<'a>>,
+) -> Result<Judged<'a>, TypeFault>
+    ensures { (ts : List (List ℕ)) → Agrees result (rules.all_taken (typed_all args.entry.items ts)) (rules.library_called place library (typed_all args.entry.items ts)) }
+{
+    match library {
+        Library::Getchar => getchar_called(alloc, place, args),
+        Library::Putchar => putchar_called(alloc, place, args),
+        Library::Puts => puts_called(alloc, place, args),
+        Library::Printf => printf_called(alloc, place, args),
+    }
+}
+
+/// `getchar` takes nothing (C17 7.21.7.6).
+fn getchar_called<'a>(
+    alloc: Global,
+    place: Place,
+    args: VecDeque<Judged<'a>>,
+) -> Result<Judged<'a>, TypeFault>
+    ensures { (ts : List (List ℕ)) → Agrees result (rules.all_taken (typed_all args.entry.items ts)) (rules.getchar_called place (typed_all args.entry.items ts)) }
+{
+    let mut waiting = args;
+    if let Some(arg) = next(&mut waiting) {
+        drop(arg);
+        return Err(TypeFault::Arity(place));
+    }
+    let node = at(place, TType::Number(Kind::I32));
+    let tree = Box::new(alloc, TExpr::Getchar { node })?;
+    Ok(Judged {
+        tree,
+        of: TypeView::Number(Kind::I32),
+        place: None,
+    })
+}
+
+/// `putchar` takes an int (C17 7.21.7.8).
+fn putchar_called<'a>(
+    alloc: Global,
+    place: Place,
+    args: VecDeque<Judged<'a>>,
+) -> Result<Judged<'a>, TypeFault>
+    ensures { (ts : List (List ℕ)) → Agrees result (rules.all_taken (typed_all args.entry.items ts)) (rules.putchar_called place (typed_all args.entry.items ts)) }
+{
+    let mut waiting = args;
+    let Some(arg) = next(&mut waiting) else {
+        return Err(TypeFault::Arity(place));
+    };
+    let Some(of) = passed(alloc, TypeView::Number(Kind::I32), arg)? else {
+        return Err(TypeFault::Kinds(place));
+    };
+    if let Some(more) = next(&mut waiting) {
+        drop(more);
+        return Err(TypeFault::Arity(place));
+    }
+    let node = at(place, TType::Number(Kind::I32));
+    let tree = Box::new(alloc, TExpr::Putchar { node, of })?;
+    Ok(Judged {
+        tree,
+        of: TypeView::Number(Kind::I32),
+        place: None,
+    })
+}
+
+/// `puts` takes one string, which is written up to its end (C17 7.21.7.9).
+fn puts_called<'a>(
+    alloc: Global,
+    place: Place,
+    args: VecDeque<Judged<'a>>,
+) -> Result<Judged<'a>, TypeFault>
+    ensures { (ts : List (List ℕ)) → Agrees result (rules.all_taken (typed_all args.entry.items ts)) (rules.puts_called place (typed_all args.entry.items ts)) }
+{
+    let mut waiting = args;
+    let Some(arg) = next(&mut waiting) else {
+        return Err(TypeFault::Arity(place));
+    };
+    if let Some(more) = next(&mut waiting) {
+        drop(more);
+        drop(arg);
+        return Err(TypeFault::Arity(place));
+    }
+    put_line(alloc, place, arg.tree)
+}
+
+/// `puts` of what may be a string.
+fn put_line<'a>(alloc: Global, place: Place, of: Box<TExpr>) -> Result<Judged<'a>, TypeFault>
+    ensures { (taken : List ℕ) → Agrees result taken (rules.put_line place taken of (rules.bytes_in of)) }
+{
+    let Some(bytes) = bytes_in(of.get()) else {
+        drop(of);
+        return Err(TypeFault::BadFormat(place));
+    };
+    if has_zero(bytes.as_slice()) {
+        drop(of);
+        return Err(TypeFault::BadFormat(place));
+    }
+    let node = at(place, TType::Number(Kind::I32));
+    let tree = Box::new(alloc, TExpr::Puts { node, of })?;
+    Ok(Judged {
+        tree,
+        of: TypeView::Number(Kind::I32),
+        place: None,
+    })
+}
+
+/// The bytes of an expression that is a string.
+fn bytes_in(e: &TExpr) -> Option<&Seq<u8>>
+    ensures { option_copied result ≡ rules.bytes_in e.now }
+{
+    match e {
+        TExpr::Str { bytes, .. } => Some(bytes),
+        _ => None,
+    }
+}
+
+/// Whether bytes have a 0 among them.
+fn has_zero(bytes: &[u8]) -> bool
+    ensures { result ≡ rules.has_zero bytes.now }
+{
+    for byte in bytes {
+        if *byte == 0 {
+            return true;
+        }
+    }
+    false
+}
+
+/// `printf` takes a format first, which is no object, and then an argument for each conversion (C17 7.21.6.1).
+fn printf_called<'a>(
+    alloc: Global,
+    place: Place,
+    args: VecDeque<Judged<'a>>,
+) -> Result<Judged<'a>, TypeFault>
+    ensures { (ts : List (List ℕ)) → Agrees result (rules.all_taken (typed_all args.entry.items ts)) (rules.printf_called place (typed_all args.entry.items ts)) }
+{
+    let mut waiting = args;
+    let Some(arg) = next(&mut waiting) else {
+        return Err(TypeFault::BadFormat(place));
+    };
+    let format = format_of(alloc, arg)?;
+    let Some(format) = format else {
+        return Err(TypeFault::BadFormat(place));
+    };
+    let Some(args) = all_formatted(alloc, format.kinds.as_slice(), waiting)? else {
+        return Err(TypeFault::BadFormat(place));
+    };
+    let node = at(place, TType::Number(Kind::I32));
+    let tree = Box::new(
+        alloc,
+        TExpr::Printf {
+            node,
+            format: format.pieces,
+            args,
+        },
+    )?;
+    Ok(Judged {
+        tree,
+        of: TypeView::Number(Kind::I32),
+        place: None,
+    })
+}
