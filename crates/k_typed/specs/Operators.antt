@@ -1,13 +1,12 @@
 -- The rules of expressions with two or three operands that are judged (C17 6.5.5 to 6.5.17).
-use Rattle.std.specs.Prelude.{ℕ, Bool, true, false, if◌then◌else◌, List, [], ◌∷◌, ◌++◌, Option, Some, None}
+use Rattle.std.specs.Prelude.{ℕ, Bool, true, false, if◌then◌else◌, List, ◌++◌, Option, Some, None}
 use Rattle.k_num.specs.declared.numbers.Kind.{Kind}
 use Rattle.k_num.specs.declared.numbers.Kind.TheVariants.{I32, I64}
 use Rattle.k_num.specs.declared.numbers.Bin.{Bin}
-use Rattle.k_num.specs.declared.numbers.Bin.TheVariants.{Add, Sub, Mul, Div, Rem, And, Or, Xor, Shl, Shr, Lt, Le, Gt, Ge, Eq, Ne, LogAnd, LogOr}
+use Rattle.k_num.specs.declared.numbers.Bin.TheVariants.{Add, Sub, Shl, Shr, Lt, Le, Gt, Ge, Eq, Ne, LogAnd, LogOr}
 use Rattle.k_num.specs.declared.place.Place.{Place}
 use Rattle.k_num.specs.Kind.{promoted, common_kind}
 use Rattle.k_tree.specs.declared.tokens.mark.Mark.{Mark}
-use Rattle.k_tree.specs.declared.tokens.mark.Mark.TheVariants as mark
 use Rattle.k_tree.specs.Operators.{operator_of, compound_operator_of}
 use Rattle.k_typed.specs.declared.fault.TypeFault.TheVariants as fault
 use Rattle.k_typed.specs.declared.types.CType.{CType}
@@ -22,7 +21,7 @@ use Rattle.k_typed.specs.declared.tree.expression.TExpr.TheVariants as typed
 use Rattle.k_typed.specs.Conversions.{Typed, at, in_kind, number_in_kind, passed}
 use Rattle.k_typed.specs.Made.{Made, Fine, refused}
 use Rattle.k_typed.specs.Operands.{value, number, written}
-use Rattle.k_typed.specs.Types.{decayed, same_element, equal_element, number_kind, pointed, told, pointer_to}
+use Rattle.k_typed.specs.Types.{decayed, same_element, equal_element, number_kind, told, pointer_to}
 
 -- the operator compares (C17 6.5.8, 6.5.9)
 abbrev pub compares : Bin → Bool
