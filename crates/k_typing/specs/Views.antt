@@ -1,6 +1,5 @@
 -- What lent types and judged expressions stand for, and what the calls of this crate give.
 use Rattle.std.specs.Prelude.{◌≡◌, ℕ, List, [], ◌∷◌, ◌++◌, Option, Some, None, ◌⊎◌, Result, Ok, Err}
-use Rattle.k_num.specs.declared.place.Place.{Place}
 use Rattle.k_typed.specs.declared.fault.TypeFault.{TypeFault}
 use Rattle.k_typed.specs.declared.fault.TypeFault.TheVariants as fault
 use Rattle.k_typed.specs.declared.types.Element.{Element}
@@ -38,27 +37,22 @@ type_option (Some of) = Some (type_of of)
 abbrev pub typed : Judged → List ℕ → Typed
 typed j taken = record { tree = j.tree; of = type_of j.of; place = j.place; taken = taken }
 
+-- A fault agrees with what judging gives: it is the first one; want of memory agrees with all.
+abbrev pub Refuses : {A : Type 0} → TypeFault → Made A → Type 0
+Refuses f m = (f ≡ fault.Memory) ⊎ StartsWith f (faults_of m)
+
 -- A rule gave what it gives to these operands, of which `&` is applied to these variables, or its first fault; want of memory
 -- agrees with all.
 abbrev pub Agrees : Result Judged TypeFault → List ℕ → Made Typed → Type 0
 Agrees (Ok j) taken m = m ≡ Fine (typed j taken)
-Agrees (Err f) taken m = (f ≡ fault.Memory) ⊎ StartsWith f (faults_of m)
-
--- A part of a source was judged, and the variables to which `&` is applied in it were put behind the older ones.
-abbrev pub Gives : Result Judged TypeFault → List ℕ → List ℕ → Made Typed → Type 0
-Gives (Ok j) older newer m = (taken : List ℕ) × (m ≡ Fine (typed j taken)) × (newer ≡ older ++ taken)
-Gives (Err f) older newer m = (f ≡ fault.Memory) ⊎ StartsWith f (faults_of m)
+Agrees (Err f) taken m = Refuses f m
 
 -- A rule that may apply `&` to a variable gave what it gives, and put the variables to which it applies `&` behind the older ones.
 abbrev pub AgreesAfter : Result Judged TypeFault → List ℕ → List ℕ → List ℕ → Made Typed → Type 0
 AgreesAfter (Ok j) taken older newer m = (more : List ℕ) × (m ≡ Fine (typed j (taken ++ more))) × (newer ≡ older ++ more)
-AgreesAfter (Err f) taken older newer m = (f ≡ fault.Memory) ⊎ StartsWith f (faults_of m)
+AgreesAfter (Err f) taken older newer m = Refuses f m
 
 -- What is written to was tested: it is a place that is not const, or the fault is there.
 abbrev pub Writes : Result (Unit {0}) TypeFault → Typed → Made Typed → Type 0
 Writes (Ok done) v m = m ≡ Fine v
 Writes (Err f) v m = m ≡ refused f
-
--- The fault is that of a name that is not known, or want of memory.
-abbrev pub IsUnknown : TypeFault → Place → List ℕ → Type 0
-IsUnknown f place name = (f ≡ fault.Memory) ⊎ (f ≡ fault.Unknown name place)

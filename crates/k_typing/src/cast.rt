@@ -5,7 +5,7 @@ ghost use Rattle.k_typed.specs.Types.{number_kind, pointed, told as told_type};
 ghost use Rattle.k_typed.specs.Conversions as spec;
 ghost use Rattle.k_typed.specs.Operands as rules;
 ghost use Rattle.k_typed.specs.declared.tree.expression.TExpr.TheVariants as trees;
-ghost use Rattle.k_typing.specs.Views.{element_of, type_of, typed, Agrees};
+ghost use Rattle.k_typing.specs.Views.{element_of, type_of, type_option, typed, Agrees};
 
 use crate::constant::number;
 use crate::conversion::at;
@@ -17,11 +17,7 @@ use std::alloc::Global;
 
 /// `sizeof` of an expression, which is not evaluated (C17 6.5.3.4).
 #[tactic(auto, unfolding(k_typed::specs::Operands::sizeof_rule))]
-pub fn sizeof_rule<'a>(
-    alloc: Global,
-    place: Place,
-    of: Judged<'_>,
-) -> Result<Judged<'a>, TypeFault>
+pub fn sizeof_rule<'a>(alloc: Global, place: Place, of: Judged<'_>) -> Result<Judged<'a>, TypeFault>
     ensures { (t : List ℕ) → Agrees result t (rules.sizeof_rule place (typed of.entry t)) }
 {
     let seen = of.of;
@@ -30,11 +26,7 @@ pub fn sizeof_rule<'a>(
 }
 
 /// The size of a type, as a number; `void` has none (C17 6.5.3.4).
-fn size_number<'a>(
-    alloc: Global,
-    place: Place,
-    of: TypeView<'_>,
-) -> Result<Judged<'a>, TypeFault>
+fn size_number<'a>(alloc: Global, place: Place, of: TypeView<'_>) -> Result<Judged<'a>, TypeFault>
     ensures { (t : List ℕ) → Agrees result t (rules.size_number place t (type_of of.entry)) }
 {
     match of {
@@ -50,6 +42,35 @@ fn size_number<'a>(
                 place: None,
             })
         }
+    }
+}
+
+/// `sizeof` of a type that may be none (C17 6.5.3.4).
+pub fn sizeof_named<'a>(
+    alloc: Global,
+    place: Place,
+    of: Option<TypeView<'_>>,
+) -> Result<Judged<'a>, TypeFault>
+    ensures { Agrees result [] (rules.size_named place (type_option of.entry)) }
+{
+    match of {
+        None => Err(TypeFault::Kinds(place)),
+        Some(of) => size_number(alloc, place, of),
+    }
+}
+
+/// A cast to a type that may be none: casts go between kinds, to void, or to the same pointer (C17 6.5.4).
+pub fn cast_to_named<'a>(
+    alloc: Global,
+    place: Place,
+    to: Option<TypeView<'a>>,
+    of: Judged<'a>,
+) -> Result<Judged<'a>, TypeFault>
+    ensures { (t : List ℕ) → Agrees result t (rules.cast_to place (type_option to.entry) (typed of.entry t)) }
+{
+    match to {
+        None => wrong(place, of),
+        Some(to) => cast_to(alloc, place, to, of),
     }
 }
 

@@ -2,8 +2,8 @@
 ghost use Rattle.std.specs.Prelude.{◌≡◌, ℕ, List, None, IfOk};
 ghost use Rattle.k_typed.specs.Types.{number_kind, pointed};
 ghost use Rattle.k_typing.specs.Views.{element_of, type_of, typed};
-
 ghost use Rattle.k_typed.specs.Conversions as spec;
+ghost use Rattle.k_typed.specs.declared.tree.expression.TExpr.TheVariants as trees;
 
 use crate::judged::Judged;
 use crate::view::{ElementView, TypeView, are_alike, is_same_kind, kind_of, pointed_by};
@@ -70,7 +70,6 @@ pub fn number_in(e: &TExpr) -> Option<i128>
     }
 }
 
-
 /// An expression of one kind in another: a number at once, others by a node.
 #[tactic(auto, unfolding(k_typed::specs::Conversions::in_kind))]
 pub fn in_kind(alloc: Global, from: Kind, to: Kind, e: Box<TExpr>) -> Result<Box<TExpr>, NoMemory>
@@ -89,14 +88,15 @@ fn conversion(alloc: Global, to: Kind, e: Box<TExpr>) -> Result<Box<TExpr>, NoMe
     let node = at(node_of(e.get()).place, TType::Number(to));
     match number_in(e.get()) {
         None => Box::new(alloc, TExpr::Convert { node, of: e }),
-        Some(value) => Box::new(
-            alloc,
-            TExpr::Number {
-                node,
-                value: convert(to, value),
-            },
-        ),
+        Some(value) => number_at(alloc, node, convert(to, value)),
     }
+}
+
+/// A number.
+fn number_at(alloc: Global, node: Node, value: i128) -> Result<Box<TExpr>, NoMemory>
+    ensures { IfOk result (λ tree. tree ≡ trees.Number node value) }
+{
+    Box::new(alloc, TExpr::Number { node, value })
 }
 
 /// An expression of one kind in another where it is a number, and as it is where not.

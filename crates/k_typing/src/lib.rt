@@ -1,8 +1,7 @@
-//! The typing of expressions: one function for each rule over finished operands, and the judge of a whole
-//! expression (C17 6.5).
+//! The typing of expressions: the rules, one function for each, over finished operands (C17 6.5). What a rule
+//! gives is a tree, a type and whether it is a place, or its fault.
 #![tactic(auto)]
 
-mod arguments;
 mod assignment;
 mod cast;
 mod constant;
@@ -16,11 +15,19 @@ mod unary;
 mod view;
 
 pub use assignment::assign_rule;
+pub use cast::{cast_to_named, sizeof_named, sizeof_rule};
 pub use constant::{char_rule, number_rule, string_rule};
+pub use conversion::{in_kind, passed};
+pub use judged::Judged;
+pub use name::named;
 pub use operator::{binary_rule, comma_rule, cond_rule};
 pub use place::index_rule;
 pub use step::{post_rule, pre_rule};
 pub use unary::unary_rule;
-pub use conversion::{in_kind, passed};
-pub use judged::Judged;
-pub use view::{ElementView, TypeView};
+pub use view::{
+    ElementView, TypeView, are_equal, count, decayed, kind_of, lent, lent_element, pointed_by,
+    size, told,
+};
+
+#[cfg(test)]
+mod tests;

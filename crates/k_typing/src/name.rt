@@ -2,22 +2,18 @@
 ghost use Rattle.std.specs.Prelude.{◌≡◌, ℕ, List, [], Some};
 ghost use Rattle.k_typed.specs.Operands as rules;
 ghost use Rattle.k_typed.specs.declared.names.Meaning.TheVariants as meanings;
-ghost use Rattle.k_typing.specs.Views.{Agrees, IsUnknown};
+ghost use Rattle.k_typing.specs.Views.{Agrees};
 
 use crate::conversion::at;
 use crate::judged::Judged;
 use crate::place::place_of;
 use crate::view::{lent, told};
-use k_num::{Box, Place, Text};
+use k_num::{Box, Place};
 use k_typed::{CType, Meaning, TExpr, TypeFault};
 use std::alloc::Global;
 
 /// What a name means stands for it; a function's name stands only where it is called (C17 6.5.1p2).
-pub(crate) fn named<'a>(
-    alloc: Global,
-    place: Place,
-    meaning: &'a Meaning,
-) -> Result<Judged<'a>, TypeFault>
+pub fn named<'a>(alloc: Global, place: Place, meaning: &'a Meaning) -> Result<Judged<'a>, TypeFault>
     ensures { (name : List ℕ) → Agrees result [] (rules.named place name (Some meaning.now)) }
 {
     match meaning {
@@ -65,14 +61,4 @@ fn object<'a>(
         of,
         place: place_of(of, fixed),
     })
-}
-
-/// The fault of a name that is not known.
-pub(crate) fn unknown(alloc: Global, place: Place, name: &Text) -> TypeFault
-    ensures { IsUnknown result place name.now }
-{
-    match Text::copy_of(alloc, name.as_str()) {
-        Ok(name) => TypeFault::Unknown(name, place),
-        Err(_) => TypeFault::Memory,
-    }
 }

@@ -15,7 +15,9 @@ ghost use Rattle.k_typing.specs.Views.{element_of, type_of, typed, Agrees};
 
 use crate::conversion::{at, in_kind};
 use crate::judged::{Judged, wrong_pair, wrong_three};
-use crate::view::{ElementView, TypeView, are_alike, are_equal, decayed, kind_of, told, told_pointer};
+use crate::view::{
+    ElementView, TypeView, are_alike, are_equal, decayed, kind_of, told, told_pointer,
+};
 use k_num::{Bin, Box, Kind, Place, common, promote};
 use k_tree::{Mark, operator_of};
 use k_typed::{TExpr, TType, TypeFault};
@@ -114,7 +116,8 @@ fn on_numbers<'a>(
             common_of(alloc, place, op, Kind::I32, kind, other, left, right)
         }
         Bin::Add | Bin::Sub | Bin::Mul | Bin::Div | Bin::Rem | Bin::And | Bin::Or | Bin::Xor => {
-            common_of(alloc, place, op, common(kind, other), kind, other, left, right)
+            let common_kind = common(kind, other);
+            common_of(alloc, place, op, common_kind, kind, other, left, right)
         }
     }
 }
@@ -442,7 +445,14 @@ fn void_arms<'a>(
     ensures { (l m r : List ℕ) → Agrees result (l ++ (m ++ r)) (rules.arms place Nothing (operand (type_of second.entry.of)) (typed test.entry l) (typed first.entry m) (typed second.entry r)) }
 {
     match second.of {
-        TypeView::Void => cond(alloc, place, TypeView::Void, test.tree, first.tree, second.tree),
+        TypeView::Void => cond(
+            alloc,
+            place,
+            TypeView::Void,
+            test.tree,
+            first.tree,
+            second.tree,
+        ),
         TypeView::Number(_) | TypeView::Pointer(_) | TypeView::Array(_, _) => {
             wrong_three(place, test, first, second)
         }

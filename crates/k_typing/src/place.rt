@@ -56,7 +56,11 @@ pub fn index_rule<'a>(
 }
 
 /// `*` of a pointer or an array (C17 6.5.3.2p2).
-fn deref_rule<'a>(alloc: Global, place: Place, of: Judged<'a>) -> Result<Judged<'a>, TypeFault>
+pub(crate) fn deref_rule<'a>(
+    alloc: Global,
+    place: Place,
+    of: Judged<'a>,
+) -> Result<Judged<'a>, TypeFault>
     ensures { (t : List ℕ) → Agrees result t (rules.deref_rule place (typed of.entry t)) }
 {
     let Some(element) = pointed_by(of.of) else {
@@ -73,7 +77,7 @@ fn deref_rule<'a>(alloc: Global, place: Place, of: Judged<'a>) -> Result<Judged<
 }
 
 /// `&` of a place of a number (C17 6.5.3.2p1). A variable has an address from then on.
-fn address_rule<'a>(
+pub(crate) fn address_rule<'a>(
     alloc: Global,
     place: Place,
     of: Judged<'a>,
