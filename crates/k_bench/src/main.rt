@@ -2,28 +2,32 @@
 //! operands and of the control entry are read at each live level, and their maximum is written to one location at
 //! each live level.
 //!
-//! Words: the shadow (`maps`, `regs`, `pages` or `enter`), how its times are read (`read` or `raise`), how many
-//! locations, a power of two, how many levels, and how many operations. It prints the sum of all times at the outermost level, so that runs can be compared. Without words
-//! it runs a few operations over each of the three.
+//! Words: the shadow (`maps`, `regs`, `pages` or `enter`), how its times are read (`read`, `raise` or `after`), how
+//! many locations, a power of two, how many levels, and how many operations. It prints the sum of all times at the
+//! outermost level, so that runs can be compared. Without words it runs a few operations over each of the three, in
+//! each of the three ways.
 #![tactic(auto)]
 
 ghost use Rattle.std.specs.Prelude.{◌≡◌, ◌<◌};
 
 mod draws;
 mod operations;
+#[cfg(test)]
+mod tests;
+mod ways;
 
 use k_shadow::{LevelMaps, Shadow, Steps};
 use k_spage::ShadowPages;
 use k_sreg::ShadowRegs;
-use operations::{Plan, Way, leave_and_enter, run};
+use operations::{Plan, leave_and_enter, run};
 use std::alloc::Global;
 use std::marker::Brand;
 use std::sync::ledger::{Blank, Ledger};
 use std::{env, io};
+use ways::{AtOnce, ByLevel, ByOperand, Way};
 
 /// What runs where no words are given.
 const SMALL: Plan = Plan {
-    way: Way::Raise,
     last: 1023,
     levels: 8,
     operations: 2_000,
@@ -35,12 +39,7 @@ fn words(rt: &HostRuntime) -> io::Result<Vec<String>> {
 }
 
 /// The plan that three numbers make, if they make one.
-fn plan_of(way: &str, locations: &str, levels: &str, operations: &str) -> Option<Plan> {
-    let way = match way {
-        "read" => Way::Read,
-        "raise" => Way::Raise,
-        _ => return None,
-    };
+fn plan_of(locations: &str, levels: &str, operations: &str) -> Option<Plan> {
     let locations: u32 = locations.parse().ok()?;
     let levels: usize = levels.parse().ok()?;
     let operations: u64 = operations.parse().ok()?;
@@ -49,7 +48,6 @@ fn plan_of(way: &str, locations: &str, levels: &str, operations: &str) -> Option
         && operations < 1 << 61;
     if fits {
         Some(Plan {
-            way,
             last: locations - 1,
             levels,
             operations,
@@ -80,18 +78,70 @@ fn subject_of(word: &str) -> Option<Subject> {
     }
 }
 
+/// Which way times are read in.
+#[derive(Clone, Copy, Debug)]
+enum Reading {
+    ByLevel,
+    ByOperand,
+    AtOnce,
+}
+
+/// The way of that name.
+fn reading_of(word: &str) -> Option<Reading> {
+    match word {
+        "read" => Some(Reading::ByLevel),
+        "raise" => Some(Reading::ByOperand),
+        "after" => Some(Reading::AtOnce),
+        _ => None,
+    }
+}
+
 /// The answer of a subject to a plan, if there was memory.
-fn answer<L: Ledger>(alloc: Global, subject: Subject, plan: Plan, blank: Blank) -> Option<u64>
+fn answer<W: Way, L: Ledger>(
+    alloc: Global,
+    subject: Subject,
+    plan: Plan,
+    blank: Blank,
+) -> Option<u64>
     requires name { blank.name ≡ L.name }
     requires parts { blank.parts ≡ L.parts }
     requires some { 0 < blank.parts }
 {
     let mut steps = Steps::<L>::new(blank);
     match subject {
-        Subject::Maps => run(alloc, &mut LevelMaps::new(alloc), plan, &mut steps).ok(),
-        Subject::Registers => run(alloc, &mut ShadowRegs::new(alloc), plan, &mut steps).ok(),
-        Subject::Pages => run(alloc, &mut ShadowPages::new(alloc), plan, &mut steps).ok(),
+        Subject::Maps => run::<W, _, _>(alloc, &mut LevelMaps::new(alloc), plan, &mut steps).ok(),
+        Subject::Registers => run::<W, _, _>(
+            alloc,
+            &mut ShadowRegs::new(alloc),
+            plan,
+            &mut steps,
+        ).ok(),
+        Subject::Pages => run::<W, _, _>(
+            alloc,
+            &mut ShadowPages::new(alloc),
+            plan,
+            &mut steps,
+        ).ok(),
         Subject::Entering => Some(leave_and_enter(&mut ShadowRegs::new(alloc), plan) as u64),
+    }
+}
+
+/// The same, in that way.
+fn answer_by<L: Ledger>(
+    alloc: Global,
+    reading: Reading,
+    subject: Subject,
+    plan: Plan,
+    blank: Blank,
+) -> Option<u64>
+    requires name { blank.name ≡ L.name }
+    requires parts { blank.parts ≡ L.parts }
+    requires some { 0 < blank.parts }
+{
+    match reading {
+        Reading::ByLevel => answer::<ByLevel, L>(alloc, subject, plan, blank),
+        Reading::ByOperand => answer::<ByOperand, L>(alloc, subject, plan, blank),
+        Reading::AtOnce => answer::<AtOnce, L>(alloc, subject, plan, blank),
     }
 }
 
@@ -99,15 +149,11 @@ fn main(rt: HostRuntime) -> io::Result<()> {
     let words = words(&rt)?;
     match words.as_slice() {
         [shadow, way, locations, levels, operations] => {
-            let plan = plan_of(
-                way.as_str(),
-                locations.as_str(),
-                levels.as_str(),
-                operations.as_str(),
-            );
-            let sum = match (subject_of(shadow.as_str()), plan) {
-                (Some(subject), Some(plan)) => {
-                    answer::<Brand>(rt.alloc(), subject, plan, Blank::new(1))
+            let plan = plan_of(locations.as_str(), levels.as_str(), operations.as_str());
+            let reading = reading_of(way.as_str());
+            let sum = match (reading, subject_of(shadow.as_str()), plan) {
+                (Some(reading), Some(subject), Some(plan)) => {
+                    answer_by::<Brand>(rt.alloc(), reading, subject, plan, Blank::new(1))
                 }
                 _ => None,
             };
@@ -115,8 +161,10 @@ fn main(rt: HostRuntime) -> io::Result<()> {
         }
         _ => {
             for subject in [Subject::Maps, Subject::Registers, Subject::Pages] {
-                let sum = answer::<Brand>(rt.alloc(), subject, SMALL, Blank::new(1));
-                println!(rt; "{subject:?} {sum:?}")?;
+                for way in [Reading::ByLevel, Reading::ByOperand, Reading::AtOnce] {
+                    let sum = answer_by::<Brand>(rt.alloc(), way, subject, SMALL, Blank::new(1));
+                    println!(rt; "{subject:?} {way:?} {sum:?}")?;
+                }
             }
         }
     }

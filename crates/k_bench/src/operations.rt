@@ -3,25 +3,15 @@ ghost use Rattle.std.specs.Prelude.{◌≡◌, ◌+◌, ◌^◌, ◌<◌, ◌≤
 ghost use Rattle.k_shadow.specs.Content.{depth};
 
 use crate::draws::Draws;
+use crate::ways::Way;
 use k_num::NoMemory;
 use k_shadow::{Control, Shadow, Steps, Times};
 use std::alloc::Global;
 use std::sync::ledger::Ledger;
 
-/// How the times of operands are read.
-#[derive(Clone, Copy, Debug, PartialEq, Eq)]
-pub enum Way {
-    /// Level by level, by `read`.
-    Read,
-    /// Operand by operand, by `raise`.
-    Raise,
-}
-
 /// What is run.
 #[derive(Clone, Copy, Debug)]
 pub struct Plan {
-    /// How operands are read.
-    pub way: Way,
     /// One less than the number of locations.
     pub last: u32,
     /// How many levels are live.
@@ -36,7 +26,7 @@ pub struct Plan {
 
 /// Runs the operations, and answers the sum of all times at the outermost level.
 #[tactic(auto, using(k_shadow::proofs::Laws::depth_entered, k_shadow::proofs::Laws::depth_left, k_shadow::proofs::Laws::depth_written))]
-pub fn run<S: Shadow, L: Ledger>(
+pub fn run<W: Way, S: Shadow, L: Ledger>(
     alloc: Global,
     shadow: &mut S,
     plan: Plan,
@@ -54,70 +44,16 @@ pub fn run<S: Shadow, L: Ledger>(
     shadow.reserve(0, plan.last + 1)?;
     let mut times = Times::new(alloc);
     times.resize(plan.levels);
+    let slots = times.as_mut_slice();
     let mut draws = Draws::new();
     for _operation in 0..plan.operations {
         let left = draws.next(plan.last);
         let right = draws.next(plan.last);
         let to = draws.next(plan.last);
-        match plan.way {
-            Way::Read => read_operands(shadow, &control, &mut times, left, right, steps),
-            Way::Raise => raise_by_operands(shadow, &control, &mut times, left, right, steps),
-        }
-        shadow.write(to, &times);
+        W::fill(shadow, &control, slots, left, right, steps);
+        shadow.put(to, slots);
     }
     Ok(sum(shadow, plan.last, steps))
-}
-
-/// Fills the list with the times of an operation of latency 1: one more than the latest of its operands, at each level.
-#[inline]
-#[tactic(auto, using(k_shadow::proofs::Laws::depth_entered, k_shadow::proofs::Laws::depth_left, k_shadow::proofs::Laws::depth_written))]
-fn read_operands<S: Shadow, L: Ledger>(
-    shadow: &S,
-    control: &Control,
-    times: &mut Times,
-    left: u32,
-    right: u32,
-    steps: &mut Steps<L>,
-)
-    requires left { left < (S.content shadow.now).limit }
-    requires right { right < (S.content shadow.now).limit }
-    requires live { length times.old ≡ depth (S.content shadow.now) }
-    requires control { length times.old ≡ length control.now.current }
-    ensures live { length times.new ≡ length times.old }
-{
-    let slots = times.as_mut_slice();
-    for level in 0..slots.len() {
-        let a = shadow.read(left, level, steps);
-        let b = shadow.read(right, level, steps);
-        let c = control.time(level, steps);
-        slots[level] = a.max(b).max(c).wrapping_add(1);
-    }
-}
-
-/// The same, operand by operand.
-#[inline]
-#[tactic(auto, using(k_shadow::proofs::Laws::depth_entered, k_shadow::proofs::Laws::depth_left, k_shadow::proofs::Laws::depth_written))]
-fn raise_by_operands<S: Shadow, L: Ledger>(
-    shadow: &S,
-    control: &Control,
-    times: &mut Times,
-    left: u32,
-    right: u32,
-    steps: &mut Steps<L>,
-)
-    requires left { left < (S.content shadow.now).limit }
-    requires right { right < (S.content shadow.now).limit }
-    requires live { length times.old ≡ depth (S.content shadow.now) }
-    requires control { length times.old ≡ length control.now.current }
-    ensures live { length times.new ≡ length times.old }
-{
-    let slots = times.as_mut_slice();
-    control.fill(slots, steps);
-    shadow.raise(left, slots, steps);
-    shadow.raise(right, slots, steps);
-    for slot in slots.iter_mut() {
-        *slot = slot.wrapping_add(1);
-    }
 }
 
 /// The sum of the times at the outermost level.

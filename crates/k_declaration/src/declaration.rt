@@ -1,29 +1,31 @@
 //! Declarations (C17 6.7), token by token, from behind their first specifier.
 mod initialiser;
 
-ghost use Rattle.std.specs.Prelude.{◌≡◌, IfOk};
-ghost use Rattle.k_reader.specs.Declarations as spec;
+ghost use Rattle.std.specs.Prelude.{◌≡◌, IfOk, length};
+ghost use Rattle.k_steps.specs.Level as levels;
+ghost use Rattle.k_steps.specs.Declarations as spec;
 
-use k_expression::expression::{begin, feed};
-use k_expression::reading::read_maybe;
-use k_num::{NoMemory, Place, Seq, Text};
-use k_reader::declaration::initialiser::{After, Brace, Opened};
-use k_reader::declaration::{Declaration, Declared, Front, Stage};
-use k_reader::expression::{Fed, Reading};
-use k_reader::level::plus;
-use k_reader::operators::{is_bracket, is_equal, is_left_brace, is_right_brace, is_spec};
-use k_reader::reading::{Closer, Maybe};
-use k_reader::stack::Stack;
-use k_reader::stars::{Stars, all_stars, constant, no_stars, star};
+use k_expression::expression::{begin, begin_boxed, feed};
+use k_expression::reading::{read_maybe, unboxed};
+use k_num::{Box, NoMemory, Place, Seq, Text};
+use k_steps::declaration::initialiser::{After, Brace, Opened};
+use k_steps::declaration::{Declaration, DeclarationStage, Declared, Front};
+use k_steps::expression::{Fed, Reading};
+use k_steps::level::plus;
+use k_steps::operators::{is_bracket, is_equal, is_left_brace, is_right_brace, is_spec};
+use k_steps::reading::{Closer, Maybe};
+use k_steps::stack::Stack;
+use k_steps::stars::{Stars, all_stars, constant, no_stars, star};
+use k_steps::turn::Turn;
 use k_tree::{Declarator, Init, Mark, Token, TokenKind, Word};
 use std::alloc::Global;
 
 /// The declaration goes on.
-fn declares(front: Front, stage: Stage, reach: usize) -> Declared
+fn declares(front: Front, stage: DeclarationStage, reach: usize) -> Declared
     ensures { result ≡ spec.declares front stage reach }
 {
     let declaration = Declaration { front, stage };
-    Declared::Goes { declaration, reach }
+    Turn::Goes(declaration, reach)
 }
 
 /// A declaration whose first specifier was read.
@@ -40,31 +42,31 @@ pub fn begin_declaration(alloc: Global, word: Word, level: usize) -> Result<Decl
     let stars = no_stars(alloc);
     Ok(Declaration {
         front,
-        stage: Stage::Before { stars },
+        stage: DeclarationStage::Before { stars },
     })
 }
 
 /// A keyword before a name: `const` behind a star, or one more specifier.
-#[tactic(auto, unfolding(k_reader::specs::Declarations::word))]
+#[tactic(auto, unfolding(k_steps::specs::Declarations::word))]
 fn word(mut front: Front, stars: Stars, word: Word) -> Result<Declared, NoMemory>
     ensures { IfOk result (λ fed. fed ≡ spec.word front stars word) }
 {
     if stars.pending {
         if !matches!(word, Word::Const) {
-            return Ok(Declared::Refused);
+            return Ok(Turn::Refused);
         }
         let stars = constant(stars)?;
-        return Ok(declares(front, Stage::Before { stars }, 0));
+        return Ok(declares(front, DeclarationStage::Before { stars }, 0));
     }
     if stars.done.len() > 0 || front.list.len() > 0 || !is_spec(word) {
-        return Ok(Declared::Refused);
+        return Ok(Turn::Refused);
     }
     front.specs.push(word)?;
-    Ok(declares(front, Stage::Before { stars }, 0))
+    Ok(declares(front, DeclarationStage::Before { stars }, 0))
 }
 
 /// The name of a declarator.
-#[tactic(auto, unfolding(k_reader::specs::Declarations::name))]
+#[tactic(auto, unfolding(k_steps::specs::Declarations::name))]
 fn name(
     alloc: Global,
     front: Front,
@@ -83,11 +85,11 @@ fn name(
         dims: Seq::new(alloc),
         init: None,
     };
-    Ok(declares(front, Stage::Named { declarator }, 0))
+    Ok(declares(front, DeclarationStage::Named { declarator }, 0))
 }
 
 /// A token before the name of a declarator.
-#[tactic(auto, unfolding(k_reader::specs::Declarations::before))]
+#[tactic(auto, unfolding(k_steps::specs::Declarations::before))]
 fn before(alloc: Global, front: Front, stars: Stars, token: &Token) -> Result<Declared, NoMemory>
     ensures { IfOk result (λ fed. fed ≡ spec.before front stars token.now) }
 {
@@ -95,26 +97,26 @@ fn before(alloc: Global, front: Front, stars: Stars, token: &Token) -> Result<De
         TokenKind::Word(word_read) => word(front, stars, *word_read),
         TokenKind::Name(name_read) => name(alloc, front, stars, name_read, token.place),
         TokenKind::Mark(mark) => mark_before(front, stars, *mark),
-        _ => Ok(Declared::Refused),
+        _ => Ok(Turn::Refused),
     }
 }
 
 /// A mark before the name of a declarator.
-#[tactic(auto, unfolding(k_reader::specs::Declarations::mark_before))]
+#[tactic(auto, unfolding(k_steps::specs::Declarations::mark_before))]
 fn mark_before(front: Front, stars: Stars, mark: Mark) -> Result<Declared, NoMemory>
     ensures { IfOk result (λ fed. fed ≡ spec.mark_before front stars mark) }
 {
     match mark {
         Mark::Star => {
             let stars = star(stars)?;
-            Ok(declares(front, Stage::Before { stars }, 0))
+            Ok(declares(front, DeclarationStage::Before { stars }, 0))
         }
-        _ => Ok(Declared::Refused),
+        _ => Ok(Turn::Refused),
     }
 }
 
 /// The mark behind a declarator.
-#[tactic(auto, unfolding(k_reader::specs::Declarations::end))]
+#[tactic(auto, unfolding(k_steps::specs::Declarations::end))]
 fn end(
     alloc: Global,
     mut front: Front,
@@ -127,22 +129,22 @@ fn end(
         Mark::Comma => {
             front.list.push(declarator)?;
             let stars = no_stars(alloc);
-            Ok(declares(front, Stage::Before { stars }, 0))
+            Ok(declares(front, DeclarationStage::Before { stars }, 0))
         }
         Mark::Semicolon => {
             front.list.push(declarator)?;
             let Front { specs, list, .. } = front;
-            Ok(Declared::Done { specs, list })
+            Ok(Turn::Done((specs, list)))
         }
         _ => {
             drop(declarator);
-            Ok(Declared::Refused)
+            Ok(Turn::Refused)
         }
     }
 }
 
 /// A mark behind the name of a declarator, or behind a dimension.
-#[tactic(auto, unfolding(k_reader::specs::Declarations::named))]
+#[tactic(auto, unfolding(k_steps::specs::Declarations::named))]
 fn named(
     alloc: Global,
     front: Front,
@@ -152,19 +154,35 @@ fn named(
     ensures { IfOk result (λ fed. fed ≡ spec.named front declarator mark) }
 {
     if is_bracket(mark) {
-        let reading = begin(alloc, 2, front.level);
+        let reading = match begin_boxed(alloc, 2, front.level) {
+            Ok(reading) => reading,
+            Err(NoMemory) => {
+                drop(declarator);
+                return Err(NoMemory);
+            }
+        };
         Ok(declares(
             front,
-            Stage::Size {
+            DeclarationStage::Size {
                 declarator,
                 reading,
             },
             0,
         ))
     } else if is_equal(mark) {
-        let reach = plus(front.level, 1);
+        let reach = match plus(front.level, 1) {
+            Ok(reach) => reach,
+            Err(NoMemory) => {
+                drop(declarator);
+                return Err(NoMemory);
+            }
+        };
         let braces = Stack::new(alloc);
-        Ok(declares(front, Stage::Starts { declarator, braces }, reach))
+        Ok(declares(
+            front,
+            DeclarationStage::Starts { declarator, braces },
+            reach,
+        ))
     } else {
         end(alloc, front, declarator, mark)
     }
@@ -183,18 +201,18 @@ fn behind_name(
         TokenKind::Mark(mark) => named(alloc, front, declarator, *mark),
         _ => {
             drop(declarator);
-            Ok(Declared::Refused)
+            Ok(Turn::Refused)
         }
     }
 }
 
 /// A token in a dimension.
-#[tactic(auto, unfolding(k_reader::specs::Declarations::size))]
+#[tactic(auto, unfolding(k_steps::specs::Declarations::size))]
 fn size(
     alloc: Global,
     front: Front,
     mut declarator: Declarator,
-    reading: Reading,
+    reading: Box<Reading>,
     token: &Token,
 ) -> Result<Declared, NoMemory>
     ensures { IfOk result (λ fed. fed ≡ spec.size front declarator reading token.now) }
@@ -207,55 +225,55 @@ fn size(
         }
     };
     match read {
-        Maybe::Goes { reading, reach } => {
+        Turn::Goes(reading, reach) => {
             Ok(declares(
                 front,
-                Stage::Size {
+                DeclarationStage::Size {
                     declarator,
                     reading,
                 },
                 reach,
             ))
         }
-        Maybe::Closed { value } => {
-            if let Err(NoMemory) = declarator.dims.push(value) {
+        Turn::Done(value) => {
+            if let Err(NoMemory) = declarator.dims.push(unboxed(value)) {
                 drop(declarator);
                 return Err(NoMemory);
             }
-            Ok(declares(front, Stage::Named { declarator }, 0))
+            Ok(declares(front, DeclarationStage::Named { declarator }, 0))
         }
-        Maybe::Refused => {
+        Turn::Refused => {
             drop(declarator);
-            Ok(Declared::Refused)
+            Ok(Turn::Refused)
         }
     }
 }
 
 /// The token behind an initialiser.
-#[tactic(auto, unfolding(k_reader::specs::Declarations::after))]
+#[tactic(auto, unfolding(k_steps::specs::Declarations::after))]
 fn behind(alloc: Global, front: Front, opened: Opened, token: &Token) -> Result<Declared, NoMemory>
     ensures { IfOk result (λ fed. fed ≡ spec.after front opened token.now) }
 {
     let TokenKind::Mark(mark) = &token.what else {
         drop(opened);
-        return Ok(Declared::Refused);
+        return Ok(Turn::Refused);
     };
     match initialiser::behind(opened, *mark)? {
         After::Starts { opened } => {
             let Opened { declarator, braces } = opened;
-            Ok(declares(front, Stage::Starts { declarator, braces }, 0))
+            Ok(declares(front, DeclarationStage::Starts { declarator, braces }, 0))
         }
         After::Closed { opened } => {
             let Opened { declarator, braces } = opened;
-            Ok(declares(front, Stage::After { declarator, braces }, 0))
+            Ok(declares(front, DeclarationStage::After { declarator, braces }, 0))
         }
         After::Done { declarator } => end(alloc, front, declarator, *mark),
-        After::Refused => Ok(Declared::Refused),
+        After::Refused => Ok(Turn::Refused),
     }
 }
 
 /// A token where an initialiser begins.
-#[tactic(auto, unfolding(k_reader::specs::Declarations::starts))]
+#[tactic(auto, unfolding(k_steps::specs::Declarations::starts))]
 fn starts(alloc: Global, front: Front, opened: Opened, token: &Token) -> Result<Declared, NoMemory>
     ensures { IfOk result (λ fed. fed ≡ spec.starts front opened token.now) }
 {
@@ -266,7 +284,7 @@ fn starts(alloc: Global, front: Front, opened: Opened, token: &Token) -> Result<
 }
 
 /// A mark where an initialiser begins.
-#[tactic(auto, unfolding(k_reader::specs::Declarations::mark_starts))]
+#[tactic(auto, unfolding(k_steps::specs::Declarations::mark_starts))]
 fn mark_starts(
     alloc: Global,
     front: Front,
@@ -285,8 +303,15 @@ fn mark_starts(
     }
 }
 
+/// The level that lies so far below an initialiser that begins in these braces.
+fn below_braces(level: usize, braces: &Stack<Brace>, below: usize) -> Result<usize, NoMemory>
+    ensures { IfOk result (λ sum. sum ≡ levels.plus (levels.plus level (length braces.now)) below) }
+{
+    plus(plus(level, braces.len())?, below)
+}
+
 /// A brace opens.
-#[tactic(auto, unfolding(k_reader::specs::Declarations::brace))]
+#[tactic(auto, unfolding(k_steps::specs::Declarations::brace))]
 fn open_brace(
     alloc: Global,
     front: Front,
@@ -299,36 +324,52 @@ fn open_brace(
         declarator,
         mut braces,
     } = opened;
-    let reach = plus(plus(front.level, braces.len()), 2);
+    let reach = match below_braces(front.level, &braces, 2) {
+        Ok(reach) => reach,
+        Err(NoMemory) => {
+            drop(declarator);
+            return Err(NoMemory);
+        }
+    };
     let items = Seq::new(alloc);
     if let Err(NoMemory) = braces.push(Brace { place, items }) {
         drop(declarator);
         return Err(NoMemory);
     }
-    Ok(declares(front, Stage::Starts { declarator, braces }, reach))
+    Ok(declares(
+        front,
+        DeclarationStage::Starts { declarator, braces },
+        reach,
+    ))
 }
 
 /// A brace closes behind a comma.
-#[tactic(auto, unfolding(k_reader::specs::Declarations::last_comma))]
+#[tactic(auto, unfolding(k_steps::specs::Declarations::last_comma))]
 fn last_comma(front: Front, opened: Opened) -> Result<Declared, NoMemory>
     ensures { IfOk result (λ fed. fed ≡ spec.last_comma front opened) }
 {
     match initialiser::last_comma(opened)? {
-        None => Ok(Declared::Refused),
+        None => Ok(Turn::Refused),
         Some(opened) => {
             let Opened { declarator, braces } = opened;
-            Ok(declares(front, Stage::After { declarator, braces }, 0))
+            Ok(declares(front, DeclarationStage::After { declarator, braces }, 0))
         }
     }
 }
 
 /// The first token of an expression that is an initialiser.
-#[tactic(auto, unfolding(k_reader::specs::Declarations::first_token))]
+#[tactic(auto, unfolding(k_steps::specs::Declarations::first_token))]
 fn first(alloc: Global, front: Front, opened: Opened, token: &Token) -> Result<Declared, NoMemory>
     ensures { IfOk result (λ fed. fed ≡ spec.first_token front opened token.now) }
 {
     let Opened { declarator, braces } = opened;
-    let level = plus(plus(front.level, braces.len()), 1);
+    let level = match below_braces(front.level, &braces, 1) {
+        Ok(level) => level,
+        Err(NoMemory) => {
+            drop(declarator);
+            return Err(NoMemory);
+        }
+    };
     let fed = match feed(alloc, begin(alloc, 1, level), token) {
         Ok(fed) => fed,
         Err(NoMemory) => {
@@ -337,9 +378,16 @@ fn first(alloc: Global, front: Front, opened: Opened, token: &Token) -> Result<D
         }
     };
     match fed {
-        Fed::Goes { reading, reach } => {
+        Turn::Goes(reading, reach) => {
+            let reading = match Box::new(alloc, reading) {
+                Ok(reading) => reading,
+                Err(NoMemory) => {
+                    drop(declarator);
+                    return Err(NoMemory);
+                }
+            };
             let place = token.place;
-            let stage = Stage::Value {
+            let stage = DeclarationStage::Value {
                 declarator,
                 braces,
                 place,
@@ -347,31 +395,31 @@ fn first(alloc: Global, front: Front, opened: Opened, token: &Token) -> Result<D
             };
             Ok(declares(front, stage, reach))
         }
-        Fed::Ends { value } => {
+        Turn::Done(value) => {
             drop(value);
             drop(declarator);
-            Ok(Declared::Refused)
+            Ok(Turn::Refused)
         }
-        Fed::Refused => {
+        Turn::Refused => {
             drop(declarator);
-            Ok(Declared::Refused)
+            Ok(Turn::Refused)
         }
     }
 }
 
 /// A token in an expression that is an initialiser.
-#[tactic(auto, unfolding(k_reader::specs::Declarations::value))]
+#[tactic(auto, unfolding(k_steps::specs::Declarations::value))]
 fn value(
     alloc: Global,
     front: Front,
     opened: Opened,
     place: Place,
-    reading: Reading,
+    reading: Box<Reading>,
     token: &Token,
 ) -> Result<Declared, NoMemory>
     ensures { IfOk result (λ fed. fed ≡ spec.value front opened place reading token.now) }
 {
-    let fed = match feed(alloc, reading, token) {
+    let fed = match feed(alloc, reading.into_inner(), token) {
         Ok(fed) => fed,
         Err(NoMemory) => {
             drop(opened);
@@ -379,9 +427,16 @@ fn value(
         }
     };
     match fed {
-        Fed::Goes { reading, reach } => {
+        Turn::Goes(reading, reach) => {
+            let reading = match Box::new(alloc, reading) {
+                Ok(reading) => reading,
+                Err(NoMemory) => {
+                    drop(opened);
+                    return Err(NoMemory);
+                }
+            };
             let Opened { declarator, braces } = opened;
-            let stage = Stage::Value {
+            let stage = DeclarationStage::Value {
                 declarator,
                 braces,
                 place,
@@ -389,19 +444,19 @@ fn value(
             };
             Ok(declares(front, stage, reach))
         }
-        Fed::Ends { value } => {
+        Turn::Done(value) => {
             let opened = initialiser::plug(opened, Init::One { place, value })?;
             behind(alloc, front, opened, token)
         }
-        Fed::Refused => {
+        Turn::Refused => {
             drop(opened);
-            Ok(Declared::Refused)
+            Ok(Turn::Refused)
         }
     }
 }
 
 /// The next token of a declaration.
-#[tactic(auto, unfolding(k_reader::specs::Declarations::feed_declaration))]
+#[tactic(auto, unfolding(k_steps::specs::Declarations::feed_declaration))]
 pub fn feed_declaration(
     alloc: Global,
     declaration: Declaration,
@@ -411,16 +466,16 @@ pub fn feed_declaration(
 {
     let Declaration { front, stage } = declaration;
     match stage {
-        Stage::Before { stars } => before(alloc, front, stars, token),
-        Stage::Named { declarator } => behind_name(alloc, front, declarator, token),
-        Stage::Size {
+        DeclarationStage::Before { stars } => before(alloc, front, stars, token),
+        DeclarationStage::Named { declarator } => behind_name(alloc, front, declarator, token),
+        DeclarationStage::Size {
             declarator,
             reading,
         } => size(alloc, front, declarator, reading, token),
-        Stage::Starts { declarator, braces } => {
+        DeclarationStage::Starts { declarator, braces } => {
             starts(alloc, front, Opened { declarator, braces }, token)
         }
-        Stage::Value {
+        DeclarationStage::Value {
             declarator,
             braces,
             place,
@@ -433,7 +488,7 @@ pub fn feed_declaration(
             reading,
             token,
         ),
-        Stage::After { declarator, braces } => {
+        DeclarationStage::After { declarator, braces } => {
             behind(alloc, front, Opened { declarator, braces }, token)
         }
     }

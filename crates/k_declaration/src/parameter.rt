@@ -1,25 +1,26 @@
 //! Parameters of a function (C17 6.7.6.3), token by token, from behind the opening parenthesis.
 ghost use Rattle.std.specs.Prelude.{◌≡◌, IfOk};
-ghost use Rattle.k_reader.specs.Parameters as spec;
+ghost use Rattle.k_steps.specs.Parameters as spec;
 
-use k_expression::expression::begin;
-use k_expression::reading::read_maybe;
-use k_num::{NoMemory, Place, Seq, Text};
-use k_reader::expression::Reading;
-use k_reader::operators::{is_bracket, is_spec, is_star};
-use k_reader::parameter::{Parameters, Parametric, Part};
-use k_reader::reading::{Closer, Maybe};
-use k_reader::stars::{Stars, all_stars, constant, no_stars, star};
+use k_expression::expression::begin_boxed;
+use k_expression::reading::{read_maybe, unboxed};
+use k_num::{Box, NoMemory, Place, Seq, Text};
+use k_steps::expression::Reading;
+use k_steps::operators::{is_bracket, is_spec, is_star};
+use k_steps::parameter::{ParameterStage, Parameters, Parametric};
+use k_steps::reading::{Closer, Maybe};
+use k_steps::stars::{Stars, all_stars, constant, no_stars, star};
+use k_steps::turn::Turn;
 use k_tree::{Mark, Param, Params, Token, TokenKind, Word};
 use std::alloc::Global;
 use std::mem;
 
 /// The parameters go on.
-fn follows(list: Seq<Param>, part: Part, reach: usize) -> Parametric
+fn follows(list: Seq<Param>, part: ParameterStage, reach: usize) -> Parametric
     ensures { result ≡ spec.follows list part reach }
 {
     let parameters = Parameters { list, part };
-    Parametric::Goes { parameters, reach }
+    Turn::Goes(parameters, reach)
 }
 
 /// No parameter was read.
@@ -28,17 +29,17 @@ pub fn begin_parameters(alloc: Global) -> Parameters
 {
     Parameters {
         list: Seq::new(alloc),
-        part: Part::Starts,
+        part: ParameterStage::Starts,
     }
 }
 
 /// A keyword where a parameter begins.
-#[tactic(auto, unfolding(k_reader::specs::Parameters::starts))]
+#[tactic(auto, unfolding(k_steps::specs::Parameters::starts))]
 fn starts(alloc: Global, list: Seq<Param>, word: Word, place: Place) -> Result<Parametric, NoMemory>
     ensures { IfOk result (λ fed. fed ≡ spec.starts list word place) }
 {
     if !is_spec(word) {
-        return Ok(Parametric::Refused);
+        return Ok(Turn::Refused);
     }
     let mut specs = Seq::new(alloc);
     specs.push(word)?;
@@ -50,47 +51,45 @@ fn starts(alloc: Global, list: Seq<Param>, word: Word, place: Place) -> Result<P
         dims: Seq::new(alloc),
     };
     let stars = no_stars(alloc);
-    Ok(follows(list, Part::Typed { param, stars }, 0))
+    Ok(follows(list, ParameterStage::Typed { param, stars }, 0))
 }
 
 /// A closing parenthesis where a parameter could begin.
-#[tactic(auto, unfolding(k_reader::specs::Parameters::none))]
+#[tactic(auto, unfolding(k_steps::specs::Parameters::none))]
 fn none(list: Seq<Param>) -> Parametric
     ensures { result ≡ spec.none list }
 {
     if list.len() > 0 {
-        return Parametric::Refused;
+        return Turn::Refused;
     }
-    Parametric::Done {
-        params: Params::Empty,
-    }
+    Turn::Done(Params::Empty)
 }
 
 /// A token where a parameter begins.
-#[tactic(auto, unfolding(k_reader::specs::Parameters::first_token))]
+#[tactic(auto, unfolding(k_steps::specs::Parameters::first_token))]
 fn first(alloc: Global, list: Seq<Param>, token: &Token) -> Result<Parametric, NoMemory>
     ensures { IfOk result (λ fed. fed ≡ spec.first_token list token.now) }
 {
     match &token.what {
         TokenKind::Word(word) => starts(alloc, list, *word, token.place),
         TokenKind::Mark(mark) => Ok(mark_first(list, *mark)),
-        _ => Ok(Parametric::Refused),
+        _ => Ok(Turn::Refused),
     }
 }
 
 /// A mark where a parameter begins.
-#[tactic(auto, unfolding(k_reader::specs::Parameters::mark_first))]
+#[tactic(auto, unfolding(k_steps::specs::Parameters::mark_first))]
 fn mark_first(list: Seq<Param>, mark: Mark) -> Parametric
     ensures { result ≡ spec.mark_first list mark }
 {
     match mark {
         Mark::RightParen => none(list),
-        _ => Parametric::Refused,
+        _ => Turn::Refused,
     }
 }
 
 /// Is it `void` alone?
-#[tactic(auto, unfolding(k_reader::specs::Parameters::is_void_alone))]
+#[tactic(auto, unfolding(k_steps::specs::Parameters::is_void_alone))]
 fn is_void_alone(param: &Param) -> bool
     ensures { result ≡ spec.is_void_alone param.now }
 {
@@ -101,42 +100,44 @@ fn is_void_alone(param: &Param) -> bool
 }
 
 /// The mark behind a parameter.
-#[tactic(auto, unfolding(k_reader::specs::Parameters::end))]
+#[tactic(auto, unfolding(k_steps::specs::Parameters::end))]
 fn end(mut list: Seq<Param>, param: Param, mark: Mark) -> Result<Parametric, NoMemory>
     ensures { IfOk result (λ fed. fed ≡ spec.end list param mark) }
 {
     match mark {
         Mark::Comma => {
             list.push(param)?;
-            Ok(follows(list, Part::Starts, 0))
+            Ok(follows(list, ParameterStage::Starts, 0))
         }
         Mark::RightParen => {
             if list.len() == 0 && is_void_alone(&param) {
                 drop(param);
-                return Ok(Parametric::Done {
-                    params: Params::Void,
-                });
+                return Ok(Turn::Done(Params::Void));
             }
             list.push(param)?;
-            Ok(Parametric::Done {
-                params: Params::List(list),
-            })
+            Ok(Turn::Done(Params::List(list)))
         }
         _ => {
             drop(param);
-            Ok(Parametric::Refused)
+            Ok(Turn::Refused)
         }
     }
 }
 
 /// A mark behind the type or the name of a parameter.
-#[tactic(auto, unfolding(k_reader::specs::Parameters::named))]
+#[tactic(auto, unfolding(k_steps::specs::Parameters::named))]
 fn named(alloc: Global, list: Seq<Param>, param: Param, mark: Mark) -> Result<Parametric, NoMemory>
     ensures { IfOk result (λ fed. fed ≡ spec.named list param mark) }
 {
     if is_bracket(mark) {
-        let reading = begin(alloc, 2, 1);
-        Ok(follows(list, Part::Size { param, reading }, 0))
+        let reading = match begin_boxed(alloc, 2, 1) {
+            Ok(reading) => reading,
+            Err(NoMemory) => {
+                drop(param);
+                return Err(NoMemory);
+            }
+        };
+        Ok(follows(list, ParameterStage::Size { param, reading }, 0))
     } else {
         end(list, param, mark)
     }
@@ -155,13 +156,13 @@ fn behind_name(
         TokenKind::Mark(mark) => named(alloc, list, param, *mark),
         _ => {
             drop(param);
-            Ok(Parametric::Refused)
+            Ok(Turn::Refused)
         }
     }
 }
 
 /// A keyword in the type of a parameter.
-#[tactic(auto, unfolding(k_reader::specs::Parameters::word))]
+#[tactic(auto, unfolding(k_steps::specs::Parameters::word))]
 fn word(
     list: Seq<Param>,
     mut param: Param,
@@ -173,7 +174,7 @@ fn word(
     if stars.pending {
         if !matches!(word, Word::Const) {
             drop(param);
-            return Ok(Parametric::Refused);
+            return Ok(Turn::Refused);
         }
         let stars = match constant(stars) {
             Ok(stars) => stars,
@@ -182,17 +183,17 @@ fn word(
                 return Err(NoMemory);
             }
         };
-        return Ok(follows(list, Part::Typed { param, stars }, 0));
+        return Ok(follows(list, ParameterStage::Typed { param, stars }, 0));
     }
     if stars.done.len() > 0 || !is_spec(word) {
         drop(param);
-        return Ok(Parametric::Refused);
+        return Ok(Turn::Refused);
     }
     if let Err(NoMemory) = param.specs.push(word) {
         drop(param);
         return Err(NoMemory);
     }
-    Ok(follows(list, Part::Typed { param, stars }, 0))
+    Ok(follows(list, ParameterStage::Typed { param, stars }, 0))
 }
 
 /// The stars of a parameter are done.
@@ -212,7 +213,7 @@ fn starred(mut param: Param, stars: Stars) -> Result<Param, NoMemory>
 }
 
 /// The name of a parameter.
-#[tactic(auto, unfolding(k_reader::specs::Parameters::name))]
+#[tactic(auto, unfolding(k_steps::specs::Parameters::name))]
 fn name(
     alloc: Global,
     list: Seq<Param>,
@@ -226,7 +227,7 @@ fn name(
     match Text::copy_of(alloc, name.as_str()) {
         Ok(name) => {
             drop(mem::replace(&mut param.name, Some(name)));
-            Ok(follows(list, Part::Named { param }, 0))
+            Ok(follows(list, ParameterStage::Named { param }, 0))
         }
         Err(NoMemory) => {
             drop(param);
@@ -236,7 +237,7 @@ fn name(
 }
 
 /// A token in the type of a parameter, or behind it.
-#[tactic(auto, unfolding(k_reader::specs::Parameters::typed))]
+#[tactic(auto, unfolding(k_steps::specs::Parameters::typed))]
 fn typed(
     alloc: Global,
     list: Seq<Param>,
@@ -252,13 +253,13 @@ fn typed(
         TokenKind::Mark(mark) => mark_typed(alloc, list, param, stars, *mark),
         _ => {
             drop(param);
-            Ok(Parametric::Refused)
+            Ok(Turn::Refused)
         }
     }
 }
 
 /// A mark in the type of a parameter, or behind it.
-#[tactic(auto, unfolding(k_reader::specs::Parameters::mark_typed))]
+#[tactic(auto, unfolding(k_steps::specs::Parameters::mark_typed))]
 fn mark_typed(
     alloc: Global,
     list: Seq<Param>,
@@ -270,7 +271,7 @@ fn mark_typed(
 {
     if is_star(mark) {
         match star(stars) {
-            Ok(stars) => Ok(follows(list, Part::Typed { param, stars }, 0)),
+            Ok(stars) => Ok(follows(list, ParameterStage::Typed { param, stars }, 0)),
             Err(NoMemory) => {
                 drop(param);
                 Err(NoMemory)
@@ -283,12 +284,12 @@ fn mark_typed(
 }
 
 /// A token in a dimension.
-#[tactic(auto, unfolding(k_reader::specs::Parameters::size))]
+#[tactic(auto, unfolding(k_steps::specs::Parameters::size))]
 fn size(
     alloc: Global,
     list: Seq<Param>,
     mut param: Param,
-    reading: Reading,
+    reading: Box<Reading>,
     token: &Token,
 ) -> Result<Parametric, NoMemory>
     ensures { IfOk result (λ fed. fed ≡ spec.size list param reading token.now) }
@@ -301,23 +302,27 @@ fn size(
         }
     };
     match read {
-        Maybe::Goes { reading, reach } => Ok(follows(list, Part::Size { param, reading }, reach)),
-        Maybe::Closed { value } => {
-            if let Err(NoMemory) = param.dims.push(value) {
+        Turn::Goes(reading, reach) => Ok(follows(
+            list,
+            ParameterStage::Size { param, reading },
+            reach,
+        )),
+        Turn::Done(value) => {
+            if let Err(NoMemory) = param.dims.push(unboxed(value)) {
                 drop(param);
                 return Err(NoMemory);
             }
-            Ok(follows(list, Part::Named { param }, 0))
+            Ok(follows(list, ParameterStage::Named { param }, 0))
         }
-        Maybe::Refused => {
+        Turn::Refused => {
             drop(param);
-            Ok(Parametric::Refused)
+            Ok(Turn::Refused)
         }
     }
 }
 
 /// The next token of parameters.
-#[tactic(auto, unfolding(k_reader::specs::Parameters::feed_parameters))]
+#[tactic(auto, unfolding(k_steps::specs::Parameters::feed_parameters))]
 pub fn feed_parameters(
     alloc: Global,
     parameters: Parameters,
@@ -327,9 +332,9 @@ pub fn feed_parameters(
 {
     let Parameters { list, part } = parameters;
     match part {
-        Part::Starts => first(alloc, list, token),
-        Part::Typed { param, stars } => typed(alloc, list, param, stars, token),
-        Part::Named { param } => behind_name(alloc, list, param, token),
-        Part::Size { param, reading } => size(alloc, list, param, reading, token),
+        ParameterStage::Starts => first(alloc, list, token),
+        ParameterStage::Typed { param, stars } => typed(alloc, list, param, stars, token),
+        ParameterStage::Named { param } => behind_name(alloc, list, param, token),
+        ParameterStage::Size { param, reading } => size(alloc, list, param, reading, token),
     }
 }

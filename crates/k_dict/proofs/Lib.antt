@@ -1,20 +1,32 @@
+mod Examples
 pub mod Again
 pub mod Coding
 pub mod Counting
+pub mod EntrySteps
 pub mod EntryTrees
 pub mod Equal
-mod Examples
+pub mod Files
 pub mod Forests
 pub mod Gathered
+pub mod HeadSteps
+pub mod Keeping
+pub mod Leading
 pub mod Lists
 pub mod Machine
+pub mod Made
+pub mod Marks
 pub mod Numbers
 pub mod Ordered
 pub mod Owed
 pub mod Places
 pub mod Pushes
+pub mod ReadingRuns
 pub mod Refusals
+pub mod RegionSteps
 pub mod Sound
+pub mod Spelled
+pub mod Sums
 pub mod Tallying
 pub mod Unique
 pub mod Walking
+pub mod Whole

@@ -101,7 +101,8 @@ impl Dict {
 
     /// All entries, by their numbers.
     pub(crate) fn entries(&self) -> &[Entry]
-        ensures { result.now ≡ self.now }
+        ensures value { result.now ≡ self.now }
+        ensures interned { AreInterned self.now }
     {
         self.entries.as_slice()
     }

@@ -7,6 +7,7 @@ mod entry;
 mod expansion;
 mod gathering;
 pub mod laws;
+mod reading;
 mod saved;
 mod saving;
 mod stack;
@@ -17,7 +18,8 @@ pub use entry::{Entry, Run};
 pub use expansion::{ExpandFault, expand};
 pub use gathering::gather;
 pub use k_optab::Node;
-pub use saved::Saved;
+pub use reading::read;
+pub use saved::{Saved, SavedFault};
 pub use saving::write;
 pub use tally::Tally;
 

@@ -6,43 +6,44 @@ mod plug;
 mod types;
 
 ghost use Rattle.std.specs.Prelude.{◌≡◌, IfOk};
-ghost use Rattle.k_reader.specs.Expressions as spec;
-ghost use Rattle.k_reader.specs.declared.expression.Fed.TheVariants as feds;
+ghost use Rattle.k_steps.specs.Expressions as spec;
+ghost use Rattle.k_steps.specs.declared.turn.Turn.TheVariants as turns;
 
 use crate::reading::is_left_paren;
-use k_num::{NoMemory, Place, Seq, Text};
-use k_reader::expression::{Fed, Now, Open, Reading, Site, Term};
-use k_reader::level::plus;
-use k_reader::operators::right_rank;
-use k_reader::stack::Stack;
+use k_num::{Box, NoMemory, Place, Seq, Text};
+use k_steps::expression::{ExpressionStage, Fed, Open, Reading, Site, Term};
+use k_steps::level::plus;
+use k_steps::operators::right_rank;
+use k_steps::stack::Stack;
+use k_steps::turn::Turn;
 use k_tree::{Expr, Mark, Token};
 use std::alloc::Global;
 
 /// The expression goes on.
-fn goes(site: Site, opens: Stack<Open>, state: Now, reach: usize) -> Fed
+fn goes(site: Site, opens: Stack<Open>, state: ExpressionStage, reach: usize) -> Fed
     ensures { result ≡ spec.goes site opens state reach }
 {
     let reading = Reading { site, opens, state };
-    Fed::Goes { reading, reach }
+    Turn::Goes(reading, reach)
 }
 
 /// The token can't stand in the construct around it.
 fn refused(around: Open) -> Fed
-    ensures { result ≡ feds.Refused }
+    ensures { result ≡ turns.Refused }
 {
     drop(around);
-    Fed::Refused
+    Turn::Refused
 }
 
 /// The level of a node that stands in the innermost open construct.
-fn level(site: Site, opens: &Stack<Open>) -> usize
-    ensures { result ≡ spec.level site opens.now }
+fn level(site: Site, opens: &Stack<Open>) -> Result<usize, NoMemory>
+    ensures { IfOk result (λ level. level ≡ spec.level site opens.now) }
 {
     plus(site.level, opens.len())
 }
 
 /// The least rank of an operand in the innermost open construct.
-#[tactic(auto, unfolding(k_reader::specs::Expressions::hole))]
+#[tactic(auto, unfolding(k_steps::specs::Expressions::hole))]
 fn hole(site: Site, opens: &Stack<Open>) -> u8
     ensures { result ≡ spec.hole site opens.now }
 {
@@ -59,11 +60,11 @@ fn hole(site: Site, opens: &Stack<Open>) -> u8
 }
 
 /// The least rank of an operand behind an operator before it.
-#[tactic(auto, unfolding(k_reader::specs::Expressions::prefix_rank))]
+#[tactic(auto, unfolding(k_steps::specs::Expressions::prefix_rank))]
 fn prefix_rank(op: Mark) -> u8
     ensures { result ≡ spec.prefix_rank op }
 {
-    if k_reader::operators::is_step(op) {
+    if k_steps::operators::is_step(op) {
         14
     } else {
         13
@@ -71,21 +72,21 @@ fn prefix_rank(op: Mark) -> u8
 }
 
 /// The next token of an expression.
-#[tactic(auto, unfolding(k_reader::specs::Expressions::feed))]
+#[tactic(auto, unfolding(k_steps::specs::Expressions::feed))]
 pub fn feed(alloc: Global, reading: Reading, token: &Token) -> Result<Fed, NoMemory>
     ensures { IfOk result (λ fed. fed ≡ spec.feed reading token.now) }
 {
     let Reading { site, opens, state } = reading;
     match state {
-        Now::Operand => operand::operand(alloc, site, opens, token),
-        Now::Named { place, name } => named(alloc, site, opens, place, name, token),
-        Now::Type { specs, stars } => types::in_type(site, opens, specs, stars, token),
-        Now::Value { term } => close::value(alloc, site, opens, term, token),
+        ExpressionStage::Operand => operand::operand(alloc, site, opens, token),
+        ExpressionStage::Named { place, name } => named(alloc, site, opens, place, name, token),
+        ExpressionStage::Type { specs, stars } => types::in_type(site, opens, specs, stars, token),
+        ExpressionStage::Value { term } => close::value(alloc, site, opens, term, token),
     }
 }
 
 /// Behind a name: a call begins, or the name stands for itself.
-#[tactic(auto, unfolding(k_reader::specs::Expressions::named))]
+#[tactic(auto, unfolding(k_steps::specs::Expressions::named))]
 fn named(
     alloc: Global,
     site: Site,
@@ -103,7 +104,7 @@ fn named(
             args: Seq::new(alloc),
             height: 0,
         })?;
-        return Ok(goes(site, opens, Now::Operand, 0));
+        return Ok(goes(site, opens, ExpressionStage::Operand, 0));
     }
     let term = Term {
         tree: Expr::Name { place, name },
@@ -120,6 +121,13 @@ pub fn begin(alloc: Global, rank: u8, level: usize) -> Reading
     Reading {
         site: Site { rank, level },
         opens: Stack::new(alloc),
-        state: Now::Operand,
+        state: ExpressionStage::Operand,
     }
+}
+
+/// The same, in a box.
+pub fn begin_boxed(alloc: Global, rank: u8, level: usize) -> Result<Box<Reading>, NoMemory>
+    ensures { IfOk result (λ reading. reading ≡ spec.begin rank level) }
+{
+    Box::new(alloc, begin(alloc, rank, level))
 }

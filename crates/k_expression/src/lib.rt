@@ -1,5 +1,5 @@
 //! How an expression is read, token by token (C17 6.5): the steps of the reading, each of which is its definition in
-//! `k_reader`.
+//! `k_steps`.
 #![tactic(auto)]
 
 pub mod expression;

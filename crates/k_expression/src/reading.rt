@@ -1,19 +1,20 @@
 //! An expression up to the mark that closes it.
 ghost use Rattle.std.specs.Prelude.{◌≡◌, ◌&&◌, IfOk};
-ghost use Rattle.k_reader.specs.Readings as spec;
-ghost use Rattle.k_reader.specs.Expressions.{is_left_paren};
-ghost use Rattle.k_reader.specs.declared.reading.Closer.TheVariants as closers;
+ghost use Rattle.k_steps.specs.Readings as spec;
+ghost use Rattle.k_steps.specs.Expressions.{is_left_paren};
+ghost use Rattle.k_steps.specs.declared.reading.Closer.TheVariants as closers;
 ghost use Rattle.k_tree.specs.declared.tokens.TokenKind.TheVariants as kinds;
 
 use crate::expression::feed;
-use k_num::NoMemory;
-use k_reader::expression::{Fed, Now, Reading};
-use k_reader::reading::{Closer, Maybe, Read};
-use k_tree::{Mark, Token, TokenKind};
+use k_num::{Box, NoMemory};
+use k_steps::expression::{ExpressionStage, Fed, Reading};
+use k_steps::reading::{Closer, Maybe, Read};
+use k_steps::turn::Turn;
+use k_tree::{Expr, Mark, Token, TokenKind};
 use std::alloc::Global;
 
 /// Is a token this mark?
-#[tactic(auto, unfolding(k_reader::specs::Readings::closes))]
+#[tactic(auto, unfolding(k_steps::specs::Readings::closes))]
 pub fn closes(token: &Token, closer: Closer) -> bool
     ensures { result ≡ spec.closes token.now closer }
 {
@@ -77,36 +78,40 @@ fn is_mark_left_paren(mark: Mark) -> bool
 }
 
 /// Has nothing of the expression been read yet?
-#[tactic(auto, unfolding(k_reader::specs::Readings::is_fresh))]
+#[tactic(auto, unfolding(k_steps::specs::Readings::is_fresh))]
 pub fn is_fresh(reading: &Reading) -> bool
     ensures { result ≡ spec.is_fresh reading.now }
 {
     match &reading.state {
-        Now::Operand => reading.opens.len() == 0,
+        ExpressionStage::Operand => reading.opens.len() == 0,
         _ => false,
     }
 }
 
 /// The next token of an expression up to a mark.
-#[tactic(auto, unfolding(k_reader::specs::Readings::read_needed))]
+#[tactic(auto, unfolding(k_steps::specs::Readings::read_needed))]
 pub fn read_needed(
     alloc: Global,
-    reading: Reading,
+    reading: Box<Reading>,
     token: &Token,
     closer: Closer,
 ) -> Result<Read, NoMemory>
     ensures { IfOk result (λ read. read ≡ spec.read_needed reading token.now closer) }
 {
-    match feed(alloc, reading, token)? {
-        Fed::Goes { reading, reach } => Ok(Read::Goes { reading, reach }),
-        Fed::Ends { value } => {
+    match feed(alloc, reading.into_inner(), token)? {
+        Turn::Goes(reading, reach) => {
+            let reading = Box::new(alloc, reading)?;
+            Ok(Turn::Goes(reading, reach))
+        }
+        Turn::Done(value) => {
             if closes(token, closer) {
-                return Ok(Read::Closed { value });
+                let value = Box::new(alloc, value)?;
+                return Ok(Turn::Done(value));
             }
             drop(value);
-            Ok(Read::Refused)
+            Ok(Turn::Refused)
         }
-        Fed::Refused => Ok(Read::Refused),
+        Turn::Refused => Ok(Turn::Refused),
     }
 }
 
@@ -118,22 +123,31 @@ fn is_left_out(reading: &Reading, token: &Token, closer: Closer) -> bool
 }
 
 /// The next token of an expression that may be left out, up to a mark.
-#[tactic(auto, unfolding(k_reader::specs::Readings::read_maybe))]
+#[tactic(auto, unfolding(k_steps::specs::Readings::read_maybe))]
 pub fn read_maybe(
     alloc: Global,
-    reading: Reading,
+    reading: Box<Reading>,
     token: &Token,
     closer: Closer,
 ) -> Result<Maybe, NoMemory>
     ensures { IfOk result (λ read. read ≡ spec.read_maybe reading token.now closer) }
 {
-    if is_left_out(&reading, token, closer) {
-        drop(reading);
-        return Ok(Maybe::Closed { value: None });
+    if is_left_out(reading.get(), token, closer) {
+        return Ok(Turn::Done(None));
     }
     match read_needed(alloc, reading, token, closer)? {
-        Read::Goes { reading, reach } => Ok(Maybe::Goes { reading, reach }),
-        Read::Closed { value } => Ok(Maybe::Closed { value: Some(value) }),
-        Read::Refused => Ok(Maybe::Refused),
+        Turn::Goes(reading, reach) => Ok(Turn::Goes(reading, reach)),
+        Turn::Done(value) => Ok(Turn::Done(Some(value))),
+        Turn::Refused => Ok(Turn::Refused),
+    }
+}
+
+/// A value that may be left out, without its box.
+pub fn unboxed(value: Option<Box<Expr>>) -> Option<Expr>
+    ensures { result ≡ value }
+{
+    match value {
+        None => None,
+        Some(value) => Some(value.into_inner()),
     }
 }

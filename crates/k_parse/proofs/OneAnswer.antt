@@ -2,13 +2,13 @@
 use Rattle.std.proofs.Common.{ℕ, ◌≡◌, ◌<◌, List, [], ◌∷◌, ◌++◌, Ok, Err, inl, inr, refl, sym, ap, subst, ◌∙◌, append_assoc, arith}
 use Rattle.std.specs.Prelude.{◌⊎◌, Result}
 use Rattle.std.proofs.lemmas.List.{map-append, append-nil}
-use Rattle.k_tree.specs.declared.tokens.Token.{Token}
+use Rattle.k_steps.specs.Types.{Token}
+use Rattle.k_parse.specs.declared.fault.ParseFault.{ParseFault}
 use Rattle.k_tree.specs.declared.tree.unit.Unit as source
 use Rattle.k_tree.specs.Count.{unit_count}
-use Rattle.k_reader.specs.Beginnings.{kinds, Begins, IsRefusalAt, IsFirstWrong}
-use Rattle.k_reader.specs.declared.whole.ParseFault.{ParseFault}
-use Rattle.k_reader.specs.declared.whole.ParseFault.TheVariants as fault
-use Rattle.k_parse.specs.Parse.{IsTreeOf, IsRefused, IsParse}
+use Rattle.k_parse.specs.Beginnings.{kinds, Begins, IsRefusalAt, IsFirstWrong}
+use Rattle.k_parse.specs.declared.fault.ParseFault.TheVariants as fault
+use Rattle.k_parse.specs.Parse.{IsTreeOf, IsRefused, IsParse, nesting_limit}
 use Rattle.k_parse.proofs.Trees.{placed_spells, one_tree}
 
 -- two cuts of one list at a token: the same cut, or what stands before the one begins with what the other has up to its token
@@ -70,22 +70,22 @@ wrong_once limit tokens f g a b =
     at_cuts limit tokens f g a b (cuts a.before b.before a.wrong b.wrong a.after b.after (sym a.split ∙ b.split))
 
 -- a list with a tree has no wrong token
-tree_right : (tokens : List Token) (u : source.Unit) (f : ParseFault) → IsTreeOf tokens u → IsFirstWrong 200 tokens f → ⊥
+tree_right : (tokens : List Token) (u : source.Unit) (f : ParseFault) → IsTreeOf tokens u → IsFirstWrong nesting_limit tokens f → ⊥
 tree_right tokens u f is a =
     let list : List Token = (a.before ++ a.wrong ∷ []) ++ a.after in
     let split : tokens ≡ list = a.split ∙ sym (append_assoc a.before (a.wrong ∷ []) a.after) in
-    let all : Begins 200 list = record {
+    let all : Begins nesting_limit list = record {
       tree = u;
       rest = [];
       ranked = is.ranked;
       within = is.nests;
       spelled = placed_spells u tokens is.ranked is.placed ∙ ap kinds split ∙ sym (append-nil (kinds list));
     } in
-    a.stop (begins_less 200 (a.before ++ a.wrong ∷ []) a.after all)
+    a.stop (begins_less nesting_limit (a.before ++ a.wrong ∷ []) a.after all)
 
 -- a refusal is for the nodes of a tree, or at a first wrong token
 by_fault : (tokens : List Token) (f : ParseFault) → IsRefused tokens f
-    → ((f ≡ fault.NodesMany) × ((u : source.Unit) × IsTreeOf tokens u × (262144 < unit_count u))) ⊎ IsFirstWrong 200 tokens f
+    → ((f ≡ fault.NodesMany) × ((u : source.Unit) × IsTreeOf tokens u × (262144 < unit_count u))) ⊎ IsFirstWrong nesting_limit tokens f
 by_fault tokens (fault.Syntax p) h = inr h
 by_fault tokens (fault.TooDeep p) h = inr h
 by_fault tokens fault.NodesMany h = inl (refl, h)
@@ -111,7 +111,7 @@ refused_once tokens f g h k = elim (by_fault tokens f h) [
   ]
   | inr wrong ↦ elim (by_fault tokens g k) [
     | inl more ↦ absurd (tree_right tokens more.1.0 f more.1.1 wrong)
-    | inr other ↦ wrong_once 200 tokens f g wrong other
+    | inr other ↦ wrong_once nesting_limit tokens f g wrong other
   ]
 ]
 

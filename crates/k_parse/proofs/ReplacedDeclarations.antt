@@ -3,14 +3,9 @@ use Rattle.std.proofs.Common.{◌≡◌, ◌≢◌, List, [], ◌∷◌, ◌++�
 use Rattle.std.specs.Prelude.{All}
 use Rattle.std.proofs.lemmas.List.{map-append}
 use Rattle.std.proofs.lemmas.List.Elements.{All-nil, All-cons}
-use Rattle.k_num.specs.declared.place.Place.{Place}
-use Rattle.k_tree.specs.declared.tokens.word.Word.{Word}
+use Rattle.k_steps.specs.Types.{Place, Word, Init, Declarator, Param, Params}
 use Rattle.k_tree.specs.declared.tokens.mark.Mark.TheVariants as mark
-use Rattle.k_tree.specs.declared.tree.declaration.Init.{Init}
 use Rattle.k_tree.specs.declared.tree.declaration.Init.TheVariants as init
-use Rattle.k_tree.specs.declared.tree.declaration.Declarator.{Declarator}
-use Rattle.k_tree.specs.declared.tree.declaration.Param.{Param}
-use Rattle.k_tree.specs.declared.tree.declaration.Params.{Params}
 use Rattle.k_tree.specs.declared.tree.declaration.Params.TheVariants as params
 use Rattle.k_tree.specs.Bare.{where_given, bare_init, bare_declarator, bare_param, bare_params}
 use Rattle.k_tree.specs.Folds.{init_One, init_List}

@@ -1,25 +1,19 @@
 -- Trees that get the places of their nodes from the front of a list, in the order in which the nodes are laid.
 use Rattle.std.proofs.Common.{List, [], ◌∷◌, map, Option, Some, None}
-use Rattle.k_num.specs.declared.place.Place.{Place}
-use Rattle.k_tree.specs.declared.tree.expression.Expr.{Expr, fold-Expr}
+use Rattle.k_steps.specs.Types.{Place, Expr, Init, Declarator, Param, Params, First, Stmt, Part, Head, Item}
+use Rattle.k_tree.specs.declared.tree.expression.Expr.{fold-Expr}
 use Rattle.k_tree.specs.declared.tree.expression.Expr.TheOpen.{Expr-F}
 use Rattle.k_tree.specs.declared.tree.expression.Expr.TheVariants as expr
-use Rattle.k_tree.specs.declared.tree.declaration.Init.{Init, fold-Init}
+use Rattle.k_tree.specs.declared.tree.declaration.Init.{fold-Init}
 use Rattle.k_tree.specs.declared.tree.declaration.Init.TheOpen.{Init-F}
 use Rattle.k_tree.specs.declared.tree.declaration.Init.TheVariants as init
-use Rattle.k_tree.specs.declared.tree.declaration.Declarator.{Declarator}
-use Rattle.k_tree.specs.declared.tree.declaration.Param.{Param}
-use Rattle.k_tree.specs.declared.tree.declaration.Params.{Params}
 use Rattle.k_tree.specs.declared.tree.declaration.Params.TheVariants as params
-use Rattle.k_tree.specs.declared.tree.statement.First.{First}
 use Rattle.k_tree.specs.declared.tree.statement.First.TheVariants as first
-use Rattle.k_tree.specs.declared.tree.statement.Stmt.{Stmt, fold-Stmt}
-use Rattle.k_tree.specs.declared.tree.statement.Part.{Part, fold-Part}
+use Rattle.k_tree.specs.declared.tree.statement.Stmt.{fold-Stmt}
+use Rattle.k_tree.specs.declared.tree.statement.Part.{fold-Part}
 use Rattle.k_tree.specs.declared.tree.statement.Part.TheOpen.{Part-F, Stmt-F}
 use Rattle.k_tree.specs.declared.tree.statement.Part.TheVariants as part
 use Rattle.k_tree.specs.declared.tree.statement.Stmt.TheVariants as stmt
-use Rattle.k_tree.specs.declared.tree.unit.Head.{Head}
-use Rattle.k_tree.specs.declared.tree.unit.Item.{Item}
 use Rattle.k_tree.specs.declared.tree.unit.Item.TheVariants as item
 use Rattle.k_tree.specs.declared.tree.unit.Unit as source
 use Rattle.k_tree.specs.Bare.{nowhere}

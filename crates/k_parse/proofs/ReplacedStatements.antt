@@ -1,15 +1,9 @@
 -- Statements are given back by themselves without places and the places of their pieces.
 use Rattle.std.proofs.Common.{◌≡◌, ◌≢◌, List, [], ◌∷◌, ◌++◌, map, append_assoc, refl, sym, ap, ◌∙◌}
 use Rattle.std.proofs.lemmas.List.{map-append}
-use Rattle.k_num.specs.declared.place.Place.{Place}
+use Rattle.k_steps.specs.Types.{Place, Word, Declarator, First, Stmt, Expr, Part}
 use Rattle.k_tree.specs.declared.tokens.mark.Mark.TheVariants as mark
-use Rattle.k_tree.specs.declared.tokens.word.Word.{Word}
-use Rattle.k_tree.specs.declared.tree.declaration.Declarator.{Declarator}
-use Rattle.k_tree.specs.declared.tree.statement.First.{First}
 use Rattle.k_tree.specs.declared.tree.statement.First.TheVariants as first
-use Rattle.k_tree.specs.declared.tree.statement.Stmt.{Stmt}
-use Rattle.k_tree.specs.declared.tree.expression.Expr.{Expr}
-use Rattle.k_tree.specs.declared.tree.statement.Part.{Part}
 use Rattle.k_tree.specs.declared.tree.statement.Part.TheVariants as part
 use Rattle.k_tree.specs.declared.tree.statement.Stmt.TheVariants as stmt
 use Rattle.k_tree.specs.Bare.{bare_first, bare_stmt, bare_part}

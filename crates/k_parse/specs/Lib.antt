@@ -1,2 +1,4 @@
+pub mod Beginnings
 pub mod Laws
 pub mod Parse
+pub mod Runs

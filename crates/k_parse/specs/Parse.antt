@@ -1,6 +1,7 @@
 -- What a token list is read to: the one tree that it spells, or the refusal of a list that spells none within the limits.
 use Rattle.std.specs.Prelude.{ℕ, ◌≡◌, ◌≤◌, ◌<◌, List, Result, Ok, Err}
-use Rattle.k_tree.specs.declared.tokens.Token.{Token}
+use Rattle.k_steps.specs.Types.{Token}
+use Rattle.k_parse.specs.declared.fault.ParseFault.{ParseFault}
 use Rattle.k_tree.specs.declared.tree.unit.Unit as source
 use Rattle.k_tree.specs.Bare.{bare}
 use Rattle.k_tree.specs.Count.{unit_count}
@@ -8,9 +9,8 @@ use Rattle.k_tree.specs.Nesting.{nesting}
 use Rattle.k_tree.specs.Places.{Placed}
 use Rattle.k_tree.specs.Ranked.{RankedUnit}
 use Rattle.k_tree.specs.Spelling.{spelling}
-use Rattle.k_reader.specs.declared.whole.ParseFault.{ParseFault}
-use Rattle.k_reader.specs.declared.whole.ParseFault.TheVariants as fault
-use Rattle.k_reader.specs.Beginnings.{IsFirstWrong, kinds}
+use Rattle.k_parse.specs.declared.fault.ParseFault.TheVariants as fault
+use Rattle.k_parse.specs.Beginnings.{IsFirstWrong, kinds}
 
 -- how deep a tree may nest
 abbrev pub nesting_limit : ℕ

@@ -1,14 +1,15 @@
 //! The tree of a token list.
 ghost use Rattle.std.specs.Prelude.{◌≡◌, ◌⊎◌, IfOk, IfErr, Some, Ok, Err};
 ghost use Rattle.k_tree.specs.Closed.{EndsOnce};
-ghost use Rattle.k_reader.specs.Runs.{runs};
-ghost use Rattle.k_reader.specs.Sources.{begin_source};
-ghost use Rattle.k_parse.specs.Parse.{IsParse, IsOne, IsOnly};
+ghost use Rattle.k_parse.specs.Runs.{runs};
+ghost use Rattle.k_steps.specs.Sources.{begin_source};
+ghost use Rattle.k_parse.specs.Parse.{IsParse, IsOne, IsOnly, nesting_limit};
 
+use crate::fault::ParseFault;
 use k_num::{NoMemory, Seq};
-use k_reader::source::Sourced;
-use k_reader::whole::ParseFault;
 use k_statement::source::{begin_source, feed_source};
+use k_steps::source::Sourced;
+use k_steps::turn::Turn;
 use k_tree::{Token, Unit, nodes};
 use std::alloc::Global;
 
@@ -22,9 +23,9 @@ const NODES: u64 = 262_144;
 fn read(alloc: Global, tokens: &[Token]) -> Result<Unit, ParseFault>
     requires { EndsOnce tokens.now }
     // The tree is that of the definition.
-    ensures tree { IfOk result (λ u. runs 200 begin_source tokens.now ≡ Some (Ok u)) }
+    ensures tree { IfOk result (λ u. runs nesting_limit begin_source tokens.now ≡ Some (Ok u)) }
     // Every refusal but want of memory is that of the definition.
-    ensures refused { IfErr result (λ f. (f ≡ ParseFault.Memory) ⊎ (runs 200 begin_source tokens.now ≡ Some (Err f))) }
+    ensures refused { IfErr result (λ f. (f ≡ ParseFault.Memory) ⊎ (runs nesting_limit begin_source tokens.now ≡ Some (Err f))) }
 {
     let mut source = begin_source(alloc);
     for token in tokens {
@@ -33,15 +34,15 @@ fn read(alloc: Global, tokens: &[Token]) -> Result<Unit, ParseFault>
             Err(NoMemory) => return Err(ParseFault::Memory),
         };
         source = match fed {
-            Sourced::Goes { source, reach } => {
+            Turn::Goes(source, reach) => {
                 if reach > NESTING {
                     drop(source);
                     return Err(ParseFault::TooDeep(token.place));
                 }
                 source
             }
-            Sourced::Done { unit } => return Ok(unit),
-            Sourced::Refused => return Err(ParseFault::Syntax(token.place)),
+            Turn::Done(unit) => return Ok(unit),
+            Turn::Refused => return Err(ParseFault::Syntax(token.place)),
         };
     }
     unreachable!()

@@ -1,1 +1,15 @@
+pub mod Adding
+pub mod Besides
+pub mod ByRegions
+pub mod Counting
+pub mod Examples
+pub mod Giving
+pub mod Grouped
+pub mod ItemLists
+pub mod Listed
 pub mod Lowest
+pub mod Profile
+pub mod Rowed
+pub mod Siblings
+pub mod Standing
+pub mod Under

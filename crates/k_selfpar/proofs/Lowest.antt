@@ -136,3 +136,11 @@ quotients_fraction a b g some a_fits b_fits h = record {
   den_fits = omega (arith, div-le_self b g, b_fits);
   lowest = quotients_lowest a b g some h;
 }
+
+-- where a number is divided by 0, the ratio is that of 1 to 1
+pub unit_ratio : (a b num den : ℕ) → b ≡ 0 → IsRatio 1 1 num den → IsRatio a b num den
+unit_ratio a b num den none (inl h) = absurd (omega (arith, h.0))
+unit_ratio a b num den none (inr h) =
+    let same : num ≡ den = omega (arith, h.2) in
+    let one : num ≡ 1 = h.3 num (1, omega arith) (1, omega (arith, same)) in
+    inl (none, one, omega (arith, same, one))

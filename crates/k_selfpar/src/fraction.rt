@@ -38,6 +38,19 @@ impl Frac {
         }
     }
 
+    /// `num / den`, reduced, and 1/1 where `den` is 0.
+    pub fn ratio(num: u64, den: u64) -> Frac
+        requires num_fits { num < 2 ^ 62 }
+        requires den_fits { den < 2 ^ 62 }
+        ensures { IsRatio num den result.0 result.1 }
+    {
+        if den == 0 {
+            Frac::new(1, 1)
+        } else {
+            Frac::new(num, den)
+        }
+    }
+
     /// The numerator.
     pub fn num(&self) -> u64
         ensures value { result ≡ self.now.0 }

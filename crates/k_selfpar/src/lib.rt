@@ -1,11 +1,23 @@
-//! Self-parallelism as exact fractions.
+//! Self-parallelism as exact fractions, the rows of a tree, which tell what the instances of each region come to together, and its
+//! contexts, which tell the same of the instances with each list of regions from the root.
 #![tactic(auto)]
 
+mod context;
+mod counts;
 mod euclid;
 mod fraction;
+mod grouping;
+mod item;
 pub mod laws;
+mod row;
+mod sums;
+mod tree_rows;
 
+pub use context::{Context, ContextFault, ContextList};
 pub use fraction::Frac;
+pub use grouping::contexts;
+pub use row::Row;
+pub use tree_rows::rows;
 
 #[cfg(test)]
 mod tests;

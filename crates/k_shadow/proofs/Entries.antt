@@ -1,5 +1,5 @@
 -- What entering and leaving a level make of the entries of a control stack.
-use Rattle.std.proofs.Common.{◌≡◌, ℕ, ◌+◌, ◌-◌, ◌<◌, ◌≤◌, List, [], ◌∷◌, ◌++◌, length, take, map, Bool, refl, ap, sym, ◌∙◌, arith}
+use Rattle.std.proofs.Common.{◌≡◌, ℕ, ◌+◌, ◌-◌, ◌≤◌, List, [], ◌∷◌, ◌++◌, length, take, map, Bool, refl, ap, sym, ◌∙◌}
 use Rattle.k_shadow.specs.declared.row.Row.{Row}
 use Rattle.k_shadow.specs.Numbers.{Numbers, number_given, number_left}
 use Rattle.k_shadow.specs.Rows.{row_time, times_of, stack_in, WereStamped}

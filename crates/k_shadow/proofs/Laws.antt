@@ -1,6 +1,6 @@
 -- The laws of *Shadow content* that crates above cite: how many levels are live after each call, and which times
 -- are read then.
-use Rattle.std.proofs.Common.{◌≡◌, ℕ, ◌+◌, ◌-◌, ◌<◌, ◌≤◌, zero, suc, List, [], ◌∷◌, ◌++◌, length, take, map, get_or, ◌==◌, ◌&&◌, nat_le, nat_lt, refl, ap, sym, ◌∙◌, arith, length-append}
+use Rattle.std.proofs.Common.{◌≡◌, ℕ, ◌+◌, ◌-◌, ◌<◌, zero, suc, List, [], ◌∷◌, length, get_or, ◌==◌, ◌&&◌, nat_le, nat_lt, refl, ap, arith, length-append}
 use Rattle.std.specs.Prelude.{slice_index, if◌then◌else◌}
 use Rattle.std.proofs.lemmas.List.{length-map, length-take, get_or_append_left, get_or_push, get_or-take, get_or-map}
 use Rattle.k_shadow.specs.Content.{Content, depth, time_at, entered, left, with_time, set_times, written, without, cleared}

@@ -1,13 +1,13 @@
 -- What the calls make of the maps of live levels.
-use Rattle.std.proofs.Common.{◌≡◌, ℕ, ◌+◌, ◌-◌, ◌<◌, ◌≤◌, zero, suc, List, [], ◌∷◌, ◌++◌, length, take, drop, map, replicate, get_or, cond, Bool, ◌&&◌, nat_le, nat_lt, refl, ap, sym, ◌∙◌, arith, length-append, append_assoc, ⊎_elim}
+use Rattle.std.proofs.Common.{◌≡◌, ℕ, ◌+◌, ◌-◌, ◌<◌, ◌≤◌, zero, suc, List, [], ◌∷◌, ◌++◌, length, take, drop, map, replicate, cond, Bool, ◌&&◌, nat_le, nat_lt, refl, ap, sym, ◌∙◌, arith, length-append, append_assoc, ⊎_elim}
 use Rattle.std.specs.BTreeMap.{BTreeMap, is_at}
 use Rattle.std.specs.Map.{lookup}
 use Rattle.std.specs.Option.{unwrap_or}
 use Rattle.std.specs.Ordering.{nat_cmp}
 use Rattle.std.proofs.lemmas.Bool.{cases_lt}
 use Rattle.std.proofs.lemmas.Bool.Decides.{nat_tests}
-use Rattle.std.proofs.lemmas.List.{append-nil, length-map, length-replicate, map-append, map-id, map_push, take-map, take_at, take-append-le, length-take-le, replicate_more}
-use Rattle.k_shadow.specs.Content.{set_times, without}
+use Rattle.std.proofs.lemmas.List.{append-nil, length-map, length-replicate, map-append, map-id, map_push, take-map, take_at, length-take-le, replicate_more}
+use Rattle.k_shadow.specs.Content.{without}
 use Rattle.k_shadow.specs.Maps.{map_time, levels_in}
 use Rattle.k_shadow.proofs.Changed.{Changed, each_made}
 

@@ -1,5 +1,5 @@
 -- What the calls make of rows, and what that is of the maps that they stand for.
-use Rattle.std.proofs.Common.{◌≡◌, ℕ, ◌+◌, ◌-◌, ◌<◌, ◌≤◌, ◌≢◌, ◌⊎◌, ⊎_elim, subst, zero, suc, List, [], ◌∷◌, ◌++◌, length, take, map, replicate, max, get_or, set, get_or-set_same, get_or-set_other, cond, Bool, true, false, ◌&&◌, nat_le, nat_lt, ◌==◌, refl, ap, sym, ◌∙◌, arith, Option, Some, None}
+use Rattle.std.proofs.Common.{◌≡◌, ℕ, ◌+◌, ◌-◌, ◌<◌, ◌≤◌, ◌≢◌, ⊎_elim, subst, zero, suc, List, [], ◌∷◌, ◌++◌, length, take, map, replicate, get_or, set, get_or-set_same, get_or-set_other, cond, Bool, true, false, nat_le, refl, ap, sym, ◌∙◌, arith}
 use Rattle.std.specs.Prelude.{slice_index}
 use Rattle.std.proofs.lemmas.Bool.Decides.{nat_tests}
 use Rattle.std.proofs.lemmas.Bool.{cases_eq, cases_lt}
@@ -8,7 +8,7 @@ use Rattle.k_shadow.specs.declared.row.Row.{Row}
 use Rattle.k_shadow.specs.Content.{with_time, set_times, without}
 use Rattle.k_shadow.specs.Numbers.{WereGiven}
 use Rattle.k_shadow.specs.Rows.{row_time, blank_row, with_places, times_of, levels_of, row_at, WereStamped}
-use Rattle.k_shadow.proofs.Places.{length-with_places, with_places-append, with_places-take, get_or-with_places, map-with_places, with_places_same}
+use Rattle.k_shadow.proofs.Places.{length-with_places, with_places-append, with_places-take, get_or-with_places, with_places_same}
 
 -- a number that was given later is above every stamp
 pub WereGiven-later : (given later : ℕ) (ns : List ℕ) → given ≤ later → WereGiven given ns → WereGiven later ns
@@ -247,8 +247,3 @@ stamped-cleared rows others first count given c h at =
     (λ (past : first + count ≤ at). subst P (sym (c.behind at past)) (h at))
     (cases_lt at (first + count)))
     (cases_lt at first)
-
--- times that were raised to those of a row
-pub raised_by_row : (row : Row) (live numbers old new : List ℕ) → numbers ≡ live → ((k : ℕ) → k < length numbers → slice_index new k ≡ max (slice_index old k) (row_time row (slice_index numbers k) k)) → (k : ℕ) → k < length live → slice_index new k ≡ max (slice_index old k) (row_time row (slice_index live k) k)
-raised_by_row row live numbers old new same h k lt =
-    (let P : List ℕ → Type 0 = λ ns. k < length ns in h k (subst P (sym same) lt)) ∙ ap (λ ns. max (slice_index old k) (row_time row (slice_index ns k) k)) same

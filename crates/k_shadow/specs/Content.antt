@@ -1,5 +1,5 @@
 -- *Shadow content*: what is seen of a shadow, and what each call makes of it.
-use Rattle.std.specs.Prelude.{ℕ, ◌+◌, ◌-◌, ◌≤◌, ◌<◌, ◌==◌, ◌&&◌, nat_lt, nat_le, if◌then◌else◌, List, [], ◌∷◌, ◌++◌, length, take, map, slice_index_or}
+use Rattle.std.specs.Prelude.{ℕ, ◌+◌, ◌-◌, ◌%◌, ◌^◌, ◌==◌, ◌&&◌, max, nat_lt, nat_le, if◌then◌else◌, List, [], ◌∷◌, ◌++◌, length, take, map, slice_index_or}
 
 -- a list with one finite map from location to time for each live level, outermost first (an absent location has
 -- time 0); how many levels were entered so far; and the limit below which every location lies
@@ -49,3 +49,8 @@ without first count level = λ at. if nat_le first at && nat_lt at (first + coun
 -- the time of the `count` locations from `first` on is 0 in every live map
 abbrev pub cleared : ℕ → ℕ → Content → Content
 cleared first count c = record c { levels = map (without first count) c.levels }
+
+-- the time of an operation with two operands and a control entry of these times: the latest, and the latency more,
+-- modulo 2^64
+abbrev pub time_after : ℕ → ℕ → ℕ → ℕ → ℕ
+time_after left right control latency = (max (max left right) control + latency) % 2 ^ 64

@@ -1,7 +1,8 @@
 //! The control stack: the entry on which the operations depend now, and the entries that were saved.
-ghost use Rattle.std.specs.Prelude.{◌≡◌, ◌+◌, ◌-◌, ◌^◌, ◌<◌, [], ◌∷◌, ◌++◌, true, length, take, slice_index, OnOk, OnErr};
+ghost use Rattle.std.specs.Prelude.{◌≡◌, ℕ, ◌+◌, ◌*◌, ◌-◌, ◌^◌, ◌<◌, ◌≤◌, [], ◌∷◌, ◌++◌, true, length, take, slice_index, OnOk, OnErr};
 ghost use Rattle.k_shadow.specs.Stack.{IsNew, level_entered, level_left};
 
+use crate::row::time_since;
 use crate::{Row, Steps, Times, Versions};
 use k_num::NoMemory;
 use std::alloc::Global;
@@ -31,6 +32,9 @@ impl Model for Control {
 }
 
 impl Control {
+    ghost use Rattle.k_shadow.specs.Content.{time_after};
+    ghost use Rattle.k_shadow.specs.Rows.{row_time};
+
     /// No entry is saved, no level is live, and the current entry reads 0 at every level to come.
     pub fn new(alloc: Global) -> Control
         ensures { IsNew result }
@@ -143,5 +147,35 @@ impl Control {
         ensures steps { steps.new ≡ steps.old + length self.now.current }
     {
         self.current.fill(self.versions.live(), times, steps);
+    }
+
+    /// Fills the list with the times of an operation with two operands, whose rows these are: at each live level the
+    /// latest of the two rows' times and the current entry's, and the latency more, modulo 2^64, in three steps a level.
+    /// The rows' levels have instances of these numbers.
+    #[inline]
+    pub fn times_after<L: Ledger>(
+        &self,
+        left: &Row,
+        right: &Row,
+        numbers: &[u64],
+        latency: u64,
+        times: &mut [u64],
+        steps: &mut Steps<L>,
+    )
+        requires few { length numbers.now ≤ 32 }
+        requires each { length times.old ≡ length numbers.now }
+        requires live { length self.now.current ≡ length numbers.now }
+        ensures times { (k : ℕ) → k < length numbers.now → slice_index times.new k ≡ time_after (row_time left.now (slice_index numbers.now k) k) (row_time right.now (slice_index numbers.now k) k) (slice_index self.now.current k) latency }
+        ensures steps { steps.new ≡ steps.old + 3 * length numbers.now }
+    {
+        let entry = &self.current;
+        let live = self.versions.live();
+        let (left_stamp, right_stamp, stamp) = (left.stamp, right.stamp, entry.stamp);
+        for (level, number) in numbers.iter().enumerate() {
+            let before = time_since(*number, left_stamp, left.times[level], steps);
+            let beside = time_since(*number, right_stamp, right.times[level], steps);
+            let under = time_since(live[level], stamp, entry.times[level], steps);
+            times[level] = before.max(beside).max(under).wrapping_add(latency);
+        }
     }
 }

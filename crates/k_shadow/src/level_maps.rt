@@ -3,7 +3,7 @@ ghost use Rattle.std.specs.Prelude.{◌≡◌, ◌≤◌, vec_len};
 ghost use Rattle.k_shadow.specs.Content.{empty};
 
 use crate::maps::{add_maps, clear_in_all, drop_innermost, hold_in_all, set_in_all, time_in};
-use crate::{Shadow, Steps, Times};
+use crate::{Shadow, Steps};
 use k_num::NoMemory;
 use std::alloc::Global;
 use std::collections::BTreeMap;
@@ -71,8 +71,8 @@ impl Shadow for LevelMaps {
         }
     }
 
-    fn write(&mut self, loc: u32, times: &Times) {
-        set_in_all(&mut self.maps, loc, times.as_slice());
+    fn put(&mut self, loc: u32, times: &[u64]) {
+        set_in_all(&mut self.maps, loc, times);
     }
 
     fn clear(&mut self, first: u32, count: u32) {

@@ -1,5 +1,5 @@
 //! One location's times, with one stamp.
-ghost use Rattle.std.specs.Prelude.{◌≡◌, ◌+◌, ◌<◌, ◌≤◌, ℕ, length, max, slice_index};
+ghost use Rattle.std.specs.Prelude.{◌≡◌, ◌+◌, ◌<◌, ◌≤◌, ℕ, length, max, slice_index, nat_le, if◌then◌else◌, option_copied, unwrap_or};
 
 use crate::Steps;
 use std::sync::ledger::Ledger;
@@ -28,6 +28,17 @@ impl Row {
         }
     }
 
+    /// The row, or one that was never written where there is none.
+    #[inline]
+    pub fn or_blank(row: Option<&Row>) -> &Row
+        ensures { result.now ≡ unwrap_or (option_copied row.entry) blank_row }
+    {
+        match row {
+            Some(row) => row,
+            None => &BLANK,
+        }
+    }
+
     /// The time at a level, where the level's instance has that number.
     #[inline]
     pub fn time(&self, number: u64, level: usize) -> u64
@@ -50,9 +61,10 @@ impl Row {
         ensures raised { (k : ℕ) → k < length numbers.now → slice_index times.new k ≡ max (slice_index times.old k) (row_time self.now (slice_index numbers.now k) k) }
         ensures steps { steps.new ≡ steps.old + length numbers.now }
     {
+        let stamp = self.stamp;
         for (level, number) in numbers.iter().enumerate() {
-            steps.tick();
-            times[level] = times[level].max(self.time(*number, level));
+            let time = time_since(*number, stamp, self.times[level], steps);
+            times[level] = times[level].max(time);
         }
     }
 
@@ -64,9 +76,9 @@ impl Row {
         ensures filled { (k : ℕ) → k < length numbers.now → slice_index times.new k ≡ row_time self.now (slice_index numbers.now k) k }
         ensures steps { steps.new ≡ steps.old + length numbers.now }
     {
+        let stamp = self.stamp;
         for (level, number) in numbers.iter().enumerate() {
-            steps.tick();
-            times[level] = self.time(*number, level);
+            times[level] = time_since(*number, stamp, self.times[level], steps);
         }
     }
 
@@ -80,6 +92,22 @@ impl Row {
         self.stamp = stamp;
         copy_times(&mut self.times, times);
     }
+}
+
+/// A row that was never written.
+static BLANK: Row = Row {
+    stamp: 0,
+    times: [0; 32],
+};
+
+/// A time that was written when that stamp was given, and 0 where the instance of that number began later, in one step.
+#[inline]
+pub fn time_since<L: Ledger>(number: u64, stamp: u64, time: u64, steps: &mut Steps<L>) -> u64
+    ensures time { result ≡ (if nat_le number stamp then time else 0) }
+    ensures step { steps.new ≡ steps.old + 1 }
+{
+    steps.tick();
+    if number <= stamp { time } else { 0 }
 }
 
 /// Copies times to the front of a row's.

@@ -1,8 +1,8 @@
 //! The contract of shadow storage.
-ghost use Rattle.std.specs.Prelude.{◌≡◌, ℕ, ◌+◌, ◌^◌, ◌<◌, ◌≤◌, length, max, slice_index, OnOk};
-ghost use Rattle.k_shadow.specs.Content.{Content, depth, time_at, entered, left, written, cleared};
+ghost use Rattle.std.specs.Prelude.{◌≡◌, ℕ, ◌+◌, ◌*◌, ◌^◌, ◌<◌, ◌≤◌, length, max, slice_index, OnOk};
+ghost use Rattle.k_shadow.specs.Content.{Content, depth, time_at, time_after, entered, left, written, cleared};
 
-use crate::{Steps, Times};
+use crate::{Control, Steps, Times};
 use k_num::NoMemory;
 use std::sync::ledger::Ledger;
 
@@ -61,8 +61,46 @@ pub trait Shadow: Drop {
         }
     }
 
+    /// Fills the list with the times of an operation with two operands: at each live level the latest of the two
+    /// locations' times and the control entry's, and the latency more, modulo 2^64. It takes three steps a level: `read`
+    /// of each location and `Control::time` at every live level, for which each location is looked up once.
+    fn times_after<L: Ledger>(
+        &self,
+        left: u32,
+        right: u32,
+        control: &Control,
+        latency: u64,
+        times: &mut [u64],
+        steps: &mut Steps<L>,
+    )
+        requires left { left < (content self.now).limit }
+        requires right { right < (content self.now).limit }
+        requires each { length times.old ≡ depth (content self.now) }
+        requires control { length control.now.current ≡ depth (content self.now) }
+        ensures times { (level : ℕ) → level < depth (content self.now) → slice_index times.new level ≡ time_after (time_at (content self.now) level left) (time_at (content self.now) level right) (slice_index control.now.current level) latency }
+        ensures steps { steps.new ≡ steps.old + 3 * depth (content self.now) }
+    {
+        for level in 0..times.len() {
+            let latest = self
+                .read(left, level, steps)
+                .max(self.read(right, level, steps));
+            times[level] = latest.max(control.time(level, steps)).wrapping_add(latency);
+        }
+    }
+
     /// Sets a location's time at every live level.
     fn write(&mut self, loc: u32, times: &Times)
+        requires below { loc < (content self.old).limit }
+        requires each { length times.now ≡ depth (content self.old) }
+        requires room { room self.old loc }
+        ensures content { content self.new ≡ written loc times.now (content self.old) }
+        ensures kept { (at : ℕ) → room self.old at → room self.new at }
+    {
+        self.put(loc, times.as_slice());
+    }
+
+    /// `write` from the slice that is filled for each operation.
+    fn put(&mut self, loc: u32, times: &[u64])
         requires below { loc < (content self.old).limit }
         requires each { length times.now ≡ depth (content self.old) }
         requires room { room self.old loc }

@@ -91,6 +91,7 @@ impl Versions {
     #[inline]
     pub fn last_given(&self) -> u64
         ensures last { result ≡ self.now.given }
+        ensures shallow { length self.now.live ≤ 32 }
         ensures given { WereGiven self.now.given self.now.live }
     {
         self.given

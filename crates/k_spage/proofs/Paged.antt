@@ -1,6 +1,6 @@
 -- What the calls make of pages and of the rows in them.
-use Rattle.std.proofs.Common.{Vec, ◌≡◌, ◌≢◌, ℕ, ◌+◌, ◌*◌, ◌/◌, ◌%◌, ◌<◌, ◌≤◌, List, [], length, set, replicate, get_or, get_or-set_same, get_or-set_other, Option, Some, None, is_some, count_by, refl, ap, sym, ◌∙◌, subst, arith, ⊎_elim}
-use Rattle.std.specs.Prelude.{slice_index}
+use Rattle.std.proofs.Common.{Vec, ◌≡◌, ◌≢◌, ℕ, ◌+◌, ◌/◌, ◌%◌, ◌<◌, ◌≤◌, List, length, set, replicate, get_or, get_or-set_same, get_or-set_other, Option, Some, None, Bool, true, false, is_some, count_by, refl, ap, sym, ◌∙◌, subst, arith, ⊎_elim}
+use Rattle.std.specs.Prelude.{slice_index, IsSome}
 use Rattle.std.proofs.lemmas.Bool.{cases_eq, cases_lt}
 use Rattle.std.proofs.lemmas.List.{length-set, length-replicate, get_or-replicate, get_or_past}
 use Rattle.k_shadow.specs.declared.row.Row.{Row}
@@ -15,6 +15,16 @@ blank_at n i = ⊎_elim
     (λ (lt : i < n). get_or-replicate n i blank_row blank_row lt)
     (λ (ge : n ≤ i). get_or_past (replicate n blank_row) i blank_row (omega (arith, length-replicate n blank_row)))
     (cases_lt i n)
+
+-- a page that is there has a place in the table
+pub named_within : (table : List (Option ℕ)) (page : ℕ) → IsSome (key_of table page) → page < length table
+named_within table page h = ⊎_elim
+    (λ (lt : page < length table). lt)
+    (λ (ge : length table ≤ page). absurd (nothing (ap (λ o. is_some o) (sym (get_or_past table page None ge)) ∙ h)))
+    (cases_lt page (length table))
+  where
+    nothing : ◌≡◌ {A = Bool} false true → ⊥
+    nothing e = cc
 
 same_keys : (k key : ℕ) → ◌≡◌ {A = Option ℕ} (Some k) (Some key) → k ≡ key
 same_keys k key h = cc

@@ -1,5 +1,5 @@
 -- Rows in pages of 256 locations, which a table names.
-use Rattle.std.specs.Prelude.{Vec, ◌≡◌, ◌≢◌, ℕ, ◌+◌, ◌-◌, ◌/◌, ◌%◌, ◌<◌, ◌≤◌, List, [], length, map, count_by, Bool, Option, Some, None, is_some, IsSome, slice_index_or}
+use Rattle.std.specs.Prelude.{Vec, ◌≡◌, ◌≢◌, ℕ, ◌/◌, ◌%◌, ◌≤◌, List, [], length, count_by, Option, Some, None, is_some, slice_index_or}
 use Rattle.k_shadow.specs.declared.row.Row.{Row}
 use Rattle.k_shadow.specs.Rows.{row_at}
 

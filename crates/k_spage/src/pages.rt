@@ -1,5 +1,5 @@
 //! Pages of rows, and the table that names them.
-ghost use Rattle.std.specs.Prelude.{◌≡◌, ◌≢◌, ℕ, ◌-◌, ◌/◌, ◌<◌, ◌≤◌, length, max, replicate, None, slice_index, count_by, IfOk, IsSome, is_some, OnOk, Some, option_copied, unwrap_or};
+ghost use Rattle.std.specs.Prelude.{◌≡◌, ◌≢◌, ℕ, ◌-◌, ◌/◌, ◌<◌, ◌≤◌, length, max, replicate, None, slice_index, count_by, IfOk, IsSome, is_some, OnOk, Some};
 ghost use Rattle.slab.specs.Slab.{HasRoomFor};
 ghost use Rattle.k_shadow.specs.Rows.{row_at, blank_row};
 ghost use Rattle.k_spage.specs.Pages.{rows_under, key_of, paged_row, ArePages, IsOneRow};
@@ -23,25 +23,39 @@ pub fn key_of(table: &[Option<usize>], page: usize) -> Option<usize>
     }
 }
 
-/// The row of a location, if its page is there.
+/// The key of the page of that number, which is there.
 #[inline]
-pub fn row_of<'a>(pages: &'a Slab<Vec<Row>>, table: &[Option<usize>], loc: usize) -> Option<&'a Row>
-    ensures { unwrap_or (option_copied result) blank_row ≡ paged_row pages.now.slots table.now loc }
+pub fn key_of_page(table: &[Option<usize>], page: usize) -> usize
+    requires { IsSome (key_of table.now page) }
+    ensures { Some result ≡ key_of table.now page }
 {
-    match key_of(table, loc / PAGE) {
-        Some(key) => row_in(pages, key, loc % PAGE),
-        None => None,
+    match table[page] {
+        Some(key) => key,
+        None => unreachable!(),
     }
 }
 
-/// The row at a place of the page at a key, if there is one.
+/// The row of a location, a blank one where its page is not there.
 #[inline]
-fn row_in(pages: &Slab<Vec<Row>>, key: usize, place: usize) -> Option<&Row>
-    ensures { unwrap_or (option_copied result) blank_row ≡ row_at (rows_under pages.now.slots (Some key)) place }
+pub fn row_of<'a>(pages: &'a Slab<Vec<Row>>, table: &[Option<usize>], loc: usize) -> &'a Row
+    requires { ArePages pages.now.slots table.now }
+    ensures { result.now ≡ paged_row pages.now.slots table.now loc }
+{
+    match key_of(table, loc / PAGE) {
+        Some(key) => row_in(pages, key, loc % PAGE),
+        None => Row::or_blank(None),
+    }
+}
+
+/// The row at a place of the page at a key.
+#[inline]
+fn row_in(pages: &Slab<Vec<Row>>, key: usize, place: usize) -> &Row
+    requires { place < length (rows_under pages.now.slots (Some key)) }
+    ensures { result.now ≡ row_at (rows_under pages.now.slots (Some key)) place }
 {
     match pages.get(key) {
-        Some(page) => page.get(place),
-        None => None,
+        Some(page) => &page[place],
+        None => unreachable!(),
     }
 }
 
@@ -54,10 +68,9 @@ pub fn write_row(pages: &mut Slab<Vec<Row>>, key: usize, place: usize, stamp: u6
     ensures stamp { (row_at (rows_under pages.new.slots (Some key)) place).stamp ≡ stamp }
     ensures times { (k : ℕ) → k < length times.now → slice_index (row_at (rows_under pages.new.slots (Some key)) place).times k ≡ slice_index times.now k }
 {
-    if let Some(page) = pages.get_mut(key) {
-        let row = &mut page[place];
-        row.write(stamp, times);
-    }
+    let page = &mut pages[key];
+    let row = &mut page[place];
+    row.write(stamp, times);
 }
 
 /// Makes the row at a place of the page at a key read 0 at every level.
@@ -67,10 +80,9 @@ pub fn clear_row(pages: &mut Slab<Vec<Row>>, key: usize, place: usize)
     ensures one { IsOneRow pages.old.slots pages.new.slots key place }
     ensures stamp { (row_at (rows_under pages.new.slots (Some key)) place).stamp ≡ 0 }
 {
-    if let Some(page) = pages.get_mut(key) {
-        let row = &mut page[place];
-        row.stamp = 0;
-    }
+    let page = &mut pages[key];
+    let row = &mut page[place];
+    row.stamp = 0;
 }
 
 /// The rows of a page that was never written.

@@ -3,9 +3,9 @@ ghost use Rattle.std.specs.Prelude.{◌≡◌, ℕ, ◌≤◌};
 ghost use Rattle.k_shadow.specs.Content.{empty};
 ghost use Rattle.k_spage.specs.Pages.{paged_row, ArePages};
 
-use crate::pages::{PAGE, clear_locations, key_of, make_pages, row_of, write_row};
+use crate::pages::{PAGE, clear_locations, key_of_page, make_pages, row_of, write_row};
 use k_num::NoMemory;
-use k_shadow::{Row, Shadow, Steps, Times, Versions};
+use k_shadow::{Control, Row, Shadow, Steps, Times, Versions};
 use slab::Slab;
 use std::alloc::Global;
 use std::sync::ledger::Ledger;
@@ -105,18 +105,36 @@ impl Shadow for ShadowPages {
     #[inline]
     fn read<L: Ledger>(&self, loc: u32, level: usize, steps: &mut Steps<L>) -> u64 {
         steps.tick();
-        match row_of(&self.pages, &self.table, loc as usize) {
-            Some(row) => row.time(self.versions.number(level), level),
-            None => 0,
-        }
+        let row = row_of(&self.pages, &self.table, loc as usize);
+        row.time(self.versions.number(level), level)
     }
 
     #[inline]
     fn raise<L: Ledger>(&self, loc: u32, times: &mut [u64], steps: &mut Steps<L>) {
-        match row_of(&self.pages, &self.table, loc as usize) {
-            Some(row) => row.raise(self.versions.live(), times, steps),
-            None => Row::blank().raise(self.versions.live(), times, steps),
-        }
+        let row = row_of(&self.pages, &self.table, loc as usize);
+        row.raise(self.versions.live(), times, steps);
+    }
+
+    #[inline]
+    fn times_after<L: Ledger>(
+        &self,
+        left: u32,
+        right: u32,
+        control: &Control,
+        latency: u64,
+        times: &mut [u64],
+        steps: &mut Steps<L>,
+    ) {
+        let left_row = row_of(&self.pages, &self.table, left as usize);
+        let right_row = row_of(&self.pages, &self.table, right as usize);
+        control.times_after(
+            left_row,
+            right_row,
+            self.versions.live(),
+            latency,
+            times,
+            steps,
+        );
     }
 
     #[inline]
@@ -128,16 +146,21 @@ impl Shadow for ShadowPages {
         ensures kept { (at : ℕ) → has_room self.old at → has_room self.new at }
         ensures pages { HasSamePages self.old self.new }
     {
+        self.put(loc, times.as_slice());
+    }
+
+    #[inline]
+    fn put(&mut self, loc: u32, times: &[u64])
+        requires below { loc < (pages_content self.old).limit }
+        requires each { length times.now ≡ depth (pages_content self.old) }
+        requires room { has_room self.old loc }
+        ensures content { pages_content self.new ≡ written loc times.now (pages_content self.old) }
+        ensures kept { (at : ℕ) → has_room self.old at → has_room self.new at }
+        ensures pages { HasSamePages self.old self.new }
+    {
         let stamp = self.versions.last_given();
-        if let Some(key) = key_of(&self.table, loc as usize / PAGE) {
-            write_row(
-                &mut self.pages,
-                key,
-                loc as usize % PAGE,
-                stamp,
-                times.as_slice(),
-            );
-        }
+        let key = key_of_page(&self.table, loc as usize / PAGE);
+        write_row(&mut self.pages, key, loc as usize % PAGE, stamp, times);
     }
 
     fn clear(&mut self, first: u32, count: u32)

@@ -13,6 +13,14 @@ pub fn row_of(rows: &[Row], loc: usize) -> Option<&Row>
     rows.get(loc)
 }
 
+/// The row of a location, a blank one where there is none.
+#[inline]
+pub fn row_or_blank(rows: &[Row], loc: usize) -> &Row
+    ensures { result.now ≡ row_at rows.now loc }
+{
+    Row::or_blank(row_of(rows, loc))
+}
+
 /// Adds blank rows until there are `count`. A refusal leaves the rows as they were.
 pub fn grow_to(rows: &mut Vec<Row>, count: usize) -> Result<(), NoMemory>
     ensures same { (loc : ℕ) → row_at rows.new.items loc ≡ row_at rows.old.items loc }

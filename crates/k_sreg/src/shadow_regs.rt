@@ -3,9 +3,9 @@ ghost use Rattle.std.specs.Prelude.{◌≡◌, ℕ, ◌≤◌};
 ghost use Rattle.k_shadow.specs.Content.{empty};
 ghost use Rattle.k_shadow.specs.Rows.{row_at};
 
-use crate::rows::{clear_rows, grow_to, row_of};
+use crate::rows::{clear_rows, grow_to, row_of, row_or_blank};
 use k_num::NoMemory;
-use k_shadow::{Row, Shadow, Steps, Times, Versions};
+use k_shadow::{Control, Row, Shadow, Steps, Versions};
 use std::alloc::Global;
 use std::sync::ledger::Ledger;
 
@@ -74,17 +74,36 @@ impl Shadow for ShadowRegs {
 
     #[inline]
     fn raise<L: Ledger>(&self, loc: u32, times: &mut [u64], steps: &mut Steps<L>) {
-        match row_of(&self.rows, loc as usize) {
-            Some(row) => row.raise(self.versions.live(), times, steps),
-            None => Row::blank().raise(self.versions.live(), times, steps),
-        }
+        row_or_blank(&self.rows, loc as usize).raise(self.versions.live(), times, steps);
     }
 
     #[inline]
-    fn write(&mut self, loc: u32, times: &Times) {
+    fn times_after<L: Ledger>(
+        &self,
+        left: u32,
+        right: u32,
+        control: &Control,
+        latency: u64,
+        times: &mut [u64],
+        steps: &mut Steps<L>,
+    ) {
+        let left_row = row_or_blank(&self.rows, left as usize);
+        let right_row = row_or_blank(&self.rows, right as usize);
+        control.times_after(
+            left_row,
+            right_row,
+            self.versions.live(),
+            latency,
+            times,
+            steps,
+        );
+    }
+
+    #[inline]
+    fn put(&mut self, loc: u32, times: &[u64]) {
         let stamp = self.versions.last_given();
         let row = &mut self.rows[loc as usize];
-        row.write(stamp, times.as_slice());
+        row.write(stamp, times);
     }
 
     #[inline]

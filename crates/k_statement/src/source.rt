@@ -1,29 +1,30 @@
 //! A source (C17 6.9), token by token.
 ghost use Rattle.std.specs.Prelude.{◌≡◌, IfOk};
-ghost use Rattle.k_reader.specs.Parameters.{begin_parameters};
-ghost use Rattle.k_reader.specs.Sources as spec;
-ghost use Rattle.k_reader.specs.declared.source.Phase.TheVariants as phases;
-ghost use Rattle.k_reader.specs.declared.source.Sourced.TheVariants as sourced;
-ghost use Rattle.k_reader.specs.Declarations.{feed_declaration};
+ghost use Rattle.k_steps.specs.Parameters.{begin_parameters};
+ghost use Rattle.k_steps.specs.Sources as spec;
+ghost use Rattle.k_steps.specs.declared.source.SourceStage.TheVariants as phases;
+ghost use Rattle.k_steps.specs.declared.turn.Turn.TheVariants as turns;
+ghost use Rattle.k_steps.specs.Declarations.{feed_declaration};
 
 use crate::statement::{begin_body, feed_body};
 use k_declaration::declaration::{begin_declaration, feed_declaration};
 use k_declaration::parameter::{begin_parameters, feed_parameters};
 use k_expression::reading::is_left_paren;
-use k_num::{NoMemory, Place, Seq};
-use k_reader::declaration::{Declaration, Declared, Front, Stage};
-use k_reader::operators::is_spec;
-use k_reader::parameter::{Parameters, Parametric};
-use k_reader::source::{Phase, Source, Sourced, Title};
-use k_reader::statement::{Body, Stepped};
+use k_num::{Box, NoMemory, Place, Seq};
+use k_steps::declaration::{Declaration, DeclarationStage, Declared, Front};
+use k_steps::operators::is_spec;
+use k_steps::parameter::{Parameters, Parametric};
+use k_steps::source::{Source, SourceStage, Sourced, Title};
+use k_steps::statement::{Body, Stepped};
+use k_steps::turn::Turn;
 use k_tree::{Declarator, Head, Item, Mark, Params, Token, TokenKind, Unit, Word};
 use std::alloc::Global;
 
-fn goes_on(items: Seq<Item>, phase: Phase, reach: usize) -> Sourced
+fn goes_on(items: Seq<Item>, phase: SourceStage, reach: usize) -> Sourced
     ensures { result ≡ spec.goes_on items phase reach }
 {
     let source = Source { items, phase };
-    Sourced::Goes { source, reach }
+    Turn::Goes(source, reach)
 }
 
 /// No token was read.
@@ -32,7 +33,7 @@ pub fn begin_source(alloc: Global) -> Source
 {
     Source {
         items: Seq::new(alloc),
-        phase: Phase::Starts,
+        phase: SourceStage::Starts,
     }
 }
 
@@ -41,37 +42,36 @@ fn item_done(mut items: Seq<Item>, item: Item) -> Result<Sourced, NoMemory>
     ensures { IfOk result (λ fed. fed ≡ spec.item_done items item) }
 {
     items.push(item)?;
-    Ok(goes_on(items, Phase::Starts, 0))
+    Ok(goes_on(items, SourceStage::Starts, 0))
 }
 
 /// A token where an item begins.
-#[tactic(auto, unfolding(k_reader::specs::Sources::starts))]
+#[tactic(auto, unfolding(k_steps::specs::Sources::starts))]
 fn starts(alloc: Global, items: Seq<Item>, token: &Token) -> Result<Sourced, NoMemory>
     ensures { IfOk result (λ fed. fed ≡ spec.starts items token.now) }
 {
     let place = token.place;
     match &token.what {
-        TokenKind::End => Ok(Sourced::Done {
-            unit: Unit { items, end: place },
-        }),
+        TokenKind::End => Ok(Turn::Done(Unit { items, end: place })),
         TokenKind::Word(word) => {
             if !is_spec(*word) {
-                return Ok(Sourced::Refused);
+                return Ok(Turn::Refused);
             }
             let declaration = begin_declaration(alloc, *word, 1)?;
-            Ok(goes_on(items, Phase::Declares { place, declaration }, 0))
+            let declaration = Box::new(alloc, declaration)?;
+            Ok(goes_on(items, SourceStage::Declares { place, declaration }, 0))
         }
-        _ => Ok(Sourced::Refused),
+        _ => Ok(Turn::Refused),
     }
 }
 
 /// Was just the name of the first declarator read?
-#[tactic(auto, unfolding(k_reader::specs::Sources::is_titled))]
+#[tactic(auto, unfolding(k_steps::specs::Sources::is_titled))]
 fn is_titled(declaration: &Declaration) -> bool
     ensures { result ≡ spec.is_titled declaration.now }
 {
     match &declaration.stage {
-        Stage::Named { declarator } => {
+        DeclarationStage::Named { declarator } => {
             declaration.front.list.len() == 0 && declarator.dims.len() == 0
         }
         _ => false,
@@ -107,43 +107,62 @@ fn parameters_begin(
     place: Place,
     front: Front,
     declarator: Declarator,
-) -> Sourced
-    ensures { result ≡ spec.goes_on items (phases.Parameters place (spec.title_of front declarator) begin_parameters) 0 }
+) -> Result<Sourced, NoMemory>
+    ensures { IfOk result (λ fed. fed ≡ spec.goes_on items (phases.Parameters place (spec.title_of front declarator) begin_parameters) 0) }
 {
     let title = title_of(front, declarator);
-    let parameters = begin_parameters(alloc);
-    let phase = Phase::Parameters {
+    let parameters = match Box::new(alloc, begin_parameters(alloc)) {
+        Ok(parameters) => parameters,
+        Err(NoMemory) => {
+            drop(title);
+            return Err(NoMemory);
+        }
+    };
+    let phase = SourceStage::Parameters {
         place,
         title,
         parameters,
     };
-    goes_on(items, phase, 0)
+    Ok(goes_on(items, phase, 0))
 }
 
 /// `(` at a stage where no function's parameters can begin.
-fn refused(stage: Stage) -> Sourced
-    ensures { result ≡ sourced.Refused }
+fn refused(stage: DeclarationStage) -> Sourced
+    ensures { result ≡ turns.Refused }
 {
     drop(stage);
-    Sourced::Refused
+    Turn::Refused
 }
 
 /// `(` in an item at this stage.
-fn titled_at(alloc: Global, items: Seq<Item>, place: Place, front: Front, stage: Stage) -> Sourced
-    ensures { result ≡ spec.titled_at items place front stage }
+fn titled_at(
+    alloc: Global,
+    items: Seq<Item>,
+    place: Place,
+    front: Front,
+    stage: DeclarationStage,
+) -> Result<Sourced, NoMemory>
+    ensures { IfOk result (λ fed. fed ≡ spec.titled_at items place front stage) }
 {
     match stage {
-        Stage::Named { declarator } => parameters_begin(alloc, items, place, front, declarator),
-        stage => refused(stage),
+        DeclarationStage::Named { declarator } => parameters_begin(
+            alloc, items, place, front, declarator,
+        ),
+        stage => Ok(refused(stage)),
     }
 }
 
 /// `(` in an item of which just the name of the first declarator was read.
-#[tactic(auto, unfolding(k_reader::specs::Sources::titled))]
-fn titled(alloc: Global, items: Seq<Item>, place: Place, declaration: Declaration) -> Sourced
-    ensures { result ≡ spec.titled items place declaration }
+#[tactic(auto, unfolding(k_steps::specs::Sources::titled))]
+fn titled(
+    alloc: Global,
+    items: Seq<Item>,
+    place: Place,
+    declaration: Box<Declaration>,
+) -> Result<Sourced, NoMemory>
+    ensures { IfOk result (λ fed. fed ≡ spec.titled items place declaration) }
 {
-    let Declaration { front, stage } = declaration;
+    let Declaration { front, stage } = declaration.into_inner();
     titled_at(alloc, items, place, front, stage)
 }
 
@@ -152,33 +171,34 @@ fn declared(
     alloc: Global,
     items: Seq<Item>,
     place: Place,
-    declaration: Declaration,
+    declaration: Box<Declaration>,
     token: &Token,
 ) -> Result<Sourced, NoMemory>
     ensures { IfOk result (λ fed. fed ≡ spec.declares_by items place (feed_declaration declaration token.now)) }
 {
-    match feed_declaration(alloc, declaration, token)? {
-        Declared::Goes { declaration, reach } => {
-            Ok(goes_on(items, Phase::Declares { place, declaration }, reach))
+    match feed_declaration(alloc, declaration.into_inner(), token)? {
+        Turn::Goes(declaration, reach) => {
+            let declaration = Box::new(alloc, declaration)?;
+            Ok(goes_on(items, SourceStage::Declares { place, declaration }, reach))
         }
-        Declared::Done { specs, list } => item_done(items, Item::Objects { place, specs, list }),
-        Declared::Refused => Ok(Sourced::Refused),
+        Turn::Done((specs, list)) => item_done(items, Item::Objects { place, specs, list }),
+        Turn::Refused => Ok(Turn::Refused),
     }
 }
 
 /// A token in an item that may be a declaration or a function.
-#[tactic(auto, unfolding(k_reader::specs::Sources::declares))]
+#[tactic(auto, unfolding(k_steps::specs::Sources::declares))]
 fn declares(
     alloc: Global,
     items: Seq<Item>,
     place: Place,
-    declaration: Declaration,
+    declaration: Box<Declaration>,
     token: &Token,
 ) -> Result<Sourced, NoMemory>
     ensures { IfOk result (λ fed. fed ≡ spec.declares items place declaration token.now) }
 {
-    if is_left_paren(token) && is_titled(&declaration) {
-        Ok(titled(alloc, items, place, declaration))
+    if is_left_paren(token) && is_titled(declaration.get()) {
+        titled(alloc, items, place, declaration)
     } else {
         declared(alloc, items, place, declaration, token)
     }
@@ -203,18 +223,18 @@ fn head_of(title: Title, params: Params) -> Head
 }
 
 /// A token in the parameters of a function.
-#[tactic(auto, unfolding(k_reader::specs::Sources::parameters))]
+#[tactic(auto, unfolding(k_steps::specs::Sources::parameters))]
 fn parameters(
     alloc: Global,
     items: Seq<Item>,
     place: Place,
     title: Title,
-    parameters: Parameters,
+    parameters: Box<Parameters>,
     token: &Token,
 ) -> Result<Sourced, NoMemory>
     ensures { IfOk result (λ fed. fed ≡ spec.parameters items place title parameters token.now) }
 {
-    let fed = match feed_parameters(alloc, parameters, token) {
+    let fed = match feed_parameters(alloc, parameters.into_inner(), token) {
         Ok(fed) => fed,
         Err(NoMemory) => {
             drop(title);
@@ -222,125 +242,122 @@ fn parameters(
         }
     };
     match fed {
-        Parametric::Goes { parameters, reach } => {
-            let phase = Phase::Parameters {
+        Turn::Goes(parameters, reach) => {
+            let parameters = match Box::new(alloc, parameters) {
+                Ok(parameters) => parameters,
+                Err(NoMemory) => {
+                    drop(title);
+                    return Err(NoMemory);
+                }
+            };
+            let phase = SourceStage::Parameters {
                 place,
                 title,
                 parameters,
             };
             Ok(goes_on(items, phase, reach))
         }
-        Parametric::Done { params } => {
-            let head = head_of(title, params);
-            Ok(goes_on(items, Phase::Headed { place, head }, 0))
+        Turn::Done(params) => {
+            let head = Box::new(alloc, head_of(title, params))?;
+            Ok(goes_on(items, SourceStage::Headed { place, head }, 0))
         }
-        Parametric::Refused => {
+        Turn::Refused => {
             drop(title);
-            Ok(Sourced::Refused)
+            Ok(Turn::Refused)
         }
     }
 }
 
 /// The mark behind the head of a function.
-#[tactic(auto, unfolding(k_reader::specs::Sources::mark_headed))]
+#[tactic(auto, unfolding(k_steps::specs::Sources::mark_headed))]
 fn mark_headed(
     alloc: Global,
     items: Seq<Item>,
     place: Place,
-    head: Head,
+    head: Box<Head>,
     mark: Mark,
 ) -> Result<Sourced, NoMemory>
     ensures { IfOk result (λ fed. fed ≡ spec.mark_headed items place head mark) }
 {
     match mark {
-        Mark::Semicolon => item_done(items, Item::Prototype { place, head }),
+        Mark::Semicolon => item_done(
+            items,
+            Item::Prototype {
+                place,
+                head: head.into_inner(),
+            },
+        ),
         Mark::LeftBrace => {
             let body = begin_body(alloc);
-            Ok(goes_on(items, Phase::Body { place, head, body }, 0))
+            Ok(goes_on(items, SourceStage::Body { place, head, body }, 0))
         }
-        _ => {
-            drop(head);
-            Ok(Sourced::Refused)
-        }
+        _ => Ok(Turn::Refused),
     }
 }
 
 /// The token behind the head of a function.
-#[tactic(auto, unfolding(k_reader::specs::Sources::headed))]
+#[tactic(auto, unfolding(k_steps::specs::Sources::headed))]
 fn headed(
     alloc: Global,
     items: Seq<Item>,
     place: Place,
-    head: Head,
+    head: Box<Head>,
     token: &Token,
 ) -> Result<Sourced, NoMemory>
     ensures { IfOk result (λ fed. fed ≡ spec.headed items place head token.now) }
 {
     match &token.what {
         TokenKind::Mark(mark) => mark_headed(alloc, items, place, head, *mark),
-        _ => {
-            drop(head);
-            Ok(Sourced::Refused)
-        }
+        _ => Ok(Turn::Refused),
     }
 }
 
 /// A token in the block of a function.
-#[tactic(auto, unfolding(k_reader::specs::Sources::in_body))]
+#[tactic(auto, unfolding(k_steps::specs::Sources::in_body))]
 fn in_body(
     alloc: Global,
     items: Seq<Item>,
     place: Place,
-    head: Head,
+    head: Box<Head>,
     body: Body,
     token: &Token,
 ) -> Result<Sourced, NoMemory>
     ensures { IfOk result (λ fed. fed ≡ spec.in_body items place head body token.now) }
 {
-    let fed = match feed_body(alloc, body, token) {
-        Ok(fed) => fed,
-        Err(NoMemory) => {
-            drop(head);
-            return Err(NoMemory);
+    match feed_body(alloc, body, token)? {
+        Turn::Goes(body, reach) => {
+            Ok(goes_on(items, SourceStage::Body { place, head, body }, reach))
         }
-    };
-    match fed {
-        Stepped::Goes { body, reach } => {
-            Ok(goes_on(items, Phase::Body { place, head, body }, reach))
-        }
-        Stepped::Done { parts } => {
+        Turn::Done(parts) => {
             let item = Item::Function {
                 place,
-                head,
+                head: head.into_inner(),
                 body: parts,
                 close: token.place,
             };
             item_done(items, item)
         }
-        Stepped::Refused => {
-            drop(head);
-            Ok(Sourced::Refused)
-        }
+        Turn::Refused => Ok(Turn::Refused),
     }
 }
 
 /// The next token of a source.
-#[tactic(auto, unfolding(k_reader::specs::Sources::feed_source))]
+#[tactic(auto, unfolding(k_steps::specs::Sources::feed_source))]
 pub fn feed_source(alloc: Global, source: Source, token: &Token) -> Result<Sourced, NoMemory>
     ensures { IfOk result (λ fed. fed ≡ spec.feed_source source token.now) }
 {
     let Source { items, phase } = source;
     match phase {
-        Phase::Starts => starts(alloc, items, token),
-        Phase::Declares { place, declaration } => {
+        SourceStage::Starts => starts(alloc, items, token),
+        SourceStage::Declares { place, declaration } => {
             declares(alloc, items, place, declaration, token)
         }
-        Phase::Parameters {
+        SourceStage::Parameters {
             place,
             title,
             parameters: list,
         } => parameters(alloc, items, place, title, list, token),
-        Phase::Headed { place, head } => headed(alloc, items, place, head, token),
-        Phase::Body { place, head, body } => in_body(alloc, items, place, head, body, token),
+        SourceStage::Headed { place, head } => headed(alloc, items, place, head, token),
+        SourceStage::Body { place, head, body } => in_body(alloc, items, place, head, body, token),
     }
 }

@@ -5,22 +5,23 @@ mod loops;
 mod switch;
 
 ghost use Rattle.std.specs.Prelude.{◌≡◌, IfOk};
-ghost use Rattle.k_reader.specs.Statements as spec;
+ghost use Rattle.k_steps.specs.Statements as spec;
 
 use k_declaration::declaration::feed_declaration;
 use k_expression::reading::{closes, read_maybe, read_needed};
 use k_num::{Box, NoMemory, Place, Seq};
-use k_reader::declaration::{Declaration, Declared};
-use k_reader::expression::Reading;
-use k_reader::level::plus;
-use k_reader::reading::{Closer, Maybe, Read};
-use k_reader::stack::Stack;
-use k_reader::statement::{Body, Frame, Step, Stepped};
-use k_tree::{Expr, Stmt, Token};
+use k_steps::declaration::{Declaration, Declared};
+use k_steps::expression::Reading;
+use k_steps::level::plus;
+use k_steps::reading::{Closer, Maybe, Read};
+use k_steps::stack::Stack;
+use k_steps::statement::{BlockStage, Body, Frame, Stepped};
+use k_steps::turn::Turn;
+use k_tree::{Stmt, Token};
 use std::alloc::Global;
 
 /// The block goes on.
-pub fn steps(parts: Seq<Stmt>, frames: Stack<Frame>, step: Step, reach: usize) -> Stepped
+pub fn steps(parts: Seq<Stmt>, frames: Stack<Frame>, step: BlockStage, reach: usize) -> Stepped
     ensures { result ≡ spec.steps parts frames step reach }
 {
     let body = Body {
@@ -28,14 +29,20 @@ pub fn steps(parts: Seq<Stmt>, frames: Stack<Frame>, step: Step, reach: usize) -
         frames,
         step,
     };
-    Stepped::Goes { body, reach }
+    Turn::Goes(body, reach)
 }
 
 /// A statement ended.
-pub fn whole(parts: Seq<Stmt>, frames: Stack<Frame>, stmt: Stmt) -> Stepped
-    ensures { result ≡ spec.whole parts frames stmt }
+pub fn whole(
+    alloc: Global,
+    parts: Seq<Stmt>,
+    frames: Stack<Frame>,
+    stmt: Stmt,
+) -> Result<Stepped, NoMemory>
+    ensures { IfOk result (λ fed. fed ≡ spec.whole parts frames stmt) }
 {
-    steps(parts, frames, Step::Whole { stmt }, 0)
+    let stmt = Box::new(alloc, stmt)?;
+    Ok(steps(parts, frames, BlockStage::Whole { stmt }, 0))
 }
 
 /// A statement opened, of which a part is awaited.
@@ -48,14 +55,21 @@ pub fn await_part(
     ensures { IfOk result (λ fed. fed ≡ spec.await_part parts frames frame reach) }
 {
     frames.push(frame)?;
-    Ok(steps(parts, frames, Step::Begins, reach))
+    Ok(steps(parts, frames, BlockStage::Begins, reach))
 }
 
 /// The level of a statement that begins.
-pub fn level(frames: &Stack<Frame>) -> usize
-    ensures { result ≡ spec.level frames.now }
+pub fn level(frames: &Stack<Frame>) -> Result<usize, NoMemory>
+    ensures { IfOk result (λ level. level ≡ spec.level frames.now) }
 {
     plus(1, frames.len())
+}
+
+/// The level of what stands in a statement that begins.
+pub fn inner_level(frames: &Stack<Frame>) -> Result<usize, NoMemory>
+    ensures { IfOk result (λ level. level ≡ spec.inner frames.now) }
+{
+    plus(level(frames)?, 1)
 }
 
 /// No token of a block was read.
@@ -65,108 +79,95 @@ pub fn begin_body(alloc: Global) -> Body
     Body {
         parts: Seq::new(alloc),
         frames: Stack::new(alloc),
-        step: Step::Begins,
+        step: BlockStage::Begins,
     }
 }
 
 /// A token in a statement that is an expression.
-#[tactic(auto, unfolding(k_reader::specs::Statements::value))]
+#[tactic(auto, unfolding(k_steps::specs::Statements::value))]
 fn value(
     alloc: Global,
     parts: Seq<Stmt>,
     frames: Stack<Frame>,
     place: Place,
-    reading: Reading,
+    reading: Box<Reading>,
     token: &Token,
 ) -> Result<Stepped, NoMemory>
     ensures { IfOk result (λ fed. fed ≡ spec.value parts frames place reading token.now) }
 {
     match read_needed(alloc, reading, token, Closer::Semicolon)? {
-        Read::Goes { reading, reach } => {
-            Ok(steps(parts, frames, Step::Value { place, reading }, reach))
+        Turn::Goes(reading, reach) => {
+            Ok(steps(parts, frames, BlockStage::Value { place, reading }, reach))
         }
-        Read::Closed { value } => {
-            let value = Box::new(alloc, value)?;
-            Ok(whole(parts, frames, Stmt::Expr { place, value }))
-        }
-        Read::Refused => Ok(Stepped::Refused),
-    }
-}
-
-/// A value that may be left out, in its box.
-pub fn boxed(alloc: Global, value: Option<Expr>) -> Result<Option<Box<Expr>>, NoMemory>
-    ensures { IfOk result (λ made. made ≡ value) }
-{
-    match value {
-        None => Ok(None),
-        Some(value) => Ok(Some(Box::new(alloc, value)?)),
+        Turn::Done(value) => whole(alloc, parts, frames, Stmt::Expr { place, value }),
+        Turn::Refused => Ok(Turn::Refused),
     }
 }
 
 /// A token in the value of a `return`.
-#[tactic(auto, unfolding(k_reader::specs::Statements::returned))]
+#[tactic(auto, unfolding(k_steps::specs::Statements::returned))]
 fn returned(
     alloc: Global,
     parts: Seq<Stmt>,
     frames: Stack<Frame>,
     place: Place,
-    reading: Reading,
+    reading: Box<Reading>,
     token: &Token,
 ) -> Result<Stepped, NoMemory>
     ensures { IfOk result (λ fed. fed ≡ spec.returned parts frames place reading token.now) }
 {
     match read_maybe(alloc, reading, token, Closer::Semicolon)? {
-        Maybe::Goes { reading, reach } => {
-            Ok(steps(parts, frames, Step::Return { place, reading }, reach))
+        Turn::Goes(reading, reach) => {
+            Ok(steps(parts, frames, BlockStage::Return { place, reading }, reach))
         }
-        Maybe::Closed { value } => {
-            let value = boxed(alloc, value)?;
-            Ok(whole(parts, frames, Stmt::Return { place, value }))
-        }
-        Maybe::Refused => Ok(Stepped::Refused),
+        Turn::Done(value) => whole(alloc, parts, frames, Stmt::Return { place, value }),
+        Turn::Refused => Ok(Turn::Refused),
     }
 }
 
 /// A token in a declaration of a block.
-#[tactic(auto, unfolding(k_reader::specs::Statements::local))]
+#[tactic(auto, unfolding(k_steps::specs::Statements::local))]
 fn local(
     alloc: Global,
     parts: Seq<Stmt>,
     frames: Stack<Frame>,
     place: Place,
-    declaration: Declaration,
+    declaration: Box<Declaration>,
     token: &Token,
 ) -> Result<Stepped, NoMemory>
     ensures { IfOk result (λ fed. fed ≡ spec.local parts frames place declaration token.now) }
 {
-    match feed_declaration(alloc, declaration, token)? {
-        Declared::Goes { declaration, reach } => {
-            Ok(steps(parts, frames, Step::Local { place, declaration }, reach))
+    match feed_declaration(alloc, declaration.into_inner(), token)? {
+        Turn::Goes(declaration, reach) => {
+            let declaration = Box::new(alloc, declaration)?;
+            Ok(steps(
+                parts,
+                frames,
+                BlockStage::Local { place, declaration },
+                reach,
+            ))
         }
-        Declared::Done { specs, list } => Ok(whole(
-            parts,
-            frames,
-            Stmt::Declare { place, specs, list },
-        )),
-        Declared::Refused => Ok(Stepped::Refused),
+        Turn::Done((specs, list)) => {
+            whole(alloc, parts, frames, Stmt::Declare { place, specs, list })
+        }
+        Turn::Refused => Ok(Turn::Refused),
     }
 }
 
 /// The semicolon of a statement.
-#[tactic(auto, unfolding(k_reader::specs::Statements::semicolon))]
-fn semicolon(parts: Seq<Stmt>, frames: Stack<Frame>, stmt: Stmt, token: &Token) -> Stepped
+#[tactic(auto, unfolding(k_steps::specs::Statements::semicolon))]
+fn semicolon(parts: Seq<Stmt>, frames: Stack<Frame>, stmt: Box<Stmt>, token: &Token) -> Stepped
     ensures { result ≡ spec.semicolon parts frames stmt token.now }
 {
     if closes(token, Closer::Semicolon) {
-        whole(parts, frames, stmt)
+        steps(parts, frames, BlockStage::Whole { stmt }, 0)
     } else {
-        drop(stmt);
-        Stepped::Refused
+        Turn::Refused
     }
 }
 
 /// The next token of a function's block.
-#[tactic(auto, unfolding(k_reader::specs::Statements::feed_body))]
+#[tactic(auto, unfolding(k_steps::specs::Statements::feed_body))]
 pub fn feed_body(alloc: Global, body: Body, token: &Token) -> Result<Stepped, NoMemory>
     ensures { IfOk result (λ fed. fed ≡ spec.feed_body body token.now) }
 {
@@ -176,16 +177,18 @@ pub fn feed_body(alloc: Global, body: Body, token: &Token) -> Result<Stepped, No
         step,
     } = body;
     match step {
-        Step::Begins => begin::begins(alloc, parts, frames, token),
-        Step::Whole { stmt } => clause::behind(alloc, parts, frames, stmt, token),
-        Step::Value { place, reading } => value(alloc, parts, frames, place, reading, token),
-        Step::Keyword { tested } => Ok(clause::opened(alloc, parts, frames, tested, token)),
-        Step::Test { tested, reading } => clause::test(
+        BlockStage::Begins => begin::begins(alloc, parts, frames, token),
+        BlockStage::Whole { stmt } => clause::behind(alloc, parts, frames, stmt, token),
+        BlockStage::Value { place, reading } => value(alloc, parts, frames, place, reading, token),
+        BlockStage::Keyword { tested } => clause::opened(alloc, parts, frames, tested, token),
+        BlockStage::Test { tested, reading } => clause::test(
             alloc, parts, frames, tested, reading, token,
         ),
-        Step::Semicolon { stmt } => Ok(semicolon(parts, frames, stmt, token)),
-        Step::Return { place, reading } => returned(alloc, parts, frames, place, reading, token),
-        Step::Local { place, declaration } => {
+        BlockStage::Semicolon { stmt } => Ok(semicolon(parts, frames, stmt, token)),
+        BlockStage::Return { place, reading } => returned(
+            alloc, parts, frames, place, reading, token,
+        ),
+        BlockStage::Local { place, declaration } => {
             local(alloc, parts, frames, place, declaration, token)
         }
         step => loops::in_for(alloc, parts, frames, step, token),

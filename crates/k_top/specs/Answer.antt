@@ -9,7 +9,7 @@ use Rattle.k_tree.specs.declared.tokens.Token.{Token}
 use Rattle.k_tree.specs.declared.tree.unit.Unit as tree
 use Rattle.k_lex.specs.declared.fault.LexFault.{LexFault}
 use Rattle.k_lex.specs.Tokens.{tokens}
-use Rattle.k_reader.specs.declared.whole.ParseFault.{ParseFault}
+use Rattle.k_parse.specs.declared.fault.ParseFault.{ParseFault}
 use Rattle.k_parse.specs.Parse.{IsParse}
 use Rattle.k_code.specs.declared.ending.End.{End}
 use Rattle.k_code.specs.declared.ending.End.TheVariants.{Returned, Trapped, OutOfSteps}

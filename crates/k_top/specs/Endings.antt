@@ -10,8 +10,8 @@ use Rattle.k_tree.specs.declared.tree.unit.Unit as tree
 use Rattle.k_lex.specs.declared.fault.LexFault.{LexFault}
 use Rattle.k_lex.specs.declared.fault.LexFault.TheVariants as l
 use Rattle.k_lex.specs.Tokens.{tokens}
-use Rattle.k_reader.specs.declared.whole.ParseFault.{ParseFault}
-use Rattle.k_reader.specs.declared.whole.ParseFault.TheVariants as p
+use Rattle.k_parse.specs.declared.fault.ParseFault.{ParseFault}
+use Rattle.k_parse.specs.declared.fault.ParseFault.TheVariants as p
 use Rattle.k_parse.specs.Parse.{IsParse}
 use Rattle.k_top.specs.declared.ending.Ending.{Ending}
 use Rattle.k_top.specs.declared.ending.Ending.TheVariants.{Ran, Refused, Usage, Absent, ReadFault, WriteFault, NoMemory, TooLong}

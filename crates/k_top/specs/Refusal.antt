@@ -3,8 +3,8 @@ use Rattle.std.specs.Prelude.{ℕ, List, [], ◌++◌, codes}
 use Rattle.k_num.specs.declared.place.Place.{Place}
 use Rattle.k_lex.specs.declared.fault.LexFault.{LexFault}
 use Rattle.k_lex.specs.declared.fault.LexFault.TheVariants as l
-use Rattle.k_reader.specs.declared.whole.ParseFault.{ParseFault}
-use Rattle.k_reader.specs.declared.whole.ParseFault.TheVariants as p
+use Rattle.k_parse.specs.declared.fault.ParseFault.{ParseFault}
+use Rattle.k_parse.specs.declared.fault.ParseFault.TheVariants as p
 use Rattle.k_top.specs.declared.refusal.SourceFault.{SourceFault}
 use Rattle.k_top.specs.declared.refusal.SourceFault.TheVariants.{Lex, Parse, NotBuilt}
 use Rattle.k_top.specs.Report.{place_text}

@@ -128,5 +128,5 @@ names_behind file s n names d =
 unfoldable pub declarator_judged : Bool → Saying → ℕ → Names → Declarator → Made Object
 declarator_judged file s n names d =
     both (dimensions names d.dims) (begun (names_behind file s n names d) file (declared_type file s (dimensions names d.dims) d) d.init)
-      (λ sizes start. object_made d.place d.name (is_twice names d.name) (has_type file s d) (object_fixed s.fixed d.stars)
-        (sizes.taken ++ start.taken) (declared_type file s (Fine sizes) d) start.init)
+    (λ sizes start. object_made d.place d.name (is_twice names d.name) (has_type file s d) (object_fixed s.fixed d.stars)
+    (sizes.taken ++ start.taken) (declared_type file s (Fine sizes) d) start.init)

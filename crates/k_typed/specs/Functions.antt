@@ -107,7 +107,7 @@ abbrev pub param_made : Bool → Names → Param → Sizes → Made CType
 param_made defines names p found =
     if option_twice names p.name then refused (fault.Twice (name_or_nothing p.name) p.place)
     else if is_some (param_type (says_const p.specs) (local_base p.specs) p []) && (not defines || is_some p.name) then
-      sized_param p.place (type_of_param names p) (param_sizes found.sizes)
+    sized_param p.place (type_of_param names p) (param_sizes found.sizes)
     else refused (fault.Kinds p.place)
 
 -- a name that may be left out enters the innermost scope
@@ -203,7 +203,7 @@ meaning_here (scope ∷ names) x = or_meaning (meaning_in scope x) (meaning_in l
 unfoldable pub prototype_judged : List (List ℕ) → Names → Place → Head → Made Signature
 prototype_judged defined names p head =
     then_made (head_params false names head).made
-      (λ types. function_made p head.name (signature defined names head) false (result_type head) (meaning_here names head.name))
+    (λ types. function_made p head.name (signature defined names head) false (result_type head) (meaning_here names head.name))
 
 -- how many elements the object of a variable has: none where it is a register, which a pointer is, and a number to which `&` is not
 -- applied
@@ -254,8 +254,8 @@ function_body defined names head known body = judge_body (in_function head) (rec
 abbrev pub body_judged : List (List ℕ) → Bool → Names → Place → Head → List Stmt → Place → Judged (List CType) → Judged (List TStmt) → Made TFunc
 body_judged defined again names p head body close types statements =
     both types.made statements.made (λ list trees.
-      then_made (function_made p head.name (signature defined names head) again (result_type head) (meaning_here names head.name))
-        (λ f. Fine (function_tree p head body close f.result (length list) statements.after trees)))
+    then_made (function_made p head.name (signature defined names head) again (result_type head) (meaning_here names head.name))
+    (λ f. Fine (function_tree p head body close f.result (length list) statements.after trees)))
 
 -- a definition whose parameters are judged
 abbrev pub defined_with : List (List ℕ) → Bool → Names → Place → Head → List Stmt → Place → Judged (List CType) → Made TFunc

@@ -116,8 +116,8 @@ addressed p e None fixed = refused (fault.NotPlace p)
 addressed p e (Some kind) None = refused (fault.NotPlace p)
 addressed p e (Some kind) (Some fixed) =
     Fine (value (ctype.Pointer (record { kind = kind; dims = []; fixed = fixed }))
-      (typed.Address (at p (pointer_to (record { kind = kind; dims = []; fixed = fixed }))) e.tree)
-      (e.taken ++ variable_step (out-TExpr e.tree)))
+    (typed.Address (at p (pointer_to (record { kind = kind; dims = []; fixed = fixed }))) e.tree)
+    (e.taken ++ variable_step (out-TExpr e.tree)))
 
 -- C17 6.5.3.2p1: `&` takes a place of a number; the variable that it is applied to has an address from then on
 abbrev pub address_rule : Place → Typed → Made Typed
@@ -143,8 +143,8 @@ unary_kind un.Not kind = I32
 abbrev pub unary_of : Place → Un → Typed → Kind → Typed
 unary_of p op e kind =
     number (unary_kind op (promoted kind))
-      (typed.Unary (at p (ttype.Number (unary_kind op (promoted kind)))) op (promoted kind) (in_kind kind (promoted kind) e.tree))
-      e.taken
+    (typed.Unary (at p (ttype.Number (unary_kind op (promoted kind)))) op (promoted kind) (in_kind kind (promoted kind) e.tree))
+    e.taken
 
 -- C17 6.5.3: a unary operator; another mark begins no unary expression
 unfoldable pub unary_rule : Place → Mark → Typed → Made Typed

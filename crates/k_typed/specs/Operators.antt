@@ -41,15 +41,15 @@ taken_in left right = left.taken ++ right.taken
 abbrev pub shift_of : Place → Bin → Kind → Kind → Typed → Typed → Typed
 shift_of p op j k left right =
     number (promoted j)
-      (typed.Binary (at p (ttype.Number (promoted j))) op (promoted j) (in_kind j (promoted j) left.tree) (in_kind k (promoted k) right.tree))
-      (taken_in left right)
+    (typed.Binary (at p (ttype.Number (promoted j))) op (promoted j) (in_kind j (promoted j) left.tree) (in_kind k (promoted k) right.tree))
+    (taken_in left right)
 
 -- C17 6.3.1.8: an operation on numbers of two kinds, made in their common kind, whose result is of this kind
 abbrev pub common_of : Place → Bin → Kind → Kind → Kind → Kind → Typed → Typed → Typed
 common_of p op result common j k left right =
     number result
-      (typed.Binary (at p (ttype.Number result)) op common (in_kind j common left.tree) (in_kind k common right.tree))
-      (taken_in left right)
+    (typed.Binary (at p (ttype.Number result)) op common (in_kind j common left.tree) (in_kind k common right.tree))
+    (taken_in left right)
 
 -- C17 6.5.5 to 6.5.14: an operation on two numbers: `&&` and `||` convert nothing, shifts promote each side alone, comparisons
 -- give an int, and all others give the common kind in which they are made
@@ -127,11 +127,11 @@ taken_in_three test first second = test.taken ++ (first.taken ++ second.taken)
 abbrev pub arms : Place → Operand → Operand → Typed → Typed → Typed → Made Typed
 arms p (ANumber j) (ANumber k) test first second =
     Fine (number (common_kind j k)
-      (typed.Cond (at p (ttype.Number (common_kind j k))) test.tree (in_kind j (common_kind j k) first.tree) (in_kind k (common_kind j k) second.tree))
-      (taken_in_three test first second))
+    (typed.Cond (at p (ttype.Number (common_kind j k))) test.tree (in_kind j (common_kind j k) first.tree) (in_kind k (common_kind j k) second.tree))
+    (taken_in_three test first second))
 arms p (APointer a) (APointer b) test first second =
     if equal_element a b then
-      Fine (value (ctype.Pointer a) (typed.Cond (at p (pointer_to a)) test.tree first.tree second.tree) (taken_in_three test first second))
+    Fine (value (ctype.Pointer a) (typed.Cond (at p (pointer_to a)) test.tree first.tree second.tree) (taken_in_three test first second))
     else refused (fault.Kinds p)
 arms p Nothing Nothing test first second =
     Fine (value ctype.Void (typed.Cond (at p ttype.Void) test.tree first.tree second.tree) (taken_in_three test first second))

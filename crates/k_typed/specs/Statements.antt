@@ -191,7 +191,7 @@ if_judged p test first second = record { made = three test first.made second.mad
 unfoldable pub if_rule : Place → Expr → Statement → Option Statement → Statement
 if_rule p test first second around known =
     if_judged p (at_known known test) (first around (behind known (at_known known test)))
-      (else_judged around (first around (behind known (at_known known test))).after second)
+    (else_judged around (first around (behind known (at_known known test))).after second)
 
 -- what lies around the body of a loop
 abbrev pub inside_loop : Around → Around
@@ -321,7 +321,7 @@ abbrev pub parts_in_order : Around → Kind → Labels → Known → List Switch
 parts_in_order around kind labels known [] = record { made = Fine []; after = known }
 parts_in_order around kind labels known (part ∷ parts) =
     part_before (part around kind labels known)
-      (parts_in_order around kind (part around kind labels known).labels (part around kind labels known).after parts)
+    (parts_in_order around kind (part around kind labels known).labels (part around kind labels known).after parts)
 
 -- the promoted kind, or int
 abbrev pub promoted_or_int : Option Kind → Kind
@@ -346,7 +346,7 @@ switch_judged p on parts = record { made = both on parts.made (λ v list. switch
 unfoldable pub switch_rule : Place → Expr → List SwitchPart → Statement
 switch_rule p on parts around known =
     switch_judged p (at_known known on)
-      (parts_in_order (inside_switch around) (kind_or_int (at_known known on)) no_labels (behind known (at_known known on)) parts)
+    (parts_in_order (inside_switch around) (kind_or_int (at_known known on)) no_labels (behind known (at_known known on)) parts)
 
 -- the value is among these
 abbrev pub is_among : List ℤ → ℤ → Bool

@@ -82,7 +82,7 @@ is_name (y ∷ ys) x = bytes_eq y x || is_name ys x
 abbrev pub item_placed : List (List ℕ) → FileKnown → Item → Placed
 item_placed defined known (item.Function p head body close) = record {
   made = then_made (function_judged defined (is_name known.functions head.name) known.names p head body close)
-    (λ f. Fine (record { objects = []; functions = f ∷ [] }));
+      (λ f. Fine (record { objects = []; functions = f ∷ [] }));
   after = record known {
     names = names_behind_head defined known.names head;
     functions = known.functions ++ head.name ∷ [];

@@ -3,4 +3,5 @@ pub mod Demos
 pub mod Fronts
 pub mod Given
 pub mod Numbers
+pub mod OneAnswer
 pub mod Reading

@@ -3,6 +3,7 @@
 
 mod about;
 mod job;
+pub mod laws;
 mod number;
 mod option;
 mod settings;

@@ -1,10 +1,10 @@
 //! Initialisers (C17 6.7.9).
 ghost use Rattle.std.specs.Prelude.{◌≡◌, ◌++◌, ◌∷◌, [], IfOk, OnOk};
-ghost use Rattle.k_reader.specs.Initialisers as spec;
+ghost use Rattle.k_steps.specs.Initialisers as spec;
 
 use k_num::{NoMemory, Place, Seq};
-use k_reader::declaration::initialiser::{After, Brace, Opened};
-use k_reader::stack::Stack;
+use k_steps::declaration::initialiser::{After, Brace, Opened};
+use k_steps::stack::Stack;
 use k_tree::{Declarator, Init, Mark};
 use std::mem;
 
@@ -18,7 +18,7 @@ fn put(braces: &mut Stack<Brace>, brace: Brace, init: Init) -> Result<(), NoMemo
 }
 
 /// An initialiser that ends belongs to the innermost brace, or to the declarator.
-#[tactic(auto, unfolding(k_reader::specs::Initialisers::plug))]
+#[tactic(auto, unfolding(k_steps::specs::Initialisers::plug))]
 pub fn plug(opened: Opened, init: Init) -> Result<Opened, NoMemory>
     ensures { IfOk result (λ made. made ≡ spec.plug opened init) }
 {
@@ -41,7 +41,7 @@ pub fn plug(opened: Opened, init: Init) -> Result<Opened, NoMemory>
 }
 
 /// The mark behind an initialiser.
-#[tactic(auto, unfolding(k_reader::specs::Initialisers::after, k_reader::specs::Initialisers::plug))]
+#[tactic(auto, unfolding(k_steps::specs::Initialisers::after, k_steps::specs::Initialisers::plug))]
 pub fn behind(opened: Opened, mark: Mark) -> Result<After, NoMemory>
     ensures { IfOk result (λ made. made ≡ spec.after opened mark) }
 {
@@ -86,7 +86,7 @@ fn listed(brace: Brace, comma: bool) -> Init
 }
 
 /// A closing brace behind a comma: some initialiser has to stand before that.
-#[tactic(auto, unfolding(k_reader::specs::Initialisers::last_comma, k_reader::specs::Initialisers::plug))]
+#[tactic(auto, unfolding(k_steps::specs::Initialisers::last_comma, k_steps::specs::Initialisers::plug))]
 pub fn last_comma(opened: Opened) -> Result<Option<Opened>, NoMemory>
     ensures { IfOk result (λ made. made ≡ spec.last_comma opened) }
 {

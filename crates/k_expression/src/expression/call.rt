@@ -1,17 +1,18 @@
 //! The arguments of a call (C17 6.5.2.2).
 ghost use Rattle.std.specs.Prelude.{◌≡◌, IfOk};
-ghost use Rattle.k_reader.specs.Expressions as spec;
+ghost use Rattle.k_steps.specs.Expressions as spec;
 
 use crate::expression::goes;
 use k_num::NoMemory;
-use k_reader::expression::call::Called;
-use k_reader::expression::{Fed, Now, Open, Site, Term};
-use k_reader::level::plus;
-use k_reader::stack::Stack;
+use k_steps::expression::call::Called;
+use k_steps::expression::{ExpressionStage, Fed, Open, Site, Term};
+use k_steps::level::plus;
+use k_steps::stack::Stack;
+use k_steps::turn::Turn;
 use k_tree::{Expr, Mark};
 
 /// The mark behind an argument.
-#[tactic(auto, unfolding(k_reader::specs::Expressions::argued))]
+#[tactic(auto, unfolding(k_steps::specs::Expressions::argued))]
 pub fn argued(
     site: Site,
     mut opens: Stack<Open>,
@@ -34,16 +35,17 @@ pub fn argued(
                 args,
                 height,
             })?;
-            Ok(goes(site, opens, Now::Operand, 0))
+            Ok(goes(site, opens, ExpressionStage::Operand, 0))
         }
         Mark::RightParen => {
+            let height = plus(height, 1)?;
             let term = Term {
                 tree: Expr::Call { place, name, args },
                 rank: 15,
-                height: plus(height, 1),
+                height,
             };
-            Ok(goes(site, opens, Now::Value { term }, 0))
+            Ok(goes(site, opens, ExpressionStage::Value { term }, 0))
         }
-        _ => Ok(Fed::Refused),
+        _ => Ok(Turn::Refused),
     }
 }

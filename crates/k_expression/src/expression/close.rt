@@ -1,22 +1,31 @@
 //! The token behind an operand.
 ghost use Rattle.std.specs.Prelude.{◌≡◌, IfOk};
-ghost use Rattle.k_reader.specs.Expressions as spec;
+ghost use Rattle.k_steps.specs.Expressions as spec;
+ghost use Rattle.k_steps.specs.Level as levels;
 
 use crate::expression::call::argued;
 use crate::expression::plug::{boxed, plug};
 use crate::expression::{goes, hole, level, refused};
 use k_num::{Box, NoMemory, Place};
-use k_reader::expression::call::Called;
-use k_reader::expression::plug::Plugged;
-use k_reader::expression::{Fed, Now, Open, Site, Term};
-use k_reader::level::{above, plus};
-use k_reader::operators::{is_bracket, is_question, is_step, takes};
-use k_reader::stack::Stack;
+use k_steps::expression::call::Called;
+use k_steps::expression::plug::Plugged;
+use k_steps::expression::{ExpressionStage, Fed, Open, Site, Term};
+use k_steps::level::{above, plus};
+use k_steps::operators::{is_bracket, is_question, is_step, takes};
+use k_steps::stack::Stack;
+use k_steps::turn::Turn;
 use k_tree::{Expr, Mark, Token, TokenKind};
 use std::alloc::Global;
 
+/// The deepest level of an operand of so many levels, of which an operator behind it makes sure.
+fn reach_of(site: Site, opens: &Stack<Open>, height: usize) -> Result<usize, NoMemory>
+    ensures { IfOk result (λ reach. reach ≡ levels.plus (spec.level site opens.now) height) }
+{
+    plus(level(site, opens)?, height)
+}
+
 /// An operator goes on with an operand.
-#[tactic(auto, unfolding(k_reader::specs::Expressions::take_operator))]
+#[tactic(auto, unfolding(k_steps::specs::Expressions::take_operator))]
 fn take(
     alloc: Global,
     site: Site,
@@ -27,13 +36,19 @@ fn take(
 ) -> Result<Fed, NoMemory>
     ensures { IfOk result (λ fed. fed ≡ spec.take_operator site opens left op place) }
 {
-    let reach = plus(level(site, &opens), left.height);
+    let reach = match reach_of(site, &opens, left.height) {
+        Ok(reach) => reach,
+        Err(NoMemory) => {
+            drop(left);
+            return Err(NoMemory);
+        }
+    };
     if is_step(op) {
         let term = posted(alloc, place, op, left)?;
-        return Ok(goes(site, opens, Now::Value { term }, reach));
+        return Ok(goes(site, opens, ExpressionStage::Value { term }, reach));
     }
     opens.push(operator_opens(op, left, place))?;
-    Ok(goes(site, opens, Now::Operand, reach))
+    Ok(goes(site, opens, ExpressionStage::Operand, reach))
 }
 
 /// The construct that an operator behind an operand opens.
@@ -52,8 +67,9 @@ fn operator_opens(op: Mark, left: Term, place: Place) -> Open
 fn posted(alloc: Global, place: Place, op: Mark, term: Term) -> Result<Term, NoMemory>
     ensures { IfOk result (λ made. made ≡ spec.posted place op term) }
 {
-    let height = above(term.height, 0);
-    let of = Box::new(alloc, term.tree)?;
+    let Term { tree, height, .. } = term;
+    let of = Box::new(alloc, tree)?;
+    let height = above(height, 0)?;
     Ok(Term {
         tree: Expr::Post { place, op, of },
         rank: 15,
@@ -64,8 +80,9 @@ fn posted(alloc: Global, place: Place, op: Mark, term: Term) -> Result<Term, NoM
 fn paren(alloc: Global, place: Place, term: Term) -> Result<Term, NoMemory>
     ensures { IfOk result (λ made. made ≡ spec.enclosed place term) }
 {
-    let height = above(term.height, 0);
-    let of = Box::new(alloc, term.tree)?;
+    let Term { tree, height, .. } = term;
+    let of = Box::new(alloc, tree)?;
+    let height = above(height, 0)?;
     Ok(Term {
         tree: Expr::Paren { place, of },
         rank: 16,
@@ -76,8 +93,9 @@ fn paren(alloc: Global, place: Place, term: Term) -> Result<Term, NoMemory>
 fn indexed(alloc: Global, place: Place, base: Term, index: Term) -> Result<Term, NoMemory>
     ensures { IfOk result (λ made. made ≡ spec.indexed place base index) }
 {
-    let height = above(base.height, index.height);
+    let (left, right) = (base.height, index.height);
     let (base, index) = boxed(alloc, base.tree, index.tree)?;
+    let height = above(left, right)?;
     Ok(Term {
         tree: Expr::Index { place, base, index },
         rank: 15,
@@ -89,7 +107,7 @@ fn indexed(alloc: Global, place: Place, base: Term, index: Term) -> Result<Term,
 fn valued(site: Site, opens: Stack<Open>, term: Term) -> Fed
     ensures { result ≡ spec.valued site opens term }
 {
-    goes(site, opens, Now::Value { term }, 0)
+    goes(site, opens, ExpressionStage::Value { term }, 0)
 }
 
 /// `test ? then :`
@@ -103,11 +121,11 @@ fn colon(
     ensures { IfOk result (λ fed. fed ≡ spec.colon site opens place test «then») }
 {
     opens.push(Open::Other { place, test, then })?;
-    Ok(goes(site, opens, Now::Operand, 0))
+    Ok(goes(site, opens, ExpressionStage::Operand, 0))
 }
 
 /// The mark behind the second operand of a conditional expression.
-#[tactic(auto, unfolding(k_reader::specs::Expressions::then_ends))]
+#[tactic(auto, unfolding(k_steps::specs::Expressions::then_ends))]
 fn then_ends(
     site: Site,
     opens: Stack<Open>,
@@ -123,13 +141,13 @@ fn then_ends(
         _ => {
             drop(test);
             drop(then);
-            Ok(Fed::Refused)
+            Ok(Turn::Refused)
         }
     }
 }
 
 /// The mark behind an expression in parentheses.
-#[tactic(auto, unfolding(k_reader::specs::Expressions::paren_ends))]
+#[tactic(auto, unfolding(k_steps::specs::Expressions::paren_ends))]
 fn paren_ends(
     alloc: Global,
     site: Site,
@@ -147,13 +165,13 @@ fn paren_ends(
         }
         _ => {
             drop(term);
-            Ok(Fed::Refused)
+            Ok(Turn::Refused)
         }
     }
 }
 
 /// The mark behind an index.
-#[tactic(auto, unfolding(k_reader::specs::Expressions::index_ends))]
+#[tactic(auto, unfolding(k_steps::specs::Expressions::index_ends))]
 fn index_ends(
     alloc: Global,
     site: Site,
@@ -173,13 +191,13 @@ fn index_ends(
         _ => {
             drop(base);
             drop(index);
-            Ok(Fed::Refused)
+            Ok(Turn::Refused)
         }
     }
 }
 
 /// The construct around a value goes on with the mark behind it.
-#[tactic(auto, unfolding(k_reader::specs::Expressions::enclose))]
+#[tactic(auto, unfolding(k_steps::specs::Expressions::enclose))]
 fn enclose(
     alloc: Global,
     site: Site,
@@ -241,7 +259,7 @@ fn take_token(
         TokenKind::Mark(mark) => take(alloc, site, opens, term, *mark, token.place),
         _ => {
             drop(term);
-            Ok(Fed::Refused)
+            Ok(Turn::Refused)
         }
     }
 }
@@ -267,7 +285,7 @@ fn enclose_by(
 }
 
 /// A token that doesn't go on with an operand ends it, and goes to the construct around.
-#[tactic(auto, unfolding(k_reader::specs::Expressions::value))]
+#[tactic(auto, unfolding(k_steps::specs::Expressions::value))]
 pub fn value(
     alloc: Global,
     site: Site,
@@ -283,7 +301,7 @@ pub fn value(
             if goes_on {
                 return take_token(alloc, site, opens, term, token);
             }
-            Ok(Fed::Ends { value: term.tree })
+            Ok(Turn::Done(term.tree))
         }
         Some(around) => {
             if goes_on {

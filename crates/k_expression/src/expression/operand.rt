@@ -1,43 +1,45 @@
 //! The first token of an operand.
 ghost use Rattle.std.specs.Prelude.{◌≡◌, IfOk, nat_eq, length};
-ghost use Rattle.k_reader.specs.Expressions as spec;
-ghost use Rattle.k_reader.specs.Operators.{is_prefix_mark};
+ghost use Rattle.k_steps.specs.Expressions as spec;
+ghost use Rattle.k_steps.specs.Operators.{is_prefix_mark};
+ghost use Rattle.k_steps.specs.declared.expression.ExpressionStage.TheVariants as stages;
 ghost use Rattle.k_tree.specs.Ranked as ranked;
 
 use crate::expression::{goes, hole, level, refused};
 use k_num::{NoMemory, Place, Seq, Text};
-use k_reader::expression::{Fed, Now, Open, Site, Term};
-use k_reader::level::plus;
-use k_reader::operators::{is_close, is_open, is_spec, is_step};
-use k_reader::stack::Stack;
-use k_reader::stars::no_stars;
+use k_steps::expression::{ExpressionStage, Fed, Open, Site, Term};
+use k_steps::level::plus;
+use k_steps::operators::{is_close, is_open, is_spec, is_step};
+use k_steps::stack::Stack;
+use k_steps::stars::no_stars;
+use k_steps::turn::Turn;
 use k_tree::{Expr, Mark, Token, TokenKind, Word};
 use std::alloc::Global;
 
-/// An operand of one token.
-fn leaf(site: Site, opens: Stack<Open>, tree: Expr) -> Fed
-    ensures { result ≡ spec.leaf site opens tree }
+/// An operand of one token, which lies at this level.
+fn leaf(site: Site, opens: Stack<Open>, tree: Expr, own: usize) -> Fed
+    ensures { result ≡ spec.goes site opens (stages.Value (spec.term tree 16 1)) own }
 {
-    let reach = level(site, &opens);
     let term = Term {
         tree,
         rank: 16,
         height: 1,
     };
-    goes(site, opens, Now::Value { term }, reach)
+    goes(site, opens, ExpressionStage::Value { term }, own)
 }
 
 /// `(` before an operand. Behind `sizeof` it may belong to a type, which adds no level.
-#[tactic(auto, unfolding(k_reader::specs::Expressions::opened))]
+#[tactic(auto, unfolding(k_steps::specs::Expressions::opened))]
 fn opened(site: Site, mut opens: Stack<Open>, place: Place) -> Result<Fed, NoMemory>
     ensures { IfOk result (λ fed. fed ≡ spec.opened site opens place) }
 {
+    let inner = plus(level(site, &opens)?, 1)?;
     let reach = match opens.top() {
         Some(Open::Sizeof { .. }) => 0,
-        _ => plus(level(site, &opens), 1),
+        _ => inner,
     };
     opens.push(Open::Paren { place })?;
-    Ok(goes(site, opens, Now::Operand, reach))
+    Ok(goes(site, opens, ExpressionStage::Operand, reach))
 }
 
 /// Are there no arguments?
@@ -48,7 +50,7 @@ fn has_none(args: &Seq<Expr>) -> bool
 }
 
 /// `)` where an operand could begin: the end of a call without arguments.
-#[tactic(auto, unfolding(k_reader::specs::Expressions::no_arguments))]
+#[tactic(auto, unfolding(k_steps::specs::Expressions::no_arguments))]
 fn no_arguments(site: Site, mut opens: Stack<Open>) -> Fed
     ensures { result ≡ spec.no_arguments site opens }
 {
@@ -62,28 +64,28 @@ fn no_arguments(site: Site, mut opens: Stack<Open>) -> Fed
             },
         ) => {
             if !has_none(&args) {
-                return Fed::Refused;
+                return Turn::Refused;
             }
             let term = Term {
                 tree: Expr::Call { place, name, args },
                 rank: 15,
                 height: 1,
             };
-            goes(site, opens, Now::Value { term }, 0)
+            goes(site, opens, ExpressionStage::Value { term }, 0)
         }
         Some(around) => refused(around),
-        None => Fed::Refused,
+        None => Turn::Refused,
     }
 }
 
 /// An operator before an operand.
-#[tactic(auto, unfolding(k_reader::specs::Expressions::prefix_operator))]
+#[tactic(auto, unfolding(k_steps::specs::Expressions::prefix_operator))]
 fn prefix(site: Site, mut opens: Stack<Open>, op: Mark, place: Place) -> Result<Fed, NoMemory>
     ensures { IfOk result (λ fed. fed ≡ spec.prefix_operator site opens op place) }
 {
-    let reach = plus(level(site, &opens), 1);
+    let reach = plus(level(site, &opens)?, 1)?;
     opens.push(Open::Prefix { place, op })?;
-    Ok(goes(site, opens, Now::Operand, reach))
+    Ok(goes(site, opens, ExpressionStage::Operand, reach))
 }
 
 /// Is it a unary operator other than `++` and `--`?
@@ -97,7 +99,7 @@ fn is_unary(mark: Mark) -> bool
 }
 
 /// Is it an operator that stands before an operand?
-#[tactic(auto, unfolding(k_reader::specs::Operators::is_prefix_mark, k_reader::specs::Operators::is_step_mark))]
+#[tactic(auto, unfolding(k_steps::specs::Operators::is_prefix_mark, k_steps::specs::Operators::is_step_mark))]
 fn is_prefix(mark: Mark) -> bool
     ensures { result ≡ is_prefix_mark mark }
 {
@@ -105,7 +107,7 @@ fn is_prefix(mark: Mark) -> bool
 }
 
 /// A mark where an operand begins.
-#[tactic(auto, unfolding(k_reader::specs::Expressions::mark_operand))]
+#[tactic(auto, unfolding(k_steps::specs::Expressions::mark_operand))]
 fn mark(site: Site, opens: Stack<Open>, mark: Mark, place: Place) -> Result<Fed, NoMemory>
     ensures { IfOk result (λ fed. fed ≡ spec.mark_operand site opens mark place) }
 {
@@ -118,11 +120,11 @@ fn mark(site: Site, opens: Stack<Open>, mark: Mark, place: Place) -> Result<Fed,
     if is_prefix(mark) {
         return prefix(site, opens, mark, place);
     }
-    Ok(Fed::Refused)
+    Ok(Turn::Refused)
 }
 
 /// May the name of a type begin here? Then a `(` stands before it, and that may begin a cast, or follows `sizeof`.
-#[tactic(auto, unfolding(k_reader::specs::Expressions::is_before_type))]
+#[tactic(auto, unfolding(k_steps::specs::Expressions::is_before_type))]
 fn is_before_type(site: Site, opens: &mut Stack<Open>) -> Result<bool, NoMemory>
     ensures kept { IfOk result (λ _. opens.new ≡ opens.old) }
     ensures value { IfOk result (λ before. before ≡ spec.is_before_type site opens.old) }
@@ -152,7 +154,7 @@ fn is_sizeof(word: Word) -> bool
 }
 
 /// A keyword where an operand begins.
-#[tactic(auto, unfolding(k_reader::specs::Expressions::word_operand))]
+#[tactic(auto, unfolding(k_steps::specs::Expressions::word_operand))]
 fn word(
     alloc: Global,
     site: Site,
@@ -163,15 +165,15 @@ fn word(
     ensures { IfOk result (λ fed. fed ≡ spec.word_operand site opens word place) }
 {
     if is_sizeof(word) {
-        let reach = level(site, &opens);
+        let reach = level(site, &opens)?;
         opens.push(Open::Sizeof { place })?;
-        return Ok(goes(site, opens, Now::Operand, reach));
+        return Ok(goes(site, opens, ExpressionStage::Operand, reach));
     }
     if !is_spec(word) {
-        return Ok(Fed::Refused);
+        return Ok(Turn::Refused);
     }
     if !is_before_type(site, &mut opens)? {
-        return Ok(Fed::Refused);
+        return Ok(Turn::Refused);
     }
     type_begins(alloc, site, opens, word)
 }
@@ -182,7 +184,7 @@ fn type_begins(alloc: Global, site: Site, opens: Stack<Open>, word: Word) -> Res
 {
     let mut specs = Seq::new(alloc);
     specs.push(word)?;
-    let now = Now::Type {
+    let now = ExpressionStage::Type {
         specs,
         stars: no_stars(alloc),
     };
@@ -190,7 +192,7 @@ fn type_begins(alloc: Global, site: Site, opens: Stack<Open>, word: Word) -> Res
 }
 
 /// The first token of an operand.
-#[tactic(auto, unfolding(k_reader::specs::Expressions::operand))]
+#[tactic(auto, unfolding(k_steps::specs::Expressions::operand))]
 pub fn operand(
     alloc: Global,
     site: Site,
@@ -200,11 +202,11 @@ pub fn operand(
     ensures { IfOk result (λ fed. fed ≡ spec.operand site opens token.now) }
 {
     let place = token.place;
+    let own = level(site, &opens)?;
     match &token.what {
         TokenKind::Name(name) => {
             let name = Text::copy_of(alloc, name.as_str())?;
-            let reach = level(site, &opens);
-            Ok(goes(site, opens, Now::Named { place, name }, reach))
+            Ok(goes(site, opens, ExpressionStage::Named { place, name }, own))
         }
         TokenKind::Number(kind, value) => {
             let tree = Expr::Number {
@@ -212,21 +214,21 @@ pub fn operand(
                 kind: *kind,
                 value: *value,
             };
-            Ok(leaf(site, opens, tree))
+            Ok(leaf(site, opens, tree, own))
         }
         TokenKind::Char(value) => {
             let tree = Expr::Char {
                 place,
                 value: *value,
             };
-            Ok(leaf(site, opens, tree))
+            Ok(leaf(site, opens, tree, own))
         }
         TokenKind::Str(bytes) => {
             let bytes = Seq::copy_of(alloc, bytes.as_slice())?;
-            Ok(leaf(site, opens, Expr::Str { place, bytes }))
+            Ok(leaf(site, opens, Expr::Str { place, bytes }, own))
         }
         TokenKind::Mark(mark_read) => mark(site, opens, *mark_read, place),
         TokenKind::Word(word_read) => word(alloc, site, opens, *word_read, place),
-        TokenKind::End => Ok(Fed::Refused),
+        TokenKind::End => Ok(Turn::Refused),
     }
 }

@@ -1,15 +1,15 @@
 //! An operand put into the construct that awaits it.
 ghost use Rattle.std.specs.Prelude.{◌≡◌, IfOk, cond};
-ghost use Rattle.k_reader.specs.Expressions as spec;
-ghost use Rattle.k_reader.specs.Operators.{is_step_mark};
-ghost use Rattle.k_reader.specs.Level.{above as above_of};
+ghost use Rattle.k_steps.specs.Expressions as spec;
+ghost use Rattle.k_steps.specs.Operators.{is_step_mark};
+ghost use Rattle.k_steps.specs.Level.{above as above_of};
 ghost use Rattle.k_tree.specs.declared.tree.expression.Expr.TheVariants as expr;
 
 use k_num::{Box, NoMemory, Place, Seq};
-use k_reader::expression::plug::Plugged;
-use k_reader::expression::{Open, Term};
-use k_reader::level::above;
-use k_reader::operators::{is_step, own_rank};
+use k_steps::expression::plug::Plugged;
+use k_steps::expression::{Open, Term};
+use k_steps::level::above;
+use k_steps::operators::{is_step, own_rank};
 use k_tree::{Expr, Mark, Word};
 use std::alloc::Global;
 
@@ -28,13 +28,14 @@ pub fn boxed(alloc: Global, left: Expr, right: Expr) -> Result<(Box<Expr>, Box<E
     Ok((left, right))
 }
 
-#[tactic(auto, unfolding(k_reader::specs::Expressions::infix_made))]
+#[tactic(auto, unfolding(k_steps::specs::Expressions::infix_made))]
 fn infix(alloc: Global, place: Place, op: Mark, left: Term, right: Term) -> Result<Term, NoMemory>
     ensures { IfOk result (λ term. term ≡ spec.infix_made place op left right) }
 {
-    let height = above(left.height, right.height);
+    let (before, behind) = (left.height, right.height);
     let rank = own_rank(op);
     let (left, right) = boxed(alloc, left.tree, right.tree)?;
+    let height = above(before, behind)?;
     let tree = match rank {
         0 => Expr::Comma { place, left, right },
         1 => Expr::Assign {
@@ -62,7 +63,7 @@ fn conditional(
 ) -> Result<Term, NoMemory>
     ensures { IfOk result (λ term. term ≡ spec.conditional place test «then» other) }
 {
-    let height = above(test.height, then.height.max(other.height));
+    let (first, rest) = (test.height, then.height.max(other.height));
     let (test, then) = match boxed(alloc, test.tree, then.tree) {
         Ok(both) => both,
         Err(NoMemory) => {
@@ -71,6 +72,7 @@ fn conditional(
         }
     };
     let other = Box::new(alloc, other.tree)?;
+    let height = above(first, rest)?;
     Ok(Term {
         tree: Expr::Cond {
             place,
@@ -94,12 +96,13 @@ fn prefix_tree(place: Place, op: Mark, of: Box<Expr>) -> Expr
     }
 }
 
-#[tactic(auto, unfolding(k_reader::specs::Expressions::prefixed))]
+#[tactic(auto, unfolding(k_steps::specs::Expressions::prefixed))]
 fn prefixed(alloc: Global, place: Place, op: Mark, term: Term) -> Result<Term, NoMemory>
     ensures { IfOk result (λ made. made ≡ spec.prefixed place op term) }
 {
-    let height = above(term.height, 0);
-    let of = Box::new(alloc, term.tree)?;
+    let Term { tree, height, .. } = term;
+    let of = Box::new(alloc, tree)?;
+    let height = above(height, 0)?;
     Ok(Term {
         tree: prefix_tree(place, op, of),
         rank: 14,
@@ -116,8 +119,9 @@ fn cast(
 ) -> Result<Term, NoMemory>
     ensures { IfOk result (λ made. made ≡ spec.term (expr.Cast place specs stars term.tree) 13 (above_of term.height 0)) }
 {
-    let height = above(term.height, 0);
-    let of = Box::new(alloc, term.tree)?;
+    let Term { tree, height, .. } = term;
+    let of = Box::new(alloc, tree)?;
+    let height = above(height, 0)?;
     Ok(Term {
         tree: Expr::Cast {
             place,
@@ -133,8 +137,9 @@ fn cast(
 fn sizeof(alloc: Global, place: Place, term: Term) -> Result<Term, NoMemory>
     ensures { IfOk result (λ made. made ≡ spec.term (expr.SizeofExpr place term.tree) 14 (above_of term.height 0)) }
 {
-    let height = above(term.height, 0);
-    let of = Box::new(alloc, term.tree)?;
+    let Term { tree, height, .. } = term;
+    let of = Box::new(alloc, tree)?;
+    let height = above(height, 0)?;
     Ok(Term {
         tree: Expr::SizeofExpr { place, of },
         rank: 14,
@@ -143,7 +148,7 @@ fn sizeof(alloc: Global, place: Place, term: Term) -> Result<Term, NoMemory>
 }
 
 /// Puts an operand that ends into the construct around it.
-#[tactic(auto, unfolding(k_reader::specs::Expressions::plug))]
+#[tactic(auto, unfolding(k_steps::specs::Expressions::plug))]
 pub fn plug(alloc: Global, around: Open, term: Term) -> Result<Plugged, NoMemory>
     ensures { IfOk result (λ made. made ≡ spec.plug around term) }
 {

@@ -1,17 +1,18 @@
 //! The name of a type, in a cast or behind `sizeof` (C17 6.7.7).
 ghost use Rattle.std.specs.Prelude.{◌≡◌, IfOk};
-ghost use Rattle.k_reader.specs.Expressions as spec;
+ghost use Rattle.k_steps.specs.Expressions as spec;
 
 use crate::expression::{goes, refused};
 use k_num::{NoMemory, Place, Seq};
-use k_reader::expression::{Fed, Now, Open, Site, Term};
-use k_reader::operators::is_spec;
-use k_reader::stack::Stack;
-use k_reader::stars::{Stars, all_stars, constant, star};
+use k_steps::expression::{ExpressionStage, Fed, Open, Site, Term};
+use k_steps::operators::is_spec;
+use k_steps::stack::Stack;
+use k_steps::stars::{Stars, all_stars, constant, star};
+use k_steps::turn::Turn;
 use k_tree::{Expr, Mark, Token, TokenKind, Word};
 
 /// The closing parenthesis of a type.
-#[tactic(auto, unfolding(k_reader::specs::Expressions::close_type))]
+#[tactic(auto, unfolding(k_steps::specs::Expressions::close_type))]
 fn close(
     site: Site,
     mut opens: Stack<Open>,
@@ -24,12 +25,12 @@ fn close(
     match opens.pop() {
         Some(Open::Paren { place }) => close_over(site, opens, place, specs, stars),
         Some(around) => Ok(refused(around)),
-        None => Ok(Fed::Refused),
+        None => Ok(Turn::Refused),
     }
 }
 
 /// A type in parentheses, the first of which stands at `place`.
-#[tactic(auto, unfolding(k_reader::specs::Expressions::close_over))]
+#[tactic(auto, unfolding(k_steps::specs::Expressions::close_over))]
 fn close_over(
     site: Site,
     mut opens: Stack<Open>,
@@ -51,7 +52,7 @@ fn close_over(
                 rank: 14,
                 height: 1,
             };
-            Ok(goes(site, opens, Now::Value { term }, 0))
+            Ok(goes(site, opens, ExpressionStage::Value { term }, 0))
         }
         Some(around) => {
             opens.push(around)?;
@@ -82,11 +83,11 @@ fn cast(site: Site, mut opens: Stack<Open>, around: Open) -> Result<Fed, NoMemor
     ensures { IfOk result (λ fed. fed ≡ spec.cast_opened site opens around) }
 {
     opens.push(around)?;
-    Ok(goes(site, opens, Now::Operand, 0))
+    Ok(goes(site, opens, ExpressionStage::Operand, 0))
 }
 
 /// One more keyword of a type.
-#[tactic(auto, unfolding(k_reader::specs::Expressions::word_of_type))]
+#[tactic(auto, unfolding(k_steps::specs::Expressions::word_of_type))]
 fn word(
     site: Site,
     opens: Stack<Open>,
@@ -98,20 +99,20 @@ fn word(
 {
     if stars.pending {
         if !matches!(word, Word::Const) {
-            return Ok(Fed::Refused);
+            return Ok(Turn::Refused);
         }
         let stars = constant(stars)?;
-        return Ok(goes(site, opens, Now::Type { specs, stars }, 0));
+        return Ok(goes(site, opens, ExpressionStage::Type { specs, stars }, 0));
     }
     if stars.done.len() > 0 || !is_spec(word) {
-        return Ok(Fed::Refused);
+        return Ok(Turn::Refused);
     }
     specs.push(word)?;
-    Ok(goes(site, opens, Now::Type { specs, stars }, 0))
+    Ok(goes(site, opens, ExpressionStage::Type { specs, stars }, 0))
 }
 
 /// One more mark in the name of a type.
-#[tactic(auto, unfolding(k_reader::specs::Expressions::mark_of_type))]
+#[tactic(auto, unfolding(k_steps::specs::Expressions::mark_of_type))]
 fn mark(
     site: Site,
     opens: Stack<Open>,
@@ -124,15 +125,15 @@ fn mark(
     match mark {
         Mark::Star => {
             let stars = star(stars)?;
-            Ok(goes(site, opens, Now::Type { specs, stars }, 0))
+            Ok(goes(site, opens, ExpressionStage::Type { specs, stars }, 0))
         }
         Mark::RightParen => close(site, opens, specs, stars),
-        _ => Ok(Fed::Refused),
+        _ => Ok(Turn::Refused),
     }
 }
 
 /// One more token in the name of a type.
-#[tactic(auto, unfolding(k_reader::specs::Expressions::in_type))]
+#[tactic(auto, unfolding(k_steps::specs::Expressions::in_type))]
 pub fn in_type(
     site: Site,
     opens: Stack<Open>,
@@ -145,6 +146,6 @@ pub fn in_type(
     match &token.what {
         TokenKind::Word(word_read) => word(site, opens, specs, stars, *word_read),
         TokenKind::Mark(mark_read) => mark(site, opens, specs, stars, *mark_read),
-        _ => Ok(Fed::Refused),
+        _ => Ok(Turn::Refused),
     }
 }

@@ -1,22 +1,24 @@
 //! The first token of a statement.
 ghost use Rattle.std.specs.Prelude.{◌≡◌, IfOk};
-ghost use Rattle.k_reader.specs.Statements as spec;
+ghost use Rattle.k_steps.specs.Expressions as expressions;
+ghost use Rattle.k_steps.specs.Statements as spec;
+ghost use Rattle.k_steps.specs.declared.statement.BlockStage.TheVariants as stages;
 
 use crate::statement::switch::{case_begins, default_begins};
-use crate::statement::{await_part, level, steps, whole};
+use crate::statement::{await_part, inner_level, level, steps, whole};
 use k_declaration::declaration::begin_declaration;
-use k_expression::expression::{begin, feed};
-use k_num::{NoMemory, Place, Seq};
-use k_reader::expression::Fed;
-use k_reader::level::plus;
-use k_reader::operators::{is_left_brace, is_right_brace, is_semicolon, is_spec};
-use k_reader::stack::Stack;
-use k_reader::statement::{Frame, Step, Stepped, Tested};
+use k_expression::expression::{begin, begin_boxed, feed};
+use k_num::{Box, NoMemory, Place, Seq};
+use k_steps::expression::Fed;
+use k_steps::operators::{is_left_brace, is_right_brace, is_semicolon, is_spec};
+use k_steps::stack::Stack;
+use k_steps::statement::{BlockStage, Frame, Stepped, Tested};
+use k_steps::turn::Turn;
 use k_tree::{Mark, Stmt, Token, TokenKind, Word};
 use std::alloc::Global;
 
 /// Does a declaration or the end of a block stand here as well?
-#[tactic(auto, unfolding(k_reader::specs::Statements::is_in_block))]
+#[tactic(auto, unfolding(k_steps::specs::Statements::is_in_block))]
 fn is_in_block(frames: &Stack<Frame>) -> bool
     ensures { result ≡ spec.is_in_block frames.now }
 {
@@ -24,18 +26,23 @@ fn is_in_block(frames: &Stack<Frame>) -> bool
 }
 
 /// The end of a block or of a `switch`.
-#[tactic(auto, unfolding(k_reader::specs::Statements::block_ends))]
-fn block_ends(parts: Seq<Stmt>, mut frames: Stack<Frame>) -> Stepped
-    ensures { result ≡ spec.block_ends parts frames }
+#[tactic(auto, unfolding(k_steps::specs::Statements::block_ends))]
+fn block_ends(
+    alloc: Global,
+    parts: Seq<Stmt>,
+    mut frames: Stack<Frame>,
+) -> Result<Stepped, NoMemory>
+    ensures { IfOk result (λ fed. fed ≡ spec.block_ends parts frames) }
 {
     match frames.pop() {
-        None => Stepped::Done { parts },
+        None => Ok(Turn::Done(parts)),
         Some(
             Frame::Block {
                 place,
                 parts: inner,
             },
         ) => whole(
+            alloc,
             parts,
             frames,
             Stmt::Block {
@@ -50,6 +57,7 @@ fn block_ends(parts: Seq<Stmt>, mut frames: Stack<Frame>) -> Stepped
                 parts: inner,
             },
         ) => whole(
+            alloc,
             parts,
             frames,
             Stmt::Switch {
@@ -60,13 +68,13 @@ fn block_ends(parts: Seq<Stmt>, mut frames: Stack<Frame>) -> Stepped
         ),
         Some(frame) => {
             drop(frame);
-            Stepped::Refused
+            Ok(Turn::Refused)
         }
     }
 }
 
 /// A declaration of a block begins.
-#[tactic(auto, unfolding(k_reader::specs::Statements::declares))]
+#[tactic(auto, unfolding(k_steps::specs::Statements::declares))]
 fn declares(
     alloc: Global,
     parts: Seq<Stmt>,
@@ -77,15 +85,21 @@ fn declares(
     ensures { IfOk result (λ fed. fed ≡ spec.declares parts frames word place) }
 {
     if !is_spec(word) || !is_in_block(&frames) {
-        return Ok(Stepped::Refused);
+        return Ok(Turn::Refused);
     }
-    let reach = level(&frames);
-    let declaration = begin_declaration(alloc, word, plus(reach, 1))?;
-    Ok(steps(parts, frames, Step::Local { place, declaration }, reach))
+    let reach = level(&frames)?;
+    let declaration = begin_declaration(alloc, word, inner_level(&frames)?)?;
+    let declaration = Box::new(alloc, declaration)?;
+    Ok(steps(
+        parts,
+        frames,
+        BlockStage::Local { place, declaration },
+        reach,
+    ))
 }
 
 /// A keyword that begins a declaration, a statement or a label.
-#[tactic(auto, unfolding(k_reader::specs::Statements::keyword))]
+#[tactic(auto, unfolding(k_steps::specs::Statements::keyword))]
 fn keyword(
     alloc: Global,
     parts: Seq<Stmt>,
@@ -103,7 +117,7 @@ fn keyword(
 }
 
 /// A keyword that begins a statement or a label.
-#[tactic(auto, unfolding(k_reader::specs::Statements::jump))]
+#[tactic(auto, unfolding(k_steps::specs::Statements::jump))]
 fn jump(
     alloc: Global,
     parts: Seq<Stmt>,
@@ -113,44 +127,60 @@ fn jump(
 ) -> Result<Stepped, NoMemory>
     ensures { IfOk result (λ fed. fed ≡ spec.jump parts frames word place) }
 {
-    let own = level(&frames);
-    let inner = plus(own, 1);
-    let (step, reach) = match word {
-        Word::If => {
-            let tested = Tested::If { place };
-            (Step::Keyword { tested }, inner)
-        }
-        Word::While => {
-            let tested = Tested::While { place };
-            (Step::Keyword { tested }, inner)
-        }
-        Word::Do => return await_part(parts, frames, Frame::Do { place }, inner),
-        Word::For => (Step::For { place }, inner),
-        Word::Switch => {
-            let tested = Tested::Switch { place };
-            (Step::Keyword { tested }, inner)
-        }
-        Word::Case => return Ok(case_begins(alloc, parts, frames, place)),
-        Word::Default => return Ok(default_begins(parts, frames, place)),
-        Word::Break => {
-            let stmt = Stmt::Break { place };
-            (Step::Semicolon { stmt }, own)
-        }
-        Word::Continue => {
-            let stmt = Stmt::Continue { place };
-            (Step::Semicolon { stmt }, own)
-        }
-        Word::Return => {
-            let reading = begin(alloc, 0, inner);
-            (Step::Return { place, reading }, own)
-        }
-        _ => return Ok(Stepped::Refused),
-    };
-    Ok(steps(parts, frames, step, reach))
+    let own = level(&frames)?;
+    let inner = inner_level(&frames)?;
+    match word {
+        Word::If => Ok(test_begins(parts, frames, Tested::If { place }, inner)),
+        Word::While => Ok(test_begins(parts, frames, Tested::While { place }, inner)),
+        Word::Do => await_part(parts, frames, Frame::Do { place }, inner),
+        Word::For => Ok(steps(parts, frames, BlockStage::For { place }, inner)),
+        Word::Switch => Ok(test_begins(parts, frames, Tested::Switch { place }, inner)),
+        Word::Case => case_begins(alloc, parts, frames, place),
+        Word::Default => Ok(default_begins(parts, frames, place)),
+        Word::Break => await_semicolon(alloc, parts, frames, Stmt::Break { place }, own),
+        Word::Continue => await_semicolon(alloc, parts, frames, Stmt::Continue { place }, own),
+        Word::Return => return_begins(alloc, parts, frames, place),
+        _ => Ok(Turn::Refused),
+    }
+}
+
+/// A keyword behind which a test stands.
+fn test_begins(parts: Seq<Stmt>, frames: Stack<Frame>, tested: Tested, reach: usize) -> Stepped
+    ensures { result ≡ spec.steps parts frames (stages.Keyword tested) reach }
+{
+    steps(parts, frames, BlockStage::Keyword { tested }, reach)
+}
+
+/// A statement that is whole but for its semicolon.
+fn await_semicolon(
+    alloc: Global,
+    parts: Seq<Stmt>,
+    frames: Stack<Frame>,
+    stmt: Stmt,
+    reach: usize,
+) -> Result<Stepped, NoMemory>
+    ensures { IfOk result (λ fed. fed ≡ spec.steps parts frames (stages.Semicolon stmt) reach) }
+{
+    let stmt = Box::new(alloc, stmt)?;
+    Ok(steps(parts, frames, BlockStage::Semicolon { stmt }, reach))
+}
+
+/// `return`
+fn return_begins(
+    alloc: Global,
+    parts: Seq<Stmt>,
+    frames: Stack<Frame>,
+    place: Place,
+) -> Result<Stepped, NoMemory>
+    ensures { IfOk result (λ fed. fed ≡ spec.steps parts frames (stages.Return place (expressions.begin 0 (spec.inner frames))) (spec.level frames)) }
+{
+    let reach = level(&frames)?;
+    let reading = begin_boxed(alloc, 0, inner_level(&frames)?)?;
+    Ok(steps(parts, frames, BlockStage::Return { place, reading }, reach))
 }
 
 /// The first token of a statement that is an expression.
-#[tactic(auto, unfolding(k_reader::specs::Statements::expression))]
+#[tactic(auto, unfolding(k_steps::specs::Statements::expression))]
 fn expression(
     alloc: Global,
     parts: Seq<Stmt>,
@@ -159,31 +189,37 @@ fn expression(
 ) -> Result<Stepped, NoMemory>
     ensures { IfOk result (λ fed. fed ≡ spec.expression parts frames token.now) }
 {
-    let reading = begin(alloc, 0, plus(level(&frames), 1));
+    let reading = begin(alloc, 0, inner_level(&frames)?);
     match feed(alloc, reading, token)? {
-        Fed::Goes { reading, reach } => {
+        Turn::Goes(reading, reach) => {
+            let reading = Box::new(alloc, reading)?;
             let place = token.place;
-            Ok(steps(parts, frames, Step::Value { place, reading }, reach))
+            Ok(steps(parts, frames, BlockStage::Value { place, reading }, reach))
         }
-        Fed::Ends { value } => {
+        Turn::Done(value) => {
             drop(value);
-            Ok(Stepped::Refused)
+            Ok(Turn::Refused)
         }
-        Fed::Refused => Ok(Stepped::Refused),
+        Turn::Refused => Ok(Turn::Refused),
     }
 }
 
 /// `;` alone.
-fn empty(parts: Seq<Stmt>, frames: Stack<Frame>, place: Place) -> Stepped
-    ensures { result ≡ spec.empty parts frames place }
+fn empty(
+    alloc: Global,
+    parts: Seq<Stmt>,
+    frames: Stack<Frame>,
+    place: Place,
+) -> Result<Stepped, NoMemory>
+    ensures { IfOk result (λ fed. fed ≡ spec.empty parts frames place) }
 {
-    let reach = level(&frames);
-    let stmt = Stmt::Empty { place };
-    steps(parts, frames, Step::Whole { stmt }, reach)
+    let reach = level(&frames)?;
+    let stmt = Box::new(alloc, Stmt::Empty { place })?;
+    Ok(steps(parts, frames, BlockStage::Whole { stmt }, reach))
 }
 
 /// A mark that begins a statement, or ends a block.
-#[tactic(auto, unfolding(k_reader::specs::Statements::mark_begins))]
+#[tactic(auto, unfolding(k_steps::specs::Statements::mark_begins))]
 fn mark_begins(
     alloc: Global,
     parts: Seq<Stmt>,
@@ -194,11 +230,11 @@ fn mark_begins(
     ensures { IfOk result (λ fed. fed ≡ spec.mark_begins parts frames token.now mark) }
 {
     if is_semicolon(mark) {
-        Ok(empty(parts, frames, token.place))
+        empty(alloc, parts, frames, token.place)
     } else if is_left_brace(mark) {
         block_begins(alloc, parts, frames, token.place)
     } else if is_right_brace(mark) {
-        Ok(block_ends(parts, frames))
+        block_ends(alloc, parts, frames)
     } else {
         expression(alloc, parts, frames, token)
     }
@@ -213,7 +249,7 @@ fn block_begins(
 ) -> Result<Stepped, NoMemory>
     ensures { IfOk result (λ fed. fed ≡ spec.block_begins parts frames place) }
 {
-    let reach = level(&frames);
+    let reach = level(&frames)?;
     let frame = Frame::Block {
         place,
         parts: Seq::new(alloc),
@@ -222,7 +258,7 @@ fn block_begins(
 }
 
 /// The first token of a statement, or in a block of a declaration, or its end.
-#[tactic(auto, unfolding(k_reader::specs::Statements::begins))]
+#[tactic(auto, unfolding(k_steps::specs::Statements::begins))]
 pub fn begins(
     alloc: Global,
     parts: Seq<Stmt>,

@@ -1,70 +1,61 @@
 //! Tests in parentheses, and the token behind a statement.
 ghost use Rattle.std.specs.Prelude.{◌≡◌, IfOk};
-ghost use Rattle.k_reader.specs.Statements as spec;
+ghost use Rattle.k_steps.specs.Statements as spec;
 
 use crate::statement::begin::begins;
 use crate::statement::switch::more_switched;
-use crate::statement::{await_part, level, steps};
-use k_expression::expression::begin;
+use crate::statement::{await_part, inner_level, steps};
+use k_expression::expression::begin_boxed;
 use k_expression::reading::{is_left_paren, read_needed};
 use k_num::{Box, NoMemory, Place, Seq};
-use k_reader::expression::Reading;
-use k_reader::level::plus;
-use k_reader::reading::{Closer, Read};
-use k_reader::stack::Stack;
-use k_reader::statement::clause::Closed;
-use k_reader::statement::{Frame, Step, Stepped, Tested};
+use k_steps::expression::Reading;
+use k_steps::reading::{Closer, Read};
+use k_steps::stack::Stack;
+use k_steps::statement::clause::Fitted;
+use k_steps::statement::{BlockStage, Frame, Stepped, Tested};
+use k_steps::turn::Turn;
 use k_tree::{Expr, Stmt, Token, TokenKind, Word};
 use std::alloc::Global;
 
 /// The parenthesis of a test.
-#[tactic(auto, unfolding(k_reader::specs::Statements::opened))]
+#[tactic(auto, unfolding(k_steps::specs::Statements::opened))]
 pub fn opened(
     alloc: Global,
     parts: Seq<Stmt>,
     frames: Stack<Frame>,
     tested: Tested,
     token: &Token,
-) -> Stepped
-    ensures { result ≡ spec.opened parts frames tested token.now }
+) -> Result<Stepped, NoMemory>
+    ensures { IfOk result (λ fed. fed ≡ spec.opened parts frames tested token.now) }
 {
     if !is_left_paren(token) {
-        drop(tested);
-        return Stepped::Refused;
+        return Ok(Turn::Refused);
     }
-    let reading = begin(alloc, 0, plus(level(&frames), 1));
-    steps(parts, frames, Step::Test { tested, reading }, 0)
+    let reading = begin_boxed(alloc, 0, inner_level(&frames)?)?;
+    Ok(steps(parts, frames, BlockStage::Test { tested, reading }, 0))
 }
 
 /// A test is done.
-#[tactic(auto, unfolding(k_reader::specs::Statements::test_done))]
+#[tactic(auto, unfolding(k_steps::specs::Statements::test_done))]
 fn test_done(
     alloc: Global,
     parts: Seq<Stmt>,
     frames: Stack<Frame>,
     tested: Tested,
-    test: Expr,
+    test: Box<Expr>,
 ) -> Result<Stepped, NoMemory>
     ensures { IfOk result (λ fed. fed ≡ spec.test_done parts frames tested test) }
 {
-    let test = match Box::new(alloc, test) {
-        Ok(test) => test,
-        Err(NoMemory) => {
-            drop(tested);
-            return Err(NoMemory);
-        }
-    };
     match tested {
         Tested::If { place } => await_part(parts, frames, Frame::Then { place, test }, 0),
         Tested::While { place } => await_part(parts, frames, Frame::While { place, test }, 0),
         Tested::Switch { place } => {
-            let step = Step::Braces { place, on: test };
+            let step = BlockStage::Braces { place, on: test };
             Ok(steps(parts, frames, step, 0))
         }
         Tested::Do { place, body } => {
-            let body = Box::new(alloc, body)?;
-            let stmt = Stmt::DoWhile { place, body, test };
-            Ok(steps(parts, frames, Step::Semicolon { stmt }, 0))
+            let stmt = Box::new(alloc, Stmt::DoWhile { place, body, test })?;
+            Ok(steps(parts, frames, BlockStage::Semicolon { stmt }, 0))
         }
     }
 }
@@ -75,27 +66,17 @@ pub fn test(
     parts: Seq<Stmt>,
     frames: Stack<Frame>,
     tested: Tested,
-    reading: Reading,
+    reading: Box<Reading>,
     token: &Token,
 ) -> Result<Stepped, NoMemory>
     ensures { IfOk result (λ fed. fed ≡ spec.test parts frames tested reading token.now) }
 {
-    let read = match read_needed(alloc, reading, token, Closer::Paren) {
-        Ok(read) => read,
-        Err(NoMemory) => {
-            drop(tested);
-            return Err(NoMemory);
+    match read_needed(alloc, reading, token, Closer::Paren)? {
+        Turn::Goes(reading, reach) => {
+            Ok(steps(parts, frames, BlockStage::Test { tested, reading }, reach))
         }
-    };
-    match read {
-        Read::Goes { reading, reach } => {
-            Ok(steps(parts, frames, Step::Test { tested, reading }, reach))
-        }
-        Read::Closed { value } => test_done(alloc, parts, frames, tested, value),
-        Read::Refused => {
-            drop(tested);
-            Ok(Stepped::Refused)
-        }
+        Turn::Done(value) => test_done(alloc, parts, frames, tested, value),
+        Turn::Refused => Ok(Turn::Refused),
     }
 }
 
@@ -114,116 +95,98 @@ fn is_while(token: &Token) -> bool
 }
 
 /// A statement that ends is put into the statement around it; `other` says whether `else` follows.
-#[tactic(auto, unfolding(k_reader::specs::Statements::close))]
-fn close(alloc: Global, frame: Frame, stmt: Stmt, other: bool) -> Result<Closed, NoMemory>
+#[tactic(auto, unfolding(k_steps::specs::Statements::close))]
+fn close(alloc: Global, frame: Frame, stmt: Box<Stmt>, other: bool) -> Result<Fitted, NoMemory>
     ensures { IfOk result (λ made. made ≡ spec.close frame stmt other) }
 {
     let stmt = match frame {
         Frame::Then { place, test } => {
             if other {
                 let frame = Frame::Then { place, test };
-                return Ok(Closed::Part { frame, stmt });
+                return Ok(Fitted::Part { frame, stmt });
             }
-            if_alone(alloc, place, test, stmt)?
+            Stmt::If {
+                place,
+                test,
+                then: stmt,
+                other: None,
+            }
         }
         Frame::Else { place, test, then } => Stmt::If {
             place,
             test,
             then,
-            other: Some(Box::new(alloc, stmt)?),
+            other: Some(stmt),
         },
         Frame::While { place, test } => Stmt::While {
             place,
             test,
-            body: Box::new(alloc, stmt)?,
+            body: stmt,
         },
         Frame::For {
             place,
             start,
             test,
             step,
-        } => {
-            let body = match Box::new(alloc, stmt) {
-                Ok(body) => body,
-                Err(NoMemory) => {
-                    drop(start);
-                    return Err(NoMemory);
-                }
-            };
-            Stmt::For {
-                place,
-                first: start,
-                test,
-                step,
-                body,
-            }
-        }
-        frame => return Ok(Closed::Part { frame, stmt }),
+        } => Stmt::For {
+            place,
+            first: start.into_inner(),
+            test,
+            step,
+            body: stmt,
+        },
+        frame => return Ok(Fitted::Part { frame, stmt }),
     };
-    Ok(Closed::Whole { stmt })
+    let stmt = Box::new(alloc, stmt)?;
+    Ok(Fitted::Whole { stmt })
 }
 
 /// `else` behind the statement of an `if`.
 fn otherwise(
-    alloc: Global,
     parts: Seq<Stmt>,
     frames: Stack<Frame>,
     place: Place,
     test: Box<Expr>,
-    then: Stmt,
+    then: Box<Stmt>,
 ) -> Result<Stepped, NoMemory>
     ensures { IfOk result (λ fed. fed ≡ spec.otherwise parts frames place test «then») }
 {
-    let then = Box::new(alloc, then)?;
     await_part(parts, frames, Frame::Else { place, test, then }, 0)
 }
 
-/// An `if` without `else`.
-fn if_alone(alloc: Global, place: Place, test: Box<Expr>, then: Stmt) -> Result<Stmt, NoMemory>
-    ensures { IfOk result (λ made. made ≡ spec.if_alone place test «then») }
-{
-    Ok(Stmt::If {
-        place,
-        test,
-        then: Box::new(alloc, then)?,
-        other: None,
-    })
-}
-
 /// `while` behind the statement of a `do`.
-#[tactic(auto, unfolding(k_reader::specs::Statements::do_while))]
+#[tactic(auto, unfolding(k_steps::specs::Statements::do_while))]
 fn do_while(
     parts: Seq<Stmt>,
     frames: Stack<Frame>,
     place: Place,
-    body: Stmt,
+    body: Box<Stmt>,
     token: &Token,
 ) -> Stepped
     ensures { result ≡ spec.do_while parts frames place body token.now }
 {
     if !is_while(token) {
-        drop(body);
-        return Stepped::Refused;
+        return Turn::Refused;
     }
     let tested = Tested::Do { place, body };
-    steps(parts, frames, Step::Keyword { tested }, 0)
+    steps(parts, frames, BlockStage::Keyword { tested }, 0)
 }
 
 /// One more part of a block, and the token behind it.
-#[tactic(auto, unfolding(k_reader::specs::Statements::more))]
+#[tactic(auto, unfolding(k_steps::specs::Statements::more))]
 fn more(
     alloc: Global,
     parts: Seq<Stmt>,
     mut frames: Stack<Frame>,
     place: Place,
     inner: Seq<Stmt>,
-    stmt: Stmt,
+    stmt: Box<Stmt>,
     token: &Token,
 ) -> Result<Stepped, NoMemory>
     ensures { IfOk result (λ fed. fed ≡ spec.more parts frames place inner stmt token.now) }
 {
     let mut inner = inner;
-    inner.push(stmt)?;
+    inner.push(stmt.into_inner())?;
     frames.push(Frame::Block {
         place,
         parts: inner,
@@ -232,19 +195,19 @@ fn more(
 }
 
 /// The statement around goes on with the token behind one of its parts.
-#[tactic(auto, unfolding(k_reader::specs::Statements::part))]
+#[tactic(auto, unfolding(k_steps::specs::Statements::part))]
 fn part(
     alloc: Global,
     parts: Seq<Stmt>,
     frames: Stack<Frame>,
     frame: Frame,
-    stmt: Stmt,
+    stmt: Box<Stmt>,
     token: &Token,
 ) -> Result<Stepped, NoMemory>
     ensures { IfOk result (λ fed. fed ≡ spec.part parts frames frame stmt token.now) }
 {
     match frame {
-        Frame::Then { place, test } => otherwise(alloc, parts, frames, place, test, stmt),
+        Frame::Then { place, test } => otherwise(parts, frames, place, test, stmt),
         Frame::Do { place } => Ok(do_while(parts, frames, place, stmt, token)),
         Frame::Block {
             place,
@@ -257,29 +220,28 @@ fn part(
         } => more_switched(alloc, parts, frames, place, on, inner, stmt, token),
         frame => {
             drop(frame);
-            drop(stmt);
-            Ok(Stepped::Refused)
+            Ok(Turn::Refused)
         }
     }
 }
 
 /// The token behind a statement.
-#[tactic(auto, unfolding(k_reader::specs::Statements::behind))]
+#[tactic(auto, unfolding(k_steps::specs::Statements::behind))]
 pub fn behind(
     alloc: Global,
     mut parts: Seq<Stmt>,
     mut frames: Stack<Frame>,
-    stmt: Stmt,
+    stmt: Box<Stmt>,
     token: &Token,
 ) -> Result<Stepped, NoMemory>
     ensures { IfOk result (λ fed. fed ≡ spec.behind parts frames stmt token.now) }
 {
     let Some(frame) = frames.pop() else {
-        parts.push(stmt)?;
+        parts.push(stmt.into_inner())?;
         return begins(alloc, parts, frames, token);
     };
     match close(alloc, frame, stmt, is_else(token))? {
-        Closed::Whole { stmt } => behind(alloc, parts, frames, stmt, token),
-        Closed::Part { frame, stmt } => part(alloc, parts, frames, frame, stmt, token),
+        Fitted::Whole { stmt } => behind(alloc, parts, frames, stmt, token),
+        Fitted::Part { frame, stmt } => part(alloc, parts, frames, frame, stmt, token),
     }
 }

@@ -1,39 +1,39 @@
 //! The parts of a `for` (C17 6.8.5.3).
 ghost use Rattle.std.specs.Prelude.{◌≡◌, IfOk};
-ghost use Rattle.k_reader.specs.Statements as spec;
+ghost use Rattle.k_steps.specs.Statements as spec;
 
 use crate::statement::switch::in_switch;
-use crate::statement::{await_part, boxed, level, steps};
+use crate::statement::{await_part, inner_level, steps};
 use k_declaration::declaration::{begin_declaration, feed_declaration};
-use k_expression::expression::begin;
+use k_expression::expression::begin_boxed;
 use k_expression::reading::{is_fresh, is_left_paren, read_maybe};
-use k_num::{NoMemory, Place, Seq};
-use k_reader::declaration::{Declaration, Declared};
-use k_reader::expression::Reading;
-use k_reader::level::plus;
-use k_reader::operators::is_spec;
-use k_reader::reading::{Closer, Maybe};
-use k_reader::stack::Stack;
-use k_reader::statement::{Frame, Step, Stepped};
+use k_num::{Box, NoMemory, Place, Seq};
+use k_steps::declaration::{Declaration, Declared};
+use k_steps::expression::Reading;
+use k_steps::operators::is_spec;
+use k_steps::reading::{Closer, Maybe};
+use k_steps::stack::Stack;
+use k_steps::statement::{BlockStage, Frame, Stepped};
+use k_steps::turn::Turn;
 use k_tree::{Expr, First, Stmt, Token, TokenKind, Word};
 use std::alloc::Global;
 
 /// The parenthesis of a `for`.
-#[tactic(auto, unfolding(k_reader::specs::Statements::for_opened))]
+#[tactic(auto, unfolding(k_steps::specs::Statements::for_opened))]
 fn opened(
     alloc: Global,
     parts: Seq<Stmt>,
     frames: Stack<Frame>,
     place: Place,
     token: &Token,
-) -> Stepped
-    ensures { result ≡ spec.for_opened parts frames place token.now }
+) -> Result<Stepped, NoMemory>
+    ensures { IfOk result (λ fed. fed ≡ spec.for_opened parts frames place token.now) }
 {
     if !is_left_paren(token) {
-        return Stepped::Refused;
+        return Ok(Turn::Refused);
     }
-    let reading = begin(alloc, 0, plus(level(&frames), 1));
-    steps(parts, frames, Step::Start { place, reading }, 0)
+    let reading = begin_boxed(alloc, 0, inner_level(&frames)?)?;
+    Ok(steps(parts, frames, BlockStage::Start { place, reading }, 0))
 }
 
 /// The second part of a `for` begins.
@@ -43,29 +43,30 @@ fn second_begins(
     frames: Stack<Frame>,
     place: Place,
     start: First,
-) -> Stepped
-    ensures { result ≡ spec.second_begins parts frames place start }
+) -> Result<Stepped, NoMemory>
+    ensures { IfOk result (λ fed. fed ≡ spec.second_begins parts frames place start) }
 {
-    let reading = begin(alloc, 0, plus(level(&frames), 1));
-    let step = Step::Second {
+    let start = Box::new(alloc, start)?;
+    let reading = begin_boxed(alloc, 0, inner_level(&frames)?)?;
+    let step = BlockStage::Second {
         place,
         start,
         reading,
     };
-    steps(parts, frames, step, 0)
+    Ok(steps(parts, frames, step, 0))
 }
 
-fn first_of(value: Option<Expr>) -> First
+fn first_of(value: Option<Box<Expr>>) -> First
     ensures { result ≡ spec.first_of value }
 {
     match value {
         None => First::Nothing,
-        Some(value) => First::Value(value),
+        Some(value) => First::Value(value.into_inner()),
     }
 }
 
 /// The first keyword of a declaration in a `for`, if it is one.
-#[tactic(auto, unfolding(k_reader::specs::Statements::specifier))]
+#[tactic(auto, unfolding(k_steps::specs::Statements::specifier))]
 fn specifier(reading: &Reading, token: &Token) -> Option<Word>
     ensures { result ≡ spec.specifier reading.now token.now }
 {
@@ -82,87 +83,90 @@ fn specifier(reading: &Reading, token: &Token) -> Option<Word>
 }
 
 /// A token in the first part of a `for`.
-#[tactic(auto, unfolding(k_reader::specs::Statements::start))]
+#[tactic(auto, unfolding(k_steps::specs::Statements::start))]
 fn start(
     alloc: Global,
     parts: Seq<Stmt>,
     frames: Stack<Frame>,
     place: Place,
-    reading: Reading,
+    reading: Box<Reading>,
     token: &Token,
 ) -> Result<Stepped, NoMemory>
     ensures { IfOk result (λ fed. fed ≡ spec.start parts frames place reading token.now) }
 {
-    if let Some(word) = specifier(&reading, token) {
-        drop(reading);
-        let declaration = begin_declaration(alloc, word, plus(level(&frames), 1))?;
-        return Ok(steps(parts, frames, Step::Declares { place, declaration }, 0));
+    if let Some(word) = specifier(reading.get(), token) {
+        let declaration = begin_declaration(alloc, word, inner_level(&frames)?)?;
+        let declaration = Box::new(alloc, declaration)?;
+        return Ok(steps(
+            parts,
+            frames,
+            BlockStage::Declares { place, declaration },
+            0,
+        ));
     }
     match read_maybe(alloc, reading, token, Closer::Semicolon)? {
-        Maybe::Goes { reading, reach } => {
-            Ok(steps(parts, frames, Step::Start { place, reading }, reach))
+        Turn::Goes(reading, reach) => {
+            Ok(steps(parts, frames, BlockStage::Start { place, reading }, reach))
         }
-        Maybe::Closed { value } => Ok(second_begins(alloc, parts, frames, place, first_of(value))),
-        Maybe::Refused => Ok(Stepped::Refused),
+        Turn::Done(value) => second_begins(alloc, parts, frames, place, first_of(value)),
+        Turn::Refused => Ok(Turn::Refused),
     }
 }
 
 /// A token in the declaration of a `for`.
-#[tactic(auto, unfolding(k_reader::specs::Statements::for_declares))]
+#[tactic(auto, unfolding(k_steps::specs::Statements::for_declares))]
 fn declares(
     alloc: Global,
     parts: Seq<Stmt>,
     frames: Stack<Frame>,
     place: Place,
-    declaration: Declaration,
+    declaration: Box<Declaration>,
     token: &Token,
 ) -> Result<Stepped, NoMemory>
     ensures { IfOk result (λ fed. fed ≡ spec.for_declares parts frames place declaration token.now) }
 {
-    match feed_declaration(alloc, declaration, token)? {
-        Declared::Goes { declaration, reach } => {
-            Ok(steps(parts, frames, Step::Declares { place, declaration }, reach))
+    match feed_declaration(alloc, declaration.into_inner(), token)? {
+        Turn::Goes(declaration, reach) => {
+            let declaration = Box::new(alloc, declaration)?;
+            Ok(steps(
+                parts,
+                frames,
+                BlockStage::Declares { place, declaration },
+                reach,
+            ))
         }
-        Declared::Done { specs, list } => {
-            let start = First::Declare(specs, list);
-            Ok(second_begins(alloc, parts, frames, place, start))
+        Turn::Done((specs, list)) => {
+            second_begins(alloc, parts, frames, place, First::Declare(specs, list))
         }
-        Declared::Refused => Ok(Stepped::Refused),
+        Turn::Refused => Ok(Turn::Refused),
     }
 }
 
 /// A token in the second part of a `for`.
-#[tactic(auto, unfolding(k_reader::specs::Statements::second))]
+#[tactic(auto, unfolding(k_steps::specs::Statements::second))]
 fn second(
     alloc: Global,
     parts: Seq<Stmt>,
     frames: Stack<Frame>,
     place: Place,
-    start: First,
-    reading: Reading,
+    start: Box<First>,
+    reading: Box<Reading>,
     token: &Token,
 ) -> Result<Stepped, NoMemory>
     ensures { IfOk result (λ fed. fed ≡ spec.second parts frames place start reading token.now) }
 {
-    let read = match read_maybe(alloc, reading, token, Closer::Semicolon) {
-        Ok(read) => read,
-        Err(NoMemory) => {
-            drop(start);
-            return Err(NoMemory);
-        }
-    };
-    match read {
-        Maybe::Goes { reading, reach } => {
-            let step = Step::Second {
+    match read_maybe(alloc, reading, token, Closer::Semicolon)? {
+        Turn::Goes(reading, reach) => {
+            let step = BlockStage::Second {
                 place,
                 start,
                 reading,
             };
             Ok(steps(parts, frames, step, reach))
         }
-        Maybe::Closed { value: test } => {
-            let reading = begin(alloc, 0, plus(level(&frames), 1));
-            let step = Step::Third {
+        Turn::Done(test) => {
+            let reading = begin_boxed(alloc, 0, inner_level(&frames)?)?;
+            let step = BlockStage::Third {
                 place,
                 start,
                 test,
@@ -170,41 +174,21 @@ fn second(
             };
             Ok(steps(parts, frames, step, 0))
         }
-        Maybe::Refused => {
-            drop(start);
-            Ok(Stepped::Refused)
-        }
+        Turn::Refused => Ok(Turn::Refused),
     }
 }
 
 /// The parts of a `for` are done.
 fn body_begins(
-    alloc: Global,
     parts: Seq<Stmt>,
     frames: Stack<Frame>,
     place: Place,
-    start: First,
-    test: Option<Expr>,
-    step: Option<Expr>,
+    start: Box<First>,
+    test: Option<Box<Expr>>,
+    step: Option<Box<Expr>>,
 ) -> Result<Stepped, NoMemory>
     ensures { IfOk result (λ fed. fed ≡ spec.body_begins parts frames place start test step) }
 {
-    let test = match boxed(alloc, test) {
-        Ok(test) => test,
-        Err(NoMemory) => {
-            drop(start);
-            drop(step);
-            return Err(NoMemory);
-        }
-    };
-    let step = match boxed(alloc, step) {
-        Ok(step) => step,
-        Err(NoMemory) => {
-            drop(start);
-            drop(test);
-            return Err(NoMemory);
-        }
-    };
     let frame = Frame::For {
         place,
         start,
@@ -215,30 +199,22 @@ fn body_begins(
 }
 
 /// A token in the third part of a `for`.
-#[tactic(auto, unfolding(k_reader::specs::Statements::third))]
+#[tactic(auto, unfolding(k_steps::specs::Statements::third))]
 fn third(
     alloc: Global,
     parts: Seq<Stmt>,
     frames: Stack<Frame>,
     place: Place,
-    start: First,
-    test: Option<Expr>,
-    reading: Reading,
+    start: Box<First>,
+    test: Option<Box<Expr>>,
+    reading: Box<Reading>,
     token: &Token,
 ) -> Result<Stepped, NoMemory>
     ensures { IfOk result (λ fed. fed ≡ spec.third parts frames place start test reading token.now) }
 {
-    let read = match read_maybe(alloc, reading, token, Closer::Paren) {
-        Ok(read) => read,
-        Err(NoMemory) => {
-            drop(start);
-            drop(test);
-            return Err(NoMemory);
-        }
-    };
-    match read {
-        Maybe::Goes { reading, reach } => {
-            let step = Step::Third {
+    match read_maybe(alloc, reading, token, Closer::Paren)? {
+        Turn::Goes(reading, reach) => {
+            let step = BlockStage::Third {
                 place,
                 start,
                 test,
@@ -246,38 +222,34 @@ fn third(
             };
             Ok(steps(parts, frames, step, reach))
         }
-        Maybe::Closed { value } => body_begins(alloc, parts, frames, place, start, test, value),
-        Maybe::Refused => {
-            drop(start);
-            drop(test);
-            Ok(Stepped::Refused)
-        }
+        Turn::Done(value) => body_begins(parts, frames, place, start, test, value),
+        Turn::Refused => Ok(Turn::Refused),
     }
 }
 
 /// A token in the parentheses of a `for`, or in a label or before the braces of a `switch`.
-#[tactic(auto, unfolding(k_reader::specs::Statements::in_for))]
+#[tactic(auto, unfolding(k_steps::specs::Statements::in_for))]
 pub fn in_for(
     alloc: Global,
     parts: Seq<Stmt>,
     frames: Stack<Frame>,
-    step: Step,
+    step: BlockStage,
     token: &Token,
 ) -> Result<Stepped, NoMemory>
     ensures { IfOk result (λ fed. fed ≡ spec.in_for parts frames step token.now) }
 {
     match step {
-        Step::For { place } => Ok(opened(alloc, parts, frames, place, token)),
-        Step::Start { place, reading } => start(alloc, parts, frames, place, reading, token),
-        Step::Declares { place, declaration } => {
+        BlockStage::For { place } => opened(alloc, parts, frames, place, token),
+        BlockStage::Start { place, reading } => start(alloc, parts, frames, place, reading, token),
+        BlockStage::Declares { place, declaration } => {
             declares(alloc, parts, frames, place, declaration, token)
         }
-        Step::Second {
+        BlockStage::Second {
             place,
             start,
             reading,
         } => second(alloc, parts, frames, place, start, reading, token),
-        Step::Third {
+        BlockStage::Third {
             place,
             start,
             test,

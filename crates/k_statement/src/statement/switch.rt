@@ -1,21 +1,22 @@
 //! The braces of a `switch`, with their labels (C17 6.8.1, 6.8.4.2).
 ghost use Rattle.std.specs.Prelude.{◌≡◌, IfOk};
-ghost use Rattle.k_reader.specs.Statements as spec;
+ghost use Rattle.k_steps.specs.Statements as spec;
 
 use crate::statement::begin::begins;
 use crate::statement::{await_part, level, steps};
-use k_expression::expression::begin;
+use k_expression::expression::begin_boxed;
 use k_expression::reading::{closes, read_needed};
 use k_num::{Box, NoMemory, Place, Seq};
-use k_reader::expression::Reading;
-use k_reader::reading::{Closer, Read};
-use k_reader::stack::Stack;
-use k_reader::statement::{Frame, Step, Stepped};
+use k_steps::expression::Reading;
+use k_steps::reading::{Closer, Read};
+use k_steps::stack::Stack;
+use k_steps::statement::{BlockStage, Frame, Stepped};
+use k_steps::turn::Turn;
 use k_tree::{Expr, Mark, Part, Stmt, Token, TokenKind};
 use std::alloc::Global;
 
 /// Does a label stand here as well?
-#[tactic(auto, unfolding(k_reader::specs::Statements::is_in_switch))]
+#[tactic(auto, unfolding(k_steps::specs::Statements::is_in_switch))]
 fn is_in_switch(frames: &Stack<Frame>) -> bool
     ensures { result ≡ spec.is_in_switch frames.now }
 {
@@ -23,27 +24,32 @@ fn is_in_switch(frames: &Stack<Frame>) -> bool
 }
 
 /// The value of a `case` begins.
-#[tactic(auto, unfolding(k_reader::specs::Statements::case_begins))]
-pub fn case_begins(alloc: Global, parts: Seq<Stmt>, frames: Stack<Frame>, place: Place) -> Stepped
-    ensures { result ≡ spec.case_begins parts frames place }
+#[tactic(auto, unfolding(k_steps::specs::Statements::case_begins))]
+pub fn case_begins(
+    alloc: Global,
+    parts: Seq<Stmt>,
+    frames: Stack<Frame>,
+    place: Place,
+) -> Result<Stepped, NoMemory>
+    ensures { IfOk result (λ fed. fed ≡ spec.case_begins parts frames place) }
 {
     if !is_in_switch(&frames) {
-        return Stepped::Refused;
+        return Ok(Turn::Refused);
     }
-    let reach = level(&frames);
-    let reading = begin(alloc, 2, reach);
-    steps(parts, frames, Step::Case { place, reading }, reach)
+    let reach = level(&frames)?;
+    let reading = begin_boxed(alloc, 2, reach)?;
+    Ok(steps(parts, frames, BlockStage::Case { place, reading }, reach))
 }
 
 /// `default`
-#[tactic(auto, unfolding(k_reader::specs::Statements::default_begins))]
+#[tactic(auto, unfolding(k_steps::specs::Statements::default_begins))]
 pub fn default_begins(parts: Seq<Stmt>, frames: Stack<Frame>, place: Place) -> Stepped
     ensures { result ≡ spec.default_begins parts frames place }
 {
     if !is_in_switch(&frames) {
-        return Stepped::Refused;
+        return Turn::Refused;
     }
-    steps(parts, frames, Step::Default { place }, 0)
+    steps(parts, frames, BlockStage::Default { place }, 0)
 }
 
 /// Is a token `{`?
@@ -54,7 +60,7 @@ fn is_brace(token: &Token) -> bool
 }
 
 /// The opening brace of a `switch`.
-#[tactic(auto, unfolding(k_reader::specs::Statements::braces))]
+#[tactic(auto, unfolding(k_steps::specs::Statements::braces))]
 fn braces(
     alloc: Global,
     parts: Seq<Stmt>,
@@ -66,7 +72,7 @@ fn braces(
     ensures { IfOk result (λ fed. fed ≡ spec.braces parts frames place on token.now) }
 {
     if !is_brace(token) {
-        return Ok(Stepped::Refused);
+        return Ok(Turn::Refused);
     }
     let frame = Frame::Switch {
         place,
@@ -77,7 +83,7 @@ fn braces(
 }
 
 /// A label was read.
-#[tactic(auto, unfolding(k_reader::specs::Statements::labelled))]
+#[tactic(auto, unfolding(k_steps::specs::Statements::labelled))]
 fn labelled(parts: Seq<Stmt>, mut frames: Stack<Frame>, label: Part) -> Result<Stepped, NoMemory>
     ensures { IfOk result (λ fed. fed ≡ spec.labelled parts frames label) }
 {
@@ -100,41 +106,38 @@ fn labelled(parts: Seq<Stmt>, mut frames: Stack<Frame>, label: Part) -> Result<S
         Some(frame) => {
             drop(frame);
             drop(label);
-            Ok(Stepped::Refused)
+            Ok(Turn::Refused)
         }
         None => {
             drop(label);
-            Ok(Stepped::Refused)
+            Ok(Turn::Refused)
         }
     }
 }
 
 /// A token in the value of a `case`.
-#[tactic(auto, unfolding(k_reader::specs::Statements::case_value))]
+#[tactic(auto, unfolding(k_steps::specs::Statements::case_value))]
 fn case_value(
     alloc: Global,
     parts: Seq<Stmt>,
     frames: Stack<Frame>,
     place: Place,
-    reading: Reading,
+    reading: Box<Reading>,
     token: &Token,
 ) -> Result<Stepped, NoMemory>
     ensures { IfOk result (λ fed. fed ≡ spec.case_value parts frames place reading token.now) }
 {
     match read_needed(alloc, reading, token, Closer::Colon)? {
-        Read::Goes { reading, reach } => {
-            Ok(steps(parts, frames, Step::Case { place, reading }, reach))
+        Turn::Goes(reading, reach) => {
+            Ok(steps(parts, frames, BlockStage::Case { place, reading }, reach))
         }
-        Read::Closed { value } => {
-            let value = Box::new(alloc, value)?;
-            labelled(parts, frames, Part::Case { place, value })
-        }
-        Read::Refused => Ok(Stepped::Refused),
+        Turn::Done(value) => labelled(parts, frames, Part::Case { place, value }),
+        Turn::Refused => Ok(Turn::Refused),
     }
 }
 
 /// The token behind `default`.
-#[tactic(auto, unfolding(k_reader::specs::Statements::default_label))]
+#[tactic(auto, unfolding(k_steps::specs::Statements::default_label))]
 fn default_label(
     parts: Seq<Stmt>,
     frames: Stack<Frame>,
@@ -144,13 +147,13 @@ fn default_label(
     ensures { IfOk result (λ fed. fed ≡ spec.default_label parts frames place token.now) }
 {
     if !closes(token, Closer::Colon) {
-        return Ok(Stepped::Refused);
+        return Ok(Turn::Refused);
     }
     labelled(parts, frames, Part::Default { place })
 }
 
 /// One more statement in the braces, and the token behind it.
-#[tactic(auto, unfolding(k_reader::specs::Statements::more_switched))]
+#[tactic(auto, unfolding(k_steps::specs::Statements::more_switched))]
 pub fn more_switched(
     alloc: Global,
     parts: Seq<Stmt>,
@@ -158,13 +161,12 @@ pub fn more_switched(
     place: Place,
     on: Box<Expr>,
     inner: Seq<Part>,
-    stmt: Stmt,
+    stmt: Box<Stmt>,
     token: &Token,
 ) -> Result<Stepped, NoMemory>
     ensures { IfOk result (λ fed. fed ≡ spec.more_switched parts frames place on inner stmt token.now) }
 {
-    let own = stmt.place();
-    let stmt = Box::new(alloc, stmt)?;
+    let own = stmt.get().place();
     let mut inner = inner;
     inner.push(Part::Does { place: own, stmt })?;
     frames.push(Frame::Switch {
@@ -176,20 +178,25 @@ pub fn more_switched(
 }
 
 /// A token in a label, or before the braces of a `switch`.
-#[tactic(auto, unfolding(k_reader::specs::Statements::in_switch))]
+#[tactic(auto, unfolding(k_steps::specs::Statements::in_switch))]
 pub fn in_switch(
     alloc: Global,
     parts: Seq<Stmt>,
     frames: Stack<Frame>,
-    step: Step,
+    step: BlockStage,
     token: &Token,
 ) -> Result<Stepped, NoMemory>
     ensures { IfOk result (λ fed. fed ≡ spec.in_switch parts frames step token.now) }
 {
     match step {
-        Step::Braces { place, on } => braces(alloc, parts, frames, place, on, token),
-        Step::Case { place, reading } => case_value(alloc, parts, frames, place, reading, token),
-        Step::Default { place } => default_label(parts, frames, place, token),
-        _step => Ok(Stepped::Refused),
+        BlockStage::Braces { place, on } => braces(alloc, parts, frames, place, on, token),
+        BlockStage::Case { place, reading } => case_value(
+            alloc, parts, frames, place, reading, token,
+        ),
+        BlockStage::Default { place } => default_label(parts, frames, place, token),
+        step => {
+            drop(step);
+            Ok(Turn::Refused)
+        }
     }
 }

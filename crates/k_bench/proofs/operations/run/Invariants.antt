@@ -18,5 +18,5 @@ invariant-loop-operation g l = let content = g.S.Shadow.content in record {
   live : depth (content l.shadow) ≡ depth (content l.initial.shadow);
   limit : (content l.shadow).limit ≡ (content l.initial.shadow).limit;
   room : (loc : ℕ) → loc ≤ l.plan.last → g.S.Shadow.room l.shadow loc;
-  times : length l.times ≡ depth (content l.initial.shadow);
+  times : length l.slots ≡ depth (content l.initial.shadow);
 }

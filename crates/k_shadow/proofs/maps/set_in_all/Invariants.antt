@@ -1,5 +1,5 @@
 use Rattle.std.proofs.Common.{get_or}
-use Rattle.k_shadow.specs.Content.{with_time, without}
+use Rattle.k_shadow.specs.Content.{with_time}
 use Rattle.k_shadow.proofs.Changed.{Changed}
 use Rattle.k_shadow.proofs.maps.set_in_all.Given as goal
 

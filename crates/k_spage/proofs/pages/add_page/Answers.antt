@@ -1,4 +1,4 @@
-use Rattle.std.proofs.Common.{◌∙◌, ap, arith}
+use Rattle.std.proofs.Common.{◌∙◌, ap}
 use Rattle.k_spage.specs.Pages.{page_rows}
 use Rattle.k_spage.proofs.Paged.{new_page_rows, ArePages-new}
 use Rattle.k_spage.proofs.pages.add_page.Goals as goal

@@ -1,4 +1,4 @@
-use Rattle.std.proofs.Common.{◌≡◌, ℕ, ◌+◌, ◌<◌, List, length, ◌∙◌, ap, sym, subst, arith, rules}
+use Rattle.std.proofs.Common.{◌≡◌, ℕ, ◌+◌, ◌<◌, List, length, ◌∙◌, ap, sym, subst, rules}
 use Rattle.std.specs.Prelude.{slice_index}
 use Rattle.k_shadow.specs.Rows.{row_time}
 use Rattle.k_shadow.proofs.Entries.{levels_counted}

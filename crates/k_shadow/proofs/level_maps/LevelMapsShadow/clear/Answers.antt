@@ -1,4 +1,4 @@
-use Rattle.std.proofs.Common.{◌≡◌, ◌++◌, length, take, drop, map, vec_len, ap, ◌∙◌, arith, rules}
+use Rattle.std.proofs.Common.{◌≡◌, ◌++◌, length, take, drop, map, vec_len, ap, ◌∙◌, rules}
 use Rattle.k_shadow.specs.Content.{without}
 use Rattle.k_shadow.specs.Maps.{levels_in, map_time}
 use Rattle.k_shadow.proofs.Plain.{refilled, levels_in-map, without_none}

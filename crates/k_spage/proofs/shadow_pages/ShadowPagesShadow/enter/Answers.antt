@@ -1,4 +1,4 @@
-use Rattle.std.proofs.Common.{◌∙◌, ap, arith, refl}
+use Rattle.std.proofs.Common.{◌∙◌, ap, arith}
 use Rattle.k_shadow.specs.Rows.{content_of}
 use Rattle.k_shadow.proofs.Contents.{depth_counted, content-entered}
 use Rattle.k_spage.specs.Pages.{paged_row}

@@ -1,8 +1,5 @@
-use Rattle.std.proofs.Common.{◌≡◌, ◌+◌, ◌<◌, length, max, ◌∙◌, ap, sym, arith}
-use Rattle.std.specs.Prelude.{slice_index}
-use Rattle.k_shadow.specs.Rows.{row_time}
-use Rattle.k_shadow.proofs.Contents.{depth_counted, time_at_row}
-use Rattle.k_shadow.proofs.Rows.{raised_by_row}
+use Rattle.std.proofs.Common.{◌≡◌, ◌+◌, length, ◌∙◌, ap, sym}
+use Rattle.k_shadow.proofs.Contents.{depth_counted, raised_by_location}
 use Rattle.k_spage.specs.Pages.{paged_row}
 use Rattle.k_spage.proofs.shadow_pages.ShadowPagesShadow.raise.Goals as goal
 
@@ -11,37 +8,14 @@ raise-requires-clause-each g c =
     let s = c.args.self.now in
     c.requires.each ∙ depth_counted (paged_row s.pages.slots s.table.items) s.versions 4194304 ∙ sym (ap (λ ns. length ns) c.live.ensures.live)
 
-pub raise-requires-in-None-clause-each : goal.raise-requires-in-None-clause-each
-raise-requires-in-None-clause-each g c =
-    let s = c.args.self.now in
-    c.requires.each ∙ depth_counted (paged_row s.pages.slots s.table.items) s.versions 4194304 ∙ sym (ap (λ ns. length ns) c.live-in-None.ensures.live)
-
-pub returns-in-Some-clause-raised : goal.returns-in-Some-clause-raised
-returns-in-Some-clause-raised g c = λ level h.
+pub returns-clause-raised : goal.returns-clause-raised
+returns-clause-raised g c =
     let s = c.args.self.now in
     let rows = paged_row s.pages.slots s.table.items in
-    let live : level < length s.versions.live = omega (arith, depth_counted rows s.versions 4194304) in
-    let here : c.in-Some.row.now ≡ rows c.args.loc = c.in-Some.ensures ∙ ap (λ table. paged_row s.pages.slots table c.args.loc) c.deref.ensures.value in
-    raised_by_row c.in-Some.row.now s.versions.live c.live.result.now c.args.times.now c.raise.new.times c.live.ensures.live c.raise.ensures.raised level live
-    ∙ ap (λ r. max (slice_index c.args.times.now level) (row_time r (slice_index s.versions.live level) level)) here
-    ∙ ap (λ t. max (slice_index c.args.times.now level) t) (sym (time_at_row rows s.versions 4194304 level c.args.loc live))
+    let here : c.row_of-row.result.now ≡ rows c.args.loc = c.row_of-row.ensures ∙ ap (λ table. paged_row s.pages.slots table c.args.loc) c.deref.ensures.value in
+    raised_by_location rows s.versions 4194304 c.args.loc c.row_of-row.result.now c.live.result.now c.args.times.now c.raise.new.times here c.live.ensures.live c.raise.ensures.raised
 
-pub returns-in-None-clause-raised : goal.returns-in-None-clause-raised
-returns-in-None-clause-raised g c = λ level h.
-    let s = c.args.self.now in
-    let rows = paged_row s.pages.slots s.table.items in
-    let live : level < length s.versions.live = omega (arith, depth_counted rows s.versions 4194304) in
-    let here : c.blank.result ≡ rows c.args.loc = c.blank.ensures.blank ∙ c.in-None.ensures ∙ ap (λ table. paged_row s.pages.slots table c.args.loc) c.deref.ensures.value in
-    raised_by_row c.blank.result s.versions.live c.live-in-None.result.now c.args.times.now c.raise-in-None.new.times c.live-in-None.ensures.live c.raise-in-None.ensures.raised level live
-    ∙ ap (λ r. max (slice_index c.args.times.now level) (row_time r (slice_index s.versions.live level) level)) here
-    ∙ ap (λ t. max (slice_index c.args.times.now level) t) (sym (time_at_row rows s.versions 4194304 level c.args.loc live))
-
-pub returns-in-Some-clause-steps : goal.returns-in-Some-clause-steps
-returns-in-Some-clause-steps g c =
+pub returns-clause-steps : goal.returns-clause-steps
+returns-clause-steps g c =
     let s = c.args.self.now in
     c.raise.ensures.steps ∙ ap (λ n. c.args.steps.now + n) (ap (λ ns. length ns) c.live.ensures.live ∙ sym (depth_counted (paged_row s.pages.slots s.table.items) s.versions 4194304))
-
-pub returns-in-None-clause-steps : goal.returns-in-None-clause-steps
-returns-in-None-clause-steps g c =
-    let s = c.args.self.now in
-    c.raise-in-None.ensures.steps ∙ ap (λ n. c.args.steps.now + n) (ap (λ ns. length ns) c.live-in-None.ensures.live ∙ sym (depth_counted (paged_row s.pages.slots s.table.items) s.versions 4194304))

@@ -1,4 +1,4 @@
-use Rattle.std.proofs.Common.{◌≡◌, ◌++◌, ◌+◌, length, take, drop, vec_len, ◌∙◌, ap, sym, arith, rules}
+use Rattle.std.proofs.Common.{◌≡◌, ◌++◌, length, take, drop, vec_len, ◌∙◌, ap, rules}
 use Rattle.k_shadow.specs.Rows.{row_at, content_of}
 use Rattle.k_shadow.proofs.Contents.{content-cleared}
 use Rattle.k_shadow.proofs.Plain.{refilled}

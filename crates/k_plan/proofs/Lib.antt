@@ -1,0 +1,13 @@
+pub mod Above
+pub mod Advised
+pub mod Attained
+pub mod Bounded
+pub mod Choosing
+pub mod Exchange
+pub mod Given
+pub mod Marks
+pub mod Planned
+pub mod Rounding
+pub mod Summing
+pub mod Testing
+pub mod Totals

@@ -1,5 +1,0 @@
-use Rattle.k_reader.proofs.CompleteSources.{source_spelled_once}
-use Rattle.k_reader.proofs.laws.one_tree_per_spelling.Goals as goal
-
-pub returns : goal.returns
-returns c = source_spelled_once

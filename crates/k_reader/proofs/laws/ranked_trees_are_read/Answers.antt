@@ -1,5 +1,0 @@
-use Rattle.k_reader.proofs.CompleteRuns.{source_runs}
-use Rattle.k_reader.proofs.laws.ranked_trees_are_read.Goals as goal
-
-pub returns : goal.returns
-returns c = λ limit u tokens ranked within spelled. let read = source_runs limit u tokens ranked within spelled in (read.made, read.ran, read.same)

@@ -1,5 +1,0 @@
-use Rattle.k_reader.proofs.FirstWrong.{first_wrong}
-use Rattle.k_reader.proofs.laws.refusals_are_first_wrong.Goals as goal
-
-pub returns : goal.returns
-returns c = first_wrong

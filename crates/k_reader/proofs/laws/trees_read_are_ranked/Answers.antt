@@ -1,5 +1,0 @@
-use Rattle.k_reader.proofs.RunSound.{tree_sound}
-use Rattle.k_reader.proofs.laws.trees_read_are_ranked.Goals as goal
-
-pub returns : goal.returns
-returns c = λ tokens u once read. let unit = tree_sound tokens u once read in (unit.ranked, unit.placed, unit.within)

@@ -1,0 +1,4 @@
+pub mod Lines
+pub mod OneListing
+pub mod RegionLists
+pub mod Testing

@@ -1,0 +1,39 @@
+-- *Texts*: the report of a run.
+use Rattle.std.specs.Prelude.{ℕ, ℤ, List, ◌++◌, Option, codes, slice_get}
+use Rattle.std.specs.List.{flat_map}
+use Rattle.std.specs.Fmt.{decimal, signed_decimal}
+use Rattle.k_optab.specs.declared.region.Region.{Region}
+use Rattle.k_dict.specs.declared.entry.Entry.{Entry}
+use Rattle.k_selfpar.specs.declared.row.Row.{Row}
+use Rattle.k_plan.specs.declared.advice.Advice.{Advice}
+use Rattle.k_selfpar.specs.declared.context.Context.{Context}
+use Rattle.k_report.specs.Names.{kind_text, name_text, written}
+use Rattle.k_report.specs.DictLines.{dict_text}
+use Rattle.k_report.specs.PlanLines.{plan_text}
+
+-- the first lines: what main returned, and how many operations were made
+abbrev pub head_text : ℤ → ℕ → List ℕ
+head_text exit ops = codes "== kremlin ==\nexit " ++ signed_decimal exit ++ codes "\nops " ++ decimal ops ++ codes "\n"
+
+-- the numbers of a row: instances, work, path, and self-parallelism as a fraction
+abbrev pub numbers_text : Row → List ℕ
+numbers_text row =
+    codes " n=" ++ decimal row.instances ++ codes " work=" ++ decimal row.work ++ codes " path=" ++ decimal row.path
+    ++ codes " sp=" ++ decimal row.sp.0 ++ codes "/" ++ decimal row.sp.1 ++ codes "\n"
+
+-- the line of a row of this region
+abbrev pub row_text : Row → Region → List ℕ
+row_text row region = kind_text region.kind ++ codes " " ++ name_text region ++ numbers_text row
+
+-- the line of a row, which names a region of the list
+abbrev pub row_line : List Region → Row → List ℕ
+row_line regions row = written (row_text row) (slice_get regions row.region)
+
+-- the report: the first lines, a line for each row, the dictionary where it is asked for, and the plan
+abbrev pub report_text : List Region → ℤ → ℕ → List Row → Option (List Entry) → List Context → Option Advice → List ℕ
+report_text regions exit ops rows dict contexts plan =
+    head_text exit ops ++ flat_map (row_line regions) rows ++ dict_text dict ++ plan_text regions contexts plan
+
+-- the report where the dictionary is over its limits
+abbrev pub large_text : ℤ → ℕ → List ℕ
+large_text exit ops = head_text exit ops ++ codes "profile: over the dictionary's limits\n"

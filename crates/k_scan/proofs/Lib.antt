@@ -1,0 +1,4 @@
+pub mod BelowZero
+pub mod Digits
+pub mod Front
+pub mod Texts

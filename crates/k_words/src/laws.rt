@@ -1,0 +1,8 @@
+//! What holds of answers: each function's contract is a law, and its body does nothing.
+ghost use Rattle.k_words.specs.Laws.{AnswerExists, AnswerIsUnique};
+
+/// Any words have exactly one answer that is no want of memory.
+pub fn one_answer()
+    ensures exists { AnswerExists }
+    ensures unique { AnswerIsUnique }
+{}
