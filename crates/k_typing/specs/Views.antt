@@ -1,5 +1,5 @@
 -- What lent types and judged expressions stand for, and what the calls of this crate give.
-use Rattle.std.specs.Prelude.{◌≡◌, ℕ, List, [], ◌∷◌, ◌++◌, Option, Some, None, ◌⊎◌, Result, Ok, Err}
+use Rattle.std.specs.Prelude.{◌≡◌, ℕ, List, ◌++◌, Option, Some, None, ◌⊎◌, Result, Ok, Err}
 use Rattle.k_typed.specs.declared.fault.TypeFault.{TypeFault}
 use Rattle.k_typed.specs.declared.fault.TypeFault.TheVariants as fault
 use Rattle.k_typed.specs.declared.types.Element.{Element}

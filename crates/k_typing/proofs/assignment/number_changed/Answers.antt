@@ -1,7 +1,7 @@
 use Rattle.std.proofs.Common.{◌≡◌, ◌++◌, sym, ap, ◌∙◌, subst, rules, arith}
 use Rattle.k_typed.specs.declared.tree.expression.Change.TheVariants as change
 use Rattle.k_typed.specs.Conversions.{number_in_kind}
-use Rattle.k_typed.specs.Operators.{ANumber, operand, changed, changed_by, change_kind, right_kind}
+use Rattle.k_typed.specs.Operators.{ANumber, operand, changed, changed_by, change_kind}
 use Rattle.k_typing.specs.Views.{type_of, typed, Agrees}
 use Rattle.k_typing.proofs.assignment.number_changed.Goals as goal
 
