@@ -4,7 +4,7 @@ use Rattle.std.specs.List.{concat}
 use Rattle.k_num.specs.declared.numbers.Kind.{Kind}
 use Rattle.k_num.specs.declared.numbers.Kind.TheVariants.{I32}
 use Rattle.k_num.specs.declared.place.Place.{Place}
-use Rattle.k_num.specs.Kind.{width, promoted}
+use Rattle.k_num.specs.Kind.{size, promoted}
 use Rattle.k_typed.specs.declared.fault.TypeFault.TheVariants as fault
 use Rattle.k_typed.specs.declared.types.CType.{CType}
 use Rattle.k_typed.specs.declared.types.CType.TheVariants as ctype
@@ -92,22 +92,22 @@ has_zero [] = false
 has_zero (b ∷ bytes) = if b == 0 then true else has_zero bytes
 
 -- puts of what may be a string
-abbrev pub put_line : Place → Typed → Option (List ℕ) → Made Typed
-put_line p a None = refused (fault.BadFormat p)
-put_line p a (Some bytes) =
+abbrev pub put_line : Place → List ℕ → TExpr → Option (List ℕ) → Made Typed
+put_line p taken tree None = refused (fault.BadFormat p)
+put_line p taken tree (Some bytes) =
     if has_zero bytes then refused (fault.BadFormat p)
-    else Fine (number I32 (typed.Puts (at p (ttype.Number I32)) a.tree) a.taken)
+    else Fine (number I32 (typed.Puts (at p (ttype.Number I32)) tree) taken)
 
 -- C17 7.21.7.9: puts takes one string, which is written up to its end
 abbrev pub puts_called : Place → List Typed → Made Typed
 puts_called p [] = refused (fault.Arity p)
-puts_called p (a ∷ []) = put_line p a (bytes_in a.tree)
+puts_called p (a ∷ []) = put_line p (all_taken (a ∷ [])) a.tree (bytes_in a.tree)
 puts_called p (a ∷ b ∷ args) = refused (fault.Arity p)
 
--- an argument of printf of a kind that is promoted to as many bits as the format says
+-- an argument of printf of a kind that is promoted to one of the size that the format says
 abbrev pub formatted : Kind → Typed → Option Kind → Option TExpr
 formatted to a None = None
-formatted to a (Some from) = if width (promoted from) == width to then Some (in_kind from to a.tree) else None
+formatted to a (Some from) = if size (promoted from) == size to then Some (in_kind from to a.tree) else None
 
 -- a tree before others, where there are both
 abbrev pub tree_before : Option TExpr → Option (List TExpr) → Option (List TExpr)
@@ -129,19 +129,19 @@ print_trees p marks taken (Some trees) =
     Fine (number I32 (typed.Printf (at p (ttype.Number I32)) (pieces_of marks) trees) taken)
 
 -- printf of what may be marks
-abbrev pub print_marks : Place → List Typed → Option (List Mark) → Made Typed
-print_marks p args None = refused (fault.BadFormat p)
-print_marks p args (Some marks) = print_trees p marks (all_taken args) (all_formatted (kinds_taken marks) args)
+abbrev pub print_marks : Place → List ℕ → List Typed → Option (List Mark) → Made Typed
+print_marks p taken args None = refused (fault.BadFormat p)
+print_marks p taken args (Some marks) = print_trees p marks taken (all_formatted (kinds_taken marks) args)
 
 -- printf of what may be a string
-abbrev pub print_bytes : Place → List Typed → Option (List ℕ) → Made Typed
-print_bytes p args None = refused (fault.BadFormat p)
-print_bytes p args (Some bytes) = print_marks p args (marks_of bytes)
+abbrev pub print_bytes : Place → List ℕ → List Typed → Option (List ℕ) → Made Typed
+print_bytes p taken args None = refused (fault.BadFormat p)
+print_bytes p taken args (Some bytes) = print_marks p taken args (marks_of bytes)
 
 -- C17 7.21.6.1: printf takes a format first, which is no object, and then an argument for each conversion
 abbrev pub printf_called : Place → List Typed → Made Typed
 printf_called p [] = refused (fault.BadFormat p)
-printf_called p (a ∷ args) = print_bytes p args (bytes_in a.tree)
+printf_called p (a ∷ args) = print_bytes p (all_taken (a ∷ args)) args (bytes_in a.tree)
 
 -- a call of a library function
 abbrev pub library_called : Place → Library → List Typed → Made Typed

@@ -105,10 +105,10 @@ pointed_to p e (Some element) = Fine (element_at element (λ of. typed.Deref (at
 abbrev pub deref_rule : Place → Typed → Made Typed
 deref_rule p e = pointed_to p e (pointed e.of)
 
--- the variable that an expression is
-abbrev pub variable_step : TExpr-F TExpr → List ℕ → List ℕ
-variable_step (TExpr-F.Variable node n) taken = taken ++ n ∷ []
-variable_step _ taken = taken
+-- the variable that an expression is, if it is one
+abbrev pub variable_step : TExpr-F TExpr → List ℕ
+variable_step (TExpr-F.Variable node n) = n ∷ []
+variable_step _ = []
 
 -- the address of a number, which is const or not, by whether it is a place
 abbrev pub addressed : Place → Typed → Option Kind → Option Bool → Made Typed
@@ -117,36 +117,44 @@ addressed p e (Some kind) None = refused (fault.NotPlace p)
 addressed p e (Some kind) (Some fixed) =
     Fine (value (ctype.Pointer (record { kind = kind; dims = []; fixed = fixed }))
     (typed.Address (at p (pointer_to (record { kind = kind; dims = []; fixed = fixed }))) e.tree)
-    (variable_step (out-TExpr e.tree) e.taken))
+    (e.taken ++ variable_step (out-TExpr e.tree)))
 
 -- C17 6.5.3.2p1: `&` takes a place of a number; the variable that it is applied to has an address from then on
 abbrev pub address_rule : Place → Typed → Made Typed
 address_rule p e = addressed p e (number_kind e.of) e.place
 
--- C17 6.5.3.3: `- ~ !` of a number of a kind: the number is promoted, and `!` gives an int
-abbrev pub unary_of : Place → Un → Kind → Kind → Typed → Made Typed
-unary_of p op result kind e =
-    Fine (number result (typed.Unary (at p (ttype.Number result)) op (promoted kind) (in_kind kind (promoted kind) e.tree)) e.taken)
+-- C17 6.5.3.3p1: `+ - ~ !` take numbers; this is what one of them makes of a number of a kind
+abbrev pub of_number : Place → Typed → Option Kind → (Kind → Typed) → Made Typed
+of_number p e None made = refused (fault.Kinds p)
+of_number p e (Some kind) made = Fine (made kind)
 
 -- C17 6.5.3.3p2: `+` of a number of a kind: the promoted number
-abbrev pub plus_of : Place → Kind → Typed → Made Typed
-plus_of p kind e =
-    Fine (number (promoted kind) (typed.Plus (at p (ttype.Number (promoted kind))) (in_kind kind (promoted kind) e.tree)) e.taken)
+abbrev pub plus_of : Place → Typed → Kind → Typed
+plus_of p e kind =
+    number (promoted kind) (typed.Plus (at p (ttype.Number (promoted kind))) (in_kind kind (promoted kind) e.tree)) e.taken
 
--- `+ - ~ !` take numbers; another mark begins no unary expression
-abbrev pub unary_number : Place → Mark → Typed → Option Kind → Made Typed
-unary_number p op e None = refused (fault.Kinds p)
-unary_number p mark.Plus e (Some kind) = plus_of p kind e
-unary_number p mark.Minus e (Some kind) = unary_of p un.Neg (promoted kind) kind e
-unary_number p mark.Tilde e (Some kind) = unary_of p un.Complement (promoted kind) kind e
-unary_number p mark.Exclaim e (Some kind) = unary_of p un.Not I32 kind e
-unary_number p _ e (Some kind) = refused (fault.Kinds p)
+-- C17 6.5.3.3p3 to p5: the kind of `- ~ !` of a number of a promoted kind: `!` gives an int
+abbrev pub unary_kind : Un → Kind → Kind
+unary_kind un.Neg kind = kind
+unary_kind un.Complement kind = kind
+unary_kind un.Not kind = I32
 
--- C17 6.5.3: a unary operator
+-- C17 6.5.3.3p3 to p5: `- ~ !` of a number of a kind, which is promoted
+abbrev pub unary_of : Place → Un → Typed → Kind → Typed
+unary_of p op e kind =
+    number (unary_kind op (promoted kind))
+    (typed.Unary (at p (ttype.Number (unary_kind op (promoted kind)))) op (promoted kind) (in_kind kind (promoted kind) e.tree))
+    e.taken
+
+-- C17 6.5.3: a unary operator; another mark begins no unary expression
 unfoldable pub unary_rule : Place → Mark → Typed → Made Typed
 unary_rule p mark.Ampersand e = address_rule p e
 unary_rule p mark.Star e = deref_rule p e
-unary_rule p op e = unary_number p op e (number_kind e.of)
+unary_rule p mark.Plus e = of_number p e (number_kind e.of) (plus_of p e)
+unary_rule p mark.Minus e = of_number p e (number_kind e.of) (unary_of p un.Neg e)
+unary_rule p mark.Tilde e = of_number p e (number_kind e.of) (unary_of p un.Complement e)
+unary_rule p mark.Exclaim e = of_number p e (number_kind e.of) (unary_of p un.Not e)
+unary_rule p _ e = refused (fault.Kinds p)
 
 -- C17 6.5.16p2: a write is to a place, which is not const; else that fault
 abbrev pub written : Place → Option Bool → Typed → Made Typed

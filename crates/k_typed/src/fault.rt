@@ -1,6 +1,6 @@
 //! Why a source has no typed tree.
 
-use k_num::{Place, Text};
+use k_num::{NoMemory, Place, Text};
 
 /// The first fault of a source in its names and types, with its place, or want of memory.
 #[derive(Debug, PartialEq, Eq, Drop)]
@@ -31,4 +31,15 @@ pub enum TypeFault {
     Memory,
     /// Two cases of one value in a switch, or two defaults (C17 6.8.4.2p3).
     CaseAgain(Place),
+}
+
+impl From<NoMemory> for TypeFault {
+    ghost use Rattle.std.specs.Prelude.{◌≡◌};
+    ghost use Rattle.k_typed.specs.declared.fault.TypeFault.TheVariants.{Memory};
+
+    ghost from_gives = { λ _ fault. fault ≡ Memory };
+
+    fn from(_error: NoMemory) -> TypeFault {
+        TypeFault::Memory
+    }
 }
