@@ -1,0 +1,5 @@
+pub mod Counting
+pub mod Growth
+pub mod Kept
+pub mod Marks
+pub mod Spelled

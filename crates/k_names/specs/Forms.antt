@@ -44,7 +44,21 @@ abbrev pub run_of : List ℕ → List Piece
 run_of [] = []
 run_of (b ∷ bytes) = piece.Bytes (b ∷ bytes) ∷ []
 
+-- a format of which nothing is read
+abbrev pub unread : Growing
+unread = record { pieces = []; bytes = []; kinds = [] }
+
 -- what a growing format becomes by more marks
 abbrev pub with_marks : Growing → List Mark → Format
 with_marks growing marks =
     record { pieces = growing.pieces ++ bytes_before growing.bytes (pieces_of marks); kinds = growing.kinds ++ kinds_taken marks }
+
+-- what a growing format becomes by more marks, or by a text that has none
+abbrev pub formed : Growing → Option (List Mark) → Option Format
+formed growing None = None
+formed growing (Some marks) = Some (with_marks growing marks)
+
+-- the marks of a text that is read from some place on, if a format can go on there
+abbrev pub read_from : Option place.Reading → List ℕ → Option (List Mark)
+read_from None text = None
+read_from (Some reading) text = marks_from (reading_in reading) text

@@ -1,3 +1,4 @@
+pub mod Counts
 pub mod Forms
 pub mod Laws
 pub mod Scoping

@@ -2,7 +2,7 @@
 ghost use Rattle.std.specs.Prelude.{◌≡◌, ◌++◌, [], ◌∷◌, List, ℕ, Some, None, IfOk, OnOk, option_map};
 ghost use Rattle.k_typed.specs.Formats.{Mark, Literal, Takes, takes, only_alone, mark_ended, marks_from};
 ghost use Rattle.k_typed.specs.Formats as formats;
-ghost use Rattle.k_names.specs.Forms.{continued, format_of, mark_in, reading_in, run_of, with_marks};
+ghost use Rattle.k_names.specs.Forms.{continued, format_of, formed, mark_in, read_from, reading_in, run_of, unread, with_marks};
 
 use k_num::{Kind, NoMemory, Seq};
 use k_typed::{Piece, Written};
@@ -53,21 +53,15 @@ struct Growing {
 pub fn marks_of(alloc: Global, text: &[u8]) -> Result<Option<Format>, NoMemory>
     ensures { IfOk result (λ format. format ≡ format_of (formats.marks_of text.now)) }
 {
-    let mut growing = Growing {
-        pieces: Seq::new(alloc),
-        bytes: Seq::new(alloc),
-        kinds: Seq::new(alloc),
-    };
+    let mut growing = Growing::new(alloc);
     let mut reading = Reading::Outside;
-    for byte in text {
-        match step(reading, *byte) {
-            Step::Leads(next) => reading = next,
-            Step::Ends(found) => {
-                growing.add(alloc, found)?;
-                reading = Reading::Outside;
-            }
-            Step::Refused => return Ok(None),
-        }
+    let mut rest = text;
+    while let Some((byte, more)) = rest.split_first() {
+        let Some(next) = growing.read(alloc, reading, *byte)? else {
+            return Ok(None);
+        };
+        reading = next;
+        rest = more;
     }
     match reading {
         Reading::Outside => growing.finish(alloc),
@@ -76,7 +70,7 @@ pub fn marks_of(alloc: Global, text: &[u8]) -> Result<Option<Format>, NoMemory>
 }
 
 /// What a byte does where a text is read.
-fn step(reading: Reading, byte: u8) -> Step
+fn read_byte(reading: Reading, byte: u8) -> Step
     ensures { (text : List ℕ) → marks_from (reading_in reading) (byte ∷ text) ≡ continued result text }
 {
     match reading {
@@ -130,6 +124,31 @@ fn alone(found: Found, longs: u8) -> Option<Found>
 }
 
 impl Growing {
+    /// A format of which nothing is read.
+    fn new(alloc: Global) -> Growing
+        ensures { result ≡ unread }
+    {
+        Growing {
+            pieces: Seq::new(alloc),
+            bytes: Seq::new(alloc),
+            kinds: Seq::new(alloc),
+        }
+    }
+
+    /// Reads a byte, and answers where the text behind it is read, if a format can go on so.
+    fn read(&mut self, alloc: Global, reading: Reading, byte: u8) -> Result<Option<Reading>, NoMemory>
+        ensures { IfOk result (λ next. (text : List ℕ) → formed self.new (read_from next text) ≡ formed self.old (marks_from (reading_in reading) (byte ∷ text))) }
+    {
+        match read_byte(reading, byte) {
+            Step::Leads(next) => Ok(Some(next)),
+            Step::Ends(found) => {
+                self.add(alloc, found)?;
+                Ok(Some(Reading::Outside))
+            }
+            Step::Refused => Ok(None),
+        }
+    }
+
     /// Adds what was found.
     fn add(&mut self, alloc: Global, found: Found) -> Result<(), NoMemory>
         ensures { OnOk result ((marks : List Mark) → with_marks self.new marks ≡ with_marks self.old (mark_in found ∷ marks)) }

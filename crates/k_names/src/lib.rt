@@ -5,6 +5,8 @@
 mod formats;
 mod scopes;
 mod specifiers;
+#[cfg(test)]
+mod tests;
 
 // Laws of the definition of formats.
 pub mod laws;

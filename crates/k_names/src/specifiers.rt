@@ -2,6 +2,7 @@
 ghost use Rattle.std.specs.Prelude.{◌≡◌, length, map, ◌≤◌};
 ghost use Rattle.k_typed.specs.Specifiers as specifiers;
 ghost use Rattle.k_typed.specs.Specifiers.{count_word, type_words};
+ghost use Rattle.k_names.specs.Counts.{found};
 
 use k_num::{Kind, Seq};
 use k_tree::Word;
@@ -48,11 +49,13 @@ fn count(words: &[Word], word: Word) -> usize
     ensures exact { result ≡ count_word word words.now }
     ensures within { result ≤ length words.now }
 {
+    let mut rest = words;
     let mut count = 0;
-    for other in words {
+    while let Some((other, more)) = rest.split_first() {
         if *other == word {
             count += 1;
         }
+        rest = more;
     }
     count
 }
@@ -72,21 +75,30 @@ fn counts(words: &[Word]) -> Counts
     ]
 }
 
+/// The type of the first row that has these counts.
+fn find(rows: &[(Counts, Base)], counts: &Counts) -> Option<Base>
+    ensures { result ≡ found rows.now counts.now }
+{
+    let mut rest = rows;
+    while let Some((row, more)) = rest.split_first() {
+        if row.0 == *counts {
+            return Some(row.1);
+        }
+        rest = more;
+    }
+    None
+}
+
 /// The type that specifiers name: none where they name no type, or have `const` twice (C17 6.7.2p2).
 pub fn base_of(specs: &Seq<Word>) -> Option<Base>
     ensures { result ≡ specifiers.base_of specs.now }
 {
     let words = specs.as_slice();
-    if count(words, Word::Const) > 1 {
-        return None;
+    if count(words, Word::Const) <= 1 {
+        find(&TYPES, &counts(words))
+    } else {
+        None
     }
-    let counts = counts(words);
-    for (row, base) in &TYPES {
-        if *row == counts {
-            return Some(*base);
-        }
-    }
-    None
 }
 
 /// Whether specifiers say `const` (C17 6.7.3).
