@@ -217,3 +217,20 @@ pushed (Err e) len capacity full room = absurd (omega arith)
 -- the slots, the newest first, behind a push
 pub newest_first : {A : Type 0} (old new : List A) (x : A) → new ≡ old ++ x ∷ [] → reverse new ≡ x ∷ reverse old
 newest_first old new x is = ap reverse is ∙ reverse-append old (x ∷ [])
+
+-- while a scope is closed: the topmost slot is taken
+pub closing_top : (depth : ℕ) (old new : List Slot) (slot top : Slot) (f : Finder) (names : Names) → old ≡ new ++ slot ∷ [] → slot ≡ top
+    → IsClosing depth (reverse old) f names → IsClosing depth (top ∷ reverse new) f names
+closing_top depth old new slot top f names is same closing =
+    subst (λ slots. IsClosing depth slots f names) (newest_first new old slot is ∙ ap (λ (t : Slot). t ∷ reverse new) same) closing
+
+-- no slot is left
+pub closing_end : (depth : ℕ) (slots : List Slot) (f : Finder) (names : Names) → slots ≡ [] → IsClosing depth (reverse slots) f names
+    → names_in (reverse slots) f ≡ outside names
+closing_end depth slots f names is closing =
+    let h : IsClosing depth [] f names = subst (λ s. IsClosing depth (reverse s) f names) is closing in
+    ap (λ s. names_in (reverse s) f) is ∙ h.left
+
+pub empty_of : {A : Type 0} (xs : List A) → length xs ≡ 0 → xs ≡ []
+empty_of [] none = refl
+empty_of (x ∷ xs) none = absurd (omega arith)

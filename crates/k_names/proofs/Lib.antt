@@ -1,4 +1,3 @@
-pub mod Counting
 pub mod Growth
 pub mod Kept
 pub mod Marks

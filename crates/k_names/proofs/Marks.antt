@@ -24,10 +24,9 @@ IsRead entry = (text : List ℕ) → marks_from Outside (entry.0 ++ text) ≡ ma
 
 all_read : AllOf IsRead conversions
 all_read =
-    (λ text. refl, (λ text. refl, (λ text. refl, (λ text. refl, (λ text. refl, (λ text. refl, (λ text. refl, (λ text. refl, (λ text. refl, (λ text. refl, (λ text. refl,
-    (λ text. refl, (λ text. refl, (λ text. refl, tt))))))))))))))
+    ((λ text. refl), ((λ text. refl), ((λ text. refl), ((λ text. refl), ((λ text. refl), ((λ text. refl), ((λ text. refl), ((λ text. refl), ((λ text. refl), ((λ text. refl), ((λ text. refl), ((λ text. refl), ((λ text. refl), ((λ text. refl), tt))))))))))))))
 
-plain_read : (b : ℕ) (text : List ℕ) → (b ≡ 0 → ⊥) → (b ≡ 37 → ⊥) → marks_from Outside (b ∷ text) ≡ mark_before (Some (Literal b)) (marks_from Outside text)
+pub plain_read : (b : ℕ) (text : List ℕ) → (b ≡ 0 → ⊥) → (b ≡ 37 → ⊥) → marks_from Outside (b ∷ text) ≡ mark_before (Some (Literal b)) (marks_from Outside text)
 plain_read b text some other =
     ap (λ t. if t then marks_from (Behind 0) text else (if b == 0 then None else mark_before (Some (Literal b)) (marks_from Outside text))) (ne_eqb b 37 other)
     ∙ ap (λ t. if t then None else mark_before (Some (Literal b)) (marks_from Outside text)) (ne_eqb b 0 some)

@@ -42,21 +42,21 @@ or_later (inr q) f = inr (f q)
 abbrev IsListed : ℕ → ℕ → Mark → Type 0
 IsListed n b m = Contains conversions (37 ∷ (longs n ++ b ∷ []), m)
 
-listed_as : (n b byte : ℕ) (m mark : Mark) → b ≡ byte → Some mark ≡ Some m → IsListed n byte mark → IsListed n b m
-listed_as n b byte m mark same is listed =
+listed_as : (n b letter : ℕ) (m mark : Mark) → b ≡ letter → Some mark ≡ Some m → IsListed n letter mark → IsListed n b m
+listed_as n b letter m mark same is listed =
     let e : mark ≡ m = cc in subst (λ x. IsListed n b x) e (subst (λ x. IsListed n x mark) (sym same) listed)
 
-module _ (written : Written) (short long : Kind) (byte : ℕ) where
-  listed_taken : IsListed 0 byte (Takes written short) → IsListed 1 byte (Takes written long) → IsListed 2 byte (Takes written long)
-      → (n : ℕ) → n ≤ 2 → (b : ℕ) (m : Mark) → b ≡ byte → takes written short long n ≡ Some m → IsListed n b m
-  listed_taken none one two zero most b m same is = listed_as 0 b byte m (Takes written short) same is none
-  listed_taken none one two (suc zero) most b m same is = listed_as 1 b byte m (Takes written long) same is one
-  listed_taken none one two (suc (suc zero)) most b m same is = listed_as 2 b byte m (Takes written long) same is two
+module _ (written : Written) (short long : Kind) (letter : ℕ) where
+  listed_taken : IsListed 0 letter (Takes written short) → IsListed 1 letter (Takes written long) → IsListed 2 letter (Takes written long)
+      → (n : ℕ) → n ≤ 2 → (b : ℕ) (m : Mark) → b ≡ letter → takes written short long n ≡ Some m → IsListed n b m
+  listed_taken none one two zero most b m same is = listed_as 0 b letter m (Takes written short) same is none
+  listed_taken none one two (suc zero) most b m same is = listed_as 1 b letter m (Takes written long) same is one
+  listed_taken none one two (suc (suc zero)) most b m same is = listed_as 2 b letter m (Takes written long) same is two
   listed_taken none one two (suc (suc (suc n))) most b m same is = absurd (omega arith)
 
-listed_alone : (mark : Mark) (byte : ℕ) → IsListed 0 byte mark → (n b : ℕ) (m : Mark) → b ≡ byte → only_alone mark n ≡ Some m → IsListed n b m
-listed_alone mark byte none zero b m same is = listed_as 0 b byte m mark same is none
-listed_alone mark byte none (suc n) b m same is = let no : ⊥ = cc in absurd no
+listed_alone : (mark : Mark) (letter : ℕ) → IsListed 0 letter mark → (n b : ℕ) (m : Mark) → b ≡ letter → only_alone mark n ≡ Some m → IsListed n b m
+listed_alone mark letter none zero b m same is = listed_as 0 b letter m mark same is none
+listed_alone mark letter none (suc n) b m same is = let no : ⊥ = cc in absurd no
 
 abbrev chain5 : ℕ → ℕ → Option Mark
 chain5 n b = if b == 37 then only_alone (Literal 37) n else None

@@ -90,6 +90,7 @@ fn find(rows: &[(Counts, Base)], counts: &Counts) -> Option<Base>
 }
 
 /// The type that specifiers name: none where they name no type, or have `const` twice (C17 6.7.2p2).
+#[tactic(auto, unfolding(k_typed::specs::Specifiers::base_of))]
 pub fn base_of(specs: &Seq<Word>) -> Option<Base>
     ensures { result ≡ specifiers.base_of specs.now }
 {
