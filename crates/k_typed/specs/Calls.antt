@@ -1,5 +1,5 @@
 -- The rules of calls (C17 6.5.2.2, 7.21).
-use Rattle.std.specs.Prelude.{ℕ, ◌==◌, Bool, true, false, if◌then◌else◌, List, [], ◌∷◌, ◌++◌, map, Option, Some, None}
+use Rattle.std.specs.Prelude.{ℕ, ◌==◌, Bool, true, false, if◌then◌else◌, List, [], ◌∷◌, map, Option, Some, None}
 use Rattle.std.specs.List.{concat}
 use Rattle.k_num.specs.declared.numbers.Kind.{Kind}
 use Rattle.k_num.specs.declared.numbers.Kind.TheVariants.{I32}

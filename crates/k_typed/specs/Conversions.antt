@@ -1,8 +1,8 @@
 -- Conversions of typed expressions (C17 6.3): each is a node of its own, but that of a number, which is the number in the new kind.
-use Rattle.std.specs.Prelude.{ℕ, Bool, true, false, ◌&&◌, ◌||◌, not, if◌then◌else◌, ℤ, List, [], ◌∷◌, Option, Some, None}
+use Rattle.std.specs.Prelude.{ℕ, Bool, ◌&&◌, ◌||◌, not, if◌then◌else◌, ℤ, List, Option, Some, None}
 use Rattle.k_num.specs.declared.numbers.Kind.{Kind}
 use Rattle.k_num.specs.declared.place.Place.{Place}
-use Rattle.k_num.specs.Kind.{converted, promoted}
+use Rattle.k_num.specs.Kind.{converted}
 use Rattle.k_typed.specs.declared.types.CType.{CType}
 use Rattle.k_typed.specs.declared.types.CType.TheVariants as ctype
 use Rattle.k_typed.specs.declared.types.Element.{Element}

@@ -1,5 +1,4 @@
 -- *Typing* of expressions, from their parts up: an operand is judged before the expression that it stands in (C17 6.5).
-use Rattle.std.specs.Prelude.{ℕ, List, map}
 use Rattle.k_tree.specs.declared.tree.expression.Expr.{Expr, fold-Expr}
 use Rattle.k_tree.specs.declared.tree.expression.Expr.TheOpen.{Expr-F}
 use Rattle.k_typed.specs.Calls.{call_rule}

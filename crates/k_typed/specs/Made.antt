@@ -42,6 +42,10 @@ two m n = both m n (λ a b. Fine (a, b))
 abbrev pub three : {A B C D : Type 0} → Made A → Made B → Made C → (A → B → C → Made D) → Made D
 three a b c next = both a (two b c) (λ x y. next x y.0 y.1)
 
+-- four parts in their order
+abbrev pub four : {A B C D E : Type 0} → Made A → Made B → Made C → Made D → (A → B → C → D → Made E) → Made E
+four a b c d next = both (two a b) (two c d) (λ x y. next x.0 x.1 y.0 y.1)
+
 -- all parts in their order
 abbrev pub all_made : {A : Type 0} → List (Made A) → Made (List A)
 all_made [] = Fine []

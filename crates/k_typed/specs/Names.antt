@@ -1,5 +1,5 @@
 -- What the names of a source mean, and the scopes that they are declared in (C17 6.2.1, 6.2.3).
-use Rattle.std.specs.Prelude.{ℕ, ◌+◌, Bool, if◌then◌else◌, List, [], ◌∷◌, Option, Some, None, codes}
+use Rattle.std.specs.Prelude.{ℕ, ◌+◌, if◌then◌else◌, List, [], ◌∷◌, Option, Some, None, codes}
 use Rattle.std.specs.Str.{bytes_eq}
 use Rattle.k_typed.specs.declared.names.Library.TheVariants.{Getchar, Putchar, Puts, Printf}
 use Rattle.k_typed.specs.declared.names.Meaning.{Meaning}

@@ -1,6 +1,6 @@
 -- The rules of expressions whose operands are judged: names, constants, places, operators with one operand, casts and sizeof
 -- (C17 6.5.1 to 6.5.4). Each is a function of the finished operands.
-use Rattle.std.specs.Prelude.{ℕ, Bool, true, false, ◌&&◌, not, if◌then◌else◌, ℤ, pos, List, [], ◌∷◌, ◌++◌, ◌+◌, length, Option, Some, None}
+use Rattle.std.specs.Prelude.{ℕ, Bool, true, false, if◌then◌else◌, ℤ, pos, List, [], ◌∷◌, ◌++◌, ◌+◌, length, Option, Some, None}
 use Rattle.k_num.specs.declared.numbers.Kind.{Kind}
 use Rattle.k_num.specs.declared.numbers.Kind.TheVariants.{I8, I32, U64}
 use Rattle.k_num.specs.declared.numbers.Un.{Un}
@@ -12,7 +12,6 @@ use Rattle.k_num.specs.Kind.{promoted, common_kind}
 use Rattle.k_tree.specs.declared.tokens.mark.Mark.{Mark}
 use Rattle.k_tree.specs.declared.tokens.mark.Mark.TheVariants as mark
 use Rattle.k_tree.specs.declared.tokens.word.Word.{Word}
-use Rattle.k_typed.specs.declared.fault.TypeFault.{TypeFault}
 use Rattle.k_typed.specs.declared.fault.TypeFault.TheVariants as fault
 use Rattle.k_typed.specs.declared.types.CType.{CType}
 use Rattle.k_typed.specs.declared.types.CType.TheVariants as ctype
@@ -25,7 +24,7 @@ use Rattle.k_typed.specs.declared.tree.expression.TExpr.{TExpr, out-TExpr}
 use Rattle.k_typed.specs.declared.tree.expression.TExpr.TheOpen.{TExpr-F}
 use Rattle.k_typed.specs.declared.tree.expression.TExpr.TheVariants as typed
 use Rattle.k_typed.specs.Conversions.{Typed, at, in_kind}
-use Rattle.k_typed.specs.Made.{Made, Fine, refused, made_or}
+use Rattle.k_typed.specs.Made.{Made, Fine, refused}
 use Rattle.k_typed.specs.declared.names.Meaning.{Meaning}
 use Rattle.k_typed.specs.declared.names.Meaning.TheVariants as meaning
 use Rattle.k_typed.specs.Names.{Names, meaning_of}
@@ -117,8 +116,8 @@ addressed p e None fixed = refused (fault.NotPlace p)
 addressed p e (Some kind) None = refused (fault.NotPlace p)
 addressed p e (Some kind) (Some fixed) =
     Fine (value (ctype.Pointer (record { kind = kind; dims = []; fixed = fixed }))
-      (typed.Address (at p (pointer_to (record { kind = kind; dims = []; fixed = fixed }))) e.tree)
-      (variable_step (out-TExpr e.tree) e.taken))
+    (typed.Address (at p (pointer_to (record { kind = kind; dims = []; fixed = fixed }))) e.tree)
+    (variable_step (out-TExpr e.tree) e.taken))
 
 -- C17 6.5.3.2p1: `&` takes a place of a number; the variable that it is applied to has an address from then on
 abbrev pub address_rule : Place → Typed → Made Typed

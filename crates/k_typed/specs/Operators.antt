@@ -1,13 +1,12 @@
 -- The rules of expressions with two or three operands that are judged (C17 6.5.5 to 6.5.17).
-use Rattle.std.specs.Prelude.{ℕ, Bool, true, false, if◌then◌else◌, List, [], ◌∷◌, ◌++◌, Option, Some, None}
+use Rattle.std.specs.Prelude.{ℕ, Bool, true, false, if◌then◌else◌, List, ◌++◌, Option, Some, None}
 use Rattle.k_num.specs.declared.numbers.Kind.{Kind}
 use Rattle.k_num.specs.declared.numbers.Kind.TheVariants.{I32, I64}
 use Rattle.k_num.specs.declared.numbers.Bin.{Bin}
-use Rattle.k_num.specs.declared.numbers.Bin.TheVariants.{Add, Sub, Mul, Div, Rem, And, Or, Xor, Shl, Shr, Lt, Le, Gt, Ge, Eq, Ne, LogAnd, LogOr}
+use Rattle.k_num.specs.declared.numbers.Bin.TheVariants.{Add, Sub, Shl, Shr, Lt, Le, Gt, Ge, Eq, Ne, LogAnd, LogOr}
 use Rattle.k_num.specs.declared.place.Place.{Place}
 use Rattle.k_num.specs.Kind.{promoted, common_kind}
 use Rattle.k_tree.specs.declared.tokens.mark.Mark.{Mark}
-use Rattle.k_tree.specs.declared.tokens.mark.Mark.TheVariants as mark
 use Rattle.k_tree.specs.Operators.{operator_of, compound_operator_of}
 use Rattle.k_typed.specs.declared.fault.TypeFault.TheVariants as fault
 use Rattle.k_typed.specs.declared.types.CType.{CType}
@@ -22,7 +21,7 @@ use Rattle.k_typed.specs.declared.tree.expression.TExpr.TheVariants as typed
 use Rattle.k_typed.specs.Conversions.{Typed, at, in_kind, number_in_kind, passed}
 use Rattle.k_typed.specs.Made.{Made, Fine, refused}
 use Rattle.k_typed.specs.Operands.{value, number, written}
-use Rattle.k_typed.specs.Types.{decayed, same_element, equal_element, number_kind, pointed, told, pointer_to}
+use Rattle.k_typed.specs.Types.{decayed, same_element, equal_element, number_kind, told, pointer_to}
 
 -- the operator compares (C17 6.5.8, 6.5.9)
 abbrev pub compares : Bin → Bool
@@ -42,15 +41,15 @@ taken_in left right = left.taken ++ right.taken
 abbrev pub shift_of : Place → Bin → Kind → Kind → Typed → Typed → Typed
 shift_of p op j k left right =
     number (promoted j)
-      (typed.Binary (at p (ttype.Number (promoted j))) op (promoted j) (in_kind j (promoted j) left.tree) (in_kind k (promoted k) right.tree))
-      (taken_in left right)
+    (typed.Binary (at p (ttype.Number (promoted j))) op (promoted j) (in_kind j (promoted j) left.tree) (in_kind k (promoted k) right.tree))
+    (taken_in left right)
 
 -- C17 6.3.1.8: an operation on numbers of two kinds, made in their common kind, whose result is of this kind
 abbrev pub common_of : Place → Bin → Kind → Kind → Kind → Kind → Typed → Typed → Typed
 common_of p op result common j k left right =
     number result
-      (typed.Binary (at p (ttype.Number result)) op common (in_kind j common left.tree) (in_kind k common right.tree))
-      (taken_in left right)
+    (typed.Binary (at p (ttype.Number result)) op common (in_kind j common left.tree) (in_kind k common right.tree))
+    (taken_in left right)
 
 -- C17 6.5.5 to 6.5.14: an operation on two numbers: `&&` and `||` convert nothing, shifts promote each side alone, comparisons
 -- give an int, and all others give the common kind in which they are made
@@ -128,11 +127,11 @@ taken_in_three test first second = test.taken ++ (first.taken ++ second.taken)
 abbrev pub arms : Place → Operand → Operand → Typed → Typed → Typed → Made Typed
 arms p (ANumber j) (ANumber k) test first second =
     Fine (number (common_kind j k)
-      (typed.Cond (at p (ttype.Number (common_kind j k))) test.tree (in_kind j (common_kind j k) first.tree) (in_kind k (common_kind j k) second.tree))
-      (taken_in_three test first second))
+    (typed.Cond (at p (ttype.Number (common_kind j k))) test.tree (in_kind j (common_kind j k) first.tree) (in_kind k (common_kind j k) second.tree))
+    (taken_in_three test first second))
 arms p (APointer a) (APointer b) test first second =
     if equal_element a b then
-      Fine (value (ctype.Pointer a) (typed.Cond (at p (pointer_to a)) test.tree first.tree second.tree) (taken_in_three test first second))
+    Fine (value (ctype.Pointer a) (typed.Cond (at p (pointer_to a)) test.tree first.tree second.tree) (taken_in_three test first second))
     else refused (fault.Kinds p)
 arms p Nothing Nothing test first second =
     Fine (value ctype.Void (typed.Cond (at p ttype.Void) test.tree first.tree second.tree) (taken_in_three test first second))

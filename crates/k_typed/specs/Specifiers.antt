@@ -1,6 +1,5 @@
 -- The types that specifiers name (C17 6.7.1 to 6.7.3, 6.7.7).
-use Rattle.std.specs.Prelude.{ℕ, ◌+◌, nat_eq, nat_le, Bool, true, false, ◌&&◌, if◌then◌else◌, List, [], ◌∷◌, Option, Some, None}
-use Rattle.k_num.specs.declared.numbers.Kind.{Kind}
+use Rattle.std.specs.Prelude.{ℕ, ◌+◌, nat_eq, nat_le, Bool, true, ◌&&◌, if◌then◌else◌, List, [], ◌∷◌, Option, Some, None}
 use Rattle.k_num.specs.declared.numbers.Kind.TheVariants.{I8, U8, I16, U16, I32, U32, I64, U64}
 use Rattle.k_tree.specs.declared.tokens.word.Word.{Word}
 use Rattle.k_tree.specs.declared.tokens.word.Word.TheVariants as word

@@ -28,7 +28,14 @@ pub enum TInit {
 #[derive(Drop)]
 pub enum TItem {
     /// The bytes of a string, from the element of this number on.
-    Bytes { element: u32, bytes: Seq<u8> },
+    Bytes {
+        element: u32,
+        bytes: Seq<u8>,
+    },
     /// A value for the element of this number, converted to the array's kind. It stands at its first token.
-    Value { place: Place, element: u32, value: TExpr },
+    Value {
+        place: Place,
+        element: u32,
+        value: TExpr,
+    },
 }

@@ -28,17 +28,40 @@ pub enum TFirst {
 #[derive(Drop)]
 pub enum TStmt {
     /// `value ;`
-    Expr { spot: Spot, value: Box<TExpr> },
+    Expr {
+        spot: Spot,
+        value: Box<TExpr>,
+    },
     /// `;`
-    Empty { spot: Spot },
+    Empty {
+        spot: Spot,
+    },
     /// `{ parts }`
-    Block { spot: Spot, parts: Seq<TStmt> },
+    Block {
+        spot: Spot,
+        parts: Seq<TStmt>,
+    },
     /// `if ( test ) then`, and `else other` where there is one.
-    If { spot: Spot, test: Box<TExpr>, then: Box<TStmt>, other: Option<Box<TStmt>> },
+    If {
+        spot: Spot,
+        test: Box<TExpr>,
+        then: Box<TStmt>,
+        other: Option<Box<TStmt>>,
+    },
     /// `while ( test ) body`
-    While { spot: Spot, turns: u32, test: Box<TExpr>, body: Box<TStmt> },
+    While {
+        spot: Spot,
+        turns: u32,
+        test: Box<TExpr>,
+        body: Box<TStmt>,
+    },
     /// `do body while ( test ) ;`
-    DoWhile { spot: Spot, turns: u32, body: Box<TStmt>, test: Box<TExpr> },
+    DoWhile {
+        spot: Spot,
+        turns: u32,
+        body: Box<TStmt>,
+        test: Box<TExpr>,
+    },
     /// `for ( first test ; step ) body`
     For {
         spot: Spot,
@@ -49,15 +72,30 @@ pub enum TStmt {
         body: Box<TStmt>,
     },
     /// `switch ( on ) { parts }`, with `on` promoted to a kind.
-    Switch { spot: Spot, kind: Kind, on: Box<TExpr>, parts: Seq<TPart> },
+    Switch {
+        spot: Spot,
+        kind: Kind,
+        on: Box<TExpr>,
+        parts: Seq<TPart>,
+    },
     /// `break ;`
-    Break { spot: Spot },
+    Break {
+        spot: Spot,
+    },
     /// `continue ;`
-    Continue { spot: Spot },
+    Continue {
+        spot: Spot,
+    },
     /// `return value ;`, with the value converted to the function's result, or `return ;`.
-    Return { spot: Spot, value: Option<Box<TExpr>> },
+    Return {
+        spot: Spot,
+        value: Option<Box<TExpr>>,
+    },
     /// Variables are declared.
-    Declare { spot: Spot, list: Seq<TDeclarator> },
+    Declare {
+        spot: Spot,
+        list: Seq<TDeclarator>,
+    },
 }
 
 /// A part of the braces of a `switch`. It stands at its first token.
