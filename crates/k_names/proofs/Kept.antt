@@ -1,6 +1,6 @@
 -- What is kept of scopes tells what each name means, and where it was declared.
 use Rattle.std.proofs.Common.{◌≡◌, ℕ, ◌+◌, ◌-◌, ◌≤◌, Bool, true, false, cond, List, [], ◌∷◌, ◌++◌, length, Option, Some, None, Result, Ok, Err, IsSome, OnOk, OnErr, is_ok, refl, sym, ap, ◌∙◌, subst, arith, eq-eqb, ne_eqb, reverse}
-use Rattle.std.specs.Prelude.{◌==◌, is_some, String}
+use Rattle.std.specs.Prelude.{◌==◌, ◌||◌, is_some, String}
 use Rattle.std.specs.Cmp.Lexicographic.{same_text, nat_list_eq_equiv}
 use Rattle.std.specs.Map.{update}
 use Rattle.std.specs.Str.{bytes_eq}
@@ -8,12 +8,13 @@ use Rattle.std.specs.String.{string_bytes}
 use Rattle.std.proofs.lemmas.List.{reverse-append}
 use Rattle.std.specs.declared.alloc.Global.{Global}
 use Rattle.k_typed.specs.declared.names.Meaning.{Meaning}
-use Rattle.k_typed.specs.Names.{Names, meaning_in, meaning_of, or_meaning}
+use Rattle.k_typed.specs.Names.{Names, meaning_in, meaning_of, library, or_meaning}
 use Rattle.k_names.specs.declared.scopes.Known.{Known}
 use Rattle.k_names.specs.declared.scopes.Slot.{Slot}
 use Rattle.k_names.specs.declared.scopes.Slot.TheVariants.{Opened, Named}
-use Rattle.k_names.specs.Scoping.{declared, innermost, outside, stands_in}
-use Rattle.k_names.specs.Slots.{AllKnown, IsFrom, IsKept, entered, from, names_in, opened}
+use Rattle.k_typed.specs.Declarations.{entered, is_twice}
+use Rattle.k_names.specs.Scoping.{innermost, outside, stands_in}
+use Rattle.k_names.specs.Slots.{AllKnown, IsFrom, IsKept, entered_as, from, names_in, opened}
 
 -- what is known of each name
 abbrev Finder : Type 0
@@ -24,12 +25,12 @@ abbrev pub meant : Option Known → Option Meaning
 meant None = None
 meant (Some known) = Some known.meaning
 
--- what a name means behind a declaration
-meaning-declared : (x : List ℕ) (meaning : Meaning) (names : Names) (q : List ℕ)
-    → meaning_of (declared x meaning names) q ≡ cond (bytes_eq x q) (Some meaning) (meaning_of names q)
-meaning-declared x meaning [] q =
+-- what a name means behind its entry
+meaning-entered : (x : List ℕ) (meaning : Meaning) (names : Names) (q : List ℕ)
+    → meaning_of (entered x meaning names) q ≡ cond (bytes_eq x q) (Some meaning) (meaning_of names q)
+meaning-entered x meaning [] q =
     elim (bytes_eq x q) as (λ b. or_meaning (cond b (Some meaning) None) None ≡ cond b (Some meaning) None) [ true ↦ refl | false ↦ refl ]
-meaning-declared x meaning (scope ∷ names) q =
+meaning-entered x meaning (scope ∷ names) q =
     elim (bytes_eq x q) as (λ b. or_meaning (cond b (Some meaning) (meaning_in scope q)) (meaning_of names q) ≡ cond b (Some meaning) (or_meaning (meaning_in scope q) (meaning_of names q)))
     [ true ↦ refl | false ↦ refl ]
 
@@ -38,15 +39,20 @@ stands_either true meaning other = refl
 stands_either false meaning other = refl
 
 -- what stands in the innermost scope behind a declaration
-stands-declared : (x : List ℕ) (meaning : Meaning) (names : Names) (q : List ℕ)
-    → stands_in (innermost (declared x meaning names)) q ≡ cond (bytes_eq x q) true (stands_in (innermost names) q)
-stands-declared x meaning [] q = stands_either (bytes_eq x q) meaning None
-stands-declared x meaning (scope ∷ names) q = stands_either (bytes_eq x q) meaning (meaning_in scope q)
+stands-entered : (x : List ℕ) (meaning : Meaning) (names : Names) (q : List ℕ)
+    → stands_in (innermost (entered x meaning names)) q ≡ cond (bytes_eq x q) true (stands_in (innermost names) q)
+stands-entered x meaning [] q = stands_either (bytes_eq x q) meaning None
+stands-entered x meaning (scope ∷ names) q = stands_either (bytes_eq x q) meaning (meaning_in scope q)
 
 -- behind a declaration lies what lay before it
-outside-declared : (x : List ℕ) (meaning : Meaning) (names : Names) → outside (declared x meaning names) ≡ outside names
-outside-declared x meaning [] = refl
-outside-declared x meaning (scope ∷ names) = refl
+outside-entered : (x : List ℕ) (meaning : Meaning) (names : Names) → outside (entered x meaning names) ≡ outside names
+outside-entered x meaning [] = refl
+outside-entered x meaning (scope ∷ names) = refl
+
+-- a name is there twice where it stands in the innermost scope or in that of the library
+pub twice_is : (names : Names) (x : List ℕ) → (stands_in (innermost names) x || stands_in library x) ≡ is_twice names x
+twice_is [] x = refl
+twice_is (scope ∷ names) x = refl
 
 module _ (x : List ℕ) (f : Finder) (hidden : Option Known) (names : Names) (q : List ℕ) where
   -- what the newest name means, by whether it is asked for
@@ -56,10 +62,10 @@ module _ (x : List ℕ) (f : Finder) (hidden : Option Known) (names : Names) (q 
   means_either known is false other rest = rest
 
   entered_means : (depth : ℕ) (now : Option Known) → f x ≡ now → IsFrom depth now → meant (update bytes_eq f x hidden q) ≡ meaning_of names q
-      → meant (f q) ≡ meaning_of (entered x now names) q
+      → meant (f q) ≡ meaning_of (entered_as x now names) q
   entered_means depth None is found rest = absurd found
   entered_means depth (Some known) is found rest =
-      means_either known is (bytes_eq x q) refl rest ∙ sym (meaning-declared x known.meaning names q)
+      means_either known is (bytes_eq x q) refl rest ∙ sym (meaning-entered x known.meaning names q)
 
   stood_either : (depth : ℕ) (known : Known) → f x ≡ Some known → known.depth ≡ depth → (b : Bool) → bytes_eq x q ≡ b
       → from (cond b hidden (f q)) depth ≡ stands_in (innermost names) q → from (f q) depth ≡ cond b true (stands_in (innermost names) q)
@@ -68,10 +74,10 @@ module _ (x : List ℕ) (f : Finder) (hidden : Option Known) (names : Names) (q 
   stood_either depth known is deep false other rest = rest
 
   entered_stood : (depth : ℕ) (now : Option Known) → f x ≡ now → IsFrom depth now → from (update bytes_eq f x hidden q) depth ≡ stands_in (innermost names) q
-      → from (f q) depth ≡ stands_in (innermost (entered x now names)) q
+      → from (f q) depth ≡ stands_in (innermost (entered_as x now names)) q
   entered_stood depth None is found rest = absurd found
   entered_stood depth (Some known) is found rest =
-      stood_either depth known is found (bytes_eq x q) refl rest ∙ sym (stands-declared x known.meaning names q)
+      stood_either depth known is found (bytes_eq x q) refl rest ∙ sym (stands-entered x known.meaning names q)
 
 -- each name means what is known of it
 pub meant_is : (slots : List Slot) (f : Finder) → AllKnown slots f → (q : List ℕ) → meant (f q) ≡ meaning_of (names_in slots f) q
@@ -130,7 +136,7 @@ module _ (f g : Finder) (x : List ℕ) (now : Option Known) (is : g ≡ update b
   put_back : update bytes_eq g x (f x) ≡ f
   put_back = λ i q. back_at q (bytes_eq x q) refl i
 
--- a name is declared: what it meant is kept, and what it means now is known
+-- a name is entered: what it meant is kept, and what it means now is known
 module _ (slots : List Slot) (f g : Finder) (name : String Global) (hidden : Option Known) (known : Known) (y : List ℕ)
     (same : y ≡ string_bytes name) (was : hidden ≡ f y) (is : g ≡ update bytes_eq f y (Some known)) where
   put_at_name : g ≡ update bytes_eq f (string_bytes name) (Some known)
@@ -142,10 +148,10 @@ module _ (slots : List Slot) (f g : Finder) (name : String Global) (hidden : Opt
   hidden_again : update bytes_eq g (string_bytes name) hidden ≡ f
   hidden_again = ap (λ o. update bytes_eq g (string_bytes name) o) (was ∙ ap f same) ∙ put_back f g (string_bytes name) (Some known) put_at_name
 
-  pub names_added : names_in (Named name hidden ∷ slots) g ≡ declared (string_bytes name) known.meaning (names_in slots f)
+  pub names_added : names_in (Named name hidden ∷ slots) g ≡ entered (string_bytes name) known.meaning (names_in slots f)
   names_added =
-      ap (λ o. entered (string_bytes name) o (names_in slots (update bytes_eq g (string_bytes name) hidden))) known_now
-      ∙ ap (λ h. declared (string_bytes name) known.meaning (names_in slots h)) hidden_again
+      ap (λ o. entered_as (string_bytes name) o (names_in slots (update bytes_eq g (string_bytes name) hidden))) known_now
+      ∙ ap (λ h. entered (string_bytes name) known.meaning (names_in slots h)) hidden_again
 
   pub kept_added : (depth : ℕ) → IsKept depth slots f → known.depth ≡ depth → IsKept depth (Named name hidden ∷ slots) g
   kept_added depth kept deep = record {
@@ -170,9 +176,9 @@ some_from : (depth : ℕ) (o : Option Known) → IsFrom depth o → IsSome o
 some_from depth None found = absurd found
 some_from depth (Some known) found = refl
 
-outside_entered : (x : List ℕ) (depth : ℕ) (o : Option Known) (names : Names) → IsFrom depth o → outside (entered x o names) ≡ outside names
-outside_entered x depth None names found = absurd found
-outside_entered x depth (Some known) names found = outside-declared x known.meaning names
+outside_known : (x : List ℕ) (depth : ℕ) (o : Option Known) (names : Names) → IsFrom depth o → outside (entered_as x o names) ≡ outside names
+outside_known x depth None names found = absurd found
+outside_known x depth (Some known) names found = outside-entered x known.meaning names
 
 module _ (depth : ℕ) (name : String Global) (hidden : Option Known) (slots : List Slot) (f : Finder) (names : Names)
     (closing : IsClosing depth (Named name hidden ∷ slots) f names) where
@@ -185,7 +191,7 @@ module _ (depth : ℕ) (name : String Global) (hidden : Option Known) (slots : L
   closing_name g is = record {
     kept = record { counted = closing.kept.counted; known_all = subst (AllKnown slots) (sym is) closing.kept.known_all.1 };
     left = ap (λ h. outside (names_in slots h)) is
-        ∙ (sym (outside_entered (string_bytes name) (opened slots) (f (string_bytes name))
+        ∙ (sym (outside_known (string_bytes name) (opened slots) (f (string_bytes name))
           (names_in slots (update bytes_eq f (string_bytes name) hidden)) closing.kept.known_all.0)
           ∙ closing.left);
   }

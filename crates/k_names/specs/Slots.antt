@@ -7,7 +7,7 @@ use Rattle.k_typed.specs.Names.{Names}
 use Rattle.k_names.specs.declared.scopes.Known.{Known}
 use Rattle.k_names.specs.declared.scopes.Slot.{Slot}
 use Rattle.k_names.specs.declared.scopes.Slot.TheVariants.{Opened, Named}
-use Rattle.k_names.specs.Scoping.{declared}
+use Rattle.k_typed.specs.Declarations.{entered}
 
 -- how many scopes are open
 abbrev pub opened : List Slot → ℕ
@@ -16,16 +16,16 @@ opened (Opened ∷ slots) = 1 + opened slots
 opened (Named name hidden ∷ slots) = opened slots
 
 -- a name is declared as what is known of it
-abbrev pub entered : List ℕ → Option Known → Names → Names
-entered x None names = names
-entered x (Some known) names = declared x known.meaning names
+abbrev pub entered_as : List ℕ → Option Known → Names → Names
+entered_as x None names = names
+entered_as x (Some known) names = entered x known.meaning names
 
 -- the scopes, from what is known of each name
 abbrev pub names_in : List Slot → (List ℕ → Option Known) → Names
 names_in [] known = []
 names_in (Opened ∷ slots) known = [] ∷ names_in slots known
 names_in (Named name hidden ∷ slots) known =
-    entered (string_bytes name) (known (string_bytes name)) (names_in slots (update bytes_eq known (string_bytes name) hidden))
+    entered_as (string_bytes name) (known (string_bytes name)) (names_in slots (update bytes_eq known (string_bytes name) hidden))
 
 -- something is known, from where so many scopes were open
 abbrev pub IsFrom : ℕ → Option Known → Type 0

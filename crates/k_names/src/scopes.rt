@@ -1,11 +1,12 @@
 //! The names that are known at a place of a source, and what they mean (C17 6.2.1).
-ghost use Rattle.std.specs.Prelude.{◌≡◌, [], ◌∷◌, IfOk, OnOk, OnErr, IsSome, option_copied};
+ghost use Rattle.std.specs.Prelude.{◌≡◌, ◌||◌, [], ◌∷◌, IfOk, OnOk, OnErr, IsSome, option_copied};
 ghost use Rattle.std.specs.BTreeMap.{get_by_text};
 ghost use Rattle.std.specs.Map.{update};
 ghost use Rattle.std.specs.Str.{bytes_eq};
 ghost use Rattle.std.specs.String.{string_bytes};
 ghost use Rattle.k_typed.specs.Names.{library, meaning_of};
-ghost use Rattle.k_names.specs.Scoping.{declared, outside, is_taken, stands_in};
+ghost use Rattle.k_typed.specs.Declarations.{entered, is_twice};
+ghost use Rattle.k_names.specs.Scoping.{outside, stands_in};
 ghost use Rattle.k_names.specs.Slots.{from};
 
 use k_num::{NoMemory, Text};
@@ -101,12 +102,11 @@ impl Scopes {
         }
     }
 
-    /// Declares a name in the innermost scope, and says whether it was taken: whether it was declared in
-    /// that scope already, or is the name of a library function. It is declared all the same. A refusal
-    /// changes nothing.
+    /// Declares a name in the innermost scope, and says whether it was declared in that scope already or is
+    /// that of a library function. It is declared all the same. A refusal changes nothing.
     pub fn declare(&mut self, alloc: Global, name: &Text, meaning: Meaning) -> Result<bool, NoMemory>
-        ensures taken { IfOk result (λ taken. taken ≡ is_taken self.old name.now) }
-        ensures ok { OnOk result (self.new ≡ declared name.now meaning self.old) }
+        ensures twice { IfOk result (λ twice. twice ≡ is_twice self.old name.now) }
+        ensures ok { OnOk result (self.new ≡ entered name.now meaning self.old) }
         ensures err { OnErr result (self.new ≡ self.old) }
     {
         let stood = self.add(alloc, name.as_str(), meaning)?;
@@ -125,13 +125,10 @@ impl Scopes {
 }
 
 impl Scopes {
-    ghost use Rattle.k_names.specs.Scoping.{innermost, stands_in, declared};
-    ghost use Rattle.std.specs.Prelude.{◌≡◌, IfOk, OnOk, OnErr};
-
     /// Declares a name in the innermost scope, and says whether it stood there already.
     fn add(&mut self, alloc: Global, name: &str, meaning: Meaning) -> Result<bool, NoMemory>
-        ensures stood { IfOk result (λ stood. stood ≡ stands_in (innermost self.old) name.now) }
-        ensures ok { OnOk result (self.new ≡ declared name.now meaning self.old) }
+        ensures stood { IfOk result (λ stood. (stood || stands_in library name.now) ≡ is_twice self.old name.now) }
+        ensures ok { OnOk result (self.new ≡ entered name.now meaning self.old) }
         ensures err { OnErr result (self.new ≡ self.old) }
     {
         let depth = self.depth;

@@ -1,12 +1,14 @@
 use Rattle.std.proofs.Common.{◌≡◌, ◌++◌, [], ◌∷◌, ap, sym, subst, refl, ◌∙◌, if◌then◌else◌, reverse, vec_capacity, vec_len}
 use Rattle.std.specs.BTreeMap.{get_by_text}
 use Rattle.std.specs.String.{string_bytes}
-use Rattle.k_typed.specs.Names.{Names}
-use Rattle.k_names.specs.Scoping.{declared, innermost, stands_in}
+use Rattle.k_typed.specs.Names.{Names, library}
+use Rattle.std.specs.Prelude.{◌||◌}
+use Rattle.k_typed.specs.Declarations.{entered}
+use Rattle.k_names.specs.Scoping.{innermost, stands_in}
 use Rattle.k_names.specs.Slots.{IsKept, from, names_in}
 use Rattle.k_names.specs.declared.scopes.Slot.{Slot}
 use Rattle.k_names.specs.declared.scopes.Slot.TheVariants.{Named}
-use Rattle.k_names.proofs.Kept.{kept_added, names_added, newest_first, pushed, stands_is}
+use Rattle.k_names.proofs.Kept.{kept_added, names_added, newest_first, pushed, stands_is, twice_is}
 use Rattle.k_names.proofs.scopes.Scopes.add.Goals as goal
 
 pub invariant_of-self-2 : goal.invariant_of-self-2
@@ -30,10 +32,12 @@ returns-clause-stood c =
     let key = c.in-Ok.copies.1 in
     let known = get_by_text c.self.inside.known in
     let slots = reverse c.self.inside.slots.items in
-    c.is_from-stood.ensures
-    ∙ (ap (λ o. from o c.self.inside.depth) (c.in_ok-hidden.ensures.before ∙ ap known c.in-Ok.ensures.second)
-      ∙ (ap (from (known c.args.name.now)) c.self.invariant.counted
-        ∙ (stands_is slots known c.self.invariant.known_all c.args.name.now ∙ ap (λ (names : Names). stands_in (innermost names) c.args.name.now) c.self.view_is)))
+    ap (λ b. b || stands_in library c.args.name.now)
+    (c.is_from-stood.ensures
+      ∙ (ap (λ o. from o c.self.inside.depth) (c.in_ok-hidden.ensures.before ∙ ap known c.in-Ok.ensures.second)
+        ∙ (ap (from (known c.args.name.now)) c.self.invariant.counted
+          ∙ (stands_is slots known c.self.invariant.known_all c.args.name.now ∙ ap (λ (names : Names). stands_in (innermost names) c.args.name.now) c.self.view_is))))
+    ∙ twice_is c.args.self.now c.args.name.now
 
 pub returns-clause-ok : goal.returns-clause-ok
 returns-clause-ok c =
@@ -49,5 +53,5 @@ returns-clause-ok c =
     ap (λ slots. names_in slots (get_by_text c.learn.new.known)) (newest_first old c.push.new.self.items slot items)
     ∙ (names_added (reverse old) known (get_by_text c.learn.new.known) name c.in_ok-hidden.hidden
       (record { depth = c.self.inside.depth; meaning = c.args.meaning }) (string_bytes key) same c.in_ok-hidden.ensures.before c.in_ok-hidden.ensures.ok
-      ∙ (ap (λ x. declared x c.args.meaning (names_in (reverse old) known)) c.in-Ok.ensures.first
-        ∙ ap (declared c.args.name.now c.args.meaning) c.self.view_is))
+      ∙ (ap (λ x. entered x c.args.meaning (names_in (reverse old) known)) c.in-Ok.ensures.first
+        ∙ ap (entered c.args.name.now c.args.meaning) c.self.view_is))
