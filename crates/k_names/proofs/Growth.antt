@@ -39,7 +39,7 @@ module _ (growing : Growing) (what : Found) (marks : List Mark) where
   byte_added b bytes is new =
       ap (λ bs. with_marks (a_growing growing.pieces bs growing.kinds) marks) new
       ∙ (ap (λ ps. a_format (growing.pieces ++ ps) (growing.kinds ++ kinds_taken marks)) (bytes_before-append growing.bytes b (pieces_of marks))
-        ∙ ap (λ w. with_marks growing (mark_in w ∷ marks)) (sym is))
+      ∙ ap (λ w. with_marks growing (mark_in w ∷ marks)) (sym is))
 
   module _ (written : Written) (kind : Kind) (is : what ≡ found.Takes written kind) where
     pieces_added : ((growing.pieces ++ run_of growing.bytes) ++ (piece.Argument written ∷ [])) ++ pieces_of marks
@@ -47,7 +47,7 @@ module _ (growing : Growing) (what : Found) (marks : List Mark) where
     pieces_added =
         append_assoc (growing.pieces ++ run_of growing.bytes) (piece.Argument written ∷ []) (pieces_of marks)
         ∙ (append_assoc growing.pieces (run_of growing.bytes) (piece.Argument written ∷ pieces_of marks)
-          ∙ ap (λ ps. growing.pieces ++ ps) (sym (run_apart (piece.Argument written ∷ pieces_of marks) (λ b. refl) growing.bytes)))
+        ∙ ap (λ ps. growing.pieces ++ ps) (sym (run_apart (piece.Argument written ∷ pieces_of marks) (λ b. refl) growing.bytes)))
 
     -- an argument is found
     pub argument_added : (ended pieces : List Piece) (bytes : List ℕ) (before kinds : List Kind) → ended ≡ growing.pieces ++ run_of growing.bytes
@@ -56,12 +56,12 @@ module _ (growing : Growing) (what : Found) (marks : List Mark) where
     argument_added ended pieces bytes before kinds end more none same taken =
         ap (λ ps. with_marks (a_growing ps bytes kinds) marks) (more ∙ ap (λ ps. ps ++ piece.Argument written ∷ []) end)
         ∙ (ap (λ bs. with_marks (a_growing ((growing.pieces ++ run_of growing.bytes) ++ piece.Argument written ∷ []) bs kinds) marks) none
-          ∙ (ap (λ ks. with_marks (a_growing ((growing.pieces ++ run_of growing.bytes) ++ piece.Argument written ∷ []) [] ks) marks)
-            (taken ∙ ap (λ ks. ks ++ kind ∷ []) same)
-            ∙ (ap (λ ps. a_format ps ((growing.kinds ++ kind ∷ []) ++ kinds_taken marks)) pieces_added
-              ∙ (ap (a_format (growing.pieces ++ bytes_before growing.bytes (piece.Argument written ∷ pieces_of marks)))
-                (append_assoc growing.kinds (kind ∷ []) (kinds_taken marks))
-                ∙ ap (λ w. with_marks growing (mark_in w ∷ marks)) (sym is)))))
+        ∙ (ap (λ ks. with_marks (a_growing ((growing.pieces ++ run_of growing.bytes) ++ piece.Argument written ∷ []) [] ks) marks)
+        (taken ∙ ap (λ ks. ks ++ kind ∷ []) same)
+        ∙ (ap (λ ps. a_format ps ((growing.kinds ++ kind ∷ []) ++ kinds_taken marks)) pieces_added
+        ∙ (ap (a_format (growing.pieces ++ bytes_before growing.bytes (piece.Argument written ∷ pieces_of marks)))
+        (append_assoc growing.kinds (kind ∷ []) (kinds_taken marks))
+        ∙ ap (λ w. with_marks growing (mark_in w ∷ marks)) (sym is)))))
 
 -- a format is read to its end
 pub ended : (growing : Growing) (pieces : List Piece) (kinds : List Kind) → pieces ≡ growing.pieces ++ run_of growing.bytes → kinds ≡ growing.kinds

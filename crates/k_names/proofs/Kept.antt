@@ -158,7 +158,8 @@ module _ (slots : List Slot) (f g : Finder) (name : String Global) (hidden : Opt
     counted = kept.counted;
     known_all = (
       subst (IsFrom (opened slots)) (sym known_now) (deep ∙ kept.counted),
-      subst (AllKnown slots) (sym hidden_again) kept.known_all);
+      subst (AllKnown slots) (sym hidden_again) kept.known_all,
+    );
   }
 
 -- how many scopes are open is within the count of slots
@@ -192,8 +193,8 @@ module _ (depth : ℕ) (name : String Global) (hidden : Option Known) (slots : L
     kept = record { counted = closing.kept.counted; known_all = subst (AllKnown slots) (sym is) closing.kept.known_all.1 };
     left = ap (λ h. outside (names_in slots h)) is
         ∙ (sym (outside_known (string_bytes name) (opened slots) (f (string_bytes name))
-          (names_in slots (update bytes_eq f (string_bytes name) hidden)) closing.kept.known_all.0)
-          ∙ closing.left);
+        (names_in slots (update bytes_eq f (string_bytes name) hidden)) closing.kept.known_all.0)
+        ∙ closing.left);
   }
 
 -- the scope is closed where it was opened

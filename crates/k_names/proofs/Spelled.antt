@@ -148,7 +148,7 @@ sound (b ∷ text) Outside marks most is = elim (cases_eq b 37) [
   | inr other ↦ elim (cases_eq b 0) [
     | inl end ↦ (let none : None ≡ Some marks =
         sym (cond-false (b == 37) (marks_from (Behind 0) text) (cond (b == 0) None (mark_before (Some (Literal b)) (marks_from Outside text))) (ne_eqb b 37 other)
-          ∙ cond-true (b == 0) None (mark_before (Some (Literal b)) (marks_from Outside text)) (eq-eqb b 0 end)) ∙ is in
+        ∙ cond-true (b == 0) None (mark_before (Some (Literal b)) (marks_from Outside text)) (eq-eqb b 0 end)) ∙ is in
         let no : ⊥ = cc in absurd no)
     | inr some ↦ (let parts : Parts (Some (Literal b)) (marks_from Outside text) marks =
         parts_of (Some (Literal b)) (marks_from Outside text) marks (sym (plain_read b text some other) ∙ is) in

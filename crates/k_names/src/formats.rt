@@ -136,7 +136,12 @@ impl Growing {
     }
 
     /// Reads a byte, and answers where the text behind it is read, if a format can go on so.
-    fn read(&mut self, alloc: Global, reading: Reading, byte: u8) -> Result<Option<Reading>, NoMemory>
+    fn read(
+        &mut self,
+        alloc: Global,
+        reading: Reading,
+        byte: u8,
+    ) -> Result<Option<Reading>, NoMemory>
         ensures { IfOk result (λ next. (text : List ℕ) → formed self.new (read_from next text) ≡ formed self.old (marks_from (reading_in reading) (byte ∷ text))) }
     {
         match read_byte(reading, byte) {
@@ -181,7 +186,11 @@ impl Growing {
         ensures { IfOk result (λ format. format ≡ Some (with_marks self [])) }
     {
         self.end_bytes(alloc)?;
-        let Growing { pieces, bytes, kinds } = self;
+        let Growing {
+            pieces,
+            bytes,
+            kinds,
+        } = self;
         drop(bytes);
         Ok(Some(Format { pieces, kinds }))
     }

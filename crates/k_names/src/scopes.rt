@@ -104,7 +104,12 @@ impl Scopes {
 
     /// Declares a name in the innermost scope, and says whether it was declared in that scope already or is
     /// that of a library function. It is declared all the same. A refusal changes nothing.
-    pub fn declare(&mut self, alloc: Global, name: &Text, meaning: Meaning) -> Result<bool, NoMemory>
+    pub fn declare(
+        &mut self,
+        alloc: Global,
+        name: &Text,
+        meaning: Meaning,
+    ) -> Result<bool, NoMemory>
         ensures twice { IfOk result (λ twice. twice ≡ is_twice self.old name.now) }
         ensures ok { OnOk result (self.new ≡ entered name.now meaning self.old) }
         ensures err { OnErr result (self.new ≡ self.old) }
@@ -157,11 +162,18 @@ fn two_copies(alloc: Global, name: &str) -> Result<(String, String), NoMemory>
     ensures first { IfOk result (λ copies. string_bytes copies.0 ≡ name.now) }
     ensures second { IfOk result (λ copies. string_bytes copies.1 ≡ name.now) }
 {
-    Ok((String::from_str(alloc, name)?, String::from_str(alloc, name)?))
+    Ok((
+        String::from_str(alloc, name)?,
+        String::from_str(alloc, name)?,
+    ))
 }
 
 /// Puts in place what a name means now, and answers what it meant before. A refusal changes nothing.
-fn learn(known: &mut BTreeMap<String, Known>, name: String, now: Known) -> Result<Option<Known>, NoMemory>
+fn learn(
+    known: &mut BTreeMap<String, Known>,
+    name: String,
+    now: Known,
+) -> Result<Option<Known>, NoMemory>
     ensures before { IfOk result (λ before. before ≡ get_by_text known.old (string_bytes name)) }
     ensures ok { OnOk result (get_by_text known.new ≡ update bytes_eq (get_by_text known.old) (string_bytes name) (Some now)) }
     ensures err { OnErr result (get_by_text known.new ≡ get_by_text known.old) }

@@ -53,11 +53,20 @@ fn scopes_hide_and_end(rt: HostRuntime) -> Result<(), Fail> {
 static LISTS: [(&[Word], Option<Base>); 12] = [
     (&[Word::Void], Some(Base::Void)),
     (&[Word::Char, Word::Signed], Some(Base::Of(Kind::I8))),
-    (&[Word::Int, Word::Unsigned, Word::Short], Some(Base::Of(Kind::U16))),
+    (
+        &[Word::Int, Word::Unsigned, Word::Short],
+        Some(Base::Of(Kind::U16)),
+    ),
     (&[Word::Const, Word::Signed], Some(Base::Of(Kind::I32))),
     (&[Word::Static, Word::Unsigned], Some(Base::Of(Kind::U32))),
-    (&[Word::Long, Word::Int, Word::Long], Some(Base::Of(Kind::I64))),
-    (&[Word::Long, Word::Unsigned, Word::Long, Word::Int], Some(Base::Of(Kind::U64))),
+    (
+        &[Word::Long, Word::Int, Word::Long],
+        Some(Base::Of(Kind::I64)),
+    ),
+    (
+        &[Word::Long, Word::Unsigned, Word::Long, Word::Int],
+        Some(Base::Of(Kind::U64)),
+    ),
     (&[Word::Long, Word::Long, Word::Long], None),
     (&[Word::Signed, Word::Unsigned], None),
     (&[Word::Const, Word::Int, Word::Const], None),
@@ -81,7 +90,12 @@ fn types_are_named(rt: HostRuntime) -> Result<(), Fail> {
     let plain = Seq::copy_of(rt.alloc(), &[Word::Const, Word::Int])?;
     let kept = Seq::copy_of(rt.alloc(), &[Word::Static, Word::Int])?;
     assert!(rt; says_const(&plain));
-    assert!(rt; matches!(type_named(rt.alloc(), &plain, &one), Some(CType::Pointer(_))));
+    assert!(rt;
+        matches!(
+            type_named(rt.alloc(), &plain, &one),
+            Some(CType::Pointer(_))
+        )
+    );
     assert!(rt; type_named(rt.alloc(), &plain, &two).is_none());
     assert!(rt; type_named(rt.alloc(), &kept, &one).is_none());
     Ok(())

@@ -14,6 +14,6 @@ returns-in_ok-push-in-Takes c =
     on_ok c.push-in-Takes-2.result (c.push-in-Takes-2.new.self ≡ c.end_bytes.new.self.kinds ++ c.in-Takes.kind ∷ [])
     (Adds c.args.self.now (a_growing c.push-in-Takes.new.self c.end_bytes.new.self.bytes c.push-in-Takes-2.new.self) c.args.found) c.push-in-Takes-2.ensures.ok
     (λ taken marks. argument_added c.args.self.now c.args.found marks c.in-Takes.written c.in-Takes.kind c.in-Takes.is
-      c.end_bytes.new.self.pieces c.push-in-Takes.new.self c.end_bytes.new.self.bytes c.end_bytes.new.self.kinds c.push-in-Takes-2.new.self
-      c.in_ok-end_bytes-in-Takes.ensures.pieces c.in_ok-push-in-Takes.ensures.ok c.in_ok-end_bytes-in-Takes.ensures.bytes
-      c.in_ok-end_bytes-in-Takes.ensures.kinds taken)
+    c.end_bytes.new.self.pieces c.push-in-Takes.new.self c.end_bytes.new.self.bytes c.end_bytes.new.self.kinds c.push-in-Takes-2.new.self
+    c.in_ok-end_bytes-in-Takes.ensures.pieces c.in_ok-push-in-Takes.ensures.ok c.in_ok-end_bytes-in-Takes.ensures.bytes
+    c.in_ok-end_bytes-in-Takes.ensures.kinds taken)

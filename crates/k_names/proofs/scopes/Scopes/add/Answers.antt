@@ -24,8 +24,8 @@ invariant_of-self-2 c =
     c.push.ensures.items ∙ (ap (λ b. if b then c.reserve.new.self.items ++ slot ∷ [] else c.reserve.new.self.items) room ∙ ap (λ s. s ++ slot ∷ []) c.reserve.ensures.items) in
     subst (λ slots. IsKept c.self.inside.depth slots (get_by_text c.learn.new.known)) (sym (newest_first old c.push.new.self.items slot items))
     (kept_added (reverse old) known (get_by_text c.learn.new.known) name c.in_ok-hidden.hidden
-      (record { depth = c.self.inside.depth; meaning = c.args.meaning }) (string_bytes key) same c.in_ok-hidden.ensures.before c.in_ok-hidden.ensures.ok
-      c.self.inside.depth c.self.invariant refl)
+    (record { depth = c.self.inside.depth; meaning = c.args.meaning }) (string_bytes key) same c.in_ok-hidden.ensures.before c.in_ok-hidden.ensures.ok
+    c.self.inside.depth c.self.invariant refl)
 
 pub returns-clause-stood : goal.returns-clause-stood
 returns-clause-stood c =
@@ -34,9 +34,9 @@ returns-clause-stood c =
     let slots = reverse c.self.inside.slots.items in
     ap (λ b. b || stands_in library c.args.name.now)
     (c.is_from-stood.ensures
-      ∙ (ap (λ o. from o c.self.inside.depth) (c.in_ok-hidden.ensures.before ∙ ap known c.in-Ok.ensures.second)
-        ∙ (ap (from (known c.args.name.now)) c.self.invariant.counted
-          ∙ (stands_is slots known c.self.invariant.known_all c.args.name.now ∙ ap (λ (names : Names). stands_in (innermost names) c.args.name.now) c.self.view_is))))
+    ∙ (ap (λ o. from o c.self.inside.depth) (c.in_ok-hidden.ensures.before ∙ ap known c.in-Ok.ensures.second)
+    ∙ (ap (from (known c.args.name.now)) c.self.invariant.counted
+    ∙ (stands_is slots known c.self.invariant.known_all c.args.name.now ∙ ap (λ (names : Names). stands_in (innermost names) c.args.name.now) c.self.view_is))))
     ∙ twice_is c.args.self.now c.args.name.now
 
 pub returns-clause-ok : goal.returns-clause-ok
@@ -52,6 +52,6 @@ returns-clause-ok c =
     c.push.ensures.items ∙ (ap (λ b. if b then c.reserve.new.self.items ++ slot ∷ [] else c.reserve.new.self.items) room ∙ ap (λ s. s ++ slot ∷ []) c.reserve.ensures.items) in
     ap (λ slots. names_in slots (get_by_text c.learn.new.known)) (newest_first old c.push.new.self.items slot items)
     ∙ (names_added (reverse old) known (get_by_text c.learn.new.known) name c.in_ok-hidden.hidden
-      (record { depth = c.self.inside.depth; meaning = c.args.meaning }) (string_bytes key) same c.in_ok-hidden.ensures.before c.in_ok-hidden.ensures.ok
-      ∙ (ap (λ x. entered x c.args.meaning (names_in (reverse old) known)) c.in-Ok.ensures.first
-        ∙ ap (entered c.args.name.now c.args.meaning) c.self.view_is))
+    (record { depth = c.self.inside.depth; meaning = c.args.meaning }) (string_bytes key) same c.in_ok-hidden.ensures.before c.in_ok-hidden.ensures.ok
+    ∙ (ap (λ x. entered x c.args.meaning (names_in (reverse old) known)) c.in-Ok.ensures.first
+    ∙ ap (entered c.args.name.now c.args.meaning) c.self.view_is))

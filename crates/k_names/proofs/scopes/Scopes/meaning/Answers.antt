@@ -8,10 +8,10 @@ pub returns-in-Some : goal.returns-in-Some
 returns-in-Some c =
     ap meant c.in-Some.ensures.value
     ∙ (meant_is (reverse c.self.inside.slots.items) (get_by_text c.self.inside.known) c.self.invariant.known_all c.as_str.result.now
-      ∙ (ap (λ names. meaning_of names c.as_str.result.now) c.self.view_is ∙ ap (meaning_of c.args.self.now) c.as_str.ensures))
+    ∙ (ap (λ names. meaning_of names c.as_str.result.now) c.self.view_is ∙ ap (meaning_of c.args.self.now) c.as_str.ensures))
 
 pub returns-in-None : goal.returns-in-None
 returns-in-None c =
     ap meant c.in-None.ensures.value
     ∙ (meant_is (reverse c.self.inside.slots.items) (get_by_text c.self.inside.known) c.self.invariant.known_all c.as_str.result.now
-      ∙ (ap (λ names. meaning_of names c.as_str.result.now) c.self.view_is ∙ ap (meaning_of c.args.self.now) c.as_str.ensures))
+    ∙ (ap (λ names. meaning_of names c.as_str.result.now) c.self.view_is ∙ ap (meaning_of c.args.self.now) c.as_str.ensures))
