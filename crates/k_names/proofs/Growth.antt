@@ -2,7 +2,7 @@
 use Rattle.std.proofs.Common.{◌≡◌, ℕ, List, [], ◌∷◌, ◌++◌, Option, Some, None, refl, sym, ap, ◌∙◌, append_assoc}
 use Rattle.std.proofs.lemmas.List.{append-nil}
 use Rattle.k_num.specs.declared.numbers.Kind.{Kind}
-use Rattle.k_typed.specs.Formats.{Mark, Literal, Takes, byte_before, kinds_taken, mark_before, pieces_of}
+use Rattle.k_typed.specs.Formats.{Mark, byte_before, kinds_taken, mark_before, pieces_of}
 use Rattle.k_typed.specs.declared.tree.expression.Piece.{Piece}
 use Rattle.k_typed.specs.declared.tree.expression.Piece.TheVariants as piece
 use Rattle.k_typed.specs.declared.tree.expression.Written.{Written}

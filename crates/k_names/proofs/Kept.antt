@@ -1,6 +1,6 @@
 -- What is kept of scopes tells what each name means, and where it was declared.
-use Rattle.std.proofs.Common.{◌≡◌, ℕ, ◌+◌, ◌-◌, ◌≤◌, Bool, true, false, cond, List, [], ◌∷◌, ◌++◌, length, Option, Some, None, Result, Ok, Err, IsSome, OnOk, OnErr, is_ok, refl, sym, ap, ◌∙◌, subst, arith, eq-eqb, ne_eqb, reverse}
-use Rattle.std.specs.Prelude.{◌==◌, ◌||◌, is_some, String}
+use Rattle.std.proofs.Common.{◌≡◌, ℕ, ◌+◌, ◌≤◌, Bool, true, false, cond, List, [], ◌∷◌, ◌++◌, length, Option, Some, None, Result, Ok, Err, IsSome, OnOk, OnErr, is_ok, refl, sym, ap, ◌∙◌, subst, arith, eq-eqb, ne_eqb, reverse}
+use Rattle.std.specs.Prelude.{◌||◌, is_some, String}
 use Rattle.std.specs.Cmp.Lexicographic.{same_text, nat_list_eq_equiv}
 use Rattle.std.specs.Map.{update}
 use Rattle.std.specs.Str.{bytes_eq}

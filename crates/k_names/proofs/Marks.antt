@@ -1,12 +1,7 @@
 -- The marks of a text are those that it spells.
-use Rattle.std.proofs.Common.{◌≡◌, ◌⊎◌, inl, inr, ℕ, zero, suc, ◌+◌, ◌<◌, ◌≤◌, Bool, true, false, cond, List, [], ◌∷◌, ◌++◌, length, Option, Some, None, Contains, refl, sym, ap, ◌∙◌, subst, arith, append_assoc, ne_eqb}
-use Rattle.std.specs.Prelude.{◌==◌, ◌&&◌, nat_lt, slice_index_or, if◌then◌else◌}
-use Rattle.std.proofs.lemmas.Bool.{cases_eq}
-use Rattle.k_num.specs.declared.numbers.Kind.{Kind}
-use Rattle.k_num.specs.declared.numbers.Kind.TheVariants.{I32, U32, I64, U64}
-use Rattle.k_typed.specs.declared.tree.expression.Written.{Written}
-use Rattle.k_typed.specs.declared.tree.expression.Written.TheVariants.{Byte, Decimal, Hex}
-use Rattle.k_typed.specs.Formats.{Mark, Literal, Takes, Reading, Outside, Behind, Spells, ends, byte, conversion, conversions, mark_before, mark_ended, marks_from, marks_of, only_alone, takes}
+use Rattle.std.proofs.Common.{◌≡◌, ℕ, zero, suc, ◌<◌, List, [], ◌∷◌, ◌++◌, length, Some, None, refl, ap, ◌∙◌, subst, arith, ne_eqb}
+use Rattle.std.specs.Prelude.{◌==◌, slice_index_or, if◌then◌else◌}
+use Rattle.k_typed.specs.Formats.{Mark, Literal, Outside, Behind, Spells, ends, byte, conversion, conversions, mark_before, marks_from, marks_of}
 
 -- all items have a property
 abbrev AllOf : {A : Type 0} → (A → Type 0) → List A → Type 0
