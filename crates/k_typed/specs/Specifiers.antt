@@ -69,7 +69,7 @@ abbrev pub says_static : List Word → Bool
 says_static specs = nat_le 1 (count_word word.Static specs)
 
 -- the type that specifiers name; none where no list has them, or const stands in them twice
-abbrev pub base_of : List Word → Option Base
+unfoldable pub base_of : List Word → Option Base
 base_of specs = if nat_le (count_word word.Const specs) 1 then base_in lists specs else None
 
 -- C17 6.7.6: the type of a `*` list behind a base, of which const says whether it is const: one `*` behind a kind at most
