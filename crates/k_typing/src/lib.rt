@@ -17,7 +17,7 @@ mod view;
 pub use assignment::assign_rule;
 pub use cast::{cast_to_named, sizeof_named, sizeof_rule};
 pub use constant::{char_rule, number_rule, string_rule};
-pub use conversion::{in_kind, passed};
+pub use conversion::{at, in_kind, passed};
 pub use judged::Judged;
 pub use name::named;
 pub use operator::{binary_rule, comma_rule, cond_rule};
