@@ -1,0 +1,8 @@
+mod Examples
+pub mod Alike
+pub mod Effects
+pub mod Listed
+pub mod Near
+pub mod Operations
+pub mod Sorted
+pub mod Sound

@@ -1,0 +1,7 @@
+pub mod Acts
+pub mod Answers
+pub mod Changes
+pub mod Operands
+pub mod Operations
+pub mod WorldLaws
+pub mod Worlds

@@ -1,0 +1,46 @@
+-- The world that operations act on.
+use Rattle.std.specs.Prelude.{ℕ, ◌≡◌, List, [], length, Option, None}
+use Rattle.k_optab.specs.declared.event.Event.{Event}
+use Rattle.k_mem.specs.Memory.{Memory, live_elements}
+
+-- What has happened so far, and what may still happen: the events; how many operations were made, and how many may still be made; the
+-- current control source; the operations that the cells IN and OUT hold; the input that is left; the output; the live objects, and for
+-- each of their elements, by its number, the operation that gave its value; and how many calls are live, with the sum of their sizes.
+pub record World : Type 0 where
+  pub events : List Event
+  pub made : ℕ
+  pub left : ℕ
+  pub control : Option ℕ
+  pub in_cell : Option ℕ
+  pub out_cell : Option ℕ
+  pub input : List ℕ
+  pub output : List ℕ
+  pub memory : Memory
+  pub origins : List (Option ℕ)
+  pub calls : ℕ
+  pub size : ℕ
+
+-- the world before a program's objects are made: nothing has happened, so many operations may be made, and this is the input
+abbrev pub fresh : ℕ → List ℕ → World
+fresh budget input = record {
+  events = [];
+  made = 0;
+  left = budget;
+  control = None;
+  in_cell = None;
+  out_cell = None;
+  input = input;
+  output = [];
+  memory = record { live = []; made = 0 };
+  origins = [];
+  calls = 0;
+  size = 0;
+}
+
+-- each live element has an entry
+abbrev pub HasOrigins : World → Type 0
+HasOrigins w = length w.origins ≡ live_elements w.memory
+
+-- the world with these events in place of its own
+abbrev pub with_events : List Event → World → World
+with_events events w = record w { events = events }
