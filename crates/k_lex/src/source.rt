@@ -101,6 +101,3 @@ pub fn lex(alloc: Global, bytes: &[u8]) -> Result<Seq<Token>, LexFault>
         Err(Stop::Refused(fault)) => Err(fault_of(fault)),
     }
 }
-
-#[cfg(test)]
-mod tests;

@@ -7,6 +7,7 @@ mod places;
 mod programs;
 mod puts;
 mod refusals;
+mod tokens;
 
 use crate::kremlin;
 use k_edge::{

@@ -1,8 +1,8 @@
 //! Sources and their tokens. What is expected is what C17 and the rules of this profile give.
 
-use super::*;
+use k_lex::lex;
 use k_tree::{Token, TokenKind};
-use std::alloc::AllocError;
+use std::alloc::{AllocError, Global};
 use std::test::Fail;
 
 /// A token in one word: its place, and what it is.
@@ -140,40 +140,5 @@ fn token_lists(rt: HostRuntime) -> Result<(), Fail> {
     for case in &cases {
         assert_eq!(rt; show(rt.alloc(), case.0.as_bytes())?.as_str(), case.1);
     }
-    Ok(())
-}
-
-/// How many tokens a source of `count` times this byte has, behind the text.
-fn count_of(alloc: Global, text: &[u8], count: usize, byte: u8) -> Result<String, Fail> {
-    let mut source = Vec::from_slice(alloc, text)?;
-    for _ in 0..count {
-        source.push(byte)?;
-    }
-    match lex(alloc, source.as_slice()) {
-        Ok(list) => {
-            let count = list.len();
-            Ok(format!(in alloc; "{count}")?)
-        }
-        Err(fault) => Ok(format!(in alloc; "{fault:?}")?),
-    }
-}
-
-#[test]
-fn limits(rt: HostRuntime) -> Result<(), Fail> {
-    let source = b"int main(void){return 0;}";
-    let whole = 1_048_576 - 25;
-    assert_eq!(rt; count_of(rt.alloc(), source, whole, b' ')?.as_str(), "11");
-    assert_eq!(rt;
-        count_of(rt.alloc(), source, whole + 1, b' ')?.as_str(),
-        "SourceLong(Place { line: 1, column: 1 })"
-    );
-    assert_eq!(rt;
-        count_of(rt.alloc(), b"", 400_000, b';')?.as_str(),
-        "400001"
-    );
-    assert_eq!(rt;
-        count_of(rt.alloc(), b"", 400_001, b';')?.as_str(),
-        "TokensMany(Place { line: 1, column: 400001 })"
-    );
     Ok(())
 }
