@@ -7,12 +7,14 @@ pub mod Declarations
 pub mod Dimensions
 pub mod Elaborated
 pub mod Expressions
+pub mod Folds
 pub mod Formats
 pub mod Functions
 pub mod Initialisers
 pub mod Made
 pub mod Names
 pub mod Numbered
+pub mod OneTree
 pub mod Operands
 pub mod Operators
 pub mod Specifiers
