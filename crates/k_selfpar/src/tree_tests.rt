@@ -1,9 +1,9 @@
 //! Worked examples of rows and contexts, over profiles as they are saved.
 ghost use Rattle.std.specs.Prelude.{IfOk};
-ghost use Rattle.k_dict.specs.Profile.{IsSaved};
+ghost use Rattle.k_saved.specs.Profile.{IsSaved};
 
 use crate::{Context, ContextFault, Row, contexts, rows};
-use k_dict::{Saved, read};
+use k_saved::{Saved, read};
 use k_optab::RegionKind;
 use std::alloc::Global;
 use std::fmt::Write;
