@@ -1,16 +1,10 @@
 -- What holds of dictionaries and their trees: the statements of the laws.
-use Rattle.std.specs.Prelude.{ℕ, ◌+◌, ◌<◌, ◌≡◌, List, length, Result, Ok, Err}
+use Rattle.std.specs.Prelude.{ℕ, ◌+◌, ◌<◌, ◌≡◌, List, length}
 use Rattle.k_optab.specs.declared.node.Node.{Node}
 use Rattle.k_dict.specs.Trees.{IsInOrder, Tree, SameShape, list_of}
 use Rattle.k_dict.specs.Dictionary.{IsDictionary}
 use Rattle.k_dict.specs.Entries.{expansion}
-use Rattle.k_dict.specs.Lines.{IsFirstWrong}
-use Rattle.k_dict.specs.Profile.{IsSaved, Reads}
-use Rattle.k_dict.specs.SavedText.{saved_text}
 use Rattle.k_dict.specs.declared.entry.Entry.{Entry}
-use Rattle.k_dict.specs.declared.saved.Saved.{Saved}
-use Rattle.k_dict.specs.declared.saved.SavedFault.{SavedFault}
-use Rattle.k_dict.specs.declared.saved.SavedFault.TheVariants.{NotSaved, Memory}
 
 -- two lists of nodes are equal up to the order of siblings
 abbrev pub AreAlike : List Node → List Node → Type 0
@@ -46,25 +40,3 @@ HaveLikes one other = (n : ℕ) → n < length one → (m : ℕ) × (m < length 
 abbrev pub GatheredAgain : Type 0
 GatheredAgain = (nodes : List Node) (entries : List Entry) (root : ℕ) (list : List Entry) → IsDictionary nodes entries → length entries ≡ root + 1
     → IsDictionary (expansion entries root) list → HaveLikes entries list × HaveLikes list entries
-
--- a text has at most one first wrong line
-abbrev pub FirstWrongIsOne : Type 0
-FirstWrongIsOne = (bytes : List ℕ) (one other : ℕ) → IsFirstWrong bytes one → IsFirstWrong bytes other → one ≡ other
-
--- the file of a profile that can be saved has no wrong line
-abbrev pub NoFileIsWrong : Type 0
-NoFileIsWrong = (v : Saved) (place : ℕ) → IsSaved v → IsFirstWrong (saved_text v) place → ⊥
-
--- two profiles with one file are one
-abbrev pub FileIsOfOne : Type 0
-FileIsOfOne = (v w : Saved) → IsSaved v → IsSaved w → saved_text v ≡ saved_text w → v ≡ w
-
--- this profile was read, unless memory ran out
-abbrev pub ReadsSaved : Saved → Result Saved SavedFault → Type 0
-ReadsSaved v (Ok w) = w ≡ v
-ReadsSaved v (Err (NotSaved place)) = ⊥
-ReadsSaved v (Err Memory) = Unit {0}
-
--- what `read` may answer to the file of a profile is that profile
-abbrev pub ReadOfWrite : Type 0
-ReadOfWrite = (v : Saved) (result : Result Saved SavedFault) → IsSaved v → Reads (saved_text v) result → ReadsSaved v result

@@ -1,15 +1,9 @@
 pub mod Dictionary
 pub mod Entries
 pub mod Expanding
-pub mod Extents
 pub mod Gathering
 pub mod Interning
 pub mod Laws
-pub mod Lines
-pub mod Profile
-pub mod Reading
 pub mod Rules
-pub mod SavedText
-pub mod Syntax
 pub mod Tallies
 pub mod Trees

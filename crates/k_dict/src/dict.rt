@@ -100,7 +100,7 @@ impl Dict {
     }
 
     /// All entries, by their numbers.
-    pub(crate) fn entries(&self) -> &[Entry]
+    pub fn entries(&self) -> &[Entry]
         ensures value { result.now ≡ self.now }
         ensures interned { AreInterned self.now }
     {

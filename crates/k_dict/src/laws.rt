@@ -1,5 +1,5 @@
 //! What holds of dictionaries and the trees that they stand for: each function's contract is a law, and its body does nothing.
-ghost use Rattle.k_dict.specs.Laws.{AlikeBothWays, AlikeGoesOn, DictionaryExists, DictionaryExpands, DictionaryIsUnique, FileIsOfOne, FirstWrongIsOne, GatheredAgain, NoFileIsWrong, ReadOfWrite};
+ghost use Rattle.k_dict.specs.Laws.{AlikeBothWays, AlikeGoesOn, DictionaryExists, DictionaryExpands, DictionaryIsUnique, GatheredAgain};
 
 /// Each tree of instances has one dictionary.
 pub fn one_dictionary()
@@ -21,16 +21,4 @@ pub fn order_of_siblings()
 /// The dictionary of what a dictionary expands to has the same entries, though maybe other numbers for them.
 pub fn gathered_again()
     ensures { GatheredAgain }
-{}
-
-/// The bytes of a file have at most one first wrong line, and the file of a profile that can be saved has none.
-pub fn first_wrong_line()
-    ensures one { FirstWrongIsOne }
-    ensures none { NoFileIsWrong }
-{}
-
-/// What `read` may answer to the file that `write` makes of a profile is that profile, and no two profiles have one file.
-pub fn read_of_write()
-    ensures same { ReadOfWrite }
-    ensures one { FileIsOfOne }
 {}

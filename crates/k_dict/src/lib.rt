@@ -7,9 +7,6 @@ mod entry;
 mod expansion;
 mod gathering;
 pub mod laws;
-mod reading;
-mod saved;
-mod saving;
 mod stack;
 mod tally;
 
@@ -18,9 +15,6 @@ pub use entry::{Entry, Run};
 pub use expansion::{ExpandFault, expand};
 pub use gathering::gather;
 pub use k_optab::Node;
-pub use reading::read;
-pub use saved::{Saved, SavedFault};
-pub use saving::write;
 pub use tally::Tally;
 
 #[cfg(test)]

@@ -3,9 +3,9 @@ ghost use Rattle.std.specs.Prelude.{IsTrue};
 ghost use Rattle.k_dict.specs.Entries.{AreRuns};
 ghost use Rattle.k_dict.specs.Trees.{GoDeeper, IsInOrder};
 
-use crate::{Dict, Entry, ExpandFault, Run, Saved, Tally, expand, gather, write};
-use k_num::{Place, Seq, Text};
-use k_optab::{Node, Region, RegionKind};
+use crate::{Dict, Entry, ExpandFault, Run, Tally, expand, gather};
+use k_num::Seq;
+use k_optab::Node;
 use std::alloc::Global;
 use std::fmt::Write;
 use std::process::Abort;
@@ -177,41 +177,5 @@ fn counts_by_entry(rt: HostRuntime) -> Result<(), Fail> {
     let runs = tally.runs(rt.alloc())?;
     assert_eq!(rt; runs.len(), 1);
     assert_eq!(rt; runs.as_slice()[0].count, 2);
-    Ok(())
-}
-
-/// The regions of the loop's program: kind, line and column.
-static REGIONS: [(RegionKind, u32, u32); 3] = [
-    (RegionKind::Func, 1, 5),
-    (RegionKind::Loop, 1, 30),
-    (RegionKind::Body, 1, 47),
-];
-
-/// The loop's file.
-static FILE: &str =
-    "kremlin 2\nexit 9\nops 47\nregions 3\nfunc main 1:5\nloop main 1:30\nbody main 1:47\nentries 4\n2 2 2\n2 3 3\n1 35 4 0*3 1*3\n0 35 4 2*1\nend\n";
-
-/// The regions of a table.
-fn regions_of(alloc: Global, rows: &[(RegionKind, u32, u32)]) -> Result<Seq<Region>, Fail> {
-    let mut regions = Seq::new(alloc);
-    for row in rows {
-        let (kind, line, column) = *row;
-        let func = Text::copy_of(alloc, "main")?;
-        let place = Place { line, column };
-        regions.push(Region { kind, func, place })?;
-    }
-    Ok(regions)
-}
-
-#[test]
-fn file_of_a_loop(rt: HostRuntime) -> Result<(), Fail> {
-    let saved = Saved {
-        exit: 9,
-        ops: 47,
-        regions: regions_of(rt.alloc(), &REGIONS)?,
-        dict: gathered(&rt, rt.alloc(), &ODD_SUM)?,
-    };
-    let text = write(rt.alloc(), &saved)?;
-    assert!(rt; text.as_slice() == FILE.as_bytes());
     Ok(())
 }

@@ -21,3 +21,5 @@ pub use tree_rows::rows;
 
 #[cfg(test)]
 mod tests;
+#[cfg(test)]
+mod tree_tests;

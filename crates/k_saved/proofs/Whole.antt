@@ -1,0 +1,151 @@
+-- A whole file: what its parts tell together.
+use Rattle.std.proofs.Common.{◌≡◌, ◌≢◌, ◌↔◌, ◌==◌, Bool, true, false, IsTrue, suc, ℕ, ℤ, ◌+◌, ◌<◌, ◌≤◌, ◌⊎◌, inl, inr, List, [], ◌∷◌, ◌++◌, length, Option, Some, None, Result, Ok, Err, refl, sym, ap, ◌∙◌, subst, append_assoc, arith, ne_eqb}
+use Rattle.std.specs.Prelude.{codes, IfOk}
+use Rattle.std.proofs.lemmas.Bool.{false≢true}
+use Rattle.std.proofs.lemmas.Option.{none-some, same_Some}
+use Rattle.k_scan.specs.Pieces.{word_at}
+use Rattle.k_scan.proofs.Front.{word_again, word_takes}
+use Rattle.std.specs.List.{flat_map}
+use Rattle.std.specs.Fmt.{decimal}
+use Rattle.k_optab.specs.declared.region.Region.{Region}
+use Rattle.k_saved.specs.Lines.{Follows, GoesWrong, InEntries, InRegions, IsClosed, IsCountLine, IsEntryLine, IsRegionLine, IsWhole, IsWrong, Leads, MayEnd, Opened, Stage, last_of}
+use Rattle.k_saved.specs.Profile.{AreRegions, IsSaved}
+use Rattle.k_saved.specs.Reading.{AllEntries, AllRegions, Ends, Finishes, FoundCount, HasHead, ReadsAll}
+use Rattle.k_dict.specs.Rules.{AreProfile}
+use Rattle.k_saved.specs.SavedText.{entry_line, head_text, named_line, region_line, saved_text}
+use Rattle.k_dict.specs.declared.entry.Entry.{Entry}
+use Rattle.k_saved.specs.declared.reading.stop.Halt.{Halt}
+use Rattle.k_saved.specs.declared.reading.stop.Halt.TheVariants as halts
+use Rattle.k_saved.specs.declared.saved.Saved.{Saved}
+use Rattle.k_saved.proofs.HeadSteps.{first_line}
+use Rattle.k_saved.proofs.Leading.{leads_once, leads_through, wrong_behind, wrong_here}
+use Rattle.k_saved.proofs.RegionSteps.{linked_paired}
+
+-- what a call tells of one fact it tells of two, where the other holds
+pub both_hold : (A B : Type 0) {E : Type 0} (r : Result Bool E) → B → IfOk r (λ t. IsTrue t ↔ A) → IfOk r (λ t. IsTrue t ↔ (B × A))
+both_hold A B (Ok t) here tells = (λ h. (here, tells.0 h), λ both. tells.1 both.1)
+both_hold A B (Err e) here tells = tells
+
+-- and of three
+pub all_hold : (A B C : Type 0) {E : Type 0} (r : Result Bool E) → C → IfOk r (λ t. IsTrue t ↔ (B × A)) → IfOk r (λ t. IsTrue t ↔ (C × B × A))
+all_hold A B C (Ok t) here tells = (λ h. let both = tells.0 h in (here, both.0, both.1), λ all. tells.1 (all.1, all.2))
+all_hold A B C (Err e) here tells = tells
+
+-- the last line is not there
+pub no_end_here : (text : List ℕ) → word_at (codes "end\n") text ≡ None → text ≡ codes "end\n" → ⊥
+no_end_here text none is =
+    let nothing : List ℕ = [] in none-some nothing (sym none ∙ ap (word_at (codes "end\n")) is ∙ word_again (codes "end\n") [])
+
+-- the last line is all that is there, where nothing stands behind it
+pub end_alone : (text behind : List ℕ) (empty : Bool) → word_at (codes "end\n") text ≡ Some behind → empty ≡ (length behind == 0) → IsTrue empty ↔ (text ≡ codes "end\n")
+end_alone text [] empty found is = (λ h. word_takes (codes "end\n") text [] found, λ h. is)
+end_alone text (b ∷ behind) empty found is = (
+  λ h. absurd (false≢true (sym (is ∙ ne_eqb (suc (length behind)) 0 (λ e. absurd (omega arith))) ∙ h)),
+  λ h. absurd (other (same_Some (b ∷ behind) [] (sym found ∙ ap (word_at (codes "end\n")) h ∙ word_again (codes "end\n") []))),
+)
+  where
+    other : ◌≡◌ {A = List ℕ} (b ∷ behind) [] → ⊥
+    other same = let long : suc (length behind) ≡ 0 = ap length same in absurd (omega arith)
+
+-- the lines of a head
+abbrev pub head_lines : ℤ → ℕ → ℕ → List ℕ
+head_lines exit ops count = head_text first_line exit ops ++ named_line (codes "regions ") (decimal count)
+
+abbrev pub count_line : ℕ → List ℕ
+count_line number = named_line (codes "entries ") (decimal number)
+
+module _ (exit : ℤ) (ops count : ℕ) (text region_text : List ℕ) (head : HasHead exit ops count text region_text) where
+  -- wrong behind the head
+  pub wrong_in_regions : (left : ℕ) → GoesWrong (InRegions count []) region_text left → GoesWrong Opened text left
+  wrong_in_regions left wrong = wrong_behind Opened (head_lines exit ops count) (InRegions count []) text region_text left head.leads head.cut wrong
+
+  module _ (list : List Region) (count_text : List ℕ) (all : AllRegions count region_text (Ok (list, count_text))) where
+    -- wrong behind the regions
+    pub wrong_past_regions : (left : ℕ) → GoesWrong (InRegions count list) count_text left → GoesWrong Opened text left
+    wrong_past_regions left wrong =
+        wrong_in_regions left (wrong_behind (InRegions count []) (flat_map region_line list) (InRegions count list) region_text count_text left all.2 all.0 wrong)
+
+    -- no right number of entries stands there
+    pub wrong_at_count : FoundCount list count_text None → GoesWrong Opened text (length count_text)
+    wrong_at_count none = wrong_past_regions (length count_text) (wrong_here (InRegions count list) count_text (record { no_line = at; no_end = λ whole is. whole }))
+      where
+        at : (line later : List ℕ) (next : Stage) → Follows (InRegions count list) line next → count_text ≢ line ++ later
+        at line later next (inl one) is = let few = one.few in let same = all.1 in absurd (omega arith)
+        at line later next (inr other) is = none other.entries later other.closed other.some other.few (is ∙ ap (λ l. l ++ later) other.line_is)
+
+    module _ (number : ℕ) (entry_text : List ℕ) (found : FoundCount list count_text (Some (number, entry_text))) where
+      count_leads : Leads (InRegions count list) (count_line number) (InEntries list number [])
+      count_leads = leads_once (InRegions count list) (count_line number) (InEntries list number [])
+          (inr (record { entries = number; all = all.1; closed = found.0; some = found.1; few = found.2; line_is = refl; next_is = refl }))
+
+      -- wrong among the entries
+      pub wrong_in_entries : (left : ℕ) → GoesWrong (InEntries list number []) entry_text left → GoesWrong Opened text left
+      wrong_in_entries left wrong =
+          wrong_past_regions left (wrong_behind (InRegions count list) (count_line number) (InEntries list number []) count_text entry_text left count_leads found.3 wrong)
+
+      module _ (dict : List Entry) (end : List ℕ) (these : AllEntries list number entry_text (Ok (dict, end))) where
+        -- no end stands there that may
+        pub wrong_at_end : ¬ Ends list dict end → GoesWrong Opened text (length end)
+        wrong_at_end not_ended =
+            wrong_in_entries (length end) (wrong_behind (InEntries list number []) (flat_map entry_line dict) (InEntries list number dict) entry_text end (length end)
+            these.2 these.0 (wrong_here (InEntries list number dict) end (record { no_line = at; no_end = λ whole is. not_ended (is, whole.main, whole.named) })))
+          where
+            at : (line later : List ℕ) (next : Stage) → Follows (InEntries list number dict) line next → end ≢ line ++ later
+            at line later next one is = let few = one.few in let same = these.1 in absurd (omega arith)
+
+        -- the profile
+        abbrev pub the_saved : Saved
+        the_saved = record { exit = exit; ops = ops; regions = list; dict = dict }
+
+        -- the bytes are its text
+        pub text_is : end ≡ codes "end\n" → text ≡ saved_text the_saved
+        text_is ended =
+            head.cut ∙ ap (λ l. head_lines exit ops count ++ l) (all.0 ∙ ap (λ l. flat_map region_line list ++ l) (found.3 ∙ ap (λ l. count_line number ++ l)
+            (these.0 ∙ ap (λ l. flat_map entry_line dict ++ l) ended)))
+            ∙ (λ i. head_lines exit ops (sym all.1 i) ++ (flat_map region_line list ++ (count_line (sym these.1 i) ++ (flat_map entry_line dict ++ codes "end\n"))))
+            ∙ regroup (head_text first_line exit ops) (named_line (codes "regions ") (decimal (length list))) (flat_map region_line list) (count_line (length dict))
+            (flat_map entry_line dict) (codes "end\n")
+          where
+            regroup : (a b c d e f : List ℕ) → (a ++ b) ++ (c ++ (d ++ (e ++ f))) ≡ ((a ++ (b ++ c)) ++ (d ++ e)) ++ f
+            regroup a b c d e f = simp append_assoc
+
+        -- and it meets the rules
+        pub is_saved : Ends list dict end → IsSaved the_saved
+        is_saved ends = record {
+          exit = head.exit_fits;
+          ops = head.few_ops;
+          regions = record {
+            some = let same = all.1 in let some = head.some in omega arith;
+            few = let same = all.1 in let few = head.few in omega arith;
+            each = all.3;
+            paired = linked_paired None list all.4 found.0;
+          };
+          profile = record {
+            some = let same = these.1 in let some = found.1 in omega arith;
+            interned = these.4;
+            numbers = these.3.numbers;
+            levels = these.3.levels;
+            instances = these.3.instances;
+          };
+          in_list = these.3.in_list;
+          main = ends.1;
+          named = ends.2;
+        }
+
+        -- how the reading of a file finishes
+        pub finished : (result : Result Saved Halt) → Finishes exit ops list dict end result → ReadsAll text result
+        finished (Ok saved) ends =
+            let P : Saved → Type 0 = λ v. IsSaved v × (text ≡ saved_text v) in
+            subst P (sym ends.1) (is_saved ends.0, text_is ends.0.0)
+        finished (Err (halts.Wrong left)) ends = let P : ℕ → Type 0 = GoesWrong Opened text in subst P (sym ends.1) (wrong_at_end ends.0)
+        finished (Err halts.Memory) ends = tt
+
+      -- what a refusal among the entries says
+      pub refused_entries : (halt : Halt) → AllEntries list number entry_text (Err halt) → ReadsAll text (Err halt)
+      refused_entries (halts.Wrong left) wrong = wrong_in_entries left wrong
+      refused_entries halts.Memory wrong = tt
+
+  -- what a refusal among the regions says
+  pub refused_regions : (halt : Halt) → AllRegions count region_text (Err halt) → ReadsAll text (Err halt)
+  refused_regions (halts.Wrong left) wrong = wrong_in_regions left wrong
+  refused_regions halts.Memory wrong = tt

@@ -1,0 +1,26 @@
+//! A profile as it is saved.
+
+use k_dict::Dict;
+use k_num::Seq;
+use k_optab::Region;
+
+/// A run's end and the number of its operations, the program's regions, and the dictionary of its instances, the root's entry
+/// last.
+#[derive(Drop)]
+pub struct Saved {
+    /// What main returned.
+    pub exit: i32,
+    /// How many operations were made.
+    pub ops: u64,
+    pub regions: Seq<Region>,
+    pub dict: Dict,
+}
+
+/// Why no profile is read.
+#[derive(Clone, Copy, Debug, PartialEq, Eq)]
+pub enum SavedFault {
+    /// The bytes spell no saved profile: the first wrong line starts at this byte, counted from 0.
+    NotSaved(u64),
+    /// No memory was found.
+    Memory,
+}
