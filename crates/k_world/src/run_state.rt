@@ -19,6 +19,7 @@ use k_num::Place;
 use std::alloc::Global;
 use std::marker::Model;
 
+mod counts;
 mod objects;
 
 /// A running program's state, which contracts see as a world without events.
