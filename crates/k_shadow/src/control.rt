@@ -171,6 +171,15 @@ impl Control {
         let entry = &self.current;
         let live = self.versions.live();
         let (left_stamp, right_stamp, stamp) = (left.stamp, right.stamp, entry.stamp);
+        if numbers.len() == 1 {
+            // One level needs no loop, whose setup takes longer than its work.
+            let number = numbers[0];
+            let before = time_since(number, left_stamp, left.times[0], steps);
+            let beside = time_since(number, right_stamp, right.times[0], steps);
+            let under = time_since(live[0], stamp, entry.times[0], steps);
+            times[0] = before.max(beside).max(under).wrapping_add(latency);
+            return;
+        }
         for (level, number) in numbers.iter().enumerate() {
             let before = time_since(*number, left_stamp, left.times[level], steps);
             let beside = time_since(*number, right_stamp, right.times[level], steps);

@@ -28,8 +28,8 @@ loop-level-preserved g c =
     let live = c.live-live.result.now in
     let within : j.level < length j.times = omega (arith, c.requires.each) in
     record {
-      done = one_more (λ k. time_after (row_time c.args.left.now (get_or numbers k 0) k) (row_time c.args.right.now (get_or numbers k 0) k) (row_time c.self.inside.current (get_or live k 0) k) c.args.latency) j.times j.level _ within j.invariant.done (cc (c.time_since-before.ensures.time, c.time_since-beside.ensures.time, c.time_since-under.ensures.time, c.max.ensures, c.max-in-loop-level.ensures));
-      steps = omega (arith, j.invariant.steps, c.time_since-before.ensures.step, c.time_since-beside.ensures.step, c.time_since-under.ensures.step);
+      done = one_more (λ k. time_after (row_time c.args.left.now (get_or numbers k 0) k) (row_time c.args.right.now (get_or numbers k 0) k) (row_time c.self.inside.current (get_or live k 0) k) c.args.latency) j.times j.level _ within j.invariant.done (cc (c.time_since-before-in-loop-level.ensures.time, c.time_since-beside-in-loop-level.ensures.time, c.time_since-under-in-loop-level.ensures.time, c.max-in-loop-level.ensures, c.max-in-loop-level-2.ensures));
+      steps = omega (arith, j.invariant.steps, c.time_since-before-in-loop-level.ensures.step, c.time_since-beside-in-loop-level.ensures.step, c.time_since-under-in-loop-level.ensures.step);
     }
 
 -- the entry's row has the current entry's times
