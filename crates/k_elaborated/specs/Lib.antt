@@ -1,0 +1,5 @@
+pub mod Declarators
+pub mod Functions
+pub mod Laws
+pub mod Statements
+pub mod Units
