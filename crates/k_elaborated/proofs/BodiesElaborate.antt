@@ -1,11 +1,11 @@
 -- Judging statements and the relation of their typed trees agree.
-use Rattle.std.proofs.Common.{◌≡◌, sym, ◌∙◌, ap, subst, List, map}
+use Rattle.std.proofs.Common.{◌≡◌, sym, ◌∙◌, ap, subst, List}
 use Rattle.k_tree.specs.declared.tree.statement.Stmt.{Stmt}
 use Rattle.k_typed.specs.declared.tree.statement.TStmt.{TStmt}
 use Rattle.k_typed.specs.Made.{Fine}
-use Rattle.k_typed.specs.Statements.{Around, Known, Judged, judge_stmt, judge_body}
+use Rattle.k_typed.specs.Statements.{Around, Known, judge_body}
 use Rattle.k_typed.proofs.Elaborates.{fine_is}
-use Rattle.k_elaborated.specs.Laws.{ComesTo, StatementsElaborate, BodiesElaborate, StatementHasOneTree}
+use Rattle.k_elaborated.specs.Laws.{StatementsElaborate, BodiesElaborate, StatementHasOneTree}
 use Rattle.k_elaborated.specs.Statements.{ElabStmt, ElabStmts}
 use Rattle.k_elaborated.proofs.CompleteStatements.{stmt_complete, stmts_complete}
 use Rattle.k_elaborated.proofs.Faultless.{comes}

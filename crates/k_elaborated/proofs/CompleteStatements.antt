@@ -1,5 +1,5 @@
 -- What a statement means by the relation, judging makes of it without a fault.
-use Rattle.std.proofs.Common.{◌≡◌, refl, ◌∙◌, ap, ℤ, Bool, true, false, ◌||◌, if◌then◌else◌, List, [], ◌∷◌, map, Option, Some, None}
+use Rattle.std.proofs.Common.{◌≡◌, refl, ◌∙◌, ap, ℤ, true, false, if◌then◌else◌, List, map, Option, Some, None}
 use Rattle.k_num.specs.declared.numbers.Kind.{Kind}
 use Rattle.k_num.specs.declared.place.Place.{Place}
 use Rattle.k_num.specs.Kind.{converted, promoted}
@@ -12,7 +12,6 @@ use Rattle.k_tree.specs.declared.tree.statement.Part.{Part}
 use Rattle.k_tree.specs.declared.tree.statement.Stmt.{Stmt}
 use Rattle.k_tree.specs.Folds.{stmt_Expr, stmt_Empty, stmt_Block, if_alone as if_alone_folds, if_else as if_else_folds, stmt_While, stmt_DoWhile, stmt_For, stmt_Switch, part_Case, part_Default, part_Does, stmt_Break, stmt_Continue, stmt_Return, stmt_Declare}
 use Rattle.k_typed.specs.declared.fault.TypeFault.TheVariants as fault
-use Rattle.k_typed.specs.declared.types.CType.{CType}
 use Rattle.k_typed.specs.declared.types.CType.TheVariants as ctype
 use Rattle.k_typed.specs.declared.tree.declaration.TDeclarator.{TDeclarator}
 use Rattle.k_typed.specs.declared.tree.expression.TExpr.{TExpr}
@@ -24,10 +23,10 @@ use Rattle.k_typed.specs.declared.tree.statement.TStmt.{TStmt}
 use Rattle.k_typed.specs.declared.tree.statement.TStmt.TheVariants as typed
 use Rattle.k_typed.specs.Constants.{constant}
 use Rattle.k_typed.specs.Conversions.{Typed, in_kind, passed}
-use Rattle.k_typed.specs.Declarations.{Saying, saying}
+use Rattle.k_typed.specs.Declarations.{saying}
 use Rattle.k_typed.specs.Expressions.{judge}
-use Rattle.k_typed.specs.Made.{Made, Fine, then_made, refused}
-use Rattle.k_typed.specs.Statements.{Known, Around, Labels, Judged, JudgedPart, Statement, SwitchPart, no_labels, spot, opened, left, inside_loop, inside_switch, is_among, judged_as, judged_before, part_before, behind, at_known, conditioned, in_order, each_in, parts_in_order, kind_or_int, promoted_or_int, option_judged, option_tree, first_judged, for_condition, for_judged, for_body, for_parts, for_behind, if_judged, else_judged, while_judged, do_judged, switch_judged, switched, returned, return_nothing, case_made, case_labels, constant_labels, does_judged, expr_rule, empty_rule, block_rule, if_rule, while_rule, do_rule, for_rule, switch_rule, break_rule, continue_rule, return_rule, declare_rule, case_rule, default_rule, does_rule, stmt_step, part_step, judge_stmt}
+use Rattle.k_typed.specs.Made.{Fine, then_made, refused}
+use Rattle.k_typed.specs.Statements.{Known, Around, Labels, JudgedPart, Statement, SwitchPart, no_labels, spot, opened, left, inside_loop, inside_switch, is_among, judged_as, judged_before, part_before, behind, at_known, conditioned, in_order, each_in, parts_in_order, kind_or_int, promoted_or_int, option_judged, option_tree, first_judged, for_condition, for_judged, for_body, for_parts, for_behind, if_judged, else_judged, while_judged, do_judged, switch_judged, switched, returned, return_nothing, case_made, case_labels, constant_labels, does_judged, expr_rule, empty_rule, block_rule, if_rule, while_rule, do_rule, for_rule, switch_rule, break_rule, continue_rule, return_rule, declare_rule, case_rule, default_rule, does_rule, stmt_step, part_step, judge_stmt}
 use Rattle.k_typed.specs.Types.{number_kind}
 use Rattle.k_typed.proofs.Elaborates.{complete}
 use Rattle.k_elaborated.specs.Declarators.{ElabDeclared}

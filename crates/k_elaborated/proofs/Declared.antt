@@ -1,5 +1,5 @@
 -- Judging declarators and the relation of what they declare agree.
-use Rattle.std.proofs.Common.{◌≡◌, refl, sym, ◌∙◌, ap, subst, ℕ, Bool, true, false, if◌then◌else◌, List, [], ◌∷◌, ◌++◌, length, Option, Some, None}
+use Rattle.std.proofs.Common.{◌≡◌, refl, sym, ◌∙◌, ap, subst, ℕ, Bool, true, false, List, [], ◌∷◌, ◌++◌, length, Option, Some, None}
 use Rattle.k_num.specs.declared.place.Place.{Place}
 use Rattle.k_tree.specs.declared.tree.declaration.Declarator.{Declarator}
 use Rattle.k_typed.specs.declared.fault.TypeFault.TheVariants as fault
@@ -8,12 +8,12 @@ use Rattle.k_typed.specs.declared.tree.declaration.TInit.{TInit}
 use Rattle.k_typed.specs.declared.types.CType.{CType}
 use Rattle.k_typed.specs.Declarations.{Object, Saying, is_twice, has_type, declared_type, object_fixed, as_meaning, entered, begun_object, object_made, declarator_judged, names_behind, type_or_int}
 use Rattle.k_typed.specs.Dimensions.{Sizes, dimensions}
-use Rattle.k_typed.specs.Initialisers.{Beginning, begun}
-use Rattle.k_typed.specs.Made.{Made, Fine, both, then_made}
+use Rattle.k_typed.specs.Initialisers.{begun}
+use Rattle.k_typed.specs.Made.{Fine, then_made}
 use Rattle.k_typed.specs.Names.{Names}
-use Rattle.k_typed.specs.Statements.{Known, Judged, declare, declared, declare_all, object_taken, judged_before}
+use Rattle.k_typed.specs.Statements.{Known, declare, declare_all, object_taken, judged_before}
 use Rattle.k_typed.proofs.Elaborates.{not_made, both_fine, one_fine, fine_is}
-use Rattle.k_elaborated.specs.Declarators.{ElabObject, ElabDeclared, object, none_declared, more_declared, names_within, declares, variable_tree, with_variable}
+use Rattle.k_elaborated.specs.Declarators.{ElabObject, ElabDeclared, object, none_declared, more_declared, names_within, variable_tree, with_variable}
 use Rattle.k_elaborated.proofs.Faultless.{comes, both_is}
 
 -- the object of a declarator without faults

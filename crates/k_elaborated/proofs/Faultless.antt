@@ -1,9 +1,9 @@
 -- Parts of which something is made without a fault are made without one.
-use Rattle.std.proofs.Common.{◌≡◌, refl, sym, ◌∙◌, ap, [], Option, Some, None}
+use Rattle.std.proofs.Common.{◌≡◌, refl, ◌∙◌, [], Option, Some, None}
 use Rattle.k_num.specs.declared.numbers.Kind.{Kind}
 use Rattle.k_num.specs.declared.place.Place.{Place}
 use Rattle.k_typed.specs.declared.fault.TypeFault.TheVariants as fault
-use Rattle.k_typed.specs.Made.{Made, Fine, Faulty, both, two, four}
+use Rattle.k_typed.specs.Made.{Made, Fine, both, two, four}
 use Rattle.k_typed.specs.Statements.{Judged, Known, conditioned}
 use Rattle.k_typed.proofs.Elaborates.{not_made, both_fine, fine_is}
 

@@ -9,17 +9,16 @@ use Rattle.k_typed.specs.declared.fault.TypeFault.TheVariants as fault
 use Rattle.k_typed.specs.declared.names.Meaning.{Meaning}
 use Rattle.k_typed.specs.declared.names.Meaning.TheVariants as meaning
 use Rattle.k_typed.specs.declared.names.Signature.{Signature}
-use Rattle.k_typed.specs.declared.tree.statement.TStmt.{TStmt}
 use Rattle.k_typed.specs.declared.tree.unit.TFunc.{TFunc}
 use Rattle.k_typed.specs.declared.types.CType.{CType}
 use Rattle.k_typed.specs.Declarations.{type_or_int}
 use Rattle.k_typed.specs.Dimensions.{dimensions, param_sizes}
 use Rattle.k_typed.specs.Functions.{same_signature, type_of_param, option_twice, name_or_nothing, sized_param, param_made, behind_param, param_judged, params_in_order, params_of, within_function, head_params, result_type, signature, function_fault, function_made, meaning_here, prototype_judged, function_tree, in_function, function_body, body_judged, defined_with, function_judged}
-use Rattle.k_typed.specs.Made.{Made, Fine, both, then_made, refused}
+use Rattle.k_typed.specs.Made.{Made, Fine, then_made, refused}
 use Rattle.k_typed.specs.Names.{Names}
-use Rattle.k_typed.specs.Statements.{Around, Known, Judged, judged_before, judge_body}
+use Rattle.k_typed.specs.Statements.{Known, judged_before, judge_body}
 use Rattle.k_typed.proofs.Elaborates.{not_made, both_fine, one_fine, fine_is}
-use Rattle.k_elaborated.specs.Functions.{ElabParam, ElabParams, MayDeclare, Declares, ElabPrototype, ElabFunction, param, no_params, more_params, first_declared, declared_alike, prototype, definition, param_has_type, param_named, within, known_to_body}
+use Rattle.k_elaborated.specs.Functions.{ElabParam, ElabParams, MayDeclare, ElabPrototype, ElabFunction, param, no_params, more_params, first_declared, declared_alike, prototype, definition, param_has_type, param_named, within, known_to_body}
 use Rattle.k_elaborated.specs.Statements.{ElabStmts}
 use Rattle.k_elaborated.proofs.BodiesElaborate.{body_sound, body_complete}
 use Rattle.k_elaborated.proofs.Faultless.{comes, judged}

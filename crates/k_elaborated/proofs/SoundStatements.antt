@@ -17,7 +17,6 @@ use Rattle.k_typed.specs.declared.fault.TypeFault.{TypeFault}
 use Rattle.k_typed.specs.declared.fault.TypeFault.TheVariants as fault
 use Rattle.k_typed.specs.declared.types.CType.{CType}
 use Rattle.k_typed.specs.declared.types.CType.TheVariants as ctype
-use Rattle.k_typed.specs.declared.tree.declaration.TDeclarator.{TDeclarator}
 use Rattle.k_typed.specs.declared.tree.expression.TExpr.{TExpr}
 use Rattle.k_typed.specs.declared.tree.statement.TFirst.{TFirst}
 use Rattle.k_typed.specs.declared.tree.statement.TFirst.TheVariants as typed_first
@@ -27,10 +26,10 @@ use Rattle.k_typed.specs.declared.tree.statement.TStmt.{TStmt}
 use Rattle.k_typed.specs.declared.tree.statement.TStmt.TheVariants as typed
 use Rattle.k_typed.specs.Constants.{constant}
 use Rattle.k_typed.specs.Conversions.{Typed, in_kind, passed}
-use Rattle.k_typed.specs.Declarations.{Saying, saying}
+use Rattle.k_typed.specs.Declarations.{saying}
 use Rattle.k_typed.specs.Expressions.{judge}
-use Rattle.k_typed.specs.Made.{Made, Fine, Faulty, both, then_made, refused}
-use Rattle.k_typed.specs.Statements.{Known, Around, Labels, Judged, Statement, SwitchPart, no_labels, spot, opened, inside_loop, inside_switch, is_among, declare_all, behind, condition, in_order, each_in, parts_in_order, kind_or_int, promoted_or_int, option_judged, option_tree, first_judged, for_made, for_condition, if_made, switched, returned, return_nothing, case_made, case_labels, constant_labels, expr_rule, empty_rule, block_rule, if_rule, while_rule, do_rule, for_rule, switch_rule, break_rule, continue_rule, return_rule, declare_rule, case_rule, default_rule, does_rule, stmt_step, part_step, judge_stmt}
+use Rattle.k_typed.specs.Made.{Made, Fine, then_made, refused}
+use Rattle.k_typed.specs.Statements.{Known, Around, Labels, Statement, SwitchPart, no_labels, spot, opened, inside_loop, inside_switch, is_among, declare_all, behind, condition, in_order, each_in, parts_in_order, kind_or_int, promoted_or_int, option_judged, option_tree, first_judged, for_made, for_condition, if_made, switched, returned, return_nothing, case_made, case_labels, constant_labels, expr_rule, empty_rule, block_rule, if_rule, while_rule, do_rule, for_rule, switch_rule, break_rule, continue_rule, return_rule, declare_rule, case_rule, default_rule, does_rule, stmt_step, part_step, judge_stmt}
 use Rattle.k_typed.specs.Types.{number_kind}
 use Rattle.k_typed.proofs.Elaborates.{not_made, both_fine, one_fine, three_fine, fine_is, sound}
 use Rattle.k_elaborated.specs.Statements.{ElabStmt, ElabStmts, ElabPart, ElabParts, ElabFirst, ElabTest, ElabStep, nothing_first, value_first, declared_first, no_test, tested, no_step, stepped, expression, empty, block, if_alone, if_else, while_loop, do_loop, for_loop, switch_on, break_within, continue_within, return_none, return_value, declaration, no_stmts, more_stmts, case_label, default_label, does, no_parts, more_parts, taking, leaving, with_case, with_default}

@@ -13,13 +13,13 @@ use Rattle.k_typed.specs.Bare.{IsTyped}
 use Rattle.k_typed.specs.Called.{Called, calls_of_unit}
 use Rattle.k_typed.specs.Declarations.{Object, Saying, saying, declarator_judged}
 use Rattle.k_typed.specs.Functions.{prototype_judged, function_judged}
-use Rattle.k_typed.specs.Made.{Made, Fine, both, then_made, faults_of}
+use Rattle.k_typed.specs.Made.{Made, Fine, then_made, faults_of}
 use Rattle.k_typed.specs.Names.{meaning_in, library}
 use Rattle.k_typed.specs.Units.{FileKnown, Parts, Placed, nothing_known, no_parts, parts_of_both, object_part, object_placed, placed_before, objects_placed, is_name, item_placed, items_placed, defined_by, undefined_call, has_main, main_faults, all_faults, unit_placed, call_faults, faults}
 use Rattle.k_typed.proofs.Elaborates.{both_fine, one_fine, fine_is}
 use Rattle.k_elaborated.specs.Declarators.{ElabObject}
 use Rattle.k_elaborated.specs.Laws.{SourceMeansOne, SourcesElaborate, TypedTreesElaborate, TypedItemsElaborate, MeansTree, ItemsMeanTree}
-use Rattle.k_elaborated.specs.Units.{ElabObjects, ElabItem, ElabItems, ElabUnit, IsDefined, no_objects, more_objects, function, prototype_alone, objects, no_items, more_items, whole, object_tree, with_object, with_prototype, with_function, object_before, parts_then, function_alone}
+use Rattle.k_elaborated.specs.Units.{ElabObjects, ElabItem, ElabItems, ElabUnit, IsDefined, no_objects, more_objects, function, prototype_alone, objects, no_items, more_items, whole, object_tree, with_object, with_prototype, with_function, parts_then, function_alone}
 use Rattle.k_elaborated.proofs.Declared.{object_sound, object_complete, names_are}
 use Rattle.k_elaborated.proofs.FunctionsElaborate.{prototype_sound, prototype_complete, function_sound, definition_complete}
 

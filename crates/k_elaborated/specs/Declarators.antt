@@ -1,5 +1,5 @@
 -- *Typing* of declarators as a relation: what a declarator declares (C17 6.7).
-use Rattle.std.specs.Prelude.{◌≡◌, ℕ, Bool, true, false, List, [], ◌∷◌, ◌++◌, length, Option, Some}
+use Rattle.std.specs.Prelude.{◌≡◌, ℕ, Bool, true, false, List, [], ◌∷◌, ◌++◌, length, Some}
 use Rattle.k_tree.specs.declared.tree.declaration.Declarator.{Declarator}
 use Rattle.k_typed.specs.declared.names.Meaning.TheVariants as meaning
 use Rattle.k_typed.specs.declared.tree.declaration.TDeclarator.{TDeclarator}
