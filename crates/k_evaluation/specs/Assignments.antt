@@ -1,5 +1,5 @@
 -- The rows of assignments: `=`, the compound forms, `++` and `--` (C17 6.5.2.4, 6.5.3.1, 6.5.16).
-use Rattle.std.specs.Prelude.{ℕ, Bool, true, false, if◌then◌else◌, pos, List, [], ◌∷◌, Option, Some, None}
+use Rattle.std.specs.Prelude.{Bool, true, false, if◌then◌else◌, pos, [], ◌∷◌, Option, Some, None}
 use Rattle.k_num.specs.declared.place.Place.{Place}
 use Rattle.k_num.specs.declared.numbers.Kind.{Kind}
 use Rattle.k_num.specs.declared.numbers.Bin.{Bin}

@@ -1,5 +1,5 @@
 -- What a statement does, and how statements follow one another (C17 6.8).
-use Rattle.std.specs.Prelude.{ℕ, false, List, [], ◌∷◌, Option, true}
+use Rattle.std.specs.Prelude.{ℕ, false, List, [], ◌∷◌, true}
 use Rattle.k_num.specs.declared.place.Place.{Place}
 use Rattle.k_typed.specs.declared.tree.expression.TExpr.{TExpr}
 use Rattle.k_typed.specs.declared.tree.unit.TVariable.{TVariable}

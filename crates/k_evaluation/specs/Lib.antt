@@ -4,6 +4,7 @@ pub mod Declarations
 pub mod Expressions
 pub mod Flows
 pub mod Jumps
+pub mod Laws
 pub mod Library
 pub mod Loops
 pub mod Meanings

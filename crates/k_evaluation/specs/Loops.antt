@@ -11,7 +11,7 @@ use Rattle.k_world.specs.declared.value.Value.TheVariants as value
 use Rattle.k_evaluation.specs.declared.operand.Operand.TheVariants.{Constant}
 use Rattle.k_evaluation.specs.declared.flow.Flow.{Flow}
 use Rattle.k_evaluation.specs.declared.flow.Flow.TheVariants.{Normal, Broke, Continued, Returned}
-use Rattle.k_evaluation.specs.States.{Goes, Stops, Part, ◌>>=◌, gives, region, controls, settles, settled, control}
+use Rattle.k_evaluation.specs.States.{Stops, Part, ◌>>=◌, gives, region, settles, control}
 use Rattle.k_evaluation.specs.Meanings.{tests, holds, flag}
 use Rattle.k_evaluation.specs.Flows.{Doing, Within, drops, tests_at}
 

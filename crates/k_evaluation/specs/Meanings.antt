@@ -1,5 +1,5 @@
 -- What an expression means: what it does, and what it gives as a value that is used or not, and as a place.
-use Rattle.std.specs.Prelude.{ℕ, Bool, true, false, if◌then◌else◌, not, ℤ, pos, List, [], ◌∷◌, slice_get, Option, Some, None}
+use Rattle.std.specs.Prelude.{ℕ, Bool, true, false, not, pos, List, [], ◌∷◌, Option, Some, None}
 use Rattle.k_num.specs.declared.place.Place.{Place}
 use Rattle.k_num.specs.declared.numbers.Kind.{Kind}
 use Rattle.k_num.specs.Arithmetic.{is_zero}

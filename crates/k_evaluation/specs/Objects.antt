@@ -1,5 +1,5 @@
 -- The objects of a run: made at their declaration, set without operations, and dead where their block is left (C17 6.2.4).
-use Rattle.std.specs.Prelude.{ℕ, ◌+◌, false, if◌then◌else◌, ℤ, pos, List, [], ◌∷◌, ◌++◌, length, map, Option, Some, None}
+use Rattle.std.specs.Prelude.{ℕ, ◌+◌, false, if◌then◌else◌, ℤ, List, [], ◌∷◌, ◌++◌, length, map, Option, Some, None}
 use Rattle.std.specs.Int.{w8, cast_signed}
 use Rattle.k_num.specs.declared.place.Place.{Place}
 use Rattle.k_code.specs.declared.ending.End.TheVariants.{Trapped}

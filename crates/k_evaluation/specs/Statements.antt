@@ -1,6 +1,6 @@
 -- *Evaluation* of statements: what each does, by what the statements in it do, and the jumps that lead out of it (C17 6.8). Loops, switches
 -- and declarations stand in files of their own.
-use Rattle.std.specs.Prelude.{ℕ, true, false, if◌then◌else◌, List, [], ◌∷◌, Option, Some, None}
+use Rattle.std.specs.Prelude.{ℕ, true, if◌then◌else◌, List, [], ◌∷◌, Option, Some, None}
 use Rattle.k_num.specs.declared.place.Place.{Place}
 use Rattle.k_optab.specs.declared.class.Class.TheVariants as class
 use Rattle.k_typed.specs.declared.tree.declaration.TDeclarator.{TDeclarator}

@@ -1,5 +1,5 @@
 -- `switch`: which of its statements run, and the control source of each part (C17 6.8.4.2).
-use Rattle.std.specs.Prelude.{ℕ, Bool, true, false, if◌then◌else◌, ℤ, List, [], ◌∷◌}
+use Rattle.std.specs.Prelude.{Bool, true, false, if◌then◌else◌, ℤ, List, [], ◌∷◌}
 use Rattle.k_num.specs.declared.numbers.Bin.TheVariants.{Eq}
 use Rattle.k_num.specs.declared.numbers.Kind.{Kind}
 use Rattle.k_num.specs.declared.place.Place.{Place}

@@ -4,6 +4,7 @@
 
 mod flow;
 mod jumps;
+pub mod laws;
 mod operand;
 
 pub use flow::Flow;
