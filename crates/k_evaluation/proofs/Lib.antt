@@ -1,0 +1,10 @@
+pub mod Bodies
+pub mod Called
+pub mod Evaluated
+mod Examples
+pub mod Executed
+pub mod Kept
+pub mod Loops
+pub mod Parts
+pub mod Rows
+pub mod Runs

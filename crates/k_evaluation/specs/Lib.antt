@@ -1,0 +1,17 @@
+pub mod Assignments
+pub mod Calls
+pub mod Declarations
+pub mod Expressions
+pub mod Flows
+pub mod Jumps
+pub mod Laws
+pub mod Library
+pub mod Loops
+pub mod Meanings
+pub mod Objects
+pub mod Operators
+pub mod Places
+pub mod Runs
+pub mod Statements
+pub mod States
+pub mod Switches
