@@ -8,21 +8,52 @@ use std::test::Fail;
 const START: Place = Place { line: 1, column: 1 };
 
 fn node() -> Node {
-    Node { number: 99, place: START, of: TType::Void }
+    Node {
+        number: 99,
+        place: START,
+        of: TType::Void,
+    }
 }
 
 fn spot() -> Spot {
-    Spot { number: 99, place: START }
+    Spot {
+        number: 99,
+        place: START,
+    }
 }
 
 /// `while (getchar()) puts("a");`
 fn waiting(alloc: Global) -> Result<TStmt, NoMemory> {
     let bytes = Seq::copy_of(alloc, b"a")?;
-    let text = Box::new(alloc, TExpr::Str { node: node(), string: 99, bytes })?;
-    let value = Box::new(alloc, TExpr::Puts { node: node(), of: text })?;
+    let text = Box::new(
+        alloc,
+        TExpr::Str {
+            node: node(),
+            string: 99,
+            bytes,
+        },
+    )?;
+    let value = Box::new(
+        alloc,
+        TExpr::Puts {
+            node: node(),
+            of: text,
+        },
+    )?;
     let test = Box::new(alloc, TExpr::Getchar { node: node() })?;
-    let body = Box::new(alloc, TStmt::Expr { spot: spot(), value })?;
-    Ok(TStmt::While { spot: spot(), turns: 99, test, body })
+    let body = Box::new(
+        alloc,
+        TStmt::Expr {
+            spot: spot(),
+            value,
+        },
+    )?;
+    Ok(TStmt::While {
+        spot: spot(),
+        turns: 99,
+        test,
+        body,
+    })
 }
 
 /// A function of this statement.
@@ -97,7 +128,12 @@ fn of_test(expr: &TExpr) -> u32 {
 /// The numbers of a loop: its node, its test and the loop.
 fn of_loop(stmt: &TStmt) -> [u32; 3] {
     match stmt {
-        TStmt::While { spot, turns, test, .. } => [spot.number, of_test(test.get()), *turns],
+        TStmt::While {
+            spot,
+            turns,
+            test,
+            ..
+        } => [spot.number, of_test(test.get()), *turns],
         _ => [98, 98, 98],
     }
 }

@@ -16,11 +16,10 @@ mod stop;
 #[cfg(test)]
 mod tests;
 
-use k_dict::Dict;
-use k_dict::Entry;
 use crate::saved::{Saved, SavedFault};
 use ending::{are_named, ends_in_main};
 use entry_lines::entries;
+use k_dict::{Dict, Entry};
 use k_num::{NoMemory, Seq};
 use k_optab::Region;
 use k_scan::{signed, word};

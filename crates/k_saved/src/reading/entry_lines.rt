@@ -6,11 +6,10 @@ ghost use Rattle.k_dict.specs.Entries.{AreRuns};
 ghost use Rattle.k_saved.specs.Extents.{extents_of};
 ghost use Rattle.k_saved.specs.Reading.{Adds, AllEntries, HasExtent, NextEntry, seen};
 
-use k_dict::{Dict, DictFault};
-use k_dict::{Entry, Run};
 use crate::reading::extents::{Extent, extent_over, is_within, sums_of};
 use crate::reading::lines::entry;
 use crate::reading::stop::{Halt, Stop};
+use k_dict::{Dict, DictFault, Entry, Run};
 use k_num::{NoMemory, Seq};
 use std::alloc::Global;
 
