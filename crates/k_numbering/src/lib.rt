@@ -9,6 +9,3 @@ mod statement;
 mod unit;
 
 pub use unit::number;
-
-#[cfg(test)]
-mod tests;
