@@ -1,7 +1,7 @@
 -- One pass over a function's instructions decides whether they are balanced.
-use Rattle.std.proofs.Common.{◌≡◌, ◌≢◌, ℕ, zero, suc, ◌+◌, ◌-◌, ◌<◌, ◌≤◌, inl, inr, List, [], ◌∷◌, length, drop, replicate, Option, Some, None, Bool, true, false, nat_eq, refl, sym, ◌∙◌, subst, ap, arith}
-use Rattle.std.specs.Prelude.{◌⊎◌, ◌||◌, ◌&&◌, ◌↔◌, nat_lt, nat_le, slice_get, not}
-use Rattle.std.proofs.lemmas.Bool.{cases_eq, cases_lt, and_parts, ltb-true, leb-true, both_ways, false_from_ne_true, and_from, le-leb, eq-eqb, or_left, or_right}
+use Rattle.std.proofs.Common.{◌≡◌, ℕ, zero, suc, ◌+◌, ◌-◌, ◌<◌, ◌≤◌, inl, inr, List, [], ◌∷◌, length, drop, replicate, Option, Some, None, Bool, true, false, nat_eq, refl, sym, ◌∙◌, subst, ap, arith}
+use Rattle.std.specs.Prelude.{◌↔◌, nat_lt, nat_le, slice_get}
+use Rattle.std.proofs.lemmas.Bool.{cases_eq, and_parts, ltb-true, leb-true, both_ways, false_from_ne_true, and_from, le-leb, eq-eqb, or_left, or_right}
 use Rattle.std.proofs.lemmas.List.{length-replicate}
 use Rattle.std.proofs.lemmas.Option.{none-some, same_Some, slice_get_within}
 use Rattle.k_flat.specs.declared.balance.Balance.{Balance}
@@ -13,7 +13,7 @@ use Rattle.k_flat.specs.declared.instruction.Instr.{Instr}
 use Rattle.k_flat.specs.Balances.{IsBalance, nothing_open, left, is_met, goes_on, jumps_to}
 use Rattle.k_flat.specs.Checking.{known, known_or_none, agreed, passed, jumps_agreed, next_agreed, settled, then_passes, all_settled, at_entry}
 use Rattle.k_flat.specs.Valid.{stays_within, is_within}
-use Rattle.k_flat.proofs.Known.{Adds, agreed_adds, agrees, passed_adds, passed_stays, keeps, known_within}
+use Rattle.k_flat.proofs.Known.{Adds, agreed_adds, agrees, passed_adds, passed_stays, keeps}
 use Rattle.k_flat.proofs.Settling.{Jumped, jumped, Followed, followed, Goes, goes, settles}
 
 -- no instruction up to this one jumps to the one behind it

@@ -1,17 +1,14 @@
 -- The budget only cuts a run short.
-use Rattle.std.proofs.Common.{◌≡◌, ℕ, zero, suc, ◌+◌, ◌-◌, List, [], ◌∷◌, ◌++◌, length, map, Option, Some, None, Result, Ok, Err, Bool, true, false, ℤ, nat_eq, refl, sym, ◌∙◌, subst, ap, arith}
-use Rattle.std.specs.Prelude.{if◌then◌else◌, slice_get, replicate, option_map}
+use Rattle.std.proofs.Common.{◌≡◌, ℕ, zero, suc, ◌+◌, ◌-◌, List, [], ◌∷◌, ◌++◌, length, map, Option, Some, None, Ok, Err, Bool, true, false, ℤ, nat_eq, refl, sym, ◌∙◌, subst, ap, arith}
+use Rattle.std.specs.Prelude.{if◌then◌else◌, slice_get, option_map}
 use Rattle.std.proofs.lemmas.List.{append_assoc, append-nil}
-use Rattle.std.proofs.lemmas.Bool.{eqb-true, eqb-false, ne_eqb}
+use Rattle.std.proofs.lemmas.Bool.{eqb-false, ne_eqb}
 use Rattle.k_num.specs.declared.place.Place.{Place}
 use Rattle.k_optab.specs.declared.class.Class.{Class}
 use Rattle.k_optab.specs.declared.event.Event.{Event}
 use Rattle.k_optab.specs.declared.event.Event.TheVariants.{Op}
-use Rattle.k_code.specs.declared.ending.End.{End}
 use Rattle.k_code.specs.declared.ending.End.TheVariants.{Returned, Trapped, OutOfSteps}
-use Rattle.k_code.specs.declared.ending.Trap.{Trap}
 use Rattle.k_code.specs.declared.ending.Trap.TheVariants.{StackOverflow, Uninit}
-use Rattle.k_mem.specs.declared.start.Start.{Start}
 use Rattle.k_mem.specs.declared.start.Start.TheVariants.{Unset, Zero, Literal}
 use Rattle.k_mem.specs.Memory.{Memory}
 use Rattle.k_mem.specs.Calls.{push_of}
@@ -20,7 +17,7 @@ use Rattle.k_world.specs.declared.value.Held.{Held}
 use Rattle.k_world.specs.declared.value.Read.{Read}
 use Rattle.k_world.specs.declared.value.Value.{Value}
 use Rattle.k_world.specs.Acts.{Given, work, effect, hidden}
-use Rattle.k_world.specs.Changes.{object_made, object_filled, with_elements}
+use Rattle.k_world.specs.Changes.{with_elements}
 use Rattle.k_world.specs.Operands.{are_set, values_of, sources}
 use Rattle.k_world.specs.Operations.{Made, Gives, Ends, operation, acted, counted}
 use Rattle.k_world.specs.Worlds.{World, fresh}
@@ -35,9 +32,9 @@ use Rattle.k_flat.specs.declared.instruction.Do.TheVariants as act
 use Rattle.k_flat.specs.declared.instruction.Home.TheVariants.{File, Local}
 use Rattle.k_flat.specs.declared.instruction.Instr.{Instr}
 use Rattle.k_flat.specs.Budgets.{Begins, with_left, IsCutShort, BudgetCutsShort}
-use Rattle.k_flat.specs.Runs.{lent, begun_with, with_object, place_of, or_limit, with_objects, main_called, start, steps, run_of, world_of}
-use Rattle.k_flat.specs.Steps.{Configuration, Frame, Waiting, Run, Going, Over, step, at_instruction, by_kind, by_operation, behind, alone, called, entered, overflows, no_value, returned, handed_back, left_by, opened, filled_with, object_at, operation_of, is_in_main, reads_of}
-use Rattle.k_flat.proofs.Growing.{Grows, grows_on, grows_not, made_world, operation_grows, behind_grows, by_operation_grows, step_grows}
+use Rattle.k_flat.specs.Runs.{lent, begun_with, with_object, place_of, or_limit, with_objects, main_called, start, steps, world_of}
+use Rattle.k_flat.specs.Steps.{Configuration, Waiting, Run, Going, Over, step, at_instruction, by_kind, by_operation, behind, alone, called, entered, overflows, no_value, returned, handed_back, left_by, opened, filled_with, object_at, operation_of, is_in_main, reads_of}
+use Rattle.k_flat.proofs.Growing.{Grows, made_world, operation_grows, by_operation_grows, step_grows}
 use Rattle.k_flat.proofs.Stepping.{over_stays}
 
 -- an operation goes as one with more left, or none is left

@@ -1,9 +1,9 @@
 -- What the checks of `valid` come to.
-use Rattle.std.proofs.Common.{◌≡◌, ◌≢◌, ℕ, zero, suc, ◌+◌, ◌-◌, ◌*◌, ◌<◌, ◌≤◌, inl, inr, List, [], ◌∷◌, length, take, drop, min, max, Option, Some, None, Result, Ok, Err, Bool, true, false, nat_eq, refl, sym, ◌∙◌, subst, ap, arith}
-use Rattle.std.specs.Prelude.{IfOk, IsTrue, ◌⊎◌, ◌||◌, ◌&&◌, ◌↔◌, nat_lt, nat_le, slice_get, if◌then◌else◌}
-use Rattle.std.proofs.lemmas.Bool.{cases_Bool, cases_eq, and_parts, and_from, or_cases, or_left, or_right, ltb-true, leb-true, lt-ltb, le-leb, eqb-true, eq-eqb, both_ways, false≢true}
+use Rattle.std.proofs.Common.{◌≡◌, ℕ, zero, suc, ◌+◌, ◌-◌, ◌*◌, ◌<◌, ◌≤◌, inl, inr, List, [], ◌∷◌, length, drop, min, Some, None, Result, Ok, Err, Bool, true, false, nat_eq, refl, sym, ◌∙◌, subst, ap, arith}
+use Rattle.std.specs.Prelude.{IfOk, IsTrue, ◌⊎◌, ◌&&◌, ◌↔◌, nat_lt, nat_le, slice_get, if◌then◌else◌}
+use Rattle.std.proofs.lemmas.Bool.{and_parts, and_from, or_cases, or_left, or_right, ltb-true, leb-true, lt-ltb, le-leb, eqb-true, eq-eqb, both_ways, false≢true}
 use Rattle.std.proofs.lemmas.List.{length-take, length-drop}
-use Rattle.std.proofs.lemmas.Option.{none-some, same_Some, slice_get_within}
+use Rattle.std.proofs.lemmas.Option.{same_Some}
 use Rattle.k_flat.specs.declared.balance.Balance.{Balance}
 use Rattle.k_flat.specs.declared.code.Code.{Code}
 use Rattle.k_flat.specs.declared.code.CodeFunc.{CodeFunc}

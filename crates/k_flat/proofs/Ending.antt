@@ -1,9 +1,8 @@
 -- Runs of valid code: what holds before each step, and that they end.
-use Rattle.std.proofs.Common.{◌≡◌, ℕ, zero, suc, ◌+◌, ◌-◌, ◌*◌, ◌^◌, ◌<◌, ◌≤◌, inl, inr, List, [], ◌∷◌, ◌++◌, length, Option, Some, None, Bool, true, false, ℤ, refl, sym, ◌∙◌, subst, ap, arith}
+use Rattle.std.proofs.Common.{◌≡◌, ℕ, zero, suc, ◌+◌, ◌-◌, ◌*◌, ◌<◌, ◌≤◌, inl, inr, List, [], ◌∷◌, ◌++◌, length, Option, Some, None, ℤ, refl, sym, ◌∙◌, subst, ap, arith}
 use Rattle.std.specs.Prelude.{◌⊎◌, slice_get}
 use Rattle.std.proofs.lemmas.Bool.{cases_lt}
-use Rattle.std.proofs.lemmas.List.{length_push, map-append}
-use Rattle.std.proofs.lemmas.Option.{none-some, same_Some}
+use Rattle.std.proofs.lemmas.List.{length_push}
 use Rattle.k_num.specs.declared.place.Place.{Place}
 use Rattle.k_code.specs.declared.ending.End.{End}
 use Rattle.k_mem.specs.declared.start.Start.TheVariants.{Zero, Literal}
@@ -18,13 +17,13 @@ use Rattle.k_flat.specs.Balances.{nothing_open}
 use Rattle.k_flat.specs.Endings.{rest_of, ahead_of, ahead, GoesOn, CyclesMakeOperations, EndsWithin, ValidCodeEnds}
 use Rattle.k_flat.specs.Stands.{opened_by, Stands, AllStand, StaysBalanced}
 use Rattle.k_flat.specs.Reads.{LevelsAreRegions}
-use Rattle.k_flat.specs.Runs.{lent, begun_with, with_object, place_of, or_limit, with_objects, main_called, start, steps, run_of, EndsAfter}
-use Rattle.k_flat.specs.Steps.{Frame, Waiting, Configuration, Run, Going, Over, step, entered, size_of}
+use Rattle.k_flat.specs.Runs.{lent, begun_with, with_object, place_of, or_limit, with_objects, main_called, start, steps, run_of}
+use Rattle.k_flat.specs.Steps.{Waiting, Configuration, Run, Going, Over, step, entered, size_of}
 use Rattle.k_flat.specs.Valid.{end_of, body_of, IsValid}
-use Rattle.k_flat.proofs.Decided.{body_length, end_bounds}
-use Rattle.k_flat.proofs.Kept.{numbers, OneMore, made_kept, filled_numbers, live_length, get_within, get_first, get_last}
+use Rattle.k_flat.proofs.Decided.{body_length}
+use Rattle.k_flat.proofs.Kept.{numbers, OneMore, made_kept, filled_numbers, live_length, get_first, get_last}
 use Rattle.k_flat.proofs.Levels.{levels, enter_levels}
-use Rattle.k_flat.proofs.Running.{live, total_size, FilesLive, Sound, IsStep, step_sound}
+use Rattle.k_flat.proofs.Running.{live, total_size, Sound, IsStep, step_sound}
 use Rattle.k_flat.proofs.Standing.{stands_first, here_at, rest_some}
 use Rattle.k_flat.proofs.Stepping.{over_stays}
 

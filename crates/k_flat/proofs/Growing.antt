@@ -1,12 +1,11 @@
 -- A step only adds events and output.
-use Rattle.std.proofs.Common.{◌≡◌, ℕ, ◌+◌, ◌-◌, List, [], ◌∷◌, ◌++◌, length, map, Option, Some, None, Result, Ok, Err, Bool, true, false, ℤ, nat_eq, refl, sym, ◌∙◌, subst, ap, arith}
+use Rattle.std.proofs.Common.{◌≡◌, ℕ, ◌+◌, List, [], ◌∷◌, ◌++◌, map, Option, Some, None, Result, Ok, Err, Bool, true, false, ℤ, refl, sym, ◌∙◌, ap}
 use Rattle.std.specs.Prelude.{if◌then◌else◌, slice_get, replicate}
 use Rattle.std.proofs.lemmas.List.{append_assoc, append-nil}
 use Rattle.k_num.specs.declared.place.Place.{Place}
 use Rattle.k_optab.specs.declared.class.Class.{Class}
 use Rattle.k_optab.specs.declared.event.Event.{Event}
 use Rattle.k_optab.specs.declared.event.Event.TheVariants as event
-use Rattle.k_code.specs.declared.ending.End.{End}
 use Rattle.k_code.specs.declared.ending.End.TheVariants.{Trapped}
 use Rattle.k_code.specs.declared.ending.Trap.TheVariants.{StackOverflow}
 use Rattle.k_code.specs.declared.ending.Trap.{Trap}
@@ -20,10 +19,9 @@ use Rattle.k_world.specs.declared.value.Held.{Held}
 use Rattle.k_world.specs.declared.value.Read.{Read}
 use Rattle.k_world.specs.declared.value.Value.{Value}
 use Rattle.k_world.specs.Acts.{effect, store_effect, output_effect, written, pointer_and_number}
-use Rattle.k_world.specs.Changes.{object_made, with_elements}
+use Rattle.k_world.specs.Changes.{with_elements}
 use Rattle.k_world.specs.Operands.{values_of}
 use Rattle.k_world.specs.Operations.{Made, Gives, Ends, operation, counted, event_of}
-use Rattle.k_world.specs.WorldLaws.{IsEarly}
 use Rattle.k_world.specs.Worlds.{World}
 use Rattle.k_world.proofs.Sound.{operation_cases}
 use Rattle.k_flat.specs.declared.code.Code.{Code}
@@ -33,9 +31,8 @@ use Rattle.k_flat.specs.declared.instruction.Do.TheVariants as act
 use Rattle.k_flat.specs.declared.instruction.Home.TheVariants.{Local}
 use Rattle.k_flat.specs.declared.instruction.Instr.{Instr}
 use Rattle.k_flat.specs.Budgets.{Begins}
-use Rattle.k_flat.specs.Named.{register_set}
 use Rattle.k_flat.specs.Runs.{world_of}
-use Rattle.k_flat.specs.Steps.{Configuration, Frame, Waiting, Run, Going, Over, step, at_instruction, by_kind, by_operation, behind, alone, called, entered, overflows, no_value, returned, handed_back, left_by, noted, opened, filled_with, object_at, operation_of, is_in_main, reads_of, onward}
+use Rattle.k_flat.specs.Steps.{Configuration, Waiting, Run, Going, Over, step, at_instruction, by_kind, by_operation, behind, alone, called, entered, overflows, no_value, returned, handed_back, left_by, opened, filled_with, object_at, operation_of, is_in_main, reads_of}
 
 -- events and output go on
 pub record Grows (before after : World) : Type 0 where

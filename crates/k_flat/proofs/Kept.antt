@@ -1,25 +1,24 @@
 -- What operations and objects leave of a world: the numbers of its live objects, its calls and what is left.
-use Rattle.std.proofs.Common.{◌≡◌, ℕ, zero, suc, ◌+◌, ◌-◌, ◌<◌, ◌≤◌, List, [], ◌∷◌, ◌++◌, length, map, take, drop, replicate, Option, Some, None, Result, Ok, Err, Bool, true, false, ℤ, nat_eq, refl, sym, ◌∙◌, subst, ap, arith}
-use Rattle.std.specs.Prelude.{if◌then◌else◌, slice_get, ◌==◌, ◌||◌, nat_lt, nat_le, ◌^◌}
+use Rattle.std.proofs.Common.{◌≡◌, ℕ, zero, suc, ◌+◌, ◌-◌, ◌<◌, List, [], ◌∷◌, ◌++◌, length, map, take, drop, replicate, Option, Some, None, Result, Ok, Err, Bool, true, false, ℤ, nat_eq, refl, sym, ◌∙◌, subst, ap, arith}
+use Rattle.std.specs.Prelude.{if◌then◌else◌, slice_get, ◌==◌}
 use Rattle.std.proofs.lemmas.Bool.{eqb-false}
-use Rattle.std.proofs.lemmas.List.{append_assoc, append-nil, map-append, take-map, length-map}
+use Rattle.std.proofs.lemmas.List.{map-append, take-map, length-map}
 use Rattle.std.proofs.lemmas.Option.{none-some, same_Some}
 use Rattle.k_num.specs.declared.place.Place.{Place}
 use Rattle.k_optab.specs.declared.class.Class.{Class}
-use Rattle.k_code.specs.declared.ending.End.{End}
 use Rattle.k_code.specs.declared.ending.Trap.{Trap}
 use Rattle.k_mem.specs.declared.pointer.Pointer.{Pointer}
 use Rattle.k_mem.specs.declared.start.Start.{Start}
 use Rattle.k_mem.specs.Memory.{Object, Memory, live_elements}
-use Rattle.k_mem.specs.Calls.{rewritten, with_rewritten, with_value, with_values, stored, filled, popped, push_of, next_object, is_over_limit}
+use Rattle.k_mem.specs.Calls.{rewritten, with_value, with_values, stored, filled, next_object, is_over_limit}
 use Rattle.k_world.specs.declared.act.Act.{Act}
 use Rattle.k_world.specs.declared.act.Act.TheVariants as does
 use Rattle.k_world.specs.declared.value.Read.{Read}
 use Rattle.k_world.specs.declared.value.Value.{Value}
 use Rattle.k_world.specs.Acts.{hidden, effect, store_effect, output_effect, written, pointer_and_number}
-use Rattle.k_world.specs.Changes.{with_elements, object_made, object_filled, objects_kept}
+use Rattle.k_world.specs.Changes.{with_elements, object_made, objects_kept}
 use Rattle.k_world.specs.Operands.{sources, values_of}
-use Rattle.k_world.specs.Operations.{Made, Gives, Ends, operation, counted}
+use Rattle.k_world.specs.Operations.{operation, counted}
 use Rattle.k_world.specs.WorldLaws.{WhereMade}
 use Rattle.k_world.specs.Worlds.{World}
 use Rattle.k_world.proofs.Effects.{effect_frame}

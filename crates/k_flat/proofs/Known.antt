@@ -1,11 +1,11 @@
 -- What is known of balances, after one more is noted.
-use Rattle.std.proofs.Common.{◌≡◌, ◌≢◌, ℕ, zero, suc, ◌+◌, ◌-◌, ◌<◌, ◌≤◌, inl, inr, List, [], ◌∷◌, length, Option, Some, None, Bool, true, false, nat_eq, refl, sym, ◌∙◌, subst, ap, arith}
+use Rattle.std.proofs.Common.{◌≡◌, ◌≢◌, ℕ, zero, suc, ◌<◌, inl, inr, List, [], ◌∷◌, length, Option, Some, None, true, nat_eq, refl, sym, ◌∙◌, subst, ap, arith}
 use Rattle.std.specs.Prelude.{◌⊎◌, ◌&&◌, nat_lt, slice_get, slice_set}
 use Rattle.std.proofs.lemmas.Bool.{cases_eq, and_parts, and_from, eqb-true, eq-eqb, ltb-true, lt-ltb}
 use Rattle.std.proofs.lemmas.List.{length-set}
-use Rattle.std.proofs.lemmas.Option.{none-some, same_Some, slice_get_within, cond_some}
+use Rattle.std.proofs.lemmas.Option.{none-some, slice_get_within, cond_some}
 use Rattle.k_flat.specs.declared.balance.Balance.{Balance}
-use Rattle.k_flat.specs.Checking.{is_same, known_or_none, known, noted, agreed_with, agreed, passed_with, passed}
+use Rattle.k_flat.specs.Checking.{is_same, known_or_none, known, noted, agreed_with, agreed, passed}
 
 -- an element that was written
 pub get_set_same : {X : Type 0} (xs : List X) (k : ℕ) (x : X) → k < length xs → slice_get (slice_set xs k x) k ≡ Some x

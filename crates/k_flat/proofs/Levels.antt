@@ -1,5 +1,5 @@
 -- How many instances are open after events more.
-use Rattle.std.proofs.Common.{◌≡◌, ℕ, zero, suc, ◌+◌, ◌-◌, ◌<◌, ◌≤◌, List, [], ◌∷◌, ◌++◌, length, refl, sym, ◌∙◌, subst, ap, arith}
+use Rattle.std.proofs.Common.{◌≡◌, ℕ, zero, suc, ◌+◌, ◌<◌, ◌≤◌, List, [], ◌∷◌, ◌++◌, length, refl, ◌∙◌, ap, arith}
 use Rattle.std.specs.Prelude.{replicate}
 use Rattle.std.proofs.lemmas.List.{append_assoc, append-nil, length_push}
 use Rattle.k_num.specs.declared.place.Place.{Place}
@@ -7,7 +7,7 @@ use Rattle.k_optab.specs.declared.class.Class.{Class}
 use Rattle.k_optab.specs.declared.event.Event.{Event}
 use Rattle.k_optab.specs.declared.event.Event.TheVariants.{Op, Enter, Exit}
 use Rattle.k_optab.specs.declared.event.Src.{Src}
-use Rattle.k_optab.specs.Open.{Open, open_after}
+use Rattle.k_optab.specs.Open.{open_after}
 use Rattle.k_optab.specs.OpenLaws.{next_open}
 use Rattle.k_optab.proofs.Leaving.{exits_close_the_last}
 use Rattle.k_optab.proofs.Opening.{operations_keep, enters_open}

@@ -1,7 +1,7 @@
 -- The marks of entries tell where functions end.
-use Rattle.std.proofs.Common.{◌≡◌, ◌≢◌, ℕ, zero, suc, ◌+◌, ◌-◌, ◌<◌, ◌≤◌, inl, inr, List, [], ◌∷◌, length, min, take, drop, replicate, Option, Some, None, Result, Ok, Err, Bool, true, false, nat_eq, refl, sym, ◌∙◌, subst, ap, arith}
+use Rattle.std.proofs.Common.{◌≡◌, ◌≢◌, ℕ, zero, suc, ◌-◌, ◌<◌, ◌≤◌, inl, inr, List, [], ◌∷◌, length, min, take, drop, replicate, Option, Some, None, Result, Ok, Err, Bool, true, false, nat_eq, refl, sym, ◌∙◌, subst, ap, arith}
 use Rattle.std.specs.Prelude.{IfOk, ◌⊎◌, ◌||◌, ◌&&◌, nat_lt, if◌then◌else◌, slice_get, slice_set}
-use Rattle.std.proofs.lemmas.Bool.{cases_lt, cases_order, eqb-true, eqb-false, ltb-true, ltb-false, lt-ltb, or_left, or_right, true≢false}
+use Rattle.std.proofs.lemmas.Bool.{cases_lt, eqb-true, eqb-false, ltb-true, ltb-false, true≢false}
 use Rattle.std.proofs.lemmas.List.{length-set, length-replicate}
 use Rattle.std.proofs.lemmas.Option.{none-some, same_Some}
 use Rattle.k_flat.specs.declared.code.Code.{Code}

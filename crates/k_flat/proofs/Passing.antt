@@ -1,6 +1,6 @@
 -- What the pass over a function's instructions keeps: the rest passes where the whole does, and no count is beyond the instructions passed.
-use Rattle.std.proofs.Common.{◌≡◌, ◌≢◌, ℕ, zero, suc, ◌+◌, ◌-◌, ◌<◌, ◌≤◌, inl, inr, List, [], ◌∷◌, length, drop, get_or, replicate, Option, Some, None, Bool, true, false, refl, sym, ◌∙◌, subst, ap, arith}
-use Rattle.std.specs.Prelude.{◌^◌, option_and_then, if◌then◌else◌}
+use Rattle.std.proofs.Common.{◌≡◌, ℕ, zero, suc, ◌+◌, ◌-◌, ◌<◌, ◌≤◌, inl, inr, List, ◌∷◌, length, drop, get_or, Option, Some, None, Bool, true, false, refl, sym, ◌∙◌, subst, ap, arith}
+use Rattle.std.specs.Prelude.{◌^◌, if◌then◌else◌}
 use Rattle.std.proofs.lemmas.Bool.{cases_eq, cases_lt, true≢false}
 use Rattle.std.proofs.lemmas.List.{drop_more, set_past}
 use Rattle.std.proofs.lemmas.Option.{none-some, same_Some, option_and_then_some}
@@ -11,7 +11,7 @@ use Rattle.k_flat.specs.declared.instruction.Instr.{Instr}
 use Rattle.k_flat.specs.Balances.{IsBelow, nothing_open, left, goes_on}
 use Rattle.k_flat.specs.Checking.{Answers, AreBelow, known, agreed, jumps_agreed, passed, next_agreed, settled_with, settled, then_passes, all_settled, at_entry}
 use Rattle.k_flat.proofs.Balanced.{entry_known, entry_only}
-use Rattle.k_flat.proofs.Known.{Adds, agreed_adds, passed_adds, passed_stays, known_within}
+use Rattle.k_flat.proofs.Known.{Adds, agreed_adds, passed_adds, passed_stays}
 use Rattle.k_flat.proofs.Settling.{Goes, goes}
 
 below_more : (n : ℕ) (b : Balance) → IsBelow n b → IsBelow (n + 1) b

@@ -1,5 +1,5 @@
 -- An operation has no more sources than it reads.
-use Rattle.std.proofs.Common.{◌≡◌, ℕ, ◌+◌, ◌≤◌, List, [], ◌∷◌, length, Option, Some, None, Bool, false, refl, arith}
+use Rattle.std.proofs.Common.{ℕ, ◌+◌, ◌≤◌, List, [], ◌∷◌, length, Option, Some, None, Bool, false, arith}
 use Rattle.k_optab.specs.declared.event.Src.{Src}
 use Rattle.k_world.specs.declared.act.Act.{Act}
 use Rattle.k_world.specs.declared.act.Act.TheVariants as does
@@ -8,7 +8,7 @@ use Rattle.k_world.specs.declared.value.Value.{Value}
 use Rattle.k_world.specs.Acts.{hidden}
 use Rattle.k_world.specs.Operands.{source_in, source_before, sources_before, sources, values_of}
 use Rattle.k_world.specs.Worlds.{World}
-use Rattle.k_flat.specs.Reads.{beside, reads_once, SourcesAreRead}
+use Rattle.k_flat.specs.Reads.{beside, SourcesAreRead}
 
 -- one source more, or none
 one_more : (source : Option ℕ) (broken : Bool) (sources : List Src) → length (source_before source broken sources) ≤ length sources + 1

@@ -1,16 +1,14 @@
 -- What settling one instruction does to what is known.
-use Rattle.std.proofs.Common.{◌≡◌, ◌≢◌, ℕ, zero, suc, ◌+◌, ◌-◌, ◌<◌, ◌≤◌, inl, inr, List, [], ◌∷◌, length, Option, Some, None, Bool, true, false, nat_eq, refl, sym, ◌∙◌, subst, ap, arith}
-use Rattle.std.specs.Prelude.{◌⊎◌, ◌||◌, ◌&&◌, nat_lt, nat_le, option_and_then, if◌then◌else◌}
-use Rattle.std.proofs.lemmas.Bool.{cases_eq, or_cases, eqb-true, eq-eqb, or_left, or_right, and_parts, ltb-true, leb-true, both_ways}
-use Rattle.std.proofs.lemmas.Option.{none-some, same_Some, option_and_then_some, cond_some}
+use Rattle.std.proofs.Common.{◌≡◌, ◌≢◌, ℕ, ◌+◌, ◌-◌, ◌<◌, inl, inr, List, length, Option, Some, None, Bool, true, false, nat_eq, refl, sym, ◌∙◌, subst, ap, arith}
+use Rattle.std.specs.Prelude.{◌⊎◌, ◌||◌, option_and_then, if◌then◌else◌}
+use Rattle.std.proofs.lemmas.Bool.{cases_eq, or_cases, eqb-true, eq-eqb, or_left, or_right, both_ways}
+use Rattle.std.proofs.lemmas.Option.{none-some, same_Some, option_and_then_some}
 use Rattle.k_flat.specs.declared.balance.Balance.{Balance}
 use Rattle.k_flat.specs.declared.instruction.Do.{Do}
 use Rattle.k_flat.specs.declared.instruction.Do.TheVariants as act
-use Rattle.k_flat.specs.declared.instruction.Instr.{Instr}
-use Rattle.k_flat.specs.Balances.{IsBalance, left, is_met, goes_on, jumps_to}
+use Rattle.k_flat.specs.Balances.{left, is_met, goes_on, jumps_to}
 use Rattle.k_flat.specs.Checking.{known, agreed, jumps_agreed, passed, next_agreed, settled_with, settled}
-use Rattle.k_flat.specs.Valid.{stays_within, is_within}
-use Rattle.k_flat.proofs.Known.{Adds, agreed_adds, agrees, passed_adds, passed_stays, keeps, known_within}
+use Rattle.k_flat.proofs.Known.{Adds, agreed_adds, passed_adds, passed_stays, keeps}
 
 -- the targets of an instruction with this balance have the same
 pub record Jumped (entry : ℕ) (what : Do) (b : Balance) (old new : List (Option Balance)) : Type 0 where

@@ -4,7 +4,7 @@ use Rattle.k_code.specs.declared.ending.End.TheVariants.{OutOfSteps}
 use Rattle.k_world.specs.Worlds.{World}
 use Rattle.k_flat.specs.declared.code.Code.{Code}
 use Rattle.k_flat.specs.Runs.{run_of, world_of}
-use Rattle.k_flat.specs.Steps.{Configuration, Run, Going, Over}
+use Rattle.k_flat.specs.Steps.{Run, Going, Over}
 
 -- a list begins with another
 abbrev pub Begins : {X : Type 0} → List X → List X → Type 0

@@ -1,6 +1,5 @@
 -- *Read count*: how often the times of operands are read where a run's critical paths are followed at each live level.
-use Rattle.std.specs.Prelude.{ℕ, zero, suc, ◌≡◌, ◌+◌, ◌*◌, ◌≤◌, min, List, [], ◌∷◌, ◌++◌, length, slice_get, Option, Some, None}
-use Rattle.k_num.specs.declared.place.Place.{Place}
+use Rattle.std.specs.Prelude.{ℕ, zero, suc, ◌≡◌, ◌+◌, ◌*◌, ◌≤◌, min, List, [], ◌∷◌, length, slice_get, Option, Some, None}
 use Rattle.k_optab.specs.declared.class.Class.{Class}
 use Rattle.k_optab.specs.Open.{open_after}
 use Rattle.k_world.specs.declared.act.Act.{Act}
@@ -11,7 +10,6 @@ use Rattle.k_world.specs.Operands.{sources, values_of}
 use Rattle.k_world.specs.Operations.{Made, Gives, Ends, operation}
 use Rattle.k_world.specs.Worlds.{World}
 use Rattle.k_flat.specs.declared.code.Code.{Code}
-use Rattle.k_flat.specs.declared.instruction.Do.{Do}
 use Rattle.k_flat.specs.declared.instruction.Instr.{Instr}
 use Rattle.k_flat.specs.Named.{operands}
 use Rattle.k_flat.specs.Runs.{run_of}

@@ -1,4 +1,4 @@
-use Rattle.std.proofs.Common.{◌<◌, ◌≡◌, length, arith}
+use Rattle.std.proofs.Common.{◌≡◌, length, arith}
 use Rattle.k_flat.specs.Checking.{body_fits, entry_fits}
 use Rattle.k_flat.specs.Valid.{body_of}
 use Rattle.k_flat.proofs.Marking.{found_is, found_from, entry_some, entry_none, if_ok_on}
