@@ -1,0 +1,16 @@
+pub mod Balanced
+pub mod Cutting
+pub mod Decided
+pub mod Ending
+pub mod Finding
+pub mod Growing
+pub mod Kept
+pub mod Known
+pub mod Levels
+pub mod Marking
+pub mod Passing
+pub mod Reading
+pub mod Running
+pub mod Settling
+pub mod Standing
+pub mod Stepping
