@@ -1,0 +1,5 @@
+pub mod Constructs
+pub mod Folds
+pub mod Judging
+pub mod Lists
+pub mod Values

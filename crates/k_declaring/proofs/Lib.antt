@@ -1,0 +1,11 @@
+pub mod AloneLaws
+pub mod BracesLaws
+pub mod Declarators
+pub mod Declaring
+pub mod SizesLaws
+pub mod Distances
+pub mod Extents
+pub mod Lists
+pub mod Placing
+pub mod Types
+pub mod Values

@@ -1,0 +1,75 @@
+-- The types of objects by their parts, and what a declarator comes to.
+use Rattle.std.specs.Prelude.{◌≡◌, ℕ, Bool, true, false, ◌&&◌, not, List, [], ◌∷◌, ◌++◌, Option, Some, None, ◌⊎◌, Result, Ok, Err}
+use Rattle.k_num.specs.declared.numbers.Kind.{Kind}
+use Rattle.k_num.specs.declared.place.Place.{Place}
+use Rattle.k_tree.specs.declared.tree.declaration.Declarator.{Declarator}
+use Rattle.k_typed.specs.declared.fault.TypeFault.{TypeFault}
+use Rattle.k_typed.specs.declared.fault.TypeFault.TheVariants as fault
+use Rattle.k_typed.specs.declared.types.CType.{CType}
+use Rattle.k_typed.specs.declared.types.CType.TheVariants as ctype
+use Rattle.k_typed.specs.declared.tree.declaration.TInit.{TInit}
+use Rattle.k_typed.specs.Declarations.{Object, Saying, declarator_judged, declared_type, object_fixed, names_behind}
+use Rattle.k_typed.specs.Dimensions.{Sizes, dimensions}
+use Rattle.k_typed.specs.Initialisers.{Beginning}
+use Rattle.k_typed.specs.Made.{Made, Fine}
+use Rattle.k_typed.specs.Names.{Names}
+use Rattle.k_typing.specs.Views.{Refuses}
+use Rattle.k_declaring.specs.declared.declarator.Begun.{Begun}
+
+-- numbers of a kind in these dimensions
+abbrev pub array_of : Bool → Kind → List ℕ → Option CType
+array_of fixed kind [] = Some (ctype.Number kind)
+array_of fixed kind (d ∷ ds) = Some (ctype.Array d (record { kind = kind; dims = ds; fixed = fixed }))
+
+-- a pointer to a number of a kind, which has no dimensions
+abbrev pub pointer_of : Bool → Kind → List ℕ → Option CType
+pointer_of fixed kind [] = Some (ctype.Pointer (record { kind = kind; dims = []; fixed = fixed }))
+pointer_of fixed kind (d ∷ ds) = None
+
+-- no object at file scope has this type
+abbrev pub is_no_file_type : CType → Bool
+is_no_file_type ctype.Void = true
+is_no_file_type (ctype.Number kind) = false
+is_no_file_type (ctype.Pointer e) = true
+is_no_file_type (ctype.Array count e) = false
+
+-- an object may have these stars, and dimensions or none
+abbrev pub may_have : Bool → List Bool → Bool → Bool
+may_have file [] plain = true
+may_have file (star ∷ []) plain = not file && plain
+may_have file (star ∷ other ∷ stars) plain = false
+
+-- The dimensions of a declarator were judged, and the variables to which `&` is applied in them were put behind the older ones: it has
+-- this type, if any; or they have a fault first.
+abbrev pub GivesType : Result (Option CType) TypeFault → Bool → Saying → Declarator → List ℕ → List ℕ → Made Sizes → Type 0
+GivesType (Ok of) file s d older newer m =
+    (found : Sizes) × (m ≡ Fine found) × (newer ≡ older ++ found.taken) × (of ≡ declared_type file s (Fine found) d)
+GivesType (Err f) file s d older newer m = Refuses f m
+
+-- An initialiser was judged, and the variables to which `&` is applied in it were put behind the older ones: an object begins so, if it
+-- can; or it has a fault first.
+abbrev pub GivesBeginning : Result (Option TInit) TypeFault → List ℕ → List ℕ → Made Beginning → Type 0
+GivesBeginning (Ok init) older newer m = (taken : List ℕ) × (m ≡ Fine (record { init = init; taken = taken })) × (newer ≡ older ++ taken)
+GivesBeginning (Err f) older newer m = Refuses f m
+
+-- An object of this type begins so.
+abbrev pub Makes : Result Begun TypeFault → Place → List ℕ → Bool → List ℕ → Option CType → Made Object → Type 0
+Makes (Ok b) p x fixed taken of m =
+    (m ≡ Fine (record { place = p; name = x; of = b.of; fixed = fixed; init = b.init; taken = taken })) × (of ≡ Some b.of)
+Makes (Err f) p x fixed taken of m = Refuses f m
+
+-- A declarator was judged, its name is known behind it, and the variables to which `&` is applied in it were put behind the older
+-- ones; or it has a fault first.
+abbrev pub Comes : Result Begun TypeFault → Bool → Saying → ℕ → Names → Declarator → List ℕ → List ℕ → Names → Type 0
+Comes (Ok b) file s n names d older newer behind =
+    (taken : List ℕ)
+    × (declarator_judged file s n names d
+    ≡ Fine (record { place = d.place; name = d.name; of = b.of; fixed = object_fixed s.fixed d.stars; init = b.init; taken = taken }))
+    × (newer ≡ older ++ taken)
+    × (behind ≡ names_behind file s n names d)
+    × (declared_type file s (dimensions names d.dims) d ≡ Some b.of)
+Comes (Err f) file s n names d older newer behind = Refuses f (declarator_judged file s n names d)
+
+-- The fault is that of a name that is declared again in its scope, or want of memory.
+abbrev pub IsTwice : TypeFault → Place → List ℕ → Type 0
+IsTwice f p name = (f ≡ fault.Memory) ⊎ (f ≡ fault.Twice name p)

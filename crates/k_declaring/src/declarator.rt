@@ -1,0 +1,180 @@
+//! Declarators at file scope and in functions (C17 6.7.6).
+ghost use Rattle.std.specs.Prelude.{◌≡◌, ◌++◌, ℕ, Bool, List, IfOk};
+ghost use Rattle.k_typed.specs.Declarations as rules;
+ghost use Rattle.k_typed.specs.Dimensions as sizing;
+ghost use Rattle.k_typed.specs.Made.{Fine};
+ghost use Rattle.k_typing.specs.Views.{type_option};
+ghost use Rattle.k_declaring.specs.Objects.{Comes, GivesType, IsTwice, Makes};
+
+use crate::declared_type::{copied_type, declared_type, has_type, is_fixed};
+use crate::dimension::{dimensions, object_sizes};
+use crate::initialiser::{begun, first_given};
+use crate::specifier::Saying;
+use k_names::Scopes;
+use k_num::{Box, Kind, NoMemory, Place, Seq, Text};
+use k_tree::Declarator;
+use k_typed::{CType, Meaning, TInit, TypeFault};
+use k_typing::{TypeView, lent};
+use std::alloc::Global;
+
+/// What a declarator comes to: the type of its object, and with what that begins.
+#[derive(Drop)]
+pub(crate) struct Begun {
+    pub(crate) of: Box<CType>,
+    pub(crate) init: Box<TInit>,
+}
+
+/// Judges a declarator with its number among the variables or the file objects: its sizes, then its initialiser,
+/// where its name is known, then the declarator itself (C17 6.7p3, 6.7.6, 6.7.9). Its name enters the innermost
+/// scope, and the variables to which `&` is applied in it are put behind those in `taken`.
+pub(crate) fn judge_declarator(
+    alloc: Global,
+    file: bool,
+    saying: &Saying,
+    number: u32,
+    names: &mut Scopes,
+    declarator: &Declarator,
+    taken: &mut Seq<u32>,
+) -> Result<Begun, TypeFault>
+    ensures { Comes result file saying.now number names.old declarator.now taken.old taken.new names.new }
+{
+    let of = match judge_sizes(alloc, file, saying, names, declarator, taken) {
+        Ok(of) => of,
+        Err(fault) => return Err(fault),
+    };
+    judge_beginning(alloc, file, saying, number, names, declarator, of, taken)
+}
+
+/// Judges a declarator of which the sizes were judged, and the type is known, if it has one.
+fn judge_beginning(
+    alloc: Global,
+    file: bool,
+    saying: &Saying,
+    number: u32,
+    names: &mut Scopes,
+    declarator: &Declarator,
+    of: Option<Box<CType>>,
+    taken: &mut Seq<u32>,
+) -> Result<Begun, TypeFault>
+    ensures { (found : sizing.Sizes) (older : List ℕ) → sizing.dimensions names.old declarator.now.dims ≡ Fine found → of ≡ rules.declared_type file saying.now (Fine found) declarator.now → taken.old ≡ older ++ found.taken → Comes result file saying.now number names.old declarator.now older taken.new names.new }
+{
+    let fixed = is_fixed(saying.fixed(), declarator.stars.as_slice());
+    let meaning = meaning_of(alloc, file, number, &of, fixed)?;
+    let twice = names.declare(alloc, &declarator.name, meaning)?;
+    let init = match begun(
+        alloc,
+        names,
+        file,
+        lent_option(&of),
+        &declarator.init,
+        taken,
+    ) {
+        Ok(init) => init,
+        Err(fault) => return Err(fault),
+    };
+    let typed = has_type(file, saying, declarator);
+    made(
+        alloc,
+        declarator.place,
+        &declarator.name,
+        twice,
+        typed,
+        of,
+        init,
+    )
+}
+
+/// Judges the sizes of a declarator, and answers its type, if it has one.
+fn judge_sizes(
+    alloc: Global,
+    file: bool,
+    saying: &Saying,
+    names: &Scopes,
+    declarator: &Declarator,
+    taken: &mut Seq<u32>,
+) -> Result<Option<Box<CType>>, TypeFault>
+    ensures { GivesType result file saying.now declarator.now taken.old taken.new (sizing.dimensions names.now declarator.now.dims) }
+{
+    let sizes = dimensions(alloc, names, &declarator.dims, taken)?;
+    let given = first_given(&declarator.init)?;
+    let dims = object_sizes(alloc, &sizes, given)?;
+    let of = declared_type(alloc, file, saying, declarator.stars.as_slice(), dims)?;
+    Ok(of)
+}
+
+/// What the name of a declarator means: a variable or a file object of this number. Where the declarator has no
+/// type, it is an int, and the declaration is refused in any case.
+fn meaning_of(
+    alloc: Global,
+    file: bool,
+    number: u32,
+    of: &Option<Box<CType>>,
+    fixed: bool,
+) -> Result<Meaning, NoMemory>
+    ensures { IfOk result (λ meaning. meaning ≡ rules.as_meaning file number (rules.type_or_int of.now) fixed) }
+{
+    let of = type_or_int(alloc, of)?;
+    if file {
+        Ok(Meaning::Object { number, of, fixed })
+    } else {
+        Ok(Meaning::Variable { number, of, fixed })
+    }
+}
+
+/// A copy of a type, and int where there is none.
+fn type_or_int(alloc: Global, of: &Option<Box<CType>>) -> Result<CType, NoMemory>
+    ensures { IfOk result (λ copy. copy ≡ rules.type_or_int of.now) }
+{
+    match of {
+        None => Ok(CType::Number(Kind::I32)),
+        Some(of) => copied_type(alloc, of.get()),
+    }
+}
+
+/// A type that may be none, lent.
+fn lent_option(of: &Option<Box<CType>>) -> Option<TypeView<'_>>
+    ensures { type_option result ≡ of.now }
+{
+    match of {
+        None => None,
+        Some(of) => Some(lent(of.get())),
+    }
+}
+
+/// What a declarator comes to whose parts are judged: its name is there twice; it has no type, but for its sizes;
+/// it does not begin with what has its type; a size is wrong; or it is made.
+fn made(
+    alloc: Global,
+    place: Place,
+    name: &Text,
+    twice: bool,
+    typed: bool,
+    of: Option<Box<CType>>,
+    init: Option<Box<TInit>>,
+) -> Result<Begun, TypeFault>
+    ensures { (fixed : Bool) (taken : List ℕ) → Makes result place name.now fixed taken of (rules.object_made place name.now twice typed fixed taken of init) }
+{
+    if twice {
+        return Err(declared_twice(alloc, place, name));
+    }
+    if !typed {
+        return Err(TypeFault::Kinds(place));
+    }
+    let Some(init) = init else {
+        return Err(TypeFault::Kinds(place));
+    };
+    let Some(of) = of else {
+        return Err(TypeFault::BadSize(place));
+    };
+    Ok(Begun { of, init })
+}
+
+/// The fault of a name that is declared again in its scope.
+fn declared_twice(alloc: Global, place: Place, name: &Text) -> TypeFault
+    ensures { IsTwice result place name.now }
+{
+    match Text::copy_of(alloc, name.as_str()) {
+        Ok(name) => TypeFault::Twice(name, place),
+        Err(_) => TypeFault::Memory,
+    }
+}

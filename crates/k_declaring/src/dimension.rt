@@ -1,0 +1,153 @@
+//! The dimensions of declarators and parameters (C17 6.7.6.2).
+ghost use Rattle.std.specs.Prelude.{◌≡◌, IfOk};
+ghost use Rattle.k_typed.specs.Dimensions as rules;
+ghost use Rattle.k_declaring.specs.Results.{GivesSizes};
+ghost use Rattle.k_declaring.specs.Sizes.{size_in, sizes_in, GivesSize};
+
+use crate::constants::constant;
+use crate::extent::within_limit;
+use k_judging::judge;
+use k_names::Scopes;
+use k_num::{NoMemory, Seq};
+use k_tree::Expr;
+use k_typed::TypeFault;
+use std::alloc::Global;
+use std::marker::Model;
+
+/// A dimension.
+#[derive(Clone, Copy)]
+pub enum Size {
+    /// It is left out.
+    LeftOut,
+    /// A size of 1 or more.
+    Is(u64),
+    /// It is no integer constant of 1 or more.
+    NoSize,
+}
+
+/// The dimensions of a declarator or a parameter, as sizes.
+#[derive(Drop)]
+pub struct Sizes {
+    list: Seq<Size>,
+}
+
+impl Model for Sizes {
+    ghost use Rattle.std.specs.Prelude.{List};
+    ghost use Rattle.k_typed.specs.Dimensions as sizing;
+
+    ghost Value = { List sizing.Size };
+
+    ghost use Rattle.k_declaring.specs.Sizes.{sizes_in};
+
+    ghost view = { λ s. sizes_in s.list };
+}
+
+/// The sizes that dimensions have where these names are known. The variables to which `&` is applied in them are
+/// put behind those in `taken`.
+pub fn dimensions(
+    alloc: Global,
+    names: &Scopes,
+    dims: &Seq<Option<Expr>>,
+    taken: &mut Seq<u32>,
+) -> Result<Sizes, TypeFault>
+    ensures { GivesSizes result taken.old taken.new (rules.dimensions names.now dims.now) }
+{
+    let mut list = Seq::new(alloc);
+    for dim in dims.as_slice() {
+        let size = match dimension(alloc, names, dim, taken) {
+            Ok(size) => size,
+            Err(fault) => return Err(fault),
+        };
+        list.push(size)?;
+    }
+    Ok(Sizes { list })
+}
+
+/// The size that one dimension has.
+fn dimension(
+    alloc: Global,
+    names: &Scopes,
+    dim: &Option<Expr>,
+    taken: &mut Seq<u32>,
+) -> Result<Size, TypeFault>
+    ensures { GivesSize result taken.old taken.new (rules.dimension names.now dim.now) }
+{
+    let Some(dim) = dim else {
+        return Ok(Size::LeftOut);
+    };
+    let judged = judge(alloc, names, dim, taken)?;
+    let value = constant(judged.tree.get());
+    drop(judged);
+    let size = size_of_constant(value?)?;
+    Ok(size)
+}
+
+/// The size that a constant is.
+fn size_of_constant(value: Option<i128>) -> Result<Size, NoMemory>
+    ensures { IfOk result (λ size. size_in size ≡ rules.size_of_constant value) }
+{
+    let Some(value) = value else {
+        return Ok(Size::NoSize);
+    };
+    if value < 1 {
+        return Ok(Size::NoSize);
+    }
+    match u64::try_from(value) {
+        Ok(value) => Ok(Size::Is(value)),
+        Err(_) => Err(NoMemory),
+    }
+}
+
+/// The dimensions of an object, of which an initialiser may give the first; none where one is wrong (C17
+/// 6.7.6.2p1, 6.7.9p22).
+pub fn object_sizes(
+    alloc: Global,
+    sizes: &Sizes,
+    given: Option<u32>,
+) -> Result<Option<Seq<u32>>, NoMemory>
+    ensures { IfOk result (λ dims. dims ≡ rules.object_sizes sizes.now given) }
+{
+    sizes_of_object(alloc, sizes.list.as_slice(), given)
+}
+
+/// The sizes of an object.
+fn sizes_of_object(
+    alloc: Global,
+    sizes: &[Size],
+    given: Option<u32>,
+) -> Result<Option<Seq<u32>>, NoMemory>
+    ensures { IfOk result (λ dims. dims ≡ rules.object_sizes (sizes_in sizes.now) given) }
+{
+    let Some((first, more)) = sizes.split_first() else {
+        return Ok(Some(Seq::new(alloc)));
+    };
+    match first {
+        Size::LeftOut => match given {
+            None => Ok(None),
+            Some(count) => within_limit(alloc, Some(count), more),
+        },
+        Size::Is(_) => within_limit(alloc, None, sizes),
+        Size::NoSize => Ok(None),
+    }
+}
+
+/// The dimensions of a parameter behind the first, which may be left out and counts for nothing; none where one
+/// is wrong (C17 6.7.6.3p7).
+pub fn param_sizes(alloc: Global, sizes: &Sizes) -> Result<Option<Seq<u32>>, NoMemory>
+    ensures { IfOk result (λ dims. dims ≡ rules.param_sizes sizes.now) }
+{
+    sizes_of_param(alloc, sizes.list.as_slice())
+}
+
+/// The sizes of a parameter behind the first.
+fn sizes_of_param(alloc: Global, sizes: &[Size]) -> Result<Option<Seq<u32>>, NoMemory>
+    ensures { IfOk result (λ dims. dims ≡ rules.param_sizes (sizes_in sizes.now)) }
+{
+    let Some((first, more)) = sizes.split_first() else {
+        return Ok(Some(Seq::new(alloc)));
+    };
+    match first {
+        Size::LeftOut | Size::Is(_) => within_limit(alloc, None, more),
+        Size::NoSize => Ok(None),
+    }
+}

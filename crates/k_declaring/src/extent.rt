@@ -1,0 +1,121 @@
+//! The sizes of one object: none is left out, each is one, and there are at most 4,194,304 elements (C17 6.7.6.2p1).
+ghost use Rattle.std.specs.Prelude.{◌≡◌, ◌≤◌, ◌*◌, ◌++◌, ◌∷◌, List, Some, IfOk, OnOk, min, option_map, option_to_list};
+ghost use Rattle.k_typed.specs.Dimensions as rules;
+ghost use Rattle.k_declaring.specs.Products.{counted, counted_option, starts, with_first, IsSmall};
+ghost use Rattle.k_declaring.specs.Sizes.{size_in, sizes_in};
+
+use crate::dimension::Size;
+use k_num::{NoMemory, Seq};
+use std::alloc::Global;
+
+/// The greatest count of elements of one object.
+const LIMIT: u64 = 4_194_304;
+
+/// The sizes behind a first one that may be given, as those of one object; none where one is wrong or there are
+/// too many elements.
+pub(crate) fn within_limit(
+    alloc: Global,
+    first: Option<u32>,
+    sizes: &[Size],
+) -> Result<Option<Seq<u32>>, NoMemory>
+    ensures { IfOk result (λ dims. dims ≡ rules.within_limit (with_first first (rules.all_sizes (sizes_in sizes.now)))) }
+{
+    let Some(count) = count(start(first), sizes) else {
+        return Ok(None);
+    };
+    if count > LIMIT {
+        return Ok(None);
+    }
+    let mut dims = first_sizes(alloc, first)?;
+    put_sizes(&mut dims, sizes)?;
+    Ok(Some(dims))
+}
+
+/// A first size, as a count of elements that is at most one above the limit; 1 where there is none.
+fn start(first: Option<u32>) -> u64
+    ensures value { result ≡ starts first }
+    ensures within { result ≤ 4194305 }
+{
+    match first {
+        None => 1,
+        Some(size) => u64::from(size).min(LIMIT + 1),
+    }
+}
+
+/// So many times a size, at most one above the limit.
+fn times(count: u64, size: u64) -> u64
+    requires { count ≤ 4194305 }
+    ensures product { result ≡ min (count * size) 4194305 }
+    ensures within { result ≤ 4194305 }
+{
+    (count * size.min(LIMIT + 1)).min(LIMIT + 1)
+}
+
+/// So many times the elements of these sizes, at most one above the limit; none where one is left out or is none.
+fn count(first: u64, sizes: &[Size]) -> Option<u64>
+    requires { first ≤ 4194305 }
+    ensures { result ≡ counted first (sizes_in sizes.now) }
+{
+    let mut count = Some(first);
+    let mut rest = sizes;
+    while let Some((size, more)) = rest.split_first() {
+        count = count_with(count, size);
+        rest = more;
+    }
+    count
+}
+
+/// A count that may be none, with one size more.
+fn count_with(count: Option<u64>, size: &Size) -> Option<u64>
+    requires { IsSmall count }
+    ensures value { (sizes : List rules.Size) → counted_option result sizes ≡ counted_option count (size_in size.now ∷ sizes) }
+    ensures within { IsSmall result }
+{
+    match count {
+        None => None,
+        Some(count) => count_one(count, size),
+    }
+}
+
+/// A count with one size more.
+fn count_one(count: u64, size: &Size) -> Option<u64>
+    requires { count ≤ 4194305 }
+    ensures value { (sizes : List rules.Size) → counted_option result sizes ≡ counted count (size_in size.now ∷ sizes) }
+    ensures within { IsSmall result }
+{
+    match size {
+        Size::LeftOut => None,
+        Size::Is(size) => Some(times(count, *size)),
+        Size::NoSize => None,
+    }
+}
+
+/// A first size that may be given.
+fn first_sizes(alloc: Global, first: Option<u32>) -> Result<Seq<u32>, NoMemory>
+    ensures { IfOk result (λ dims. dims ≡ option_to_list first) }
+{
+    let mut dims = Seq::new(alloc);
+    let Some(first) = first else {
+        return Ok(dims);
+    };
+    dims.push(first)?;
+    Ok(dims)
+}
+
+/// Puts sizes behind others. One that no object has counts as want of memory.
+fn put_sizes(dims: &mut Seq<u32>, sizes: &[Size]) -> Result<(), NoMemory>
+    ensures { OnOk result (option_map (λ ds. dims.old ++ ds) (rules.all_sizes (sizes_in sizes.now)) ≡ Some dims.new) }
+{
+    let mut rest = sizes;
+    while let Some((size, more)) = rest.split_first() {
+        let Size::Is(size) = size else {
+            return Err(NoMemory);
+        };
+        let Ok(size) = u32::try_from(*size) else {
+            return Err(NoMemory);
+        };
+        dims.push(size)?;
+        rest = more;
+    }
+    Ok(())
+}

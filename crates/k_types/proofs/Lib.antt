@@ -1,0 +1,14 @@
+pub mod BareExpressions
+pub mod BareInitialisers
+pub mod BareMade
+pub mod BareNodes
+pub mod BareStatements
+pub mod BareUnits
+pub mod Faults
+pub mod Functions
+pub mod Heads
+pub mod Items
+pub mod Parameters
+pub mod Places
+pub mod Rests
+pub mod Sources

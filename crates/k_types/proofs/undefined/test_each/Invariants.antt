@@ -1,0 +1,9 @@
+use Rattle.std.proofs.Common.{◌≡◌, map, drop}
+use Rattle.k_typed.specs.Units.{all_faults, undefined_call}
+use Rattle.k_types.specs.Calls.{seen}
+use Rattle.k_types.proofs.undefined.test_each.Given as goal
+
+abbrev pub invariant-loop-call : goal.invariant-loop-call
+invariant-loop-call l =
+    all_faults (map (undefined_call l.defined) (map seen (drop l.call-index l.calls)))
+    ≡ all_faults (map (undefined_call l.defined) (map seen l.calls))

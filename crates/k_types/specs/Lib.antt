@@ -1,0 +1,10 @@
+pub mod Calls
+pub mod Defined
+pub mod Functions
+pub mod Heads
+pub mod Items
+pub mod Parameters
+pub mod Results
+pub mod Sources
+pub mod Standings
+pub mod Variables

@@ -1,0 +1,10 @@
+-- A variable of a function as a run has to know it.
+use Rattle.std.specs.Prelude.{Bool}
+use Rattle.k_typed.specs.declared.tree.unit.TVariable.{TVariable}
+use Rattle.k_typed.specs.Functions.{object_elements}
+use Rattle.k_typed.specs.Statements.{Variable}
+use Rattle.k_typed.specs.Types.{told}
+
+-- a variable, to which `&` is applied or not
+abbrev pub variable_told : Variable → Bool → TVariable
+variable_told v taken = record { place = v.place; of = told v.of; elements = object_elements v.of taken }
