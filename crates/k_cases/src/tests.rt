@@ -1,0 +1,5 @@
+//! Sources, stage by stage.
+mod conversions;
+mod marks;
+mod nodes;
+mod typed;
