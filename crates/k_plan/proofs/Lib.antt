@@ -9,5 +9,4 @@ pub mod Marks
 pub mod Planned
 pub mod Rounding
 pub mod Summing
-pub mod Testing
 pub mod Totals

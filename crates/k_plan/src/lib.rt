@@ -11,6 +11,3 @@ pub use advice::{Advice, Pick};
 pub use k_selfpar::{Context, ContextFault, ContextList, contexts};
 pub use limits::{Limits, standard_limits};
 pub use planning::plan;
-
-#[cfg(test)]
-mod tests;

@@ -1,4 +1,3 @@
 pub mod Lines
 pub mod OneListing
 pub mod RegionLists
-pub mod Testing

@@ -13,6 +13,3 @@ mod writing;
 
 pub use graph_lines::graph_text;
 pub use report_lines::{report, report_large};
-
-#[cfg(test)]
-mod tests;

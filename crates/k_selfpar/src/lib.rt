@@ -18,8 +18,3 @@ pub use fraction::Frac;
 pub use grouping::contexts;
 pub use row::Row;
 pub use tree_rows::rows;
-
-#[cfg(test)]
-mod tests;
-#[cfg(test)]
-mod tree_tests;

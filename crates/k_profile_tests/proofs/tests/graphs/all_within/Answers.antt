@@ -1,6 +1,6 @@
 use Rattle.std.proofs.Common.{arith}
-use Rattle.k_report.proofs.Testing.{within_more}
-use Rattle.k_report.proofs.tests.graphs.all_within.Goals as goal
+use Rattle.k_profile_tests.proofs.Intervals.{within_more}
+use Rattle.k_profile_tests.proofs.tests.graphs.all_within.Goals as goal
 
 pub loop-instance-preserved : goal.loop-instance-preserved
 loop-instance-preserved c =

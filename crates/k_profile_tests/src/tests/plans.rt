@@ -2,9 +2,9 @@
 ghost use Rattle.std.specs.Prelude.{◌≡◌, ◌<◌, ◌≤◌, ◌^◌, true, IfSome};
 ghost use Rattle.k_plan.specs.Plan.{CanPlan, works_under};
 
-use crate::{Advice, Context, Limits, Pick, plan, standard_limits};
 use k_num::{NoMemory, Seq};
 use k_optab::RegionKind;
+use k_plan::{Advice, Context, Limits, Pick, plan, standard_limits};
 use k_selfpar::Frac;
 use std::alloc::Global;
 use std::process::Abort;

@@ -3,12 +3,12 @@ ghost use Rattle.std.specs.Prelude.{◌≡◌, ◌<◌, ◌^◌, All, IfSome, Is
 ghost use Rattle.k_optab.specs.Events.{AreBefore, SourcesAreEarlier, operations, total_latency};
 ghost use Rattle.k_report.specs.Graph.{IsWithin};
 
-use crate::graph_text;
 use k_code::{End, Trap};
 use k_graph::{Instance, Tree};
 use k_num::{Place, Seq};
 use k_optab::{Class, Event, Src};
 use k_plain::Listing;
+use k_report::graph_text;
 use std::alloc::Global;
 use std::process::Abort;
 use std::test::Fail;

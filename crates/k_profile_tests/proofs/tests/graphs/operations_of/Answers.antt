@@ -1,8 +1,8 @@
 use Rattle.std.proofs.Common.{◌+◌, ◌≤◌, arith, sym, subst}
 use Rattle.k_optab.specs.Events.{AreBefore}
 use Rattle.k_graph.proofs.Conditions.{AreFit, fit_sources, fit_count, fit_operation, fit_other}
-use Rattle.k_report.proofs.tests.graphs.operations_of.Goals as goal
-use Rattle.k_report.proofs.tests.graphs.operations_of.Goals.{in-Op+else-not-all_before+else-latency-gt1000+else-total-gt1000, in_default}
+use Rattle.k_profile_tests.proofs.tests.graphs.operations_of.Goals as goal
+use Rattle.k_profile_tests.proofs.tests.graphs.operations_of.Goals.{in-Op+else-not-all_before+else-latency-gt1000+else-total-gt1000, in_default}
 
 pub loop-event-preserved : goal.loop-event-preserved
 loop-event-preserved c = elim c.match-event.branch [

@@ -1,6 +1,6 @@
 use Rattle.std.proofs.Common.{◌≤◌, length, arith}
-use Rattle.k_plan.proofs.Testing.{can_plan}
-use Rattle.k_plan.proofs.tests.can_plan.Goals as goal
+use Rattle.k_profile_tests.proofs.Plans.{can_plan}
+use Rattle.k_profile_tests.proofs.tests.plans.can_plan.Goals as goal
 
 pub returns : goal.returns
 returns c =

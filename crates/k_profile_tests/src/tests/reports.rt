@@ -3,11 +3,11 @@ ghost use Rattle.std.specs.Prelude.{◌<◌, All, IsTrue, length};
 ghost use Rattle.k_dict.specs.Entries.{AreRuns};
 ghost use Rattle.k_plan.specs.Plan.{ParentsComeFirst, StandBehindParents};
 
-use crate::{report, report_large};
 use k_dict::{Dict, Entry, Run};
 use k_num::{Place, Seq, Text};
 use k_optab::{Region, RegionKind};
 use k_plan::{Advice, Pick};
+use k_report::{report, report_large};
 use k_selfpar::{Context, Frac, Row};
 use std::alloc::Global;
 use std::process::Abort;

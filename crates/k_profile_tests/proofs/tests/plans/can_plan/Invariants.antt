@@ -1,6 +1,6 @@
 use Rattle.std.proofs.Common.{◌≡◌, ◌≤◌, length}
-use Rattle.k_plan.proofs.Testing.{AreRight}
-use Rattle.k_plan.proofs.tests.can_plan.Given as goal
+use Rattle.k_profile_tests.proofs.Plans.{AreRight}
+use Rattle.k_profile_tests.proofs.tests.plans.can_plan.Given as goal
 
 abbrev pub invariant-loop-context : goal.invariant-loop-context
 invariant-loop-context l = record {

@@ -2,9 +2,9 @@
 ghost use Rattle.std.specs.Prelude.{IfOk};
 ghost use Rattle.k_saved.specs.Profile.{IsSaved};
 
-use crate::{Context, ContextFault, Row, contexts, rows};
 use k_optab::RegionKind;
 use k_saved::{Saved, read};
+use k_selfpar::{Context, ContextFault, Row, contexts, rows};
 use std::alloc::Global;
 use std::fmt::Write;
 use std::process::Abort;

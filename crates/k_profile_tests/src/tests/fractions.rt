@@ -1,5 +1,5 @@
 //! Worked examples.
-use crate::Frac;
+use k_selfpar::Frac;
 use std::cmp::Ordering;
 use std::test::Fail;
 

@@ -1,6 +1,6 @@
 use Rattle.std.proofs.Common.{◌≡◌, ◌+◌, drop}
 use Rattle.k_plan.specs.Plan.{StandBehindParents}
-use Rattle.k_report.proofs.tests.reports.stand_behind_parents.Given as goal
+use Rattle.k_profile_tests.proofs.tests.reports.stand_behind_parents.Given as goal
 
 abbrev pub invariant-loop-context : goal.invariant-loop-context
 invariant-loop-context l = record {

@@ -1,0 +1,6 @@
+//! Worked examples, one file for what is tested.
+mod fractions;
+mod graphs;
+mod plans;
+mod reports;
+mod rows;
