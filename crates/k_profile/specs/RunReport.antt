@@ -1,0 +1,45 @@
+-- *Report of a run*: what `run` writes behind the program's output where main returned, and what it saves.
+use Rattle.std.specs.Prelude.{ℕ, ℤ, ◌≡◌, ◌×◌, Bool, List, length, Option, Some, None}
+use Rattle.k_optab.specs.declared.event.Event.{Event}
+use Rattle.k_optab.specs.declared.node.Node.{Node}
+use Rattle.k_optab.specs.declared.region.Region.{Region}
+use Rattle.k_optab.specs.Events.{operations}
+use Rattle.k_optab.specs.Tree.{IsTree}
+use Rattle.k_dict.specs.Dictionary.{IsDictionary, refusal}
+use Rattle.k_dict.specs.declared.dict.Which.{Which}
+use Rattle.k_dict.specs.declared.entry.Entry.{Entry}
+use Rattle.k_report.specs.Report.{large_text}
+use Rattle.k_saved.specs.declared.saved.Saved.{Saved}
+use Rattle.k_profile.specs.Report.{IsReportOf, asked}
+
+-- a run from which main returned: what main returned, the events, the regions of the program, and below which depth instances are tracked
+pub record Ran : Type 0 where
+  pub exit : ℤ
+  pub events : List Event
+  pub regions : List Region
+  pub depth : ℕ
+
+-- how many operations it made
+abbrev pub ops_of : Ran → ℕ
+ops_of ran = length (operations ran.events)
+
+-- the profile of a run: its end and its operations, the regions, and the dictionary of its tree
+pub record IsProfileOf (ran : Ran) (nodes : List Node) (saved : Saved) : Type 0 where
+  pub exit : saved.exit ≡ ran.exit
+  pub ops : saved.ops ≡ ops_of ran
+  pub regions : saved.regions ≡ ran.regions
+  pub dict : IsDictionary nodes saved.dict
+
+-- the dictionary of these instances passes one of its limits
+pub record IsLarge (nodes : List Node) : Type 0 where
+  pub entries : List Entry
+  pub which : Which
+  pub dict : IsDictionary nodes entries
+  pub passed : refusal 0 0 entries ≡ Some which
+
+-- the report of a run whose dictionary has these entries, or is over its limits
+pub data IsRunReport (ran : Ran) (with_dict : Bool) : Option Saved → List ℕ → Type 0 where
+  whole : (nodes : List Node) (saved : Saved) (text : List ℕ) → IsTree ran.depth ran.events nodes → IsProfileOf ran nodes saved
+      → IsReportOf ran.regions ran.exit (ops_of ran) nodes (asked with_dict saved.dict) text
+      → IsRunReport ran with_dict (Some saved) text
+  large : (nodes : List Node) → IsTree ran.depth ran.events nodes → IsLarge nodes → IsRunReport ran with_dict None (large_text ran.exit (ops_of ran))
