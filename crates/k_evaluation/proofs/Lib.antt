@@ -1,5 +1,7 @@
 pub mod Bodies
 pub mod Called
+pub mod CleanRows
+pub mod CleanRuns
 pub mod Evaluated
 mod Examples
 pub mod Executed
@@ -8,3 +10,4 @@ pub mod Loops
 pub mod Parts
 pub mod Rows
 pub mod Runs
+pub mod Written

@@ -6,8 +6,10 @@ use Rattle.k_optab.specs.Instances.{Balanced}
 use Rattle.k_optab.specs.Latencies.{latency}
 use Rattle.k_code.specs.declared.ending.End.{End}
 use Rattle.k_code.specs.declared.ending.End.TheVariants.{Returned, Trapped, OutOfSteps}
+use Rattle.k_world.specs.WorldLaws.{AreBytes}
 use Rattle.k_evaluation.specs.States.{Program}
 use Rattle.k_evaluation.specs.Runs.{Run, run}
+use Rattle.k_evaluation.specs.Texts.{source_texts}
 
 -- a list begins with another
 abbrev pub Begins : {A : Type 0} → List A → List A → Type 0
@@ -31,6 +33,10 @@ RunsTakeBoundedTime =
     (program : Program) (input : List ℕ) (budget most : ℕ)
     → AreAtMost most program.latencies
     → total_latency (operations (run program input budget).events) ≤ budget * most
+
+-- where its program's texts are bytes, so is what a run writes
+abbrev pub RunsWriteBytes : Type 0
+RunsWriteBytes = (program : Program) (input : List ℕ) (budget : ℕ) → AreBytes (source_texts program.unit) → AreBytes (run program input budget).output
 
 -- main returned
 abbrev pub IsReturned : End → Type 0

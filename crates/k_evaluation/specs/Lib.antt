@@ -15,3 +15,4 @@ pub mod Runs
 pub mod Statements
 pub mod States
 pub mod Switches
+pub mod Texts

@@ -1,5 +1,5 @@
 //! What holds of every run: each function's contract is a law, and its body does nothing.
-ghost use Rattle.k_evaluation.specs.Laws.{CutRunsBegin, EndedRunsStay, ReturnedRunsAreBalanced, RunsHaveEarlierSources, RunsKeepTheBudget, RunsTakeBoundedTime};
+ghost use Rattle.k_evaluation.specs.Laws.{CutRunsBegin, EndedRunsStay, ReturnedRunsAreBalanced, RunsHaveEarlierSources, RunsKeepTheBudget, RunsTakeBoundedTime, RunsWriteBytes};
 
 /// Each source of each operation of a run is an earlier operation.
 pub fn sources_are_earlier()
@@ -21,4 +21,9 @@ pub fn regions_are_balanced()
 pub fn the_budget_only_cuts()
     ensures ended { EndedRunsStay }
     ensures cut { CutRunsBegin }
+{}
+
+/// Where the texts of its program are bytes, so is what a run writes.
+pub fn output_is_bytes()
+    ensures { RunsWriteBytes }
 {}
