@@ -3,9 +3,9 @@ ghost use Rattle.std.specs.Prelude.{◌≡◌, ◌++◌, IfOk, OnOk};
 ghost use Rattle.std.specs.List.{flat_map};
 ghost use Rattle.k_saved.specs.SavedText.{entries_text, entry_line, head_text, kind_text, named_line, numbers_text, region_line, regions_text, run_text, saved_text};
 
-use k_dict::{Entry, Run};
 use crate::saved::Saved;
 use itoa::{Buffer, Integer};
+use k_dict::{Entry, Run};
 use k_num::NoMemory;
 use k_optab::{Region, RegionKind};
 use std::alloc::Global;

@@ -3,8 +3,8 @@ ghost use Rattle.std.specs.Prelude.{◌≡◌, ◌<◌, ◌≤◌, Some, IfSome}
 ghost use Rattle.k_scan.specs.Pieces.{Finds};
 ghost use Rattle.k_saved.specs.Syntax.{Gives, entry_at, kind_at, named_at, number_then, numbers_at, part_at, place_at, region_at, region_of, run_at, runs_at};
 
-use k_dict::{Entry, Run};
 use crate::reading::stop::Stop;
+use k_dict::{Entry, Run};
 use k_num::{NoMemory, Place, Seq, Text};
 use k_optab::{Region, RegionKind};
 use k_scan::{name, number, word};
