@@ -3,27 +3,43 @@ use Rattle.std.proofs.Common.{◌≡◌, ℕ, ◌+◌, ◌-◌, ◌*◌, ◌<◌
 use Rattle.std.proofs.lemmas.List.{get_or_append_left, get_or_at}
 use Rattle.std.proofs.lemmas.Bool.{cases_lt}
 use Rattle.std.proofs.lemmas.Option.{none-some, slice_get_within}
-use Rattle.k_dict.specs.Entries.{AreInterned, AreRuns, NameEarlier, no_tree, tree_at, tree_of, trees_of}
-use Rattle.k_saved.specs.Extents.{NameBelow}
+use Rattle.k_dict.specs.Entries.{AreRuns, NameBelow, no_tree, tree_at, tree_of, trees_of}
+use Rattle.k_saved.specs.Formats.{AreRunsOf, HaveRuns}
 use Rattle.k_saved.specs.Lines.{IsNextEntry}
 use Rattle.k_saved.specs.Reading.{HaveRules}
 use Rattle.k_dict.specs.Rules.{HasBoundedNumbers, HaveBoundedNumbers, HaveFewInstances, HaveFewLevels, HavePathsUpTo, NameRegions, child_paths, child_works, entry_of, no_entry}
 use Rattle.k_dict.specs.Trees.{Tree, alone, height, size}
 use Rattle.k_dict.specs.declared.entry.Entry.{Entry}
 use Rattle.k_dict.specs.declared.entry.Run.{Run}
-use Rattle.k_dict.proofs.EntryTrees.{length-trees, tree_is, trees-push, trees-kept}
+use Rattle.k_saved.specs.declared.format.Format.{Format}
+use Rattle.k_saved.specs.declared.format.Format.TheVariants.{One, Two}
+use Rattle.k_dict.proofs.EntryTrees.{below_bound, length-trees, tree_is, trees-push, trees-kept}
 use Rattle.k_dict.proofs.Places.{place_kept, place_of_push}
 
--- runs that rise name entries below their bound
-pub below_bound : (low high : ℕ) (runs : List Run) → AreRuns low high runs → NameBelow high runs
-below_bound low high [] are = tt
-below_bound low high (run ∷ runs) are = (are.1, are.2, below_bound (run.entry + 1) high runs are.3)
-
--- and fewer runs than the bound
+-- runs that rise are no more than their bound
 pub few_bound : (low high : ℕ) (runs : List Run) → low ≤ high → AreRuns low high runs → low + length runs ≤ high
 few_bound low high [] fits are = omega arith
 few_bound low high (run ∷ runs) fits are =
     let above = are.0 in let under = are.1 in let more = few_bound (run.entry + 1) high runs (omega arith) are.3 in omega arith
+
+-- runs of either format name entries below their bound
+pub below_of : (format : Format) (high : ℕ) (runs : List Run) → AreRunsOf format high runs → NameBelow high runs
+below_of One high runs are = are.0
+below_of Two high runs are = below_bound 0 high runs are
+
+-- and are not too many
+pub few_of : (format : Format) (high : ℕ) (runs : List Run) → high ≤ 1048576 → AreRunsOf format high runs → length runs ≤ 1048576
+few_of One high runs most are = are.2
+few_of Two high runs most are = let few = few_bound 0 high runs (omega arith) are in omega arith
+
+-- entries have runs of their format with one more that has
+pub HaveRuns-push : (format : Format) (entries : List Entry) (e : Entry) → HaveRuns format entries → AreRunsOf format (length entries) e.runs
+    → HaveRuns format (entries ++ e ∷ [])
+HaveRuns-push format entries e have are n x h = elim (place_of_push entries e n x h) [
+  | inl k ↦ have n x k
+  | inr k ↦ let P : ℕ → Type 0 = λ m. AreRunsOf format m x.runs in let Q : Entry → Type 0 = λ y. AreRunsOf format (length entries) y.runs in
+      subst P (sym k.0) (subst Q (sym k.1) are)
+]
 
 module _ (entries more : List Entry) where
   same_works : (runs : List Run) → NameBelow (length entries) runs → child_works (entries ++ more) runs ≡ child_works entries runs
@@ -87,14 +103,14 @@ no_rules regions = record {
 }
 
 -- and of one more that may stand behind them
-pub rules_more : (regions : ℕ) (entries : List Entry) (e : Entry) → NameEarlier entries → HaveRules regions entries → IsNextEntry regions entries e
+pub rules_more : (format : Format) (regions : ℕ) (entries : List Entry) (e : Entry) → HaveRuns format entries → HaveRules regions entries → IsNextEntry format regions entries e
     → HaveRules regions (entries ++ e ∷ [])
-rules_more regions entries e earlier have next = record {
+rules_more format regions entries e runs have next = record {
   numbers = λ n x h. elim (place_of_push entries e n x h) [
     | inl k ↦ (let within = slice_get_within entries n x k in
-        numbers_up entries (e ∷ []) x (lower n (length entries) x.runs (omega arith) (below_bound 0 n x.runs (earlier n x k))) (have.numbers n x k))
+        numbers_up entries (e ∷ []) x (lower n (length entries) x.runs (omega arith) (below_of format n x.runs (runs n x k))) (have.numbers n x k))
     | inr k ↦ (let P : Entry → Type 0 = HasBoundedNumbers (entries ++ e ∷ []) in
-        subst P (sym k.1) (numbers_up entries (e ∷ []) e (below_bound 0 (length entries) e.runs next.runs) next.numbers))
+        subst P (sym k.1) (numbers_up entries (e ∷ []) e (below_of format (length entries) e.runs next.runs) next.numbers))
   ];
   levels = λ n less. elim (last_or n less) [
     | inl k ↦ (let P : Tree → Type 0 = λ t. height (alone t) ≤ 32 in subst P (sym (kept_tree entries e n k)) (have.levels n k))

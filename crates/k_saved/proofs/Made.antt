@@ -11,55 +11,66 @@ use Rattle.std.proofs.lemmas.Option.{none-some, same_Some, slice_get-get_or, sli
 use Rattle.k_optab.specs.declared.region.Region.{Region}
 use Rattle.k_scan.specs.Pieces.{word_at}
 use Rattle.k_scan.proofs.Front.{word_again}
-use Rattle.k_saved.specs.Reading.{exit_at}
+use Rattle.k_saved.specs.Reading.{exit_at, first_at, head_lines}
 use Rattle.k_saved.specs.Syntax.{named_at}
-use Rattle.k_dict.specs.Entries.{AreInterned, all_runs, no_tree, tree_at, tree_of, trees_of}
+use Rattle.k_dict.specs.Entries.{all_runs, expansion, no_tree, tree_at, tree_of, trees_of}
 use Rattle.k_saved.specs.Lines.{Counted, Exited, Follows, GoesWrong, InEntries, InRegions, IsClosed, IsFirstWrong, IsNextEntry, IsRegion, IsWhole, Leads, MayEnd, Named, Opened, Stage, arrived, last_of, onward}
-use Rattle.k_saved.specs.Profile.{ArePaired, AreRegions, IsSaved, Reads}
+use Rattle.k_saved.specs.Formats.{IsAccepted, first_line}
+use Rattle.k_saved.specs.Profile.{AreFileEntries, ArePaired, AreRegions, IsFile, IsMigrated, IsOld, IsSaved, Reads, ReadsOld}
 use Rattle.k_dict.specs.Rules.{AreProfile, NameRegions}
-use Rattle.k_saved.specs.SavedText.{entry_line, head_text, named_line, region_line, saved_text}
-use Rattle.k_saved.specs.Laws.{ReadsSaved}
+use Rattle.k_saved.specs.SavedText.{entry_line, file_of_old, file_of_saved, file_text, named_line, old_text, region_line, saved_text}
+use Rattle.k_saved.specs.Laws.{ReadsMigrated, ReadsOldOne, ReadsSaved}
+use Rattle.k_dict.specs.Laws.{AreAlike}
+use Rattle.k_dict.specs.Dictionary.{IsDictionaryOf}
+use Rattle.k_dict.proofs.Forests.{SameShape-sym}
+use Rattle.k_dict.proofs.Unique.{one_dictionary, root_is}
 use Rattle.k_dict.specs.Trees.{Tree, alone, height, size}
 use Rattle.k_dict.specs.declared.entry.Entry.{Entry}
+use Rattle.k_saved.specs.declared.file.File.{File}
+use Rattle.k_saved.specs.declared.format.Accepts.{Accepts}
+use Rattle.k_saved.specs.declared.format.Accepts.TheVariants.{OneAlone, Both}
+use Rattle.k_saved.specs.declared.format.Format.{Format}
+use Rattle.k_saved.specs.declared.format.Format.TheVariants.{One, Two}
+use Rattle.k_saved.specs.declared.saved.Old.{Old}
 use Rattle.k_saved.specs.declared.saved.Saved.{Saved}
 use Rattle.k_saved.specs.declared.saved.SavedFault.{SavedFault}
 use Rattle.k_saved.specs.declared.saved.SavedFault.TheVariants as faults
 use Rattle.k_dict.proofs.EntryTrees.{length-trees, trees-kept}
 use Rattle.k_saved.proofs.Files.{IsSmall, no_wrong, one_line}
-use Rattle.k_saved.proofs.HeadSteps.{exit_again, first_line, head_leads, head_parts}
-use Rattle.k_saved.proofs.Keeping.{added_tree, below_bound, numbers_down}
+use Rattle.k_saved.proofs.HeadSteps.{exit_again, first_again, head_leads, head_parts}
+use Rattle.k_saved.proofs.Keeping.{added_tree, below_of, numbers_down}
 use Rattle.k_saved.proofs.Leading.{leads_on, leads_once, leads_through}
 use Rattle.k_dict.proofs.Places.{place_behind, place_kept}
-use Rattle.k_dict.proofs.Pushes.{all_runs-push}
+use Rattle.k_dict.proofs.Pushes.{all_runs-push, interned}
 use Rattle.k_saved.proofs.RegionSteps.{last_push}
 use Rattle.k_saved.proofs.Spelled.{named_again}
-use Rattle.k_saved.proofs.Whole.{count_line, head_lines}
+use Rattle.k_saved.proofs.Whole.{count_line}
 
 -- the lines of regions lead on, and no body is missing behind them
-leads_regions : (count : ℕ) (before after : List Region) → ((n : ℕ) (r : Region) → slice_get after n ≡ Some r → IsRegion r) → ArePaired (last_of before) after
+leads_regions : (format : Format) (count : ℕ) (before after : List Region) → ((n : ℕ) (r : Region) → slice_get after n ≡ Some r → IsRegion r) → ArePaired (last_of before) after
     → length before + length after ≡ count
-    → Leads (InRegions count before) (flat_map region_line after) (InRegions count (before ++ after)) × IsClosed (last_of (before ++ after))
-leads_regions count before [] each paired sum =
-    let P : List Region → Type 0 = λ l. Leads (InRegions count before) [] (InRegions count l) × IsClosed (last_of l) in
-    subst P (sym (append-nil before)) (arrived (InRegions count before), paired)
-leads_regions count before (r ∷ after) each paired sum =
+    → Leads (InRegions format count before) (flat_map region_line after) (InRegions format count (before ++ after)) × IsClosed (last_of (before ++ after))
+leads_regions format count before [] each paired sum =
+    let P : List Region → Type 0 = λ l. Leads (InRegions format count before) [] (InRegions format count l) × IsClosed (last_of l) in
+    subst P (sym (append-nil before)) (arrived (InRegions format count before), paired)
+leads_regions format count before (r ∷ after) each paired sum =
     let next : List Region = before ++ r ∷ [] in
     let Q : Option Region → Type 0 = λ last. ArePaired last after in
     let count_next = length-append before (r ∷ []) in
-    let more = leads_regions count next after (λ n x h. each (suc n) x h) (subst Q (sym (last_push None before r)) paired.1) (omega arith) in
-    let line : Follows (InRegions count before) (region_line r) (InRegions count next) =
+    let more = leads_regions format count next after (λ n x h. each (suc n) x h) (subst Q (sym (last_push None before r)) paired.1) (omega arith) in
+    let line : Follows (InRegions format count before) (region_line r) (InRegions format count next) =
     inl (record { region = r; few = omega arith; right = each 0 r refl; stands = paired.0; line_is = refl; next_is = refl }) in
-    let P : List Region → Type 0 = λ l. Leads (InRegions count before) (flat_map region_line (r ∷ after)) (InRegions count l) × IsClosed (last_of l) in
-    let T : List ℕ → Type 0 = λ l. Leads (InRegions count before) l (InRegions count (next ++ after)) in
+    let P : List Region → Type 0 = λ l. Leads (InRegions format count before) (flat_map region_line (r ∷ after)) (InRegions format count l) × IsClosed (last_of l) in
+    let T : List ℕ → Type 0 = λ l. Leads (InRegions format count before) l (InRegions format count (next ++ after)) in
     subst P (append_assoc before (r ∷ []) after)
-    (subst T (sym (flat_map-cons region_line r after)) (onward (InRegions count before) (region_line r) (InRegions count next) (flat_map region_line after) (InRegions count (next ++ after)) line more.0), more.1)
+    (subst T (sym (flat_map-cons region_line r after)) (onward (InRegions format count before) (region_line r) (InRegions format count next) (flat_map region_line after) (InRegions format count (next ++ after)) line more.0), more.1)
 
 -- each entry of a profile may stand behind those before it
-next_entry : (regions : ℕ) (before : List Entry) (e : Entry) (after : List Entry) → AreProfile (before ++ e ∷ after) → NameRegions regions (before ++ e ∷ after)
-    → IsNextEntry regions before e
-next_entry regions before e after are named =
+next_entry : (format : Format) (regions : ℕ) (before : List Entry) (e : Entry) (after : List Entry) → AreFileEntries format (before ++ e ∷ after) → NameRegions regions (before ++ e ∷ after)
+    → IsNextEntry format regions before e
+next_entry format regions before e after are named =
     let place = place_behind before e after in
-    let runs = are.interned.earlier (length before) e place in
+    let runs = are.runs (length before) e place in
     let kept = trees-kept (before ++ e ∷ []) after in
     let split : (before ++ e ∷ []) ++ after ≡ before ++ e ∷ after = append_assoc before (e ∷ []) after in
     let count = length-trees (before ++ e ∷ []) in let longer = length-append before (e ∷ []) in let whole = length-append before (e ∷ after) in
@@ -69,81 +80,86 @@ next_entry regions before e after are named =
     let P : Tree → Type 0 = λ t. height (alone t) ≤ 32 in let Q : Tree → Type 0 = λ t. size (alone t) ≤ 576460752303423488 in
     let sum : all_runs (before ++ e ∷ after) ≡ (all_runs before + length e.runs) + all_runs after =
     ap all_runs (sym split) ∙ sum_by-append (λ x. length x.runs) (before ++ e ∷ []) after ∙ ap (λ n. n + all_runs after) (all_runs-push before e) in
-    let few = are.interned.few_runs in
+    let few = are.distinct.few_runs in
     record {
       region = named (length before) e place;
       runs = runs;
       new = λ there.
           let at : slice_get before there.0 ≡ Some e = slice_get-get_or before there.0 e there.1 ∙ ap Some there.2 in
-          let same = are.interned.apart there.0 (length before) e (place_kept before (e ∷ after) there.0 e at) place in
+          let same = are.distinct.apart there.0 (length before) e (place_kept before (e ∷ after) there.0 e at) place in
           let less = there.1 in absurd (omega arith);
       few_runs = omega arith;
-      numbers = numbers_down before (e ∷ after) e (below_bound 0 (length before) e.runs runs) (are.numbers (length before) e place);
+      numbers = numbers_down before (e ∷ after) e (below_of format (length before) e.runs runs) (are.numbers (length before) e place);
       levels = subst P here (are.levels (length before) (omega arith));
       instances = subst Q here (are.instances (length before) (omega arith));
     }
 
 -- the lines of entries lead on
-leads_entries : (list : List Region) (count : ℕ) (before after : List Entry) → AreProfile (before ++ after) → NameRegions (length list) (before ++ after)
-    → length before + length after ≡ count → Leads (InEntries list count before) (flat_map entry_line after) (InEntries list count (before ++ after))
-leads_entries list count before [] are named sum =
-    let P : List Entry → Type 0 = λ l. Leads (InEntries list count before) [] (InEntries list count l) in
-    subst P (sym (append-nil before)) (arrived (InEntries list count before))
-leads_entries list count before (e ∷ after) are named sum =
+leads_entries : (format : Format) (list : List Region) (count : ℕ) (before after : List Entry) → AreFileEntries format (before ++ after) → NameRegions (length list) (before ++ after)
+    → length before + length after ≡ count → Leads (InEntries format list count before) (flat_map entry_line after) (InEntries format list count (before ++ after))
+leads_entries format list count before [] are named sum =
+    let P : List Entry → Type 0 = λ l. Leads (InEntries format list count before) [] (InEntries format list count l) in
+    subst P (sym (append-nil before)) (arrived (InEntries format list count before))
+leads_entries format list count before (e ∷ after) are named sum =
     let next : List Entry = before ++ e ∷ [] in
     let split : before ++ e ∷ after ≡ next ++ after = sym (append_assoc before (e ∷ []) after) in
     let longer = length-append before (e ∷ []) in
-    let A : List Entry → Type 0 = AreProfile in let N : List Entry → Type 0 = NameRegions (length list) in
-    let more = leads_entries list count next after (subst A split are) (subst N split named) (omega arith) in
-    let line : Follows (InEntries list count before) (entry_line e) (InEntries list count next) =
-    record { entry = e; few = omega arith; right = next_entry (length list) before e after are named; line_is = refl; next_is = refl } in
-    let P : List Entry → Type 0 = λ l. Leads (InEntries list count before) (flat_map entry_line (e ∷ after)) (InEntries list count l) in
-    let T : List ℕ → Type 0 = λ l. Leads (InEntries list count before) l (InEntries list count (next ++ after)) in
+    let A : List Entry → Type 0 = AreFileEntries format in let N : List Entry → Type 0 = NameRegions (length list) in
+    let more = leads_entries format list count next after (subst A split are) (subst N split named) (omega arith) in
+    let line : Follows (InEntries format list count before) (entry_line e) (InEntries format list count next) =
+    record { entry = e; few = omega arith; right = next_entry format (length list) before e after are named; line_is = refl; next_is = refl } in
+    let P : List Entry → Type 0 = λ l. Leads (InEntries format list count before) (flat_map entry_line (e ∷ after)) (InEntries format list count l) in
+    let T : List ℕ → Type 0 = λ l. Leads (InEntries format list count before) l (InEntries format list count (next ++ after)) in
     subst P (sym split)
-    (subst T (sym (flat_map-cons entry_line e after)) (onward (InEntries list count before) (entry_line e) (InEntries list count next) (flat_map entry_line after) (InEntries list count (next ++ after)) line more))
+    (subst T (sym (flat_map-cons entry_line e after)) (onward (InEntries format list count before) (entry_line e) (InEntries format list count next) (flat_map entry_line after) (InEntries format list count (next ++ after)) line more))
 
-module _ (v : Saved) (saved : IsSaved v) where
-  abbrev pub count_of_regions : ℕ
-  count_of_regions = length v.regions
-
+module _ (v : File) (is : IsFile v) where
   -- the lines behind the head
   abbrev pub body_lines : List ℕ
-  body_lines = flat_map region_line v.regions ++ (count_line (length v.dict) ++ flat_map entry_line v.dict)
+  body_lines = flat_map region_line v.regions ++ (count_line (length v.entries) ++ flat_map entry_line v.entries)
 
   -- they lead to the end
-  pub body_leads : Leads (InRegions (length v.regions) []) body_lines (InEntries v.regions (length v.dict) v.dict)
+  pub body_leads : Leads (InRegions v.format (length v.regions) []) body_lines (InEntries v.format v.regions (length v.entries) v.entries)
   body_leads =
-      let regions = leads_regions (length v.regions) [] v.regions saved.regions.each saved.regions.paired (omega arith) in
-      let few = saved.profile.interned.few in
-      let line : Follows (InRegions (length v.regions) v.regions) (count_line (length v.dict)) (InEntries v.regions (length v.dict) []) =
-      inr (record { entries = length v.dict; all = refl; closed = regions.1; some = saved.profile.some; few = few; line_is = refl; next_is = refl }) in
-      leads_through (InRegions (length v.regions) []) (flat_map region_line v.regions) (InRegions (length v.regions) v.regions)
-      (count_line (length v.dict) ++ flat_map entry_line v.dict) (InEntries v.regions (length v.dict) v.dict) regions.0
-      (onward (InRegions (length v.regions) v.regions) (count_line (length v.dict)) (InEntries v.regions (length v.dict) []) (flat_map entry_line v.dict)
-      (InEntries v.regions (length v.dict) v.dict) line (leads_entries v.regions (length v.dict) [] v.dict saved.profile saved.in_list (omega arith)))
+      let regions = leads_regions v.format (length v.regions) [] v.regions is.regions.each is.regions.paired (omega arith) in
+      let few = is.entries.distinct.few in
+      let line : Follows (InRegions v.format (length v.regions) v.regions) (count_line (length v.entries)) (InEntries v.format v.regions (length v.entries) []) =
+      inr (record { entries = length v.entries; all = refl; closed = regions.1; some = is.entries.some; few = few; line_is = refl; next_is = refl }) in
+      leads_through (InRegions v.format (length v.regions) []) (flat_map region_line v.regions) (InRegions v.format (length v.regions) v.regions)
+      (count_line (length v.entries) ++ flat_map entry_line v.entries) (InEntries v.format v.regions (length v.entries) v.entries) regions.0
+      (onward (InRegions v.format (length v.regions) v.regions) (count_line (length v.entries)) (InEntries v.format v.regions (length v.entries) []) (flat_map entry_line v.entries)
+      (InEntries v.format v.regions (length v.entries) v.entries) line
+      (leads_entries v.format v.regions (length v.entries) [] v.entries is.entries is.in_list (omega arith)))
 
-  pub ends_whole : MayEnd v.regions (length v.dict) v.dict
-  ends_whole = record { all = refl; main = saved.main; named = saved.named }
+  pub ends_whole : MayEnd v.format v.regions (length v.entries) v.entries
+  ends_whole = record { all = refl; main = is.main; none_left = is.none_left }
 
-  -- all lines lead there
-  pub file_leads : Leads Opened (head_lines v.exit v.ops (length v.regions) ++ body_lines) (InEntries v.regions (length v.dict) v.dict)
-  file_leads = leads_through Opened (head_lines v.exit v.ops (length v.regions)) (InRegions (length v.regions) []) body_lines (InEntries v.regions (length v.dict) v.dict)
-      (head_leads v.exit v.ops (length v.regions) saved.exit saved.ops saved.regions.some saved.regions.few) body_leads
+  -- all lines
+  abbrev pub all_lines : List ℕ
+  all_lines = first_line v.format ++ (head_lines v.exit v.ops (length v.regions) ++ body_lines)
+
+  -- they lead there
+  pub file_leads : (accepts : Accepts) → IsAccepted accepts v.format → Leads (Opened accepts) all_lines (InEntries v.format v.regions (length v.entries) v.entries)
+  file_leads accepts accepted =
+      onward (Opened accepts) (first_line v.format) (Named v.format) (head_lines v.exit v.ops (length v.regions) ++ body_lines) (InEntries v.format v.regions (length v.entries) v.entries)
+      (v.format, accepted, refl, refl)
+      (leads_through (Named v.format) (head_lines v.exit v.ops (length v.regions)) (InRegions v.format (length v.regions) []) body_lines (InEntries v.format v.regions (length v.entries) v.entries)
+      (head_leads v.format v.exit v.ops (length v.regions) is.exit is.ops is.regions.some is.regions.few) body_leads)
 
 -- the parts of a file
-file_parts : (v : Saved) → saved_text v ≡ (head_lines v.exit v.ops (length v.regions) ++ (flat_map region_line v.regions ++ (count_line (length v.dict) ++ flat_map entry_line v.dict))) ++ codes "end\n"
-file_parts v = regroup (head_text first_line v.exit v.ops) (named_line (codes "regions ") (decimal (length v.regions))) (flat_map region_line v.regions) (count_line (length v.dict))
-    (flat_map entry_line v.dict) (codes "end\n")
+file_parts : (v : File) (is : IsFile v) → file_text v ≡ all_lines v is ++ codes "end\n"
+file_parts v is = regroup (first_line v.format) (named_line (codes "exit ") (signed_decimal v.exit)) (named_line (codes "ops ") (decimal v.ops)) (named_line (codes "regions ") (decimal (length v.regions)))
+    (flat_map region_line v.regions) (count_line (length v.entries)) (flat_map entry_line v.entries) (codes "end\n")
   where
-    regroup : (a b c d e f : List ℕ) → ((a ++ (b ++ c)) ++ (d ++ e)) ++ f ≡ ((a ++ b) ++ (c ++ (d ++ e))) ++ f
-    regroup a b c d e f = simp append_assoc
+    regroup : (f e o r a c b z : List ℕ) → ((((f ++ e) ++ o) ++ (r ++ a)) ++ (c ++ b)) ++ z ≡ (f ++ ((e ++ (o ++ r)) ++ (a ++ (c ++ b)))) ++ z
+    regroup f e o r a c b z = simp append_assoc
 
--- no file of a profile goes wrong
-pub no_file_wrong : (v : Saved) (place : ℕ) → IsSaved v → IsFirstWrong (saved_text v) place → ⊥
-no_file_wrong v place saved wrong =
+-- no file of these formats goes wrong
+pub no_file_wrong : (accepts : Accepts) (v : File) (place : ℕ) → IsAccepted accepts v.format → IsFile v → IsFirstWrong accepts (file_text v) place → ⊥
+no_file_wrong accepts v place accepted is wrong =
     let w = wrong.2 in
-    no_wrong Opened (head_lines v.exit v.ops (length v.regions) ++ body_lines v saved) (InEntries v.regions (length v.dict) v.dict) w.before w.stage w.rest tt (file_leads v saved) w.leads
-    (sym (file_parts v) ∙ w.cut) (ends_whole v saved) w.wrong
+    no_wrong (Opened accepts) (all_lines v is) (InEntries v.format v.regions (length v.entries) v.entries) w.before w.stage w.rest tt (file_leads v is accepts accepted) w.leads
+    (sym (file_parts v is) ∙ w.cut) (ends_whole v is) w.wrong
 
 -- lines that lead to an end lead to one
 one_end : (s : Stage) (a : List ℕ) (t : Stage) (b : List ℕ) (u : Stage) → IsSmall s → Leads s a t → Leads s b u → a ++ codes "end\n" ≡ b ++ codes "end\n" → IsWhole t → IsWhole u → t ≡ u
@@ -151,67 +167,76 @@ one_end _ _ _ _ _ small (arrived s) (arrived _) is whole other = refl
 one_end _ _ _ _ u small (arrived s) (onward _ line m lines _ first rest) is whole other = absurd (no_line_behind s m line first whole)
   where
     no_line_behind : (s m : Stage) (line : List ℕ) → Follows s line m → IsWhole s → ⊥
-    no_line_behind Opened m line f w = w
-    no_line_behind Named m line f w = w
-    no_line_behind Exited m line f w = w
-    no_line_behind Counted m line f w = w
-    no_line_behind (InRegions count regions) m line f w = w
-    no_line_behind (InEntries regions count entries) m line f w = let few = f.few in let all = w.all in absurd (omega arith)
+    no_line_behind (Opened accepts) m line f w = w
+    no_line_behind (Named format) m line f w = w
+    no_line_behind (Exited format) m line f w = w
+    no_line_behind (Counted format) m line f w = w
+    no_line_behind (InRegions format count regions) m line f w = w
+    no_line_behind (InEntries format regions count entries) m line f w = let few = f.few in let all = w.all in absurd (omega arith)
 one_end _ _ t _ _ small (onward s line m lines _ first rest) (arrived _) is whole other = absurd (no_line_behind s m line first other)
   where
     no_line_behind : (s m : Stage) (line : List ℕ) → Follows s line m → IsWhole s → ⊥
-    no_line_behind Opened m line f w = w
-    no_line_behind Named m line f w = w
-    no_line_behind Exited m line f w = w
-    no_line_behind Counted m line f w = w
-    no_line_behind (InRegions count regions) m line f w = w
-    no_line_behind (InEntries regions count entries) m line f w = let few = f.few in let all = w.all in absurd (omega arith)
+    no_line_behind (Opened accepts) m line f w = w
+    no_line_behind (Named format) m line f w = w
+    no_line_behind (Exited format) m line f w = w
+    no_line_behind (Counted format) m line f w = w
+    no_line_behind (InRegions format count regions) m line f w = w
+    no_line_behind (InEntries format regions count entries) m line f w = let few = f.few in let all = w.all in absurd (omega arith)
 one_end _ _ t _ u small (onward s line m lines _ first rest) (onward _ line' m' lines' _ first' rest') is whole other =
     let same = one_line s line line' (lines ++ codes "end\n") (lines' ++ codes "end\n") m m' small first first'
     (sym (append_assoc line lines (codes "end\n")) ∙ is ∙ append_assoc line' lines' (codes "end\n")) in
     let P : Stage → Type 0 = λ k. Leads k lines' u in
     one_end m lines t lines' u same.small rest (subst P (sym same.stage) rest') same.text whole other
 
+abbrev format_of : Stage → Format
+format_of (Opened accepts) = One
+format_of (Named format) = format
+format_of (Exited format) = format
+format_of (Counted format) = format
+format_of (InRegions format count regions) = format
+format_of (InEntries format regions count entries) = format
+
 abbrev regions_of : Stage → List Region
-regions_of Opened = []
-regions_of Named = []
-regions_of Exited = []
-regions_of Counted = []
-regions_of (InRegions count regions) = []
-regions_of (InEntries regions count entries) = regions
+regions_of (Opened accepts) = []
+regions_of (Named format) = []
+regions_of (Exited format) = []
+regions_of (Counted format) = []
+regions_of (InRegions format count regions) = []
+regions_of (InEntries format regions count entries) = regions
 
 abbrev entries_of : Stage → List Entry
-entries_of Opened = []
-entries_of Named = []
-entries_of Exited = []
-entries_of Counted = []
-entries_of (InRegions count regions) = []
-entries_of (InEntries regions count entries) = entries
+entries_of (Opened accepts) = []
+entries_of (Named format) = []
+entries_of (Exited format) = []
+entries_of (Counted format) = []
+entries_of (InRegions format count regions) = []
+entries_of (InEntries format regions count entries) = entries
 
--- two profiles with one text are one
-pub one_text : (v w : Saved) → IsSaved v → IsSaved w → saved_text v ≡ saved_text w → v ≡ w
+-- two files with one text are one
+pub one_text : (v w : File) → IsFile v → IsFile w → file_text v ≡ file_text w → v ≡ w
 one_text v w one other is =
-    let stages = one_end Opened (head_lines v.exit v.ops (length v.regions) ++ body_lines v one) (InEntries v.regions (length v.dict) v.dict)
-    (head_lines w.exit w.ops (length w.regions) ++ body_lines w other) (InEntries w.regions (length w.dict) w.dict) tt (file_leads v one) (file_leads w other)
-    (sym (file_parts v) ∙ is ∙ file_parts w) (ends_whole v one) (ends_whole w other) in
+    let stages = one_end (Opened Both) (all_lines v one) (InEntries v.format v.regions (length v.entries) v.entries)
+    (all_lines w other) (InEntries w.format w.regions (length w.entries) w.entries) tt (file_leads v one Both tt) (file_leads w other Both tt)
+    (sym (file_parts v one) ∙ is ∙ file_parts w other) (ends_whole v one) (ends_whole w other) in
     let exits = heads (body_lines v one ++ codes "end\n") (body_lines w other ++ codes "end\n")
-    (sym (parts v (body_lines v one)) ∙ sym (file_parts v) ∙ is ∙ file_parts w ∙ parts w (body_lines w other)) in
-    λ i. record { exit = exits.0 i; ops = exits.1 i; regions = regions_of (stages i); dict = entries_of (stages i) }
+    (sym (parts v (body_lines v one)) ∙ sym (file_parts v one) ∙ is ∙ file_parts w other ∙ parts w (body_lines w other)) in
+    λ i. record { format = format_of (stages i); exit = exits.0 i; ops = exits.1 i; regions = regions_of (stages i); entries = entries_of (stages i) }
   where
-    parts : (u : Saved) (lines : List ℕ) → (head_lines u.exit u.ops (length u.regions) ++ lines) ++ codes "end\n"
-        ≡ first_line ++ (named_line (codes "exit ") (signed_decimal u.exit) ++ (named_line (codes "ops ") (decimal u.ops) ++ (named_line (codes "regions ") (decimal (length u.regions)) ++ (lines ++ codes "end\n"))))
-    parts u lines = append_assoc (head_lines u.exit u.ops (length u.regions)) lines (codes "end\n") ∙ head_parts first_line u.exit u.ops (length u.regions) (lines ++ codes "end\n")
+    parts : (u : File) (lines : List ℕ) → (first_line u.format ++ (head_lines u.exit u.ops (length u.regions) ++ lines)) ++ codes "end\n"
+        ≡ first_line u.format ++ (named_line (codes "exit ") (signed_decimal u.exit) ++ (named_line (codes "ops ") (decimal u.ops) ++ (named_line (codes "regions ") (decimal (length u.regions)) ++ (lines ++ codes "end\n"))))
+    parts u lines = append_assoc (first_line u.format) (head_lines u.exit u.ops (length u.regions) ++ lines) (codes "end\n")
+        ∙ ap (λ l. first_line u.format ++ l) (append_assoc (head_lines u.exit u.ops (length u.regions)) lines (codes "end\n") ∙ head_parts u.exit u.ops (length u.regions) (lines ++ codes "end\n"))
 
-    heads : (x y : List ℕ) → first_line ++ (named_line (codes "exit ") (signed_decimal v.exit) ++ (named_line (codes "ops ") (decimal v.ops) ++ (named_line (codes "regions ") (decimal (length v.regions)) ++ x)))
-        ≡ first_line ++ (named_line (codes "exit ") (signed_decimal w.exit) ++ (named_line (codes "ops ") (decimal w.ops) ++ (named_line (codes "regions ") (decimal (length w.regions)) ++ y)))
+    heads : (x y : List ℕ) → first_line v.format ++ (named_line (codes "exit ") (signed_decimal v.exit) ++ (named_line (codes "ops ") (decimal v.ops) ++ (named_line (codes "regions ") (decimal (length v.regions)) ++ x)))
+        ≡ first_line w.format ++ (named_line (codes "exit ") (signed_decimal w.exit) ++ (named_line (codes "ops ") (decimal w.ops) ++ (named_line (codes "regions ") (decimal (length w.regions)) ++ y)))
         → (v.exit ≡ w.exit) × (v.ops ≡ w.ops)
     heads x y same =
         let ops_v : List ℕ = named_line (codes "ops ") (decimal v.ops) ++ (named_line (codes "regions ") (decimal (length v.regions)) ++ x) in
         let ops_w : List ℕ = named_line (codes "ops ") (decimal w.ops) ++ (named_line (codes "regions ") (decimal (length w.regions)) ++ y) in
-        let a : named_line (codes "exit ") (signed_decimal v.exit) ++ ops_v ≡ named_line (codes "exit ") (signed_decimal w.exit) ++ ops_w =
-        same_Some (named_line (codes "exit ") (signed_decimal v.exit) ++ ops_v) (named_line (codes "exit ") (signed_decimal w.exit) ++ ops_w)
-        (sym (word_again first_line (named_line (codes "exit ") (signed_decimal v.exit) ++ ops_v)) ∙ ap (word_at first_line) same
-        ∙ word_again first_line (named_line (codes "exit ") (signed_decimal w.exit) ++ ops_w)) in
+        let exit_v : List ℕ = named_line (codes "exit ") (signed_decimal v.exit) ++ ops_v in
+        let exit_w : List ℕ = named_line (codes "exit ") (signed_decimal w.exit) ++ ops_w in
+        let first = same_Some (v.format, exit_v) (w.format, exit_w) (sym (first_again Both v.format exit_v tt) ∙ ap (first_at Both) same ∙ first_again Both w.format exit_w tt) in
+        let a : exit_v ≡ exit_w = ap (λ p. p.1) first in
         let b = same_Some (v.exit, ops_v) (w.exit, ops_w) (sym (exit_again v.exit ops_v one.exit) ∙ ap exit_at a ∙ exit_again w.exit ops_w other.exit) in
         let tails : ops_v ≡ ops_w = ap (λ p. p.1) b in
         let c = same_Some (v.ops, named_line (codes "regions ") (decimal (length v.regions)) ++ x) (w.ops, named_line (codes "regions ") (decimal (length w.regions)) ++ y)
@@ -220,8 +245,100 @@ one_text v w one other is =
         ∙ named_again (codes "ops ") 0 1000000000 w.ops (named_line (codes "regions ") (decimal (length w.regions)) ++ y) (omega arith) other.ops (omega arith)) in
         (ap (λ p. p.0) b, ap (λ p. p.0) c)
 
+-- a profile that can be saved is one whose file keeps the rules
+pub saved_file : (v : Saved) → IsSaved v → IsFile (file_of_saved v)
+saved_file v saved = record {
+  exit = saved.exit;
+  ops = saved.ops;
+  regions = saved.regions;
+  entries = record {
+    some = saved.profile.some;
+    distinct = record { few = saved.profile.interned.few; few_runs = saved.profile.interned.few_runs; apart = saved.profile.interned.apart };
+    runs = saved.profile.interned.earlier;
+    numbers = saved.profile.numbers;
+    levels = saved.profile.levels;
+    instances = saved.profile.instances;
+  };
+  in_list = saved.in_list;
+  main = saved.main;
+  none_left = saved.named;
+}
+
+-- a file in format 2 that keeps the rules is that of a profile that can be saved
+pub file_saved : (v : Saved) → IsFile (file_of_saved v) → IsSaved v
+file_saved v is = record {
+  exit = is.exit;
+  ops = is.ops;
+  regions = is.regions;
+  profile = record {
+    some = is.entries.some;
+    interned = interned v.dict is.entries.distinct is.entries.runs;
+    numbers = is.entries.numbers;
+    levels = is.entries.levels;
+    instances = is.entries.instances;
+  };
+  in_list = is.in_list;
+  main = is.main;
+  named = is.none_left;
+}
+
+-- two profiles with one file are one
+pub one_saved : (v w : Saved) → IsSaved v → IsSaved w → saved_text v ≡ saved_text w → v ≡ w
+one_saved v w one other is =
+    let same = one_text (file_of_saved v) (file_of_saved w) (saved_file v one) (saved_file w other) is in
+    λ i. record { exit = (same i).exit; ops = (same i).ops; regions = (same i).regions; dict = (same i).entries }
+
+pub one_old : (v w : Old) → IsOld v → IsOld w → old_text v ≡ old_text w → v ≡ w
+one_old v w one other is =
+    let same = one_text (file_of_old v) (file_of_old w) one other is in
+    λ i. record { exit = (same i).exit; ops = (same i).ops; regions = (same i).regions; entries = (same i).entries }
+
+-- no file is of both formats
+pub no_both : (v : Saved) (w : Old) → IsSaved v → IsOld w → saved_text v ≡ old_text w → ⊥
+no_both v w one other is = apart (ap (λ f. f.format) (one_text (file_of_saved v) (file_of_old w) (saved_file v one) other is))
+  where
+    apart : ◌≡◌ {A = Format} Two One → ⊥
+    apart same = let P : Format → Type 0 = λ f. IsAccepted OneAlone f in subst P (sym same) tt
+
 -- the file of a profile is read as that profile
 pub read_of_write : (v : Saved) (result : Result Saved SavedFault) → IsSaved v → Reads (saved_text v) result → ReadsSaved v result
-read_of_write v (Ok w) saved reads = one_text w v reads.0 saved (sym reads.1)
-read_of_write v (Err (faults.NotSaved place)) saved reads = no_file_wrong v place saved reads
+read_of_write v (Ok w) saved reads = elim reads.1 [
+  | inl same ↦ one_saved w v reads.0 saved (sym same)
+  | inr old ↦ absurd (no_both v old.0 saved old.1 old.2)
+]
+read_of_write v (Err (faults.NotSaved place)) saved reads = no_file_wrong Both (file_of_saved v) place tt (saved_file v saved) reads
 read_of_write v (Err faults.Memory) saved reads = tt
+
+-- the file of a profile of format 1 is read as that profile
+pub read_of_old : (v : Old) (result : Result Old SavedFault) → IsOld v → ReadsOld (old_text v) result → ReadsOldOne v result
+read_of_old v (Ok w) is reads = one_old w v reads.0 is (sym reads.1)
+read_of_old v (Err (faults.NotSaved place)) is reads = no_file_wrong OneAlone (file_of_old v) place tt is reads
+read_of_old v (Err faults.Memory) is reads = tt
+
+-- or as what it becomes
+pub read_migrated : (v : Old) (result : Result Saved SavedFault) → IsOld v → Reads (old_text v) result → ReadsMigrated v result
+read_migrated v (Ok w) is reads = elim reads.1 [
+  | inl same ↦ absurd (no_both w v reads.0 is (sym same))
+  | inr old ↦ (let P : Old → Type 0 = λ o. IsMigrated o w in subst P (one_old old.0 v old.1 is (sym old.2)) old.3)
+]
+read_migrated v (Err (faults.NotSaved place)) is reads = no_file_wrong Both (file_of_old v) place tt is reads
+read_migrated v (Err faults.Memory) is reads = tt
+
+-- it becomes one profile
+pub one_migration : (v : Old) (one other : Saved) → IsMigrated v one → IsMigrated v other → one ≡ other
+one_migration v one other first second =
+    let last = first.last in let last' = second.last in
+    let same : second.root ≡ first.root = omega arith in
+    let P : ℕ → Type 0 = λ n. IsDictionaryOf (tree_at v.entries n) other.dict in
+    let dict : one.dict ≡ other.dict = one_dictionary (tree_at v.entries first.root) one.dict other.dict first.dict (subst P same second.dict) in
+    let exit : one.exit ≡ other.exit = first.exit ∙ sym second.exit in
+    let ops : one.ops ≡ other.ops = first.ops ∙ sym second.ops in
+    let regions : one.regions ≡ other.regions = first.regions ∙ sym second.regions in
+    λ i. record { exit = exit i; ops = ops i; regions = regions i; dict = dict i }
+
+-- whose last entry stands for the old tree
+pub migration_expands : (v : Old) (w : Saved) (is : IsMigrated v w)
+    → (root : ℕ) × (length w.dict ≡ root + 1) × AreAlike (expansion w.dict root) (expansion v.entries is.root)
+migration_expands v w is =
+    let root = root_is (tree_at v.entries is.root) w.dict is.dict in
+    (root.0, root.1, (tree_at w.dict root.0, tree_at v.entries is.root, refl, refl, SameShape-sym (tree_at v.entries is.root) (tree_at w.dict root.0) root.2))

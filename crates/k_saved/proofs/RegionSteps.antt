@@ -10,6 +10,7 @@ use Rattle.k_saved.specs.Profile.{ArePaired}
 use Rattle.k_saved.specs.Reading.{AllRegions, AreEach, AreLinked, NextRegion}
 use Rattle.k_saved.specs.SavedText.{region_line}
 use Rattle.k_saved.specs.Syntax.{Gives, region_at}
+use Rattle.k_saved.specs.declared.format.Format.{Format}
 use Rattle.k_saved.specs.declared.reading.stop.Stop.{Stop}
 use Rattle.k_saved.specs.declared.reading.stop.Stop.TheVariants as stops
 use Rattle.k_saved.proofs.Leading.{leads_on, wrong_behind, wrong_here}
@@ -56,53 +57,53 @@ each_more regions r each right n x h = elim (place_of_push regions r n x h) [
 ]
 
 -- where the reading of regions stands: these were read, and this text is left
-pub record AtRegions (count : ℕ) (text rest : List ℕ) (regions : List Region) : Type 0 where
+pub record AtRegions (format : Format) (count : ℕ) (text rest : List ℕ) (regions : List Region) : Type 0 where
   pub cut : text ≡ flat_map region_line regions ++ rest
-  pub leads : Leads (InRegions count []) (flat_map region_line regions) (InRegions count regions)
+  pub leads : Leads (InRegions format count []) (flat_map region_line regions) (InRegions format count regions)
   pub few : length regions ≤ count
   pub each : AreEach regions
   pub linked : AreLinked None regions
 
 -- before the first
-pub regions_start : (count : ℕ) (text : List ℕ) (regions : List Region) → regions ≡ [] → AtRegions count text text regions
-regions_start count text regions none =
-    let P : List Region → Type 0 = AtRegions count text text in
-    subst P (sym none) (record { cut = refl; leads = arrived (InRegions count []); few = omega arith; each = λ n r h. absurd (none-some r h); linked = tt })
+pub regions_start : (format : Format) (count : ℕ) (text : List ℕ) (regions : List Region) → regions ≡ [] → AtRegions format count text text regions
+regions_start format count text regions none =
+    let P : List Region → Type 0 = AtRegions format count text text in
+    subst P (sym none) (record { cut = refl; leads = arrived (InRegions format count []); few = omega arith; each = λ n r h. absurd (none-some r h); linked = tt })
 
 -- behind one more
-pub regions_more : (count : ℕ) (text rest behind : List ℕ) (regions new : List Region) (r : Region) → AtRegions count text rest regions → length regions < count
-    → IsRegion r × MayStand (last_of regions) r × (rest ≡ region_line r ++ behind) → new ≡ regions ++ r ∷ [] → AtRegions count text behind new
-regions_more count text rest behind regions new r at less next is =
-    let Q : List ℕ → Type 0 = λ l. Leads (InRegions count []) l (InRegions count (regions ++ r ∷ [])) in
-    let line : Follows (InRegions count regions) (region_line r) (InRegions count (regions ++ r ∷ [])) =
+pub regions_more : (format : Format) (count : ℕ) (text rest behind : List ℕ) (regions new : List Region) (r : Region) → AtRegions format count text rest regions → length regions < count
+    → IsRegion r × MayStand (last_of regions) r × (rest ≡ region_line r ++ behind) → new ≡ regions ++ r ∷ [] → AtRegions format count text behind new
+regions_more format count text rest behind regions new r at less next is =
+    let Q : List ℕ → Type 0 = λ l. Leads (InRegions format count []) l (InRegions format count (regions ++ r ∷ [])) in
+    let line : Follows (InRegions format count regions) (region_line r) (InRegions format count (regions ++ r ∷ [])) =
     inl (record { region = r; few = less; right = next.0; stands = next.1; line_is = refl; next_is = refl }) in
-    let P : List Region → Type 0 = AtRegions count text behind in
+    let P : List Region → Type 0 = AtRegions format count text behind in
     subst P (sym is) (record {
       cut = at.cut ∙ ap (λ l. flat_map region_line regions ++ l) next.2 ∙ sym (append_assoc (flat_map region_line regions) (region_line r) behind)
           ∙ ap (λ l. l ++ behind) (sym (flat_map-push region_line regions r));
       leads = subst Q (sym (flat_map-push region_line regions r))
-          (leads_on (InRegions count []) (flat_map region_line regions) (InRegions count regions) (region_line r) (InRegions count (regions ++ r ∷ [])) at.leads line);
+          (leads_on (InRegions format count []) (flat_map region_line regions) (InRegions format count regions) (region_line r) (InRegions format count (regions ++ r ∷ [])) at.leads line);
       few = omega (arith, length-append regions (r ∷ []));
       each = each_more regions r at.each next.0;
       linked = linked_more None regions r at.linked next.1;
     })
 
 -- where no region's line stands
-pub wrong_region : (count : ℕ) (text rest : List ℕ) (regions : List Region) (left : ℕ) → AtRegions count text rest regions → length regions < count → left ≡ length rest
-    → ((r : Region) (later : List ℕ) → IsRegion r → MayStand (last_of regions) r → rest ≢ region_line r ++ later) → GoesWrong (InRegions count []) text left
-wrong_region count text rest regions left at less left_is none =
-    let P : ℕ → Type 0 = GoesWrong (InRegions count []) text in
-    subst P (sym left_is) (wrong_behind (InRegions count []) (flat_map region_line regions) (InRegions count regions) text rest (length rest) at.leads at.cut
-    (wrong_here (InRegions count regions) rest (record { no_line = here; no_end = λ whole is. whole })))
+pub wrong_region : (format : Format) (count : ℕ) (text rest : List ℕ) (regions : List Region) (left : ℕ) → AtRegions format count text rest regions → length regions < count → left ≡ length rest
+    → ((r : Region) (later : List ℕ) → IsRegion r → MayStand (last_of regions) r → rest ≢ region_line r ++ later) → GoesWrong (InRegions format count []) text left
+wrong_region format count text rest regions left at less left_is none =
+    let P : ℕ → Type 0 = GoesWrong (InRegions format count []) text in
+    subst P (sym left_is) (wrong_behind (InRegions format count []) (flat_map region_line regions) (InRegions format count regions) text rest (length rest) at.leads at.cut
+    (wrong_here (InRegions format count regions) rest (record { no_line = here; no_end = λ whole is. whole })))
   where
-    here : (line later : List ℕ) (next : Stage) → Follows (InRegions count regions) line next → rest ≢ line ++ later
+    here : (line later : List ℕ) (next : Stage) → Follows (InRegions format count regions) line next → rest ≢ line ++ later
     here line later next (inl one) is = none one.region later one.right one.stands (is ∙ ap (λ l. l ++ later) one.line_is)
     here line later next (inr other) is = let all = other.all in absurd (omega arith)
 
 -- behind the last
-pub regions_done : (count : ℕ) (text rest : List ℕ) (regions : List Region) → AtRegions count text rest regions → count ≤ length regions
-    → AllRegions count text (Ok (regions, rest))
-regions_done count text rest regions at all = let few = at.few in (at.cut, omega arith, at.leads, at.each, at.linked)
+pub regions_done : (format : Format) (count : ℕ) (text rest : List ℕ) (regions : List Region) → AtRegions format count text rest regions → count ≤ length regions
+    → AllRegions format count text (Ok (regions, rest))
+regions_done format count text rest regions at all = let few = at.few in (at.cut, omega arith, at.leads, at.each, at.linked)
 
 -- what a refusal to read a region says
 pub refused_region : {X : Type 0} (view : X → Region × List ℕ) (before : List Region) (text : List ℕ) (stop : Stop) → Gives view (Err stop) (region_at text)

@@ -15,7 +15,7 @@ use Rattle.k_scan.specs.Numbers.{NoDigit, is_digit, number_at}
 use Rattle.k_scan.specs.Pieces.{word_at}
 use Rattle.k_scan.proofs.Digits.{number_again, number_takes}
 use Rattle.k_scan.proofs.Front.{name_again, name_takes, word_again, word_takes}
-use Rattle.k_saved.specs.Extents.{NameBelow}
+use Rattle.k_dict.specs.Entries.{NameBelow}
 use Rattle.k_saved.specs.Lines.{IsRegion}
 use Rattle.k_saved.specs.SavedText.{entry_line, kind_text, named_line, numbers_text, region_line, run_text}
 use Rattle.k_saved.specs.Syntax.{◌>>=◌, ended, entry_at, first_kind, found_if, kind_at, named_at, number_then, numbers_at, part_at, place_at, region_at, region_of, run_at, runs_at}

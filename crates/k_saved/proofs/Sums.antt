@@ -3,8 +3,8 @@ use Rattle.std.proofs.Common.{◌≡◌, ℕ, zero, suc, ◌+◌, ◌-◌, ◌*�
 use Rattle.std.proofs.Math.Nat.{suc-mul}
 use Rattle.std.proofs.lemmas.Bool.{and_parts, and_from, leb-true, ltb-true, le-leb, lt-ltb}
 use Rattle.std.proofs.lemmas.List.{get_or-map, length-map}
-use Rattle.k_dict.specs.Entries.{copies, laid, no_tree, tree_of, trees_of}
-use Rattle.k_saved.specs.Extents.{NameBelow, capped, child_instances, child_levels, extent_at, extent_of, extent_over, extents_of, is_within, no_extent, no_sums, sums_from, with_run}
+use Rattle.k_dict.specs.Entries.{NameBelow, copies, laid, no_tree, tree_of, trees_of}
+use Rattle.k_saved.specs.Extents.{capped, child_instances, child_levels, extent_at, extent_of, extent_over, extents_of, is_within, no_extent, no_sums, sums_from, with_run}
 use Rattle.k_saved.specs.Reading.{IsWithinRules}
 use Rattle.k_dict.specs.Rules.{HasBoundedNumbers, HavePathsUpTo, child_paths, child_works, entry_of}
 use Rattle.k_dict.specs.Trees.{Forest, Tree, alone, bare, grown, height, size}

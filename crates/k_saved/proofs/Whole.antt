@@ -6,18 +6,18 @@ use Rattle.std.proofs.lemmas.Option.{none-some, same_Some}
 use Rattle.k_scan.specs.Pieces.{word_at}
 use Rattle.k_scan.proofs.Front.{word_again, word_takes}
 use Rattle.std.specs.List.{flat_map}
-use Rattle.std.specs.Fmt.{decimal}
+use Rattle.std.specs.Fmt.{decimal, signed_decimal}
 use Rattle.k_optab.specs.declared.region.Region.{Region}
-use Rattle.k_saved.specs.Lines.{Follows, GoesWrong, InEntries, InRegions, IsClosed, IsCountLine, IsEntryLine, IsRegionLine, IsWhole, IsWrong, Leads, MayEnd, Opened, Stage, last_of}
-use Rattle.k_saved.specs.Profile.{AreRegions, IsSaved}
-use Rattle.k_saved.specs.Reading.{AllEntries, AllRegions, Ends, Finishes, FoundCount, HasHead, ReadsAll}
-use Rattle.k_dict.specs.Rules.{AreProfile}
-use Rattle.k_saved.specs.SavedText.{entry_line, head_text, named_line, region_line, saved_text}
+use Rattle.k_saved.specs.Lines.{Follows, GoesWrong, InEntries, InRegions, IsClosed, IsCountLine, IsEntryLine, IsRegionLine, IsWhole, IsWrong, Leads, MayEnd, Named, Stage, last_of}
+use Rattle.k_saved.specs.Formats.{first_line}
+use Rattle.k_saved.specs.Profile.{AreFileEntries, AreRegions, IsFile}
+use Rattle.k_saved.specs.Reading.{AllEntries, AllRegions, Ends, Finishes, FoundCount, HasHead, ReadsLines, head_lines}
+use Rattle.k_saved.specs.SavedText.{entry_line, file_text, named_line, region_line}
 use Rattle.k_dict.specs.declared.entry.Entry.{Entry}
 use Rattle.k_saved.specs.declared.reading.stop.Halt.{Halt}
 use Rattle.k_saved.specs.declared.reading.stop.Halt.TheVariants as halts
-use Rattle.k_saved.specs.declared.saved.Saved.{Saved}
-use Rattle.k_saved.proofs.HeadSteps.{first_line}
+use Rattle.k_saved.specs.declared.file.File.{File}
+use Rattle.k_saved.specs.declared.format.Format.{Format}
 use Rattle.k_saved.proofs.Leading.{leads_once, leads_through, wrong_behind, wrong_here}
 use Rattle.k_saved.proofs.RegionSteps.{linked_paired}
 
@@ -47,71 +47,67 @@ end_alone text (b ∷ behind) empty found is = (
     other : ◌≡◌ {A = List ℕ} (b ∷ behind) [] → ⊥
     other same = let long : suc (length behind) ≡ 0 = ap length same in absurd (omega arith)
 
--- the lines of a head
-abbrev pub head_lines : ℤ → ℕ → ℕ → List ℕ
-head_lines exit ops count = head_text first_line exit ops ++ named_line (codes "regions ") (decimal count)
-
 abbrev pub count_line : ℕ → List ℕ
 count_line number = named_line (codes "entries ") (decimal number)
 
-module _ (exit : ℤ) (ops count : ℕ) (text region_text : List ℕ) (head : HasHead exit ops count text region_text) where
+module _ (format : Format) (exit : ℤ) (ops count : ℕ) (text region_text : List ℕ) (head : HasHead exit ops count text region_text) where
   -- wrong behind the head
-  pub wrong_in_regions : (left : ℕ) → GoesWrong (InRegions count []) region_text left → GoesWrong Opened text left
-  wrong_in_regions left wrong = wrong_behind Opened (head_lines exit ops count) (InRegions count []) text region_text left head.leads head.cut wrong
+  pub wrong_in_regions : (left : ℕ) → GoesWrong (InRegions format count []) region_text left → GoesWrong (Named format) text left
+  wrong_in_regions left wrong = wrong_behind (Named format) (head_lines exit ops count) (InRegions format count []) text region_text left (head.leads format) head.cut wrong
 
-  module _ (list : List Region) (count_text : List ℕ) (all : AllRegions count region_text (Ok (list, count_text))) where
+  module _ (list : List Region) (count_text : List ℕ) (all : AllRegions format count region_text (Ok (list, count_text))) where
     -- wrong behind the regions
-    pub wrong_past_regions : (left : ℕ) → GoesWrong (InRegions count list) count_text left → GoesWrong Opened text left
+    pub wrong_past_regions : (left : ℕ) → GoesWrong (InRegions format count list) count_text left → GoesWrong (Named format) text left
     wrong_past_regions left wrong =
-        wrong_in_regions left (wrong_behind (InRegions count []) (flat_map region_line list) (InRegions count list) region_text count_text left all.2 all.0 wrong)
+        wrong_in_regions left (wrong_behind (InRegions format count []) (flat_map region_line list) (InRegions format count list) region_text count_text left all.2 all.0 wrong)
 
     -- no right number of entries stands there
-    pub wrong_at_count : FoundCount list count_text None → GoesWrong Opened text (length count_text)
-    wrong_at_count none = wrong_past_regions (length count_text) (wrong_here (InRegions count list) count_text (record { no_line = at; no_end = λ whole is. whole }))
+    pub wrong_at_count : FoundCount list count_text None → GoesWrong (Named format) text (length count_text)
+    wrong_at_count none = wrong_past_regions (length count_text) (wrong_here (InRegions format count list) count_text (record { no_line = at; no_end = λ whole is. whole }))
       where
-        at : (line later : List ℕ) (next : Stage) → Follows (InRegions count list) line next → count_text ≢ line ++ later
+        at : (line later : List ℕ) (next : Stage) → Follows (InRegions format count list) line next → count_text ≢ line ++ later
         at line later next (inl one) is = let few = one.few in let same = all.1 in absurd (omega arith)
         at line later next (inr other) is = none other.entries later other.closed other.some other.few (is ∙ ap (λ l. l ++ later) other.line_is)
 
     module _ (number : ℕ) (entry_text : List ℕ) (found : FoundCount list count_text (Some (number, entry_text))) where
-      count_leads : Leads (InRegions count list) (count_line number) (InEntries list number [])
-      count_leads = leads_once (InRegions count list) (count_line number) (InEntries list number [])
+      count_leads : Leads (InRegions format count list) (count_line number) (InEntries format list number [])
+      count_leads = leads_once (InRegions format count list) (count_line number) (InEntries format list number [])
           (inr (record { entries = number; all = all.1; closed = found.0; some = found.1; few = found.2; line_is = refl; next_is = refl }))
 
       -- wrong among the entries
-      pub wrong_in_entries : (left : ℕ) → GoesWrong (InEntries list number []) entry_text left → GoesWrong Opened text left
+      pub wrong_in_entries : (left : ℕ) → GoesWrong (InEntries format list number []) entry_text left → GoesWrong (Named format) text left
       wrong_in_entries left wrong =
-          wrong_past_regions left (wrong_behind (InRegions count list) (count_line number) (InEntries list number []) count_text entry_text left count_leads found.3 wrong)
+          wrong_past_regions left (wrong_behind (InRegions format count list) (count_line number) (InEntries format list number []) count_text entry_text left count_leads found.3 wrong)
 
-      module _ (dict : List Entry) (end : List ℕ) (these : AllEntries list number entry_text (Ok (dict, end))) where
+      module _ (dict : List Entry) (end : List ℕ) (these : AllEntries format list number entry_text (Ok (dict, end))) where
         -- no end stands there that may
-        pub wrong_at_end : ¬ Ends list dict end → GoesWrong Opened text (length end)
+        pub wrong_at_end : ¬ Ends format list dict end → GoesWrong (Named format) text (length end)
         wrong_at_end not_ended =
-            wrong_in_entries (length end) (wrong_behind (InEntries list number []) (flat_map entry_line dict) (InEntries list number dict) entry_text end (length end)
-            these.2 these.0 (wrong_here (InEntries list number dict) end (record { no_line = at; no_end = λ whole is. not_ended (is, whole.main, whole.named) })))
+            wrong_in_entries (length end) (wrong_behind (InEntries format list number []) (flat_map entry_line dict) (InEntries format list number dict) entry_text end (length end)
+            these.2 these.0 (wrong_here (InEntries format list number dict) end (record { no_line = at; no_end = λ whole is. not_ended (is, whole.main, whole.none_left) })))
           where
-            at : (line later : List ℕ) (next : Stage) → Follows (InEntries list number dict) line next → end ≢ line ++ later
+            at : (line later : List ℕ) (next : Stage) → Follows (InEntries format list number dict) line next → end ≢ line ++ later
             at line later next one is = let few = one.few in let same = these.1 in absurd (omega arith)
 
-        -- the profile
-        abbrev pub the_saved : Saved
-        the_saved = record { exit = exit; ops = ops; regions = list; dict = dict }
+        -- the file
+        abbrev pub the_file : File
+        the_file = record { format = format; exit = exit; ops = ops; regions = list; entries = dict }
 
         -- the bytes are its text
-        pub text_is : end ≡ codes "end\n" → text ≡ saved_text the_saved
+        pub text_is : end ≡ codes "end\n" → first_line format ++ text ≡ file_text the_file
         text_is ended =
-            head.cut ∙ ap (λ l. head_lines exit ops count ++ l) (all.0 ∙ ap (λ l. flat_map region_line list ++ l) (found.3 ∙ ap (λ l. count_line number ++ l)
-            (these.0 ∙ ap (λ l. flat_map entry_line dict ++ l) ended)))
-            ∙ (λ i. head_lines exit ops (sym all.1 i) ++ (flat_map region_line list ++ (count_line (sym these.1 i) ++ (flat_map entry_line dict ++ codes "end\n"))))
-            ∙ regroup (head_text first_line exit ops) (named_line (codes "regions ") (decimal (length list))) (flat_map region_line list) (count_line (length dict))
-            (flat_map entry_line dict) (codes "end\n")
+            ap (λ l. first_line format ++ l) (head.cut ∙ ap (λ l. head_lines exit ops count ++ l) (all.0 ∙ ap (λ l. flat_map region_line list ++ l) (found.3 ∙ ap (λ l. count_line number ++ l)
+            (these.0 ∙ ap (λ l. flat_map entry_line dict ++ l) ended))))
+            ∙ (λ i. first_line format ++ (head_lines exit ops (sym all.1 i) ++ (flat_map region_line list ++ (count_line (sym these.1 i) ++ (flat_map entry_line dict ++ codes "end\n")))))
+            ∙ regroup (first_line format) (named_line (codes "exit ") (signed_decimal exit)) (named_line (codes "ops ") (decimal ops)) (named_line (codes "regions ") (decimal (length list)))
+            (flat_map region_line list) (count_line (length dict)) (flat_map entry_line dict) (codes "end\n")
           where
-            regroup : (a b c d e f : List ℕ) → (a ++ b) ++ (c ++ (d ++ (e ++ f))) ≡ ((a ++ (b ++ c)) ++ (d ++ e)) ++ f
-            regroup a b c d e f = simp append_assoc
+            regroup : (f e o r a c b z : List ℕ) → f ++ ((e ++ (o ++ r)) ++ (a ++ (c ++ (b ++ z)))) ≡ ((((f ++ e) ++ o) ++ (r ++ a)) ++ (c ++ b)) ++ z
+            regroup f e o r a c b z = simp append_assoc
 
-        -- and it meets the rules
-        pub is_saved : Ends list dict end → IsSaved the_saved
-        is_saved ends = record {
+        -- and it keeps the rules
+        pub is_file : Ends format list dict end → IsFile the_file
+        is_file ends = record {
           exit = head.exit_fits;
           ops = head.few_ops;
           regions = record {
@@ -120,32 +116,33 @@ module _ (exit : ℤ) (ops count : ℕ) (text region_text : List ℕ) (head : Ha
             each = all.3;
             paired = linked_paired None list all.4 found.0;
           };
-          profile = record {
+          entries = record {
             some = let same = these.1 in let some = found.1 in omega arith;
-            interned = these.4;
+            distinct = these.4;
+            runs = these.5;
             numbers = these.3.numbers;
             levels = these.3.levels;
             instances = these.3.instances;
           };
           in_list = these.3.in_list;
           main = ends.1;
-          named = ends.2;
+          none_left = ends.2;
         }
 
-        -- how the reading of a file finishes
-        pub finished : (result : Result Saved Halt) → Finishes exit ops list dict end result → ReadsAll text result
-        finished (Ok saved) ends =
-            let P : Saved → Type 0 = λ v. IsSaved v × (text ≡ saved_text v) in
-            subst P (sym ends.1) (is_saved ends.0, text_is ends.0.0)
-        finished (Err (halts.Wrong left)) ends = let P : ℕ → Type 0 = GoesWrong Opened text in subst P (sym ends.1) (wrong_at_end ends.0)
+        -- how the reading of the lines finishes
+        pub finished : (result : Result File Halt) → Finishes the_file end result → ReadsLines format text result
+        finished (Ok file) ends =
+            let P : File → Type 0 = λ v. (v.format ≡ format) × IsFile v × (first_line format ++ text ≡ file_text v) in
+            subst P (sym ends.1) (refl, is_file ends.0, text_is ends.0.0)
+        finished (Err (halts.Wrong left)) ends = let P : ℕ → Type 0 = GoesWrong (Named format) text in subst P (sym ends.1) (wrong_at_end ends.0)
         finished (Err halts.Memory) ends = tt
 
       -- what a refusal among the entries says
-      pub refused_entries : (halt : Halt) → AllEntries list number entry_text (Err halt) → ReadsAll text (Err halt)
+      pub refused_entries : (halt : Halt) → AllEntries format list number entry_text (Err halt) → ReadsLines format text (Err halt)
       refused_entries (halts.Wrong left) wrong = wrong_in_entries left wrong
       refused_entries halts.Memory wrong = tt
 
   -- what a refusal among the regions says
-  pub refused_regions : (halt : Halt) → AllRegions count region_text (Err halt) → ReadsAll text (Err halt)
+  pub refused_regions : (halt : Halt) → AllRegions format count region_text (Err halt) → ReadsLines format text (Err halt)
   refused_regions (halts.Wrong left) wrong = wrong_in_regions left wrong
   refused_regions halts.Memory wrong = tt

@@ -34,11 +34,6 @@ abbrev pub child_instances : List Extent → List Run → ℕ
 child_instances extents [] = 0
 child_instances extents (run ∷ runs) = run.count * (extent_at extents run.entry).instances + child_instances extents runs
 
--- these runs name entries below a number
-abbrev pub NameBelow : ℕ → List Run → Type 0
-NameBelow high [] = Unit {0}
-NameBelow high (run ∷ runs) = (run.entry < high) × (1 ≤ run.count) × NameBelow high runs
-
 -- a number, or the greatest of 64 bits where it is no less
 abbrev pub capped : ℕ → ℕ
 capped n = min n 18446744073709551615

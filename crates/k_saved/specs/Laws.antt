@@ -1,23 +1,29 @@
 -- What holds of the files of saved profiles: the statements of the laws.
-use Rattle.std.specs.Prelude.{ℕ, ◌≡◌, List, Result, Ok, Err}
+use Rattle.std.specs.Prelude.{ℕ, ◌+◌, ◌≡◌, List, length, Result, Ok, Err}
+use Rattle.k_dict.specs.Entries.{expansion}
+use Rattle.k_dict.specs.Laws.{AreAlike}
 use Rattle.k_saved.specs.Lines.{IsFirstWrong}
-use Rattle.k_saved.specs.Profile.{IsSaved, Reads}
-use Rattle.k_saved.specs.SavedText.{saved_text}
+use Rattle.k_saved.specs.Formats.{IsAccepted}
+use Rattle.k_saved.specs.Profile.{IsFile, IsMigrated, IsOld, IsSaved, Reads, ReadsOld}
+use Rattle.k_saved.specs.SavedText.{file_text, old_text, saved_text}
+use Rattle.k_saved.specs.declared.file.File.{File}
+use Rattle.k_saved.specs.declared.format.Accepts.{Accepts}
+use Rattle.k_saved.specs.declared.saved.Old.{Old}
 use Rattle.k_saved.specs.declared.saved.Saved.{Saved}
 use Rattle.k_saved.specs.declared.saved.SavedFault.{SavedFault}
 use Rattle.k_saved.specs.declared.saved.SavedFault.TheVariants.{NotSaved, Memory}
 
--- a text has at most one first wrong line
+-- a text has at most one first wrong line, whichever formats are read
 abbrev pub FirstWrongIsOne : Type 0
-FirstWrongIsOne = (bytes : List ℕ) (one other : ℕ) → IsFirstWrong bytes one → IsFirstWrong bytes other → one ≡ other
+FirstWrongIsOne = (accepts : Accepts) (bytes : List ℕ) (one other : ℕ) → IsFirstWrong accepts bytes one → IsFirstWrong accepts bytes other → one ≡ other
 
--- the file of a profile that can be saved has no wrong line
+-- a file that keeps the rules of its format has no wrong line where that format is read
 abbrev pub NoFileIsWrong : Type 0
-NoFileIsWrong = (v : Saved) (place : ℕ) → IsSaved v → IsFirstWrong (saved_text v) place → ⊥
+NoFileIsWrong = (accepts : Accepts) (v : File) (place : ℕ) → IsAccepted accepts v.format → IsFile v → IsFirstWrong accepts (file_text v) place → ⊥
 
 -- two profiles with one file are one
 abbrev pub FileIsOfOne : Type 0
-FileIsOfOne = (v w : Saved) → IsSaved v → IsSaved w → saved_text v ≡ saved_text w → v ≡ w
+FileIsOfOne = (v w : File) → IsFile v → IsFile w → file_text v ≡ file_text w → v ≡ w
 
 -- this profile was read, unless memory ran out
 abbrev pub ReadsSaved : Saved → Result Saved SavedFault → Type 0
@@ -28,3 +34,32 @@ ReadsSaved v (Err Memory) = Unit {0}
 -- what `read` may answer to the file of a profile is that profile
 abbrev pub ReadOfWrite : Type 0
 ReadOfWrite = (v : Saved) (result : Result Saved SavedFault) → IsSaved v → Reads (saved_text v) result → ReadsSaved v result
+
+-- this profile of format 1 was read, unless memory ran out
+abbrev pub ReadsOldOne : Old → Result Old SavedFault → Type 0
+ReadsOldOne old (Ok read) = read ≡ old
+ReadsOldOne old (Err (NotSaved place)) = ⊥
+ReadsOldOne old (Err Memory) = Unit {0}
+
+-- what it becomes was read, unless memory ran out
+abbrev pub ReadsMigrated : Old → Result Saved SavedFault → Type 0
+ReadsMigrated old (Ok saved) = IsMigrated old saved
+ReadsMigrated old (Err (NotSaved place)) = ⊥
+ReadsMigrated old (Err Memory) = Unit {0}
+
+-- what `read_old` may answer to the file of a profile of format 1 is that profile
+abbrev pub OldOfItsText : Type 0
+OldOfItsText = (old : Old) (result : Result Old SavedFault) → IsOld old → ReadsOld (old_text old) result → ReadsOldOne old result
+
+-- what `read` may answer to it is what it becomes
+abbrev pub MigratedOfItsText : Type 0
+MigratedOfItsText = (old : Old) (result : Result Saved SavedFault) → IsOld old → Reads (old_text old) result → ReadsMigrated old result
+
+-- a profile of format 1 becomes one profile
+abbrev pub MigrationIsOne : Type 0
+MigrationIsOne = (old : Old) (one other : Saved) → IsMigrated old one → IsMigrated old other → one ≡ other
+
+-- the last entry of that profile stands for the tree of the old one, up to the order of siblings
+abbrev pub MigrationExpands : Type 0
+MigrationExpands = (old : Old) (saved : Saved) (is : IsMigrated old saved)
+    → (root : ℕ) × (length saved.dict ≡ root + 1) × AreAlike (expansion saved.dict root) (expansion old.entries is.root)

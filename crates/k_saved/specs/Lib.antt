@@ -1,6 +1,9 @@
 pub mod Extents
+pub mod Formats
 pub mod Laws
 pub mod Lines
+pub mod Migration
+pub mod Order
 pub mod Profile
 pub mod Reading
 pub mod SavedText

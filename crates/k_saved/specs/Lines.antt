@@ -7,12 +7,14 @@ use Rattle.k_optab.specs.declared.region.Region.{Region}
 use Rattle.k_optab.specs.declared.region.RegionKind.{RegionKind}
 use Rattle.k_optab.specs.declared.region.RegionKind.TheVariants.{Func, Loop, Body}
 use Rattle.k_scan.specs.Names.{is_name}
-use Rattle.k_dict.specs.Entries.{AreRuns, all_runs, tree_of, trees_of}
+use Rattle.k_dict.specs.Entries.{all_runs, tree_of, trees_of}
 use Rattle.k_dict.specs.Rules.{HasBoundedNumbers, entry_of}
+use Rattle.k_saved.specs.Formats.{AreRunsOf, IsAccepted, NoneIsLeft, first_line}
 use Rattle.k_saved.specs.SavedText.{entry_line, named_line, region_line}
 use Rattle.k_dict.specs.Trees.{alone, height, size}
 use Rattle.k_dict.specs.declared.entry.Entry.{Entry}
-use Rattle.k_dict.specs.declared.entry.Run.{Run}
+use Rattle.k_saved.specs.declared.format.Accepts.{Accepts}
+use Rattle.k_saved.specs.declared.format.Format.{Format}
 
 -- a line or a column
 abbrev pub IsAmongPlaces : ℕ → Type 0
@@ -49,11 +51,11 @@ last_behind last (r ∷ regions) = last_behind (Some r) regions
 abbrev pub last_of : List Region → Option Region
 last_of regions = last_behind None regions
 
--- an entry may stand behind these where it names a region of the list and, by rising number and each once, earlier entries, is not
--- there yet, leaves all runs within their limit, and has bounded numbers and a tree of at most 32 levels and 2 ^ 59 instances
-pub record IsNextEntry (regions : ℕ) (entries : List Entry) (e : Entry) : Type 0 where
+-- an entry may stand behind these where it names a region of the list, has runs of its format, is not there yet, leaves all runs
+-- within their limit, and has bounded numbers and a tree of at most 32 levels and 2 ^ 59 instances
+pub record IsNextEntry (format : Format) (regions : ℕ) (entries : List Entry) (e : Entry) : Type 0 where
   pub region : e.region < regions
-  pub runs : AreRuns 0 (length entries) e.runs
+  pub runs : AreRunsOf format (length entries) e.runs
   pub new : ¬ Contains entries e
   pub few_runs : all_runs entries + length e.runs ≤ 16777216
   pub numbers : HasBoundedNumbers entries e
@@ -62,49 +64,50 @@ pub record IsNextEntry (regions : ℕ) (entries : List Entry) (e : Entry) : Type
 
 -- what lines have told: how far they have come, and what later lines depend on
 pub data Stage : Type 0 where
-  Opened : Stage
-  Named : Stage
-  Exited : Stage
-  Counted : Stage
-  InRegions : (count : ℕ) (regions : List Region) → Stage
-  InEntries : (regions : List Region) (count : ℕ) (entries : List Entry) → Stage
+  Opened : (accepts : Accepts) → Stage
+  Named : (format : Format) → Stage
+  Exited : (format : Format) → Stage
+  Counted : (format : Format) → Stage
+  InRegions : (format : Format) (count : ℕ) (regions : List Region) → Stage
+  InEntries : (format : Format) (regions : List Region) (count : ℕ) (entries : List Entry) → Stage
 
 -- the line of one more region
-pub record IsRegionLine (count : ℕ) (regions : List Region) (line : List ℕ) (next : Stage) : Type 0 where
+pub record IsRegionLine (format : Format) (count : ℕ) (regions : List Region) (line : List ℕ) (next : Stage) : Type 0 where
   pub region : Region
   pub few : length regions < count
   pub right : IsRegion region
   pub stands : MayStand (last_of regions) region
   pub line_is : line ≡ region_line region
-  pub next_is : next ≡ InRegions count (regions ++ region ∷ [])
+  pub next_is : next ≡ InRegions format count (regions ++ region ∷ [])
 
 -- the line with the number of entries
-pub record IsCountLine (count : ℕ) (regions : List Region) (line : List ℕ) (next : Stage) : Type 0 where
+pub record IsCountLine (format : Format) (count : ℕ) (regions : List Region) (line : List ℕ) (next : Stage) : Type 0 where
   pub entries : ℕ
   pub all : length regions ≡ count
   pub closed : IsClosed (last_of regions)
   pub some : 1 ≤ entries
   pub few : entries ≤ 1048576
   pub line_is : line ≡ named_line (codes "entries ") (decimal entries)
-  pub next_is : next ≡ InEntries regions entries []
+  pub next_is : next ≡ InEntries format regions entries []
 
 -- the line of one more entry
-pub record IsEntryLine (regions : List Region) (count : ℕ) (entries : List Entry) (line : List ℕ) (next : Stage) : Type 0 where
+pub record IsEntryLine (format : Format) (regions : List Region) (count : ℕ) (entries : List Entry) (line : List ℕ) (next : Stage) : Type 0 where
   pub entry : Entry
   pub few : length entries < count
-  pub right : IsNextEntry (length regions) entries entry
+  pub right : IsNextEntry format (length regions) entries entry
   pub line_is : line ≡ entry_line entry
-  pub next_is : next ≡ InEntries regions count (entries ++ entry ∷ [])
+  pub next_is : next ≡ InEntries format regions count (entries ++ entry ∷ [])
 
 -- this line may stand behind lines that have told so much, and all of them have then told that
 abbrev pub Follows : Stage → List ℕ → Stage → Type 0
-Follows Opened line next = (line ≡ codes "kremlin 2\n") × (next ≡ Named)
-Follows Named line next = (exit : ℤ) × FitsSigned w32 exit × (line ≡ named_line (codes "exit ") (signed_decimal exit)) × (next ≡ Exited)
-Follows Exited line next = (ops : ℕ) × (ops ≤ 1000000000) × (line ≡ named_line (codes "ops ") (decimal ops)) × (next ≡ Counted)
-Follows Counted line next =
-    (count : ℕ) × (1 ≤ count) × (count ≤ 524288) × (line ≡ named_line (codes "regions ") (decimal count)) × (next ≡ InRegions count [])
-Follows (InRegions count regions) line next = IsRegionLine count regions line next ⊎ IsCountLine count regions line next
-Follows (InEntries regions count entries) line next = IsEntryLine regions count entries line next
+Follows (Opened accepts) line next = (format : Format) × IsAccepted accepts format × (line ≡ first_line format) × (next ≡ Named format)
+Follows (Named format) line next =
+    (exit : ℤ) × FitsSigned w32 exit × (line ≡ named_line (codes "exit ") (signed_decimal exit)) × (next ≡ Exited format)
+Follows (Exited format) line next = (ops : ℕ) × (ops ≤ 1000000000) × (line ≡ named_line (codes "ops ") (decimal ops)) × (next ≡ Counted format)
+Follows (Counted format) line next =
+    (count : ℕ) × (1 ≤ count) × (count ≤ 524288) × (line ≡ named_line (codes "regions ") (decimal count)) × (next ≡ InRegions format count [])
+Follows (InRegions format count regions) line next = IsRegionLine format count regions line next ⊎ IsCountLine format count regions line next
+Follows (InEntries format regions count entries) line next = IsEntryLine format regions count entries line next
 
 -- these lines lead from the one stage to the other
 pub data Leads : Stage → List ℕ → Stage → Type 0 where
@@ -120,34 +123,20 @@ pub record EndsInMain (regions : List Region) (entries : List Entry) : Type 0 wh
   pub kind : main.kind ≡ Func
   pub func : main.func ≡ codes "main"
 
--- one of these runs names this number
-abbrev pub Names : ℕ → List Run → Type 0
-Names n [] = ⊥
-Names n (run ∷ runs) = (run.entry ≡ n) ⊎ Names n runs
-
--- a run of one of these entries names this number
-abbrev pub IsNamedBy : ℕ → List Entry → Type 0
-IsNamedBy n [] = ⊥
-IsNamedBy n (e ∷ entries) = Names n e.runs ⊎ IsNamedBy n entries
-
--- each entry but the last is named by another
-abbrev pub AreNamed : List Entry → Type 0
-AreNamed entries = (n : ℕ) → n + 1 < length entries → IsNamedBy n entries
-
 -- the end may stand here: all entries are there, the last is of main, and no other is left over
-pub record MayEnd (regions : List Region) (count : ℕ) (entries : List Entry) : Type 0 where
+pub record MayEnd (format : Format) (regions : List Region) (count : ℕ) (entries : List Entry) : Type 0 where
   pub all : length entries ≡ count
   pub main : EndsInMain regions entries
-  pub named : AreNamed entries
+  pub none_left : NoneIsLeft format entries
 
 -- the stage is that of a whole file but for its end
 abbrev pub IsWhole : Stage → Type 0
-IsWhole Opened = ⊥
-IsWhole Named = ⊥
-IsWhole Exited = ⊥
-IsWhole Counted = ⊥
-IsWhole (InRegions count regions) = ⊥
-IsWhole (InEntries regions count entries) = MayEnd regions count entries
+IsWhole (Opened accepts) = ⊥
+IsWhole (Named format) = ⊥
+IsWhole (Exited format) = ⊥
+IsWhole (Counted format) = ⊥
+IsWhole (InRegions format count regions) = ⊥
+IsWhole (InEntries format regions count entries) = MayEnd format regions count entries
 
 -- nothing right stands here behind lines that have told so much: no line that may, and no end of the file
 pub record IsWrong (stage : Stage) (rest : List ℕ) : Type 0 where
@@ -164,7 +153,7 @@ pub record GoesWrong (from : Stage) (text : List ℕ) (left : ℕ) : Type 0 wher
   pub wrong : IsWrong stage rest
   pub left_is : length rest ≡ left
 
--- the first wrong line starts at this byte: right lines stand before it, and it is missing, has not its form, or breaks a rule
--- together with them
-abbrev pub IsFirstWrong : List ℕ → ℕ → Type 0
-IsFirstWrong bytes place = (left : ℕ) × (place + left ≡ length bytes) × GoesWrong Opened bytes left
+-- where files of these formats are read, the first wrong line starts at this byte: right lines stand before it, and it is missing,
+-- has not its form, or breaks a rule of the format that the first line tells together with the lines before it
+abbrev pub IsFirstWrong : Accepts → List ℕ → ℕ → Type 0
+IsFirstWrong accepts bytes place = (left : ℕ) × (place + left ≡ length bytes) × GoesWrong (Opened accepts) bytes left

@@ -1,16 +1,17 @@
 -- What the parts of the reading answer.
 use Rattle.std.specs.Prelude.{ℕ, ℤ, ◌+◌, ◌<◌, ◌≤◌, ◌≡◌, ◌≢◌, Bool, true, false, ◌&&◌, ◌||◌, List, [], ◌∷◌, ◌++◌, length, slice_get, slice_set, Contains, Option, Some, None, Result, Ok, Err, FitsSigned, codes}
 use Rattle.std.specs.Int.{w32}
-use Rattle.std.specs.Fmt.{decimal}
+use Rattle.std.specs.Fmt.{decimal, signed_decimal}
 use Rattle.std.specs.List.{flat_map}
 use Rattle.k_optab.specs.declared.region.Region.{Region}
-use Rattle.k_dict.specs.Entries.{AreInterned, all_runs, tree_of, trees_of}
-use Rattle.k_saved.specs.Extents.{NameBelow, extent_of, extents_of}
+use Rattle.k_dict.specs.Entries.{AreDistinct, NameBelow, all_runs, tree_of, trees_of}
+use Rattle.k_saved.specs.Extents.{extent_of, extents_of}
+use Rattle.k_saved.specs.Formats.{HaveRuns, IsAccepted, NoneIsLeft, first_line}
 use Rattle.k_scan.specs.Numbers.{signed_at}
 use Rattle.k_scan.specs.Pieces.{word_at}
-use Rattle.k_saved.specs.Lines.{AreNamed, Counted, EndsInMain, GoesWrong, InEntries, InRegions, IsClosed, IsNextEntry, IsRegion, Leads, MayStand, Opened, last_of}
-use Rattle.k_saved.specs.Profile.{IsSaved}
-use Rattle.k_saved.specs.SavedText.{entry_line, head_text, named_line, region_line, saved_text}
+use Rattle.k_saved.specs.Lines.{EndsInMain, GoesWrong, InEntries, InRegions, IsClosed, IsNextEntry, IsRegion, Leads, MayStand, Named, Opened, last_of}
+use Rattle.k_saved.specs.Profile.{IsFile}
+use Rattle.k_saved.specs.SavedText.{entry_line, file_text, named_line, region_line}
 use Rattle.k_saved.specs.Syntax.{◌>>=◌}
 use Rattle.k_dict.specs.Rules.{HasBoundedNumbers, HaveBoundedNumbers, HaveFewInstances, HaveFewLevels, NameRegions}
 use Rattle.k_dict.specs.Trees.{alone, height, size}
@@ -21,7 +22,11 @@ use Rattle.k_saved.specs.declared.reading.stop.Halt.{Halt}
 use Rattle.k_saved.specs.declared.reading.stop.Halt.TheVariants as halts
 use Rattle.k_saved.specs.declared.reading.stop.Stop.{Stop}
 use Rattle.k_saved.specs.declared.reading.stop.Stop.TheVariants as stops
-use Rattle.k_saved.specs.declared.saved.Saved.{Saved}
+use Rattle.k_saved.specs.declared.file.File.{File}
+use Rattle.k_saved.specs.declared.format.Accepts.{Accepts}
+use Rattle.k_saved.specs.declared.format.Accepts.TheVariants.{OneAlone, Both}
+use Rattle.k_saved.specs.declared.format.Format.{Format}
+use Rattle.k_saved.specs.declared.format.Format.TheVariants.{One, Two}
 
 -- the line of a region that may stand behind these
 abbrev pub NextRegion : List Region → List ℕ → Result (Region × List ℕ) Stop → Type 0
@@ -46,41 +51,57 @@ pub record HaveRules (regions : ℕ) (entries : List Entry) : Type 0 where
   pub in_list : NameRegions regions entries
 
 -- the lines of all regions
-abbrev pub AllRegions : ℕ → List ℕ → Result (List Region × List ℕ) Halt → Type 0
-AllRegions count text (Ok found) =
-    (text ≡ flat_map region_line found.0 ++ found.1) × (length found.0 ≡ count) × Leads (InRegions count []) (flat_map region_line found.0) (InRegions count found.0)
-    × AreEach found.0 × AreLinked None found.0
-AllRegions count text (Err (halts.Wrong left)) = GoesWrong (InRegions count []) text left
-AllRegions count text (Err halts.Memory) = Unit {0}
+abbrev pub AllRegions : Format → ℕ → List ℕ → Result (List Region × List ℕ) Halt → Type 0
+AllRegions format count text (Ok found) =
+    (text ≡ flat_map region_line found.0 ++ found.1) × (length found.0 ≡ count)
+    × Leads (InRegions format count []) (flat_map region_line found.0) (InRegions format count found.0) × AreEach found.0 × AreLinked None found.0
+AllRegions format count text (Err (halts.Wrong left)) = GoesWrong (InRegions format count []) text left
+AllRegions format count text (Err halts.Memory) = Unit {0}
 
 -- the line of an entry that may stand behind these
-abbrev pub NextEntry : ℕ → List Entry → List Entry → List ℕ → Result (List ℕ) Stop → Type 0
-NextEntry regions old new text (Ok rest) = (e : Entry) × IsNextEntry regions old e × (text ≡ entry_line e ++ rest) × (new ≡ old ++ e ∷ [])
-NextEntry regions old new text (Err stops.Wrong) = (e : Entry) (later : List ℕ) → IsNextEntry regions old e → text ≢ entry_line e ++ later
-NextEntry regions old new text (Err stops.Memory) = Unit {0}
+abbrev pub NextEntry : Format → ℕ → List Entry → List Entry → List ℕ → Result (List ℕ) Stop → Type 0
+NextEntry format regions old new text (Ok rest) = (e : Entry) × IsNextEntry format regions old e × (text ≡ entry_line e ++ rest) × (new ≡ old ++ e ∷ [])
+NextEntry format regions old new text (Err stops.Wrong) = (e : Entry) (later : List ℕ) → IsNextEntry format regions old e → text ≢ entry_line e ++ later
+NextEntry format regions old new text (Err stops.Memory) = Unit {0}
 
 -- the lines of all entries
-abbrev pub AllEntries : List Region → ℕ → List ℕ → Result (List Entry × List ℕ) Halt → Type 0
-AllEntries regions count text (Ok found) =
+abbrev pub AllEntries : Format → List Region → ℕ → List ℕ → Result (List Entry × List ℕ) Halt → Type 0
+AllEntries format list count text (Ok found) =
     (text ≡ flat_map entry_line found.0 ++ found.1) × (length found.0 ≡ count)
-    × Leads (InEntries regions count []) (flat_map entry_line found.0) (InEntries regions count found.0)
-    × HaveRules (length regions) found.0 × AreInterned found.0
-AllEntries regions count text (Err (halts.Wrong left)) = GoesWrong (InEntries regions count []) text left
-AllEntries regions count text (Err halts.Memory) = Unit {0}
+    × Leads (InEntries format list count []) (flat_map entry_line found.0) (InEntries format list count found.0)
+    × HaveRules (length list) found.0 × AreDistinct found.0 × HaveRuns format found.0
+AllEntries format list count text (Err (halts.Wrong left)) = GoesWrong (InEntries format list count []) text left
+AllEntries format list count text (Err halts.Memory) = Unit {0}
 
--- the lines before the regions: the numbers that they tell
+-- the format whose first line was found
+abbrev pub first_format : Option (List ℕ) → Option (List ℕ) → Option (Format × List ℕ)
+first_format (Some rest) other = Some (One, rest)
+first_format None (Some rest) = Some (Two, rest)
+first_format None None = None
+
+-- the first line: the format that it tells, and the text behind it
+unfoldable pub first_at : Accepts → List ℕ → Option (Format × List ℕ)
+first_at OneAlone text = first_format (word_at (codes "kremlin 1\n") text) None
+first_at Both text = first_format (word_at (codes "kremlin 1\n") text) (word_at (codes "kremlin 2\n") text)
+
+-- the lines between the first and the regions
+abbrev pub head_lines : ℤ → ℕ → ℕ → List ℕ
+head_lines exit ops count =
+    named_line (codes "exit ") (signed_decimal exit) ++ (named_line (codes "ops ") (decimal ops) ++ named_line (codes "regions ") (decimal count))
+
+-- the numbers that these lines tell
 pub record HasHead (exit : ℤ) (ops count : ℕ) (text rest : List ℕ) : Type 0 where
   pub exit_fits : FitsSigned w32 exit
   pub few_ops : ops ≤ 1000000000
   pub some : 1 ≤ count
   pub few : count ≤ 524288
-  pub cut : text ≡ (head_text (codes "kremlin 2\n") exit ops ++ named_line (codes "regions ") (decimal count)) ++ rest
-  pub leads : Leads Opened (head_text (codes "kremlin 2\n") exit ops ++ named_line (codes "regions ") (decimal count)) (InRegions count [])
+  pub cut : text ≡ head_lines exit ops count ++ rest
+  pub leads : (format : Format) → Leads (Named format) (head_lines exit ops count) (InRegions format count [])
 
 -- the head of a file
 abbrev pub FoundHead : List ℕ → Result (ℤ × ℕ × ℕ × List ℕ) Halt → Type 0
 FoundHead text (Ok found) = HasHead found.0 found.1 found.2 text found.3
-FoundHead text (Err (halts.Wrong left)) = GoesWrong Opened text left
+FoundHead text (Err (halts.Wrong left)) = (format : Format) → GoesWrong (Named format) text left
 FoundHead text (Err halts.Memory) = Unit {0}
 
 -- the numbers of an entry, and the extent of its tree, are within the rules
@@ -138,17 +159,23 @@ FoundCount regions text None = (count : ℕ) (later : List ℕ) → IsClosed (la
     → text ≢ named_line (codes "entries ") (decimal count) ++ later
 
 -- the end stands here, and may
-abbrev pub Ends : List Region → List Entry → List ℕ → Type 0
-Ends regions entries text = (text ≡ codes "end\n") × EndsInMain regions entries × AreNamed entries
+abbrev pub Ends : Format → List Region → List Entry → List ℕ → Type 0
+Ends format regions entries text = (text ≡ codes "end\n") × EndsInMain regions entries × NoneIsLeft format entries
 
--- the profile of these parts, where the end stands here and may
-abbrev pub Finishes : ℤ → ℕ → List Region → List Entry → List ℕ → Result Saved Halt → Type 0
-Finishes exit ops regions entries text (Ok saved) = Ends regions entries text × (saved ≡ record { exit = exit; ops = ops; regions = regions; dict = entries })
-Finishes exit ops regions entries text (Err (halts.Wrong left)) = (¬ Ends regions entries text) × (left ≡ length text)
-Finishes exit ops regions entries text (Err halts.Memory) = Unit {0}
+-- the file of these parts, where the end stands here and may
+abbrev pub Finishes : File → List ℕ → Result File Halt → Type 0
+Finishes file text (Ok finished) = Ends file.format file.regions file.entries text × (finished ≡ file)
+Finishes file text (Err (halts.Wrong left)) = (¬ Ends file.format file.regions file.entries text) × (left ≡ length text)
+Finishes file text (Err halts.Memory) = Unit {0}
 
--- what reading a whole file answers: the profile that it spells, or how many bytes are left at its first wrong line
-abbrev pub ReadsAll : List ℕ → Result Saved Halt → Type 0
-ReadsAll text (Ok saved) = IsSaved saved × (text ≡ saved_text saved)
-ReadsAll text (Err (halts.Wrong left)) = GoesWrong Opened text left
-ReadsAll text (Err halts.Memory) = Unit {0}
+-- what reading the lines behind the first answers: what they tell, or how many bytes are left at their first wrong line
+abbrev pub ReadsLines : Format → List ℕ → Result File Halt → Type 0
+ReadsLines format text (Ok file) = (file.format ≡ format) × IsFile file × (first_line format ++ text ≡ file_text file)
+ReadsLines format text (Err (halts.Wrong left)) = GoesWrong (Named format) text left
+ReadsLines format text (Err halts.Memory) = Unit {0}
+
+-- what reading a whole file answers: what it tells, or how many bytes are left at its first wrong line
+abbrev pub ReadsAll : Accepts → List ℕ → Result File Halt → Type 0
+ReadsAll accepts text (Ok file) = IsAccepted accepts file.format × IsFile file × (text ≡ file_text file)
+ReadsAll accepts text (Err (halts.Wrong left)) = GoesWrong (Opened accepts) text left
+ReadsAll accepts text (Err halts.Memory) = Unit {0}

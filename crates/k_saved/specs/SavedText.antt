@@ -8,6 +8,10 @@ use Rattle.k_optab.specs.declared.region.RegionKind.{RegionKind}
 use Rattle.k_optab.specs.declared.region.RegionKind.TheVariants.{Func, Loop, Body}
 use Rattle.k_dict.specs.declared.entry.Entry.{Entry}
 use Rattle.k_dict.specs.declared.entry.Run.{Run}
+use Rattle.k_saved.specs.Formats.{first_line}
+use Rattle.k_saved.specs.declared.file.File.{File}
+use Rattle.k_saved.specs.declared.format.Format.TheVariants.{One, Two}
+use Rattle.k_saved.specs.declared.saved.Old.{Old}
 use Rattle.k_saved.specs.declared.saved.Saved.{Saved}
 
 -- the line of a name and a number
@@ -48,6 +52,22 @@ entries_text entries = named_line (codes "entries ") (decimal (length entries)) 
 abbrev pub head_text : List ℕ → ℤ → ℕ → List ℕ
 head_text first exit ops = first ++ named_line (codes "exit ") (signed_decimal exit) ++ named_line (codes "ops ") (decimal ops)
 
+-- the text of a file
+abbrev pub file_text : File → List ℕ
+file_text file = head_text (first_line file.format) file.exit file.ops ++ regions_text file.regions ++ entries_text file.entries ++ codes "end\n"
+
+-- a profile as a file in format 2
+abbrev pub file_of_saved : Saved → File
+file_of_saved saved = record { format = Two; exit = saved.exit; ops = saved.ops; regions = saved.regions; entries = saved.dict }
+
+-- a profile of format 1 as a file
+abbrev pub file_of_old : Old → File
+file_of_old old = record { format = One; exit = old.exit; ops = old.ops; regions = old.regions; entries = old.entries }
+
 -- the file of a saved profile
 abbrev pub saved_text : Saved → List ℕ
-saved_text saved = head_text (codes "kremlin 2\n") saved.exit saved.ops ++ regions_text saved.regions ++ entries_text saved.dict ++ codes "end\n"
+saved_text saved = file_text (file_of_saved saved)
+
+-- the file of a profile of format 1
+abbrev pub old_text : Old → List ℕ
+old_text old = file_text (file_of_old old)

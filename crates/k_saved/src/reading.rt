@@ -1,9 +1,9 @@
 //! The file of a saved profile, read line by line. A file is refused at its first wrong line.
-ghost use Rattle.std.specs.Prelude.{◌≡◌, ◌+◌, ◌≤◌, IsTrue, ◌↔◌, IfOk, length, option_map, codes};
-ghost use Rattle.k_dict.specs.Entries.{NameEarlier};
-ghost use Rattle.k_saved.specs.Lines.{AreNamed, EndsInMain};
-ghost use Rattle.k_saved.specs.Profile.{Reads};
-ghost use Rattle.k_saved.specs.Reading.{Ends, Finishes, FoundCount, FoundHead, ReadsAll, seen};
+ghost use Rattle.std.specs.Prelude.{◌≡◌, ◌≤◌, IsTrue, ◌↔◌, IfOk, length, option_map, codes};
+ghost use Rattle.k_dict.specs.Entries.{AreDistinct};
+ghost use Rattle.k_saved.specs.Formats.{HaveRuns, NoneIsLeft};
+ghost use Rattle.k_saved.specs.Lines.{EndsInMain};
+ghost use Rattle.k_saved.specs.Reading.{Ends, Finishes, FoundCount, FoundHead, ReadsAll, ReadsLines, seen};
 ghost use Rattle.k_saved.specs.Reading as spec;
 ghost use Rattle.k_scan.specs.Pieces.{Finds};
 
@@ -11,22 +11,40 @@ mod ending;
 mod entry_lines;
 mod extents;
 mod lines;
+mod order;
 mod region_lines;
 mod stop;
-#[cfg(test)]
-mod tests;
 
-use crate::saved::{Saved, SavedFault};
+use crate::file::File;
+use crate::format::{Accepts, Format};
 use ending::{are_named, ends_in_main};
 use entry_lines::entries;
-use k_dict::{Dict, Entry};
-use k_num::{NoMemory, Seq};
+use k_dict::Entry;
+use k_num::NoMemory;
 use k_optab::Region;
 use k_scan::{signed, word};
 use lines::named;
+use order::are_in_post_order;
 use region_lines::{are_closed, regions};
 use std::alloc::Global;
-use stop::Halt;
+pub(crate) use stop::Halt;
+
+/// The first line: the format of the file.
+#[tactic(auto, unfolding(crate::specs::Reading::first_at))]
+fn first_line(accepts: Accepts, text: &[u8]) -> Option<(Format, &[u8])>
+    ensures { Finds (λ found. (found.0, found.1.now)) result (spec.first_at accepts text.now) }
+{
+    if let Some(rest) = word(b"kremlin 1\n", text) {
+        return Some((Format::One, rest));
+    }
+    match accepts {
+        Accepts::OneAlone => None,
+        Accepts::Both => {
+            let rest = word(b"kremlin 2\n", text)?;
+            Some((Format::Two, rest))
+        }
+    }
+}
 
 /// The line with a run's end.
 #[tactic(auto, unfolding(crate::specs::Reading::exit_at))]
@@ -39,15 +57,12 @@ fn exit_line(text: &[u8]) -> Option<(i32, &[u8])>
     Some((exit, rest))
 }
 
-/// The lines before the regions: a run's end, the number of its operations, and that of the regions.
+/// The lines between the first and the regions: a run's end, the number of its operations, and that of the regions.
 fn head(text: &[u8]) -> Result<(i32, u64, u32, &[u8]), Halt>
     ensures { FoundHead text.now (seen (λ found. (found.0, found.1, found.2, found.3.now)) result) }
 {
-    let Some(exit_text) = word(b"kremlin 2\n", text) else {
+    let Some((exit, ops_text)) = exit_line(text) else {
         return Err(Halt::Wrong(text.len()));
-    };
-    let Some((exit, ops_text)) = exit_line(exit_text) else {
-        return Err(Halt::Wrong(exit_text.len()));
     };
     let Some((ops, regions_text)) = named(b"ops ", 0, 1_000_000_000, ops_text) else {
         return Err(Halt::Wrong(ops_text.len()));
@@ -84,13 +99,31 @@ fn is_end(text: &[u8]) -> bool
     }
 }
 
-/// Whether the last of these entries is of main, and each other is named.
-fn are_complete(alloc: Global, regions: &[Region], entries: &[Entry]) -> Result<bool, NoMemory>
-    requires { NameEarlier entries.now }
-    ensures { IfOk result (λ complete. IsTrue complete ↔ (EndsInMain regions.now entries.now × AreNamed entries.now)) }
+/// Whether no entry is left over, and in format 1 none is out of order.
+fn is_none_left(alloc: Global, format: Format, entries: &[Entry]) -> Result<bool, NoMemory>
+    requires runs { HaveRuns format entries.now }
+    requires distinct { AreDistinct entries.now }
+    ensures { IfOk result (λ none. IsTrue none ↔ NoneIsLeft format entries.now) }
+{
+    match format {
+        Format::One => Ok(are_in_post_order(entries)),
+        Format::Two => are_named(alloc, entries),
+    }
+}
+
+/// Whether the last of these entries is of main, and no other is left over.
+fn are_complete(
+    alloc: Global,
+    format: Format,
+    regions: &[Region],
+    entries: &[Entry],
+) -> Result<bool, NoMemory>
+    requires runs { HaveRuns format entries.now }
+    requires distinct { AreDistinct entries.now }
+    ensures { IfOk result (λ complete. IsTrue complete ↔ (EndsInMain regions.now entries.now × NoneIsLeft format entries.now)) }
 {
     if ends_in_main(regions, entries) {
-        are_named(alloc, entries)
+        is_none_left(alloc, format, entries)
     } else {
         Ok(false)
     }
@@ -99,54 +132,49 @@ fn are_complete(alloc: Global, regions: &[Region], entries: &[Entry]) -> Result<
 /// Whether the end may stand behind these entries, and nothing behind it.
 fn may_end(
     alloc: Global,
+    format: Format,
     regions: &[Region],
     entries: &[Entry],
     text: &[u8],
 ) -> Result<bool, NoMemory>
-    requires { NameEarlier entries.now }
-    ensures { IfOk result (λ ends. IsTrue ends ↔ Ends regions.now entries.now text.now) }
+    requires runs { HaveRuns format entries.now }
+    requires distinct { AreDistinct entries.now }
+    ensures { IfOk result (λ ends. IsTrue ends ↔ Ends format regions.now entries.now text.now) }
 {
     if is_end(text) {
-        are_complete(alloc, regions, entries)
+        are_complete(alloc, format, regions, entries)
     } else {
         Ok(false)
     }
 }
 
-/// The profile of these parts, where the end of the file stands here and may.
-fn finish(
-    alloc: Global,
-    exit: i32,
-    ops: u64,
-    regions: Seq<Region>,
-    dict: Dict,
-    text: &[u8],
-) -> Result<Saved, Halt>
-    ensures { Finishes exit ops regions dict text.now result }
+/// The file of these parts, where its end stands here and may.
+fn finish(alloc: Global, file: File, text: &[u8]) -> Result<File, Halt>
+    requires { HaveRuns file.format file.entries }
+    ensures { Finishes file text.now result }
 {
-    match may_end(alloc, regions.as_slice(), dict.entries(), text) {
+    match may_end(
+        alloc,
+        file.format,
+        file.regions.as_slice(),
+        file.entries.entries(),
+        text,
+    ) {
         Err(NoMemory) => {
-            drop(regions);
-            drop(dict);
+            drop(file);
             Err(Halt::Memory)
         }
         Ok(false) => {
-            drop(regions);
-            drop(dict);
+            drop(file);
             Err(Halt::Wrong(text.len()))
         }
-        Ok(true) => Ok(Saved {
-            exit,
-            ops,
-            regions,
-            dict,
-        }),
+        Ok(true) => Ok(file),
     }
 }
 
-/// The profile of a whole file.
-fn read_all(alloc: Global, text: &[u8]) -> Result<Saved, Halt>
-    ensures { ReadsAll text.now result }
+/// The lines behind the first, by the rules of a format.
+fn read_lines(alloc: Global, format: Format, text: &[u8]) -> Result<File, Halt>
+    ensures { ReadsLines format text.now result }
 {
     let (exit, ops, count, region_text) = head(text)?;
     match regions(alloc, count, region_text) {
@@ -158,6 +186,7 @@ fn read_all(alloc: Global, text: &[u8]) -> Result<Saved, Halt>
             }
             Some((number, entry_text)) => match entries(
                 alloc,
+                format,
                 list.len() as u32,
                 number,
                 entry_text,
@@ -166,19 +195,28 @@ fn read_all(alloc: Global, text: &[u8]) -> Result<Saved, Halt>
                     drop(list);
                     Err(halt)
                 }
-                Ok((dict, end)) => finish(alloc, exit, ops, list, dict, end),
+                Ok((table, end)) => finish(
+                    alloc,
+                    File {
+                        format,
+                        exit,
+                        ops,
+                        regions: list,
+                        entries: table,
+                    },
+                    end,
+                ),
             },
         },
     }
 }
 
-/// The profile that the bytes of a file spell. `NotSaved` has the byte at which the first wrong line starts.
-pub fn read(alloc: Global, bytes: &[u8]) -> Result<Saved, SavedFault>
-    ensures { Reads bytes.now result }
+/// A whole file of one of these formats.
+pub(crate) fn read_all(alloc: Global, accepts: Accepts, text: &[u8]) -> Result<File, Halt>
+    ensures { ReadsAll accepts text.now result }
 {
-    match read_all(alloc, bytes) {
-        Ok(saved) => Ok(saved),
-        Err(Halt::Memory) => Err(SavedFault::Memory),
-        Err(Halt::Wrong(left)) => Err(SavedFault::NotSaved((bytes.len() - left) as u64)),
-    }
+    let Some((format, rest)) = first_line(accepts, text) else {
+        return Err(Halt::Wrong(text.len()));
+    };
+    read_lines(alloc, format, rest)
 }

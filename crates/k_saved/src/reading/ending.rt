@@ -1,9 +1,9 @@
 //! The end of the file.
 ghost use Rattle.std.specs.Prelude.{◌≡◌, ◌≤◌, ◌↔◌, IsTrue, IfOk, length, codes};
 ghost use Rattle.k_optab.specs.declared.region.RegionKind.TheVariants.{Func};
-ghost use Rattle.k_saved.specs.Extents.{NameBelow};
-ghost use Rattle.k_dict.specs.Entries.{NameEarlier};
-ghost use Rattle.k_saved.specs.Lines.{AreNamed, EndsInMain};
+ghost use Rattle.k_dict.specs.Entries.{NameBelow, NameEarlier};
+ghost use Rattle.k_saved.specs.Formats.{AreNamed};
+ghost use Rattle.k_saved.specs.Lines.{EndsInMain};
 ghost use Rattle.k_saved.specs.Reading as spec;
 
 use k_dict::{Entry, Run};

@@ -1,6 +1,7 @@
 //! How large the tree of an entry is, and whether its numbers keep within the rules.
 ghost use Rattle.std.specs.Prelude.{◌≡◌, ◌+◌, ◌*◌, ◌≤◌, length};
-ghost use Rattle.k_saved.specs.Extents.{NameBelow, capped, no_sums};
+ghost use Rattle.k_dict.specs.Entries.{NameBelow};
+ghost use Rattle.k_saved.specs.Extents.{capped, no_sums};
 ghost use Rattle.k_saved.specs.Extents as spec;
 
 use k_dict::{Entry, Run};

@@ -1,6 +1,7 @@
 //! The lines of the regions.
 ghost use Rattle.std.specs.Prelude.{◌≡◌, ◌≤◌, true};
 ghost use Rattle.k_saved.specs.Lines.{IsClosed, MayStand, StandsBehind, last_of};
+ghost use Rattle.k_saved.specs.declared.format.Format.{Format as FormatValue};
 ghost use Rattle.k_saved.specs.Reading.{AllRegions, NextRegion, seen};
 ghost use Rattle.std.specs.Prelude.{◌↔◌, ◌≢◌, IsTrue};
 ghost use Rattle.k_optab.specs.declared.region.RegionKind.TheVariants.{Loop};
@@ -71,7 +72,7 @@ fn next_region<'a>(
 
 /// The lines of so many regions.
 pub(crate) fn regions(alloc: Global, count: u32, text: &[u8]) -> Result<(Seq<Region>, &[u8]), Halt>
-    ensures { AllRegions count text.now (seen (λ found. (found.0, found.1.now)) result) }
+    ensures { (format : FormatValue) → AllRegions format count text.now (seen (λ found. (found.0, found.1.now)) result) }
 {
     let mut regions: Seq<Region> = Seq::new(alloc);
     let mut rest = text;

@@ -1,31 +1,10 @@
-use Rattle.std.proofs.Common.{◌≡◌, List, ℤ, ℕ, refl, sym, subst, ap, ◌∙◌, Option, None, Some}
-use Rattle.std.specs.Int.{w32}
-use Rattle.std.proofs.lemmas.Int.{to_z-of_z}
-use Rattle.k_optab.specs.declared.region.Region.{Region}
-use Rattle.k_saved.specs.Reading.{FoundCount, HasHead}
-use Rattle.k_saved.proofs.Whole.{finished, refused_entries, refused_regions, wrong_at_count}
+use Rattle.k_saved.proofs.HeadSteps.{no_first}
+use Rattle.k_saved.proofs.Loaded.{whole_of}
 use Rattle.k_saved.proofs.reading.read_all.Goals as goal
 
-pub returns-in-Err : goal.returns-in-Err
-returns-in-Err c = refused_regions c.in_ok-exit.exit c.in_ok-exit.ops c.in_ok-exit.count c.args.text.now c.in_ok-exit.region_text.now c.in_ok-exit.ensures c.in-Err.halt c.in-Err.ensures
+pub returns-in_default : goal.returns-in_default
+returns-in_default c = no_first c.args.accepts c.args.text.now c.in_default.ensures
 
-pub returns-in-None : goal.returns-in-None
-returns-in-None c =
-    let P : List Region → Type 0 = λ l. FoundCount l c.in-Ok.count_text.now None in
-    wrong_at_count c.in_ok-exit.exit c.in_ok-exit.ops c.in_ok-exit.count c.args.text.now c.in_ok-exit.region_text.now c.in_ok-exit.ensures c.in-Ok.list c.in-Ok.count_text.now c.in-Ok.ensures
-    (subst P c.as_slice.ensures c.in-None.ensures)
-
-pub returns-in-Err-entries : goal.returns-in-Err-entries
-returns-in-Err-entries c =
-    let P : List Region → Type 0 = λ l. FoundCount l c.in-Ok.count_text.now (Some (c.in-Some.number, c.in-Some.entry_text.now)) in
-    refused_entries c.in_ok-exit.exit c.in_ok-exit.ops c.in_ok-exit.count c.args.text.now c.in_ok-exit.region_text.now c.in_ok-exit.ensures c.in-Ok.list c.in-Ok.count_text.now c.in-Ok.ensures
-    c.in-Some.number c.in-Some.entry_text.now (subst P c.as_slice.ensures c.in-Some.ensures) c.in-Err-entries.halt (c.in-Err-entries.ensures c.in-Ok.list (sym c.len.ensures))
-
-pub returns-in-Ok-entries : goal.returns-in-Ok-entries
-returns-in-Ok-entries c =
-    let P : List Region → Type 0 = λ l. FoundCount l c.in-Ok.count_text.now (Some (c.in-Some.number, c.in-Some.entry_text.now)) in
-    let H : ℤ → Type 0 = λ z. HasHead z c.in_ok-exit.ops c.in_ok-exit.count c.args.text.now c.in_ok-exit.region_text.now in
-    let head = subst H (sym (to_z-of_z w32 c.in_ok-exit.exit c.in_ok-exit.ensures.exit_fits)) c.in_ok-exit.ensures in
-    finished _ c.in_ok-exit.ops c.in_ok-exit.count c.args.text.now c.in_ok-exit.region_text.now head c.in-Ok.list c.in-Ok.count_text.now c.in-Ok.ensures
-    c.in-Some.number c.in-Some.entry_text.now (subst P c.as_slice.ensures c.in-Some.ensures) c.in-Ok-entries.dict c.in-Ok-entries.end.now
-    (c.in-Ok-entries.ensures c.in-Ok.list (sym c.len.ensures)) c.finish.result c.finish.ensures
+pub returns : goal.returns
+returns c =
+    whole_of c.args.accepts c.args.text.now c.in-Some.format c.in-Some.rest.now c.in-Some.ensures c.read_lines.result c.read_lines.ensures

@@ -3,7 +3,7 @@ use Rattle.k_saved.proofs.EntrySteps.{AtEntries}
 use Rattle.k_saved.proofs.reading.entry_lines.entries.Given as goal
 
 abbrev pub invariant-lines : goal.invariant-lines
-invariant-lines l = AtEntries l.regions l.count l.text l.rest l.dict l.extents
+invariant-lines l = AtEntries l.format l.regions l.count l.text l.rest l.table l.extents
 
 abbrev pub decreases-lines : goal.decreases-lines
-decreases-lines l = l.count - length l.dict
+decreases-lines l = l.count - length l.table

@@ -1,5 +1,6 @@
 use Rattle.std.proofs.Common.{◌≡◌, length}
-use Rattle.k_saved.specs.Extents.{NameBelow, no_sums, sums_from}
+use Rattle.k_dict.specs.Entries.{NameBelow}
+use Rattle.k_saved.specs.Extents.{no_sums, sums_from}
 use Rattle.k_saved.proofs.reading.extents.sums_of.Given as goal
 
 abbrev pub invariant-loop-run : goal.invariant-loop-run

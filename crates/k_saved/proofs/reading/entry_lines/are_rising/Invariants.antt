@@ -1,6 +1,6 @@
 use Rattle.std.proofs.Common.{◌↔◌, ◌≤◌, length}
 use Rattle.k_dict.specs.Entries.{AreRuns}
-use Rattle.k_saved.proofs.reading.entry_lines.are_runs.Given as goal
+use Rattle.k_saved.proofs.reading.entry_lines.are_rising.Given as goal
 
 abbrev pub invariant-loop-run : goal.invariant-loop-run
 invariant-loop-run l = record {
