@@ -1,15 +1,15 @@
 -- The dictionary that entries of format 1 become is that of their tree, and keeps the rules.
-use Rattle.std.proofs.Common.{◌≡◌, ℕ, zero, suc, ◌+◌, ◌-◌, ◌*◌, ◌^◌, ◌<◌, ◌≤◌, ◌⊎◌, inl, inr, List, [], ◌∷◌, ◌++◌, length, get_or, Some, slice_get, refl, sym, ap, ◌∙◌, subst, arith}
+use Rattle.std.proofs.Common.{◌≡◌, ℕ, zero, suc, ◌+◌, ◌-◌, ◌*◌, ◌^◌, ◌<◌, ◌≤◌, ◌⊎◌, inl, inr, List, [], ◌∷◌, ◌++◌, length, get_or, Some, slice_get, sym, ap, ◌∙◌, subst, arith}
 use Rattle.std.specs.Prelude.{ℤ, FitsSigned}
 use Rattle.std.specs.Int.{w32}
 use Rattle.std.proofs.lemmas.Option.{get_or_from_slice_get, none-some, same_Some, slice_get-get_or, slice_get_within}
 use Rattle.k_optab.specs.declared.region.Region.{Region}
 use Rattle.k_dict.specs.Dictionary.{Firsts, ended, again, anew, IsDictionaryOf}
-use Rattle.k_dict.specs.Entries.{AreInterned, AreRuns, NameBelow, NameEarlier, label_of, laid, no_tree, tree_at, tree_of, trees_of}
+use Rattle.k_dict.specs.Entries.{AreInterned, AreRuns, NameBelow, label_of, laid, no_tree, tree_at, tree_of, trees_of}
 use Rattle.k_dict.specs.Gathering.{number_of}
-use Rattle.k_dict.specs.Rules.{AreProfile, HasBoundedNumbers, HaveBoundedNumbers, HaveFewInstances, HaveFewLevels, NameRegions, child_paths, child_works, entry_of, no_entry}
+use Rattle.k_dict.specs.Rules.{HasBoundedNumbers, HaveBoundedNumbers, HaveFewInstances, HaveFewLevels, NameRegions, child_paths, child_works, entry_of, no_entry}
 use Rattle.k_dict.specs.Tallies.{total}
-use Rattle.k_dict.specs.Trees.{Alike, Forest, Label, SameShape, Tree, alone, height, post_order, size}
+use Rattle.k_dict.specs.Trees.{SameShape, Tree, alone, height, post_order, size}
 use Rattle.k_dict.specs.declared.entry.Entry.{Entry}
 use Rattle.k_dict.specs.declared.entry.Run.{Run}
 use Rattle.k_dict.proofs.Again.{covered, from_list}
@@ -18,17 +18,18 @@ use Rattle.k_dict.proofs.EntryTrees.{below_bound, length-trees, tree_is, tree_na
 use Rattle.k_dict.proofs.Forests.{Alike-sym, SameShape-further, SameShape-sym}
 use Rattle.k_dict.proofs.Unique.{first_case, none_more, root_is}
 use Rattle.k_dict.proofs.Walking.{EachWith-at, EachWith-back, Firsts-further, tree_there}
-use Rattle.k_saved.specs.Formats.{AreNamed, HaveRuns, IsNamedBy, IsPostOrder, Names}
-use Rattle.k_saved.specs.Lines.{EndsInMain}
+use Rattle.k_lines.specs.Formats.{AreNamed, HaveRuns, IsNamedBy, IsPostOrder, Names}
+use Rattle.k_lines.specs.Lines.{EndsInMain}
 use Rattle.k_saved.specs.Migration.{AreOfShapes, HaveFewChildren}
-use Rattle.k_saved.specs.Profile.{AreRegions, IsMigrated, IsOld, IsSaved}
-use Rattle.k_saved.specs.declared.format.Format.TheVariants.{One}
+use Rattle.k_lines.specs.Files.{AreRegions}
+use Rattle.k_saved.specs.Profile.{IsMigrated, IsOld, IsSaved}
+use Rattle.k_lines.specs.declared.format.Format.TheVariants.{One}
 use Rattle.k_saved.specs.declared.saved.Old.{Old}
 use Rattle.k_saved.specs.declared.saved.Saved.{Saved}
-use Rattle.k_saved.proofs.Apart.{wider}
-use Rattle.k_saved.proofs.Shapes.{HasTop, TopsUpTo, height_of_shape, laid_up_to, parent_of, paths_laid, size_of_shape, top_alike, top_laid, tops, tops_alike, up_to_alike, up_to_laid, works_laid}
-use Rattle.k_saved.proofs.Sums.{size-copies}
-use Rattle.k_saved.proofs.Visiting.{Firsts-grow}
+use Rattle.k_lines.proofs.Apart.{wider}
+use Rattle.k_saved.proofs.Shapes.{HasTop, TopsUpTo, height_of_shape, laid_up_to, parent_of, paths_laid, size_of_shape, top_alike, top_laid, tops_alike, up_to_alike, up_to_laid, works_laid}
+use Rattle.k_lines.proofs.Sums.{size-copies}
+use Rattle.k_lines.proofs.Visiting.{Firsts-grow}
 
 -- ---- of trees that are equal the first, and of those the first of each shape
 

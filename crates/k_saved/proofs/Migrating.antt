@@ -1,10 +1,10 @@
 -- The entries of format 1 become those of a dictionary, one by one.
-use Rattle.std.proofs.Common.{◌≡◌, ℕ, zero, suc, ◌+◌, ◌*◌, ◌^◌, ◌<◌, ◌≤◌, ◌⊎◌, inl, inr, List, [], ◌∷◌, ◌++◌, length, get_or, Some, Ok, Err, Result, slice_get, Contains, refl, sym, ap, ◌∙◌, subst, arith, append-nil, append_assoc, length-append}
+use Rattle.std.proofs.Common.{◌≡◌, ℕ, zero, suc, ◌+◌, ◌*◌, ◌^◌, ◌<◌, ◌≤◌, ◌⊎◌, inl, inr, List, [], ◌∷◌, ◌++◌, length, get_or, Some, Err, slice_get, refl, sym, ap, ◌∙◌, subst, arith, append-nil, append_assoc, length-append}
 use Rattle.std.proofs.lemmas.List.{get_or_append_left, get_or_at}
 use Rattle.std.proofs.lemmas.List.Sums.{sum_by-append, sum_by-cons}
 use Rattle.std.proofs.lemmas.Bool.{cases_lt, cases_order}
-use Rattle.std.proofs.lemmas.Option.{none-some, same_Some, slice_get_within}
-use Rattle.k_dict.specs.Trees.{Forest, Label, Tree, alone, bare, grown, size}
+use Rattle.std.proofs.lemmas.Option.{none-some}
+use Rattle.k_dict.specs.Trees.{Forest, Label, Tree, alone, size}
 use Rattle.k_dict.specs.Entries.{AreDistinct, AreInterned, NameBelow, all_runs, copies, label_of, laid, no_tree, tree_at, tree_of, trees_of}
 use Rattle.k_dict.specs.Gathering.{number_of, with_entry}
 use Rattle.k_dict.specs.Interning.{CanIntern, HasNumber, Interns}
@@ -15,17 +15,17 @@ use Rattle.k_dict.specs.declared.dict.Which.{Which}
 use Rattle.k_dict.specs.declared.dict.Which.TheVariants.{Entries, AllRuns}
 use Rattle.k_dict.specs.declared.entry.Entry.{Entry}
 use Rattle.k_dict.specs.declared.entry.Run.{Run}
-use Rattle.k_dict.proofs.Coding.{Knows, Knows-kept, code, code-copies, code-kept, entry_at, number_in, times, times-counted}
+use Rattle.k_dict.proofs.Coding.{Knows, Knows-kept, code, code-copies, code-kept, entry_at, number_in, times-counted}
 use Rattle.k_dict.proofs.Counting.{counted-at, counted-before, counted-behind}
 use Rattle.k_dict.proofs.EntryTrees.{length-trees, trees-push}
 use Rattle.k_dict.proofs.Numbers.{IsIn, number_kept}
-use Rattle.k_dict.proofs.Places.{place_behind, place_kept}
+use Rattle.k_dict.proofs.Places.{place_behind}
 use Rattle.k_dict.proofs.Pushes.{all_runs-push}
 use Rattle.k_dict.proofs.Sound.{count_of-total, number_is, total-counted}
 use Rattle.k_dict.proofs.Walking.{AreEntriesOf, can_add, closing, has_added, none_seen}
-use Rattle.k_saved.specs.Formats.{HaveRuns}
+use Rattle.k_lines.specs.Formats.{HaveRuns}
 use Rattle.k_saved.specs.Migration.{AreOfShapes, renumbered, renumbered_entry}
-use Rattle.k_saved.specs.declared.format.Format.TheVariants.{One}
+use Rattle.k_lines.specs.declared.format.Format.TheVariants.{One}
 
 module _ (dict : List Entry) (trees : List Tree) (numbers : List ℕ) (high : ℕ)
     (each : (n : ℕ) → n < high → get_or numbers n 0 ≡ number_in dict (get_or trees n no_tree)) where

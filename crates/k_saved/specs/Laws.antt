@@ -1,29 +1,21 @@
 -- What holds of the files of saved profiles: the statements of the laws.
-use Rattle.std.specs.Prelude.{ℕ, ◌+◌, ◌≡◌, List, length, Result, Ok, Err}
+use Rattle.std.specs.Prelude.{ℕ, ◌+◌, ◌≡◌, length, Result, Ok, Err}
 use Rattle.k_dict.specs.Entries.{expansion}
 use Rattle.k_dict.specs.Laws.{AreAlike}
-use Rattle.k_saved.specs.Lines.{IsFirstWrong}
-use Rattle.k_saved.specs.Formats.{IsAccepted}
-use Rattle.k_saved.specs.Profile.{IsFile, IsMigrated, IsOld, IsSaved, Reads, ReadsOld}
-use Rattle.k_saved.specs.SavedText.{file_text, old_text, saved_text}
-use Rattle.k_saved.specs.declared.file.File.{File}
-use Rattle.k_saved.specs.declared.format.Accepts.{Accepts}
+use Rattle.k_lines.specs.declared.fault.SavedFault.{SavedFault}
+use Rattle.k_lines.specs.declared.fault.SavedFault.TheVariants.{NotSaved, Memory}
+use Rattle.k_saved.specs.Profile.{IsMigrated, IsOld, IsSaved, Reads, ReadsOld}
+use Rattle.k_saved.specs.SavedText.{old_text, saved_text}
 use Rattle.k_saved.specs.declared.saved.Old.{Old}
 use Rattle.k_saved.specs.declared.saved.Saved.{Saved}
-use Rattle.k_saved.specs.declared.saved.SavedFault.{SavedFault}
-use Rattle.k_saved.specs.declared.saved.SavedFault.TheVariants.{NotSaved, Memory}
-
--- a text has at most one first wrong line, whichever formats are read
-abbrev pub FirstWrongIsOne : Type 0
-FirstWrongIsOne = (accepts : Accepts) (bytes : List ℕ) (one other : ℕ) → IsFirstWrong accepts bytes one → IsFirstWrong accepts bytes other → one ≡ other
-
--- a file that keeps the rules of its format has no wrong line where that format is read
-abbrev pub NoFileIsWrong : Type 0
-NoFileIsWrong = (accepts : Accepts) (v : File) (place : ℕ) → IsAccepted accepts v.format → IsFile v → IsFirstWrong accepts (file_text v) place → ⊥
 
 -- two profiles with one file are one
 abbrev pub FileIsOfOne : Type 0
-FileIsOfOne = (v w : File) → IsFile v → IsFile w → file_text v ≡ file_text w → v ≡ w
+FileIsOfOne = (v w : Saved) → IsSaved v → IsSaved w → saved_text v ≡ saved_text w → v ≡ w
+
+-- two profiles of format 1 with one file are one
+abbrev pub OldFileIsOfOne : Type 0
+OldFileIsOfOne = (v w : Old) → IsOld v → IsOld w → old_text v ≡ old_text w → v ≡ w
 
 -- this profile was read, unless memory ran out
 abbrev pub ReadsSaved : Saved → Result Saved SavedFault → Type 0

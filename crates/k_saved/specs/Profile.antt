@@ -1,52 +1,18 @@
 -- The rules of a saved profile.
-use Rattle.std.specs.Prelude.{ℕ, ◌+◌, ◌≤◌, ◌≡◌, ◌⊎◌, List, [], ◌∷◌, length, Option, Some, None, slice_get, FitsSigned, Result, Ok, Err}
+use Rattle.std.specs.Prelude.{ℕ, ◌+◌, ◌≤◌, ◌≡◌, ◌⊎◌, List, length, FitsSigned, Result, Ok, Err}
 use Rattle.std.specs.Int.{w32}
-use Rattle.k_optab.specs.declared.region.Region.{Region}
 use Rattle.k_dict.specs.Dictionary.{IsDictionaryOf}
-use Rattle.k_dict.specs.Entries.{AreDistinct, tree_at}
-use Rattle.k_saved.specs.Formats.{AreNamed, HaveRuns, NoneIsLeft}
-use Rattle.k_saved.specs.Lines.{EndsInMain, IsClosed, IsFirstWrong, IsRegion, MayStand}
-use Rattle.k_dict.specs.Rules.{AreProfile, HaveBoundedNumbers, HaveFewInstances, HaveFewLevels, NameRegions}
+use Rattle.k_dict.specs.Entries.{tree_at}
+use Rattle.k_dict.specs.Rules.{AreProfile, NameRegions}
+use Rattle.k_lines.specs.Files.{AreRegions, IsFile}
+use Rattle.k_lines.specs.Formats.{AreNamed}
+use Rattle.k_lines.specs.Lines.{EndsInMain, IsFirstWrong}
+use Rattle.k_lines.specs.declared.fault.SavedFault.{SavedFault}
+use Rattle.k_lines.specs.declared.fault.SavedFault.TheVariants.{NotSaved, Memory}
+use Rattle.k_lines.specs.declared.format.Accepts.TheVariants.{OneAlone, Both}
 use Rattle.k_saved.specs.SavedText.{file_of_old, old_text, saved_text}
-use Rattle.k_dict.specs.declared.entry.Entry.{Entry}
-use Rattle.k_saved.specs.declared.file.File.{File}
-use Rattle.k_saved.specs.declared.format.Accepts.TheVariants.{OneAlone, Both}
-use Rattle.k_saved.specs.declared.format.Format.{Format}
 use Rattle.k_saved.specs.declared.saved.Old.{Old}
 use Rattle.k_saved.specs.declared.saved.Saved.{Saved}
-use Rattle.k_saved.specs.declared.saved.SavedFault.{SavedFault}
-use Rattle.k_saved.specs.declared.saved.SavedFault.TheVariants.{NotSaved, Memory}
-
--- behind this region each loop of the list is followed by its body, no other body stands, and no body is missing at the end
-abbrev pub ArePaired : Option Region → List Region → Type 0
-ArePaired last [] = IsClosed last
-ArePaired last (r ∷ regions) = MayStand last r × ArePaired (Some r) regions
-
--- the regions of a profile
-pub record AreRegions (regions : List Region) : Type 0 where
-  pub some : 1 ≤ length regions
-  pub few : length regions ≤ 524288
-  pub each : (n : ℕ) (r : Region) → slice_get regions n ≡ Some r → IsRegion r
-  pub paired : ArePaired None regions
-
--- the entries of a file
-pub record AreFileEntries (format : Format) (entries : List Entry) : Type 0 where
-  pub some : 1 ≤ length entries
-  pub distinct : AreDistinct entries
-  pub runs : HaveRuns format entries
-  pub numbers : HaveBoundedNumbers entries
-  pub levels : HaveFewLevels entries
-  pub instances : HaveFewInstances entries
-
--- a file that keeps the rules of its format
-pub record IsFile (file : File) : Type 0 where
-  pub exit : FitsSigned w32 file.exit
-  pub ops : file.ops ≤ 1000000000
-  pub regions : AreRegions file.regions
-  pub entries : AreFileEntries file.format file.entries
-  pub in_list : NameRegions (length file.regions) file.entries
-  pub main : EndsInMain file.regions file.entries
-  pub none_left : NoneIsLeft file.format file.entries
 
 -- a profile that can be saved
 pub record IsSaved (saved : Saved) : Type 0 where

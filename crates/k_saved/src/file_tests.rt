@@ -50,7 +50,9 @@ static OLD_STARTS: [usize; 14] = [0, 10, 17, 24, 34, 48, 63, 78, 88, 94, 100, 13
 
 /// The first and the last of the lines that are replaced, what stands there then, and the byte at which the first wrong line
 /// starts.
-static WRONG: [(usize, usize, &str, u64); 46] = [
+type WrongRow = (usize, usize, &'static str, u64);
+
+static WRONG: [WrongRow; 46] = [
     (0, 0, "kremlin 3\n", 0),
     (0, 0, "kremlin 2\r\n", 0),
     (0, 0, "", 0),
@@ -105,7 +107,7 @@ static WRONG: [(usize, usize, &str, u64); 46] = [
 ];
 
 /// The same for the file in format 1.
-static OLD_WRONG: [(usize, usize, &str, u64); 52] = [
+static OLD_WRONG: [WrongRow; 52] = [
     (0, 0, "kremlin 1\r\n", 0),
     (0, 0, "kremlin 01\n", 0),
     (0, 0, "kremlin 3\n", 0),
@@ -239,24 +241,14 @@ fn is_read(rt: &impl Abort, alloc: Global, bytes: &[u8], written: &[u8]) -> Resu
 fn files_that_are_read(rt: HostRuntime) -> Result<(), Fail> {
     for row in &RIGHT {
         let (first, last, text) = *row;
-        let file = file_with(rt.alloc(), &LINES, first, last, text)?;
-        is_read(&rt, rt.alloc(), &file, &file)?;
-    }
-    let file = file_with(rt.alloc(), &LINES, 0, 0, "kremlin 2\n")?;
-    is_read(&rt, rt.alloc(), &file, &file)
-}
-
-#[test]
-fn files_in_format_1_that_are_read(rt: HostRuntime) -> Result<(), Fail> {
-    for row in &RIGHT {
-        let (first, last, text) = *row;
-        let file = file_with(rt.alloc(), &OLD_LINES, first, last, text)?;
         let written = file_with(rt.alloc(), &LINES, first, last, text)?;
-        is_read(&rt, rt.alloc(), &file, &written)?;
+        is_read(&rt, rt.alloc(), &written, &written)?;
+        let old = file_with(rt.alloc(), &OLD_LINES, first, last, text)?;
+        is_read(&rt, rt.alloc(), &old, &written)?;
     }
-    let file = file_with(rt.alloc(), &OLD_LINES, 0, 0, "kremlin 1\n")?;
     let written = file_with(rt.alloc(), &LINES, 0, 0, "kremlin 2\n")?;
-    is_read(&rt, rt.alloc(), &file, &written)
+    let old = file_with(rt.alloc(), &OLD_LINES, 0, 0, "kremlin 1\n")?;
+    is_read(&rt, rt.alloc(), &old, &written)
 }
 
 #[test]
@@ -265,25 +257,14 @@ fn first_wrong_lines(rt: HostRuntime) -> Result<(), Fail> {
         let (first, last, text, place) = *row;
         let file = file_with(rt.alloc(), &LINES, first, last, text)?;
         assert!(rt; refused_at(rt.alloc(), &file) == Some(place));
+        assert!(rt; old_refused_at(rt.alloc(), &file) == Some(0));
     }
-    Ok(())
-}
-
-#[test]
-fn first_wrong_lines_in_format_1(rt: HostRuntime) -> Result<(), Fail> {
     for row in &OLD_WRONG {
         let (first, last, text, place) = *row;
         let file = file_with(rt.alloc(), &OLD_LINES, first, last, text)?;
         assert!(rt; refused_at(rt.alloc(), &file) == Some(place));
         assert!(rt; old_refused_at(rt.alloc(), &file) == Some(place));
     }
-    Ok(())
-}
-
-#[test]
-fn another_format(rt: HostRuntime) -> Result<(), Fail> {
-    let file = file_with(rt.alloc(), &LINES, 0, 0, "kremlin 2\n")?;
-    assert!(rt; old_refused_at(rt.alloc(), &file) == Some(0));
     Ok(())
 }
 
@@ -298,23 +279,21 @@ fn start_before(starts: &[usize], byte: usize) -> u64 {
     start as u64
 }
 
+/// A file that is cut at any byte is refused at the start of its last line.
+fn is_refused_where_cut(rt: &impl Abort, alloc: Global, file: &[u8], starts: &[usize]) {
+    for len in 0..file.len() {
+        assert!(rt; refused_at(alloc, &file[..len]) == Some(start_before(starts, len)));
+    }
+}
+
 #[test]
 fn files_that_are_cut(rt: HostRuntime) -> Result<(), Fail> {
     let file = file_with(rt.alloc(), &LINES, 0, 0, "kremlin 2\n")?;
     assert_eq!(rt; file.len(), 130);
-    for len in 0..130 {
-        assert!(rt; refused_at(rt.alloc(), &file[..len]) == Some(start_before(&STARTS, len)));
-    }
-    Ok(())
-}
-
-#[test]
-fn files_in_format_1_that_are_cut(rt: HostRuntime) -> Result<(), Fail> {
+    is_refused_where_cut(&rt, rt.alloc(), &file, &STARTS);
     let file = file_with(rt.alloc(), &OLD_LINES, 0, 0, "kremlin 1\n")?;
     assert_eq!(rt; file.len(), 146);
-    for len in 0..146 {
-        assert!(rt; refused_at(rt.alloc(), &file[..len]) == Some(start_before(&OLD_STARTS, len)));
-    }
+    is_refused_where_cut(&rt, rt.alloc(), &file, &OLD_STARTS);
     Ok(())
 }
 
@@ -359,15 +338,10 @@ fn chain(alloc: Global, first: &str, entries: u32) -> Result<String, Fail> {
 }
 
 #[test]
-fn as_many_levels_as_there_may_be(rt: HostRuntime) -> Result<(), Fail> {
+fn levels(rt: HostRuntime) -> Result<(), Fail> {
     let written = chain(rt.alloc(), "kremlin 2\n", 32)?;
     let file = chain(rt.alloc(), "kremlin 1\n", 32)?;
-    is_read(&rt, rt.alloc(), written.as_bytes(), written.as_bytes())?;
-    is_read(&rt, rt.alloc(), file.as_bytes(), written.as_bytes())
-}
-
-#[test]
-fn one_level_too_many(rt: HostRuntime) -> Result<(), Fail> {
+    is_read(&rt, rt.alloc(), file.as_bytes(), written.as_bytes())?;
     let file = chain(rt.alloc(), "kremlin 2\n", 33)?;
     assert!(rt; refused_at(rt.alloc(), file.as_bytes()) == Some(395));
     let file = chain(rt.alloc(), "kremlin 1\n", 33)?;

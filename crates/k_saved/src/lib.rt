@@ -1,18 +1,16 @@
-//! The file of a saved profile: written in format 2, and read line by line in both formats. A profile of format 1 is migrated.
+//! Saved profiles: written in format 2, and read in format 2 or in format 1, of which one of format 2 is made.
 #![tactic(auto)]
 
-mod file;
-mod format;
 pub mod laws;
 mod loading;
 mod migration;
-mod reading;
 mod saved;
 mod saving;
 
+pub use k_lines::SavedFault;
 pub use loading::{read, read_old};
 pub use migration::migrate;
-pub use saved::{Old, Saved, SavedFault};
+pub use saved::{Old, Saved};
 pub use saving::write;
 
 #[cfg(test)]

@@ -1,16 +1,16 @@
 //! Profiles from the bytes of a file.
 ghost use Rattle.std.specs.Prelude.{◌≡◌, IfOk};
 ghost use Rattle.k_dict.specs.Entries.{NameEarlier};
-ghost use Rattle.k_saved.specs.Profile.{IsFile, IsSaved, Reads, ReadsOld, Spells};
-ghost use Rattle.k_saved.specs.SavedText.{file_of_old, file_of_saved, file_text};
-ghost use Rattle.k_saved.specs.declared.format.Format.TheVariants.{One, Two};
+ghost use Rattle.k_lines.specs.Files.{IsFile};
+ghost use Rattle.k_saved.specs.Profile.{IsSaved, Reads, ReadsOld, Spells};
+ghost use Rattle.k_saved.specs.SavedText.{file_of_old, file_of_saved};
+ghost use Rattle.k_lines.specs.FileText.{file_text};
+ghost use Rattle.k_lines.specs.declared.format.Format.TheVariants.{One, Two};
 
-use crate::file::File;
-use crate::format::{Accepts, Format};
 use crate::migration::migrate;
-use crate::reading::{Halt, read_all};
-use crate::saved::{Old, Saved, SavedFault};
+use crate::saved::{Old, Saved};
 use k_dict::Dict;
+use k_lines::{Accepts, File, Format, SavedFault, read_file};
 use k_num::NoMemory;
 use std::alloc::Global;
 
@@ -81,13 +81,13 @@ fn profile_of(alloc: Global, file: File) -> Result<Saved, NoMemory>
 pub fn read(alloc: Global, bytes: &[u8]) -> Result<Saved, SavedFault>
     ensures { Reads bytes.now result }
 {
-    match read_all(alloc, Accepts::Both, bytes) {
+    match read_file(alloc, Accepts::Both, bytes) {
         Ok(file) => match profile_of(alloc, file) {
             Ok(saved) => Ok(saved),
             Err(NoMemory) => Err(SavedFault::Memory),
         },
-        Err(Halt::Memory) => Err(SavedFault::Memory),
-        Err(Halt::Wrong(left)) => Err(SavedFault::NotSaved((bytes.len() - left) as u64)),
+        Err(SavedFault::NotSaved(place)) => Err(SavedFault::NotSaved(place)),
+        Err(SavedFault::Memory) => Err(SavedFault::Memory),
     }
 }
 
@@ -96,12 +96,12 @@ pub fn read(alloc: Global, bytes: &[u8]) -> Result<Saved, SavedFault>
 pub fn read_old(alloc: Global, bytes: &[u8]) -> Result<Old, SavedFault>
     ensures { ReadsOld bytes.now result }
 {
-    match read_all(alloc, Accepts::OneAlone, bytes) {
+    match read_file(alloc, Accepts::OneAlone, bytes) {
         Ok(file) => match into_old(alloc, file) {
             Ok(old) => Ok(old),
             Err(NoMemory) => Err(SavedFault::Memory),
         },
-        Err(Halt::Memory) => Err(SavedFault::Memory),
-        Err(Halt::Wrong(left)) => Err(SavedFault::NotSaved((bytes.len() - left) as u64)),
+        Err(SavedFault::NotSaved(place)) => Err(SavedFault::NotSaved(place)),
+        Err(SavedFault::Memory) => Err(SavedFault::Memory),
     }
 }

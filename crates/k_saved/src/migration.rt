@@ -2,11 +2,11 @@
 ghost use Rattle.std.specs.Prelude.{◌≡◌, ◌^◌, ◌<◌, [], length, slice_index_or, IfOk};
 ghost use Rattle.k_dict.specs.Entries.{AreDistinct, AreInterned, NameBelow, trees_of};
 ghost use Rattle.k_dict.specs.Tallies.{total};
-ghost use Rattle.k_saved.specs.Formats.{HaveRuns};
+ghost use Rattle.k_lines.specs.Formats.{HaveRuns};
 ghost use Rattle.k_saved.specs.Migration.{AreOfShapes, HaveFewChildren};
 ghost use Rattle.k_saved.specs.Migration as spec;
 ghost use Rattle.k_saved.specs.Profile.{IsMigrated, IsOld, IsSaved};
-ghost use Rattle.k_saved.specs.declared.format.Format.TheVariants.{One};
+ghost use Rattle.k_lines.specs.declared.format.Format.TheVariants.{One};
 
 use crate::saved::{Old, Saved};
 use k_dict::{Dict, DictFault, Entry, Run, Tally};

@@ -1,5 +1,5 @@
-use Rattle.k_saved.proofs.Made as made
+use Rattle.k_saved.proofs.Profiles as profiles
 use Rattle.k_saved.proofs.laws.read_of_old.Goals as goal
 
 pub returns : goal.returns
-returns c = record { same = made.read_of_old; migrated = made.read_migrated }
+returns c = record { same = profiles.read_of_old; migrated = profiles.read_migrated; one = profiles.one_old }

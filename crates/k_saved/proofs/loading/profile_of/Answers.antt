@@ -1,4 +1,4 @@
-use Rattle.k_saved.proofs.Loaded.{names_earlier, two_saved}
+use Rattle.k_saved.proofs.Profiles.{names_earlier, two_saved}
 use Rattle.k_saved.proofs.loading.profile_of.Goals as goal
 
 pub into_saved-requires : goal.into_saved-requires

@@ -1,8 +1,7 @@
-use Rattle.std.proofs.Common.{◌≡◌, ℕ, List, [], ◌∷◌, length, refl, sym, ap, ◌∙◌, subst, arith}
-use Rattle.std.proofs.lemmas.List.{nil_from_length}
+use Rattle.std.proofs.Common.{◌≡◌, ℕ, List, [], ◌∷◌, length, sym, ap, ◌∙◌, subst}
 use Rattle.k_dict.specs.Entries.{NameBelow}
 use Rattle.k_saved.specs.Migration.{renumbered_entry}
-use Rattle.k_saved.proofs.Migrating.{below_done, can_intern, migrating_done, migrating_more, migrating_start, never_full, place_of_next}
+use Rattle.k_saved.proofs.Migrating.{below_done, can_intern, migrating_more, migrating_start, never_full, place_of_next}
 use Rattle.k_saved.proofs.migration.dictionary.Goals as goal
 
 pub loop-entry-init : goal.loop-entry-init

@@ -3,9 +3,9 @@ use Rattle.std.specs.Int.{w32}
 use Rattle.std.proofs.lemmas.Int.{to_z-of_z}
 use Rattle.k_dict.specs.Entries.{trees_of}
 use Rattle.k_dict.specs.declared.entry.Entry.{Entry}
-use Rattle.k_saved.specs.Formats.{HaveRuns}
+use Rattle.k_lines.specs.Formats.{HaveRuns}
 use Rattle.k_saved.specs.Migration.{AreOfShapes, HaveFewChildren}
-use Rattle.k_saved.specs.declared.format.Format.TheVariants.{One}
+use Rattle.k_lines.specs.declared.format.Format.TheVariants.{One}
 use Rattle.k_saved.proofs.Migrated.{few_children, is_migrated, is_saved}
 use Rattle.k_saved.proofs.migration.migrate.Goals as goal
 

@@ -1,7 +1,6 @@
-use Rattle.std.proofs.Common.{◌≡◌, ◌+◌, List, [], length, refl, sym, ap, ◌∙◌, subst, arith, zero-add}
+use Rattle.std.proofs.Common.{◌≡◌, ◌+◌, [], ◌∙◌}
 use Rattle.std.proofs.lemmas.List.{nil_from_length}
-use Rattle.k_dict.specs.declared.entry.Run.{Run}
-use Rattle.k_saved.proofs.Migrating.{Renumbering, add_fits, renumbering_done, renumbering_more, renumbering_start}
+use Rattle.k_saved.proofs.Migrating.{add_fits, renumbering_done, renumbering_more, renumbering_start}
 use Rattle.k_saved.proofs.migration.tally_of.Goals as goal
 
 pub loop-run-init : goal.loop-run-init
