@@ -1,5 +1,5 @@
 -- *Plan*: the one choice of loops that saves the most.
-use Rattle.std.specs.Prelude.{ℕ, ◌+◌, ◌^◌, ◌≡◌, ◌<◌, ◌≤◌, ◌==◌, IsTrue, List, [], ◌∷◌, length, Some, slice_get, if◌then◌else◌}
+use Rattle.std.specs.Prelude.{ℕ, ◌+◌, ◌≡◌, ◌≤◌, IsTrue, List, [], ◌∷◌, Some, slice_get, if◌then◌else◌}
 use Rattle.k_plan.specs.declared.advice.Advice.{Advice}
 use Rattle.k_plan.specs.declared.advice.Pick.{Pick}
 use Rattle.k_selfpar.specs.declared.context.Context.{Context}
