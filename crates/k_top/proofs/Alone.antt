@@ -1,7 +1,6 @@
 -- The run of a first program from which main returned: main's one instance, its bounds and its row.
 use Rattle.std.proofs.Common.{ℤ, ◌≡◌, ◌<◌, ◌≤◌, ◌^◌, ◌∙◌, ap, arith, refl, subst, sym, List, [], ◌∷◌, length, map, None, slice_index_or}
 use Rattle.k_optab.specs.declared.event.Event.{Event}
-use Rattle.k_optab.specs.declared.event.Event.TheVariants.{Enter, Exit}
 use Rattle.k_optab.specs.Events.{SourcesAreEarlier, operations, total_latency}
 use Rattle.k_optab.specs.Latencies.{standard_latencies}
 use Rattle.k_optab.specs.Single.{AreOperations, IsSingle, one_instance}

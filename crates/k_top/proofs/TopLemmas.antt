@@ -17,11 +17,11 @@ use Rattle.k_code.specs.declared.ending.End.TheVariants.{Returned, Trapped, OutO
 use Rattle.k_top.specs.declared.command.Usage as usages
 use Rattle.k_top.specs.declared.ending.Ending.{Ending}
 use Rattle.k_top.specs.declared.ending.Ending.TheVariants.{Ran, Refused, Usage, Absent, ReadFault, WriteFault, NoMemory, TooLong}
-use Rattle.k_top.specs.declared.refusal.SourceFault.TheVariants.{Lex, Parse, NotBuilt}
+use Rattle.k_top.specs.declared.refusal.SourceFault.TheVariants.{Lex, Parse, Types, NotBuilt}
 use Rattle.k_top.specs.Command.{command_of}
 use Rattle.k_top.specs.Form.{IsProgram}
 use Rattle.k_top.specs.Answer
-use Rattle.k_top.specs.Answer.{IsAnswer, AnswersCommand, AnswersContent, AnswersSource, AnswersTokens, AnswersTree, IsOutput, end_line, end_status, ran, file_limit, refusal, usage_line, absent_line, long_line, refused_line}
+use Rattle.k_top.specs.Answer.{IsAnswer, AnswersCommand, AnswersContent, AnswersSource, AnswersTokens, AnswersTree, AnswersTyped, IsOutput, end_line, end_status, ran, file_limit, refusal, usage_line, absent_line, long_line, refused_line}
 use Rattle.k_top.specs.Clauses.{MayHold, PartOfAnswer}
 use Rattle.k_top.specs.Endings.{EndsWords, status_of, line_of}
 use Rattle.k_top.proofs.Growing.{grows_no_part, grows_nothing, grows_in_part}
@@ -88,10 +88,13 @@ module _ (words : List (List ℕ)) (files files' : FilesState) (out out' : SinkS
       of_list (found, is_found, answers) =
           of_tree (subst (λ f. AnswersTree f answer) (one_answer list found (Ok unit) is_found parsed) answers)
         where
-          of_tree : AnswersTree (Ok unit) answer → answer.out ≡ text
-          of_tree (inl refused) = absurd (refused.0 program)
-          of_tree (inr (is, (out_text, other_output, same))) =
+          of_typed : AnswersTyped unit [] answer → answer.out ≡ text
+          of_typed (inl refused) = absurd (refused.0 program.form)
+          of_typed (inr (is, (out_text, other_output, same))) =
               ap (λ (a : Answer.Answer). a.out) same ∙ one_output unit out_text text program.form other_output output
+
+          of_tree : AnswersTree (Ok unit) answer → answer.out ≡ text
+          of_tree answers = of_typed (subst (λ fs. AnswersTyped unit fs answer) program.typed answers)
 
       of_content : AnswersContent file (Some source) answer → answer.out ≡ text
       of_content (inl long) = absurd (omega (arith, fits, long.0))
@@ -125,7 +128,8 @@ module _ (words : List (List ℕ)) (files files' : FilesState) (out out' : SinkS
       program_put file source list unit text command loads lexed parsed program output (grows_in_part out.written text out'.written grows)
   part_put (Refused (Lex fault)) (file, command, (source, loads, (lexed, same))) = nothing_put same
   part_put (Refused (Parse fault)) (file, command, (source, loads, (list, lexed, (parsed, same)))) = nothing_put same
-  part_put (Refused NotBuilt) (file, command, (source, loads, (list, lexed, (unit, parsed, (none, same))))) = nothing_put same
+  part_put (Refused (Types fault)) (file, command, (source, loads, (list, lexed, (unit, parsed, (rest, is, same))))) = nothing_put same
+  part_put (Refused NotBuilt) (file, command, (source, loads, (list, lexed, (unit, parsed, (typed, none, same))))) = nothing_put same
   part_put (Usage usage) (command, kept, same) = nothing_put same
   part_put (Absent name) (file, command, (named, loads, same)) = nothing_put same
   part_put ReadFault (file, command, (loads, same)) = nothing_put same
@@ -170,7 +174,7 @@ module _ (words : List (List ℕ)) (files files' : FilesState) (out out' : SinkS
   pub answered : (ending : Ending) → EndsWords words ending files files' out out' → Unless (status_of ending) (line_of ending)
   answered (Ran end) (file, command, (source, loads, (list, lexed, (unit, parsed, (program, (text, output, same, grows, faults)))))) =
       let answer : Answer.Answer = ran end text in
-      let answers = by_tokens source.items (Ok list) answer lexed (Ok unit, parsed, inr (program, (text, output, ap (λ e. ran e text) same))) in
+      let answers = by_tokens source.items (Ok list) answer lexed (Ok unit, parsed, subst (λ fs. AnswersTyped unit fs answer) (sym program.typed) (inr (program.form, (text, output, ap (λ e. ran e text) same)))) in
       answer_of (end_status end) (end_line end) (by_source file source answer command loads answers grows)
   answered (Refused (Lex fault)) (file, command, (source, loads, (lexed, same))) =
       let answer : Answer.Answer = refusal 3 (refused_line (Lex fault)) in
@@ -180,9 +184,13 @@ module _ (words : List (List ℕ)) (files files' : FilesState) (out out' : SinkS
       let answer : Answer.Answer = refusal 3 (refused_line (Parse fault)) in
       let answers = by_tokens source.items (Ok list) answer lexed (Err fault, parsed, refl) in
       answer_of 3 (refused_line (Parse fault)) (by_source file source answer command loads answers (refused answer refl same))
-  answered (Refused NotBuilt) (file, command, (source, loads, (list, lexed, (unit, parsed, (none, same))))) =
+  answered (Refused (Types fault)) (file, command, (source, loads, (list, lexed, (unit, parsed, (rest, is, same))))) =
+      let answer : Answer.Answer = refusal 3 (refused_line (Types fault)) in
+      let answers = by_tokens source.items (Ok list) answer lexed (Ok unit, parsed, subst (λ fs. AnswersTyped unit fs answer) (sym is) refl) in
+      answer_of 3 (refused_line (Types fault)) (by_source file source answer command loads answers (refused answer refl same))
+  answered (Refused NotBuilt) (file, command, (source, loads, (list, lexed, (unit, parsed, (typed, none, same))))) =
       let answer : Answer.Answer = refusal 3 (refused_line NotBuilt) in
-      let answers = by_tokens source.items (Ok list) answer lexed (Ok unit, parsed, inl (none, refl)) in
+      let answers = by_tokens source.items (Ok list) answer lexed (Ok unit, parsed, subst (λ fs. AnswersTyped unit fs answer) (sym typed) (inl (none, refl))) in
       answer_of 3 (refused_line NotBuilt) (by_source file source answer command loads answers (refused answer refl same))
   answered (Usage usage) (command, kept, same) =
       let any = any_content files.held in
@@ -256,7 +264,8 @@ module _ (words : List (List ℕ)) (files files' : FilesState) (out out' : SinkS
   out_after (Ran end) (file, command, (source, loads, (list, lexed, (unit, parsed, (program, (text, output, same, grows, faults)))))) = faults
   out_after (Refused (Lex fault)) (file, command, (source, loads, (lexed, same))) = same
   out_after (Refused (Parse fault)) (file, command, (source, loads, (list, lexed, (parsed, same)))) = same
-  out_after (Refused NotBuilt) (file, command, (source, loads, (list, lexed, (unit, parsed, (none, same))))) = same
+  out_after (Refused (Types fault)) (file, command, (source, loads, (list, lexed, (unit, parsed, (rest, is, same))))) = same
+  out_after (Refused NotBuilt) (file, command, (source, loads, (list, lexed, (unit, parsed, (typed, none, same))))) = same
   out_after (Usage usage) (command, kept, same) = same
   out_after (Absent name) (file, command, (named, loads, same)) = same
   out_after ReadFault (file, command, (loads, same)) = same

@@ -1,5 +1,5 @@
 -- *Whole answer*: what `kremlin` answers to the words of its command line, where files hold what they hold.
-use Rattle.std.specs.Prelude.{ℕ, ◌≡◌, ◌≤◌, ◌<◌, ◌⊎◌, List, [], ◌++◌, length, Option, Some, None, Result, Ok, Err, codes}
+use Rattle.std.specs.Prelude.{ℕ, ◌≡◌, ◌≤◌, ◌<◌, ◌⊎◌, List, [], ◌∷◌, ◌++◌, length, Option, Some, None, Result, Ok, Err, codes}
 use Rattle.std.specs.Fmt.{decimal}
 use Rattle.k_num.specs.declared.place.Place.{Place}
 use Rattle.k_optab.specs.Events.{operations}
@@ -11,6 +11,9 @@ use Rattle.k_lex.specs.declared.fault.LexFault.{LexFault}
 use Rattle.k_lex.specs.Tokens.{tokens}
 use Rattle.k_parse.specs.declared.fault.ParseFault.{ParseFault}
 use Rattle.k_parse.specs.Parse.{IsParse}
+use Rattle.k_form.specs.First.{IsFirst}
+use Rattle.k_typed.specs.declared.fault.TypeFault.{TypeFault}
+use Rattle.k_typed.specs.Units.{faults}
 use Rattle.k_code.specs.declared.ending.End.{End}
 use Rattle.k_code.specs.declared.ending.End.TheVariants.{Returned, Trapped, OutOfSteps}
 use Rattle.k_code.specs.declared.ending.Trap.{Trap}
@@ -18,11 +21,10 @@ use Rattle.k_code.specs.Traps.{trap_name}
 use Rattle.k_top.specs.declared.command.Usage.{Usage}
 use Rattle.k_top.specs.declared.command.Usage.TheVariants.{NoCommand, UnknownWord, NoFile}
 use Rattle.k_top.specs.declared.refusal.SourceFault.{SourceFault}
-use Rattle.k_top.specs.declared.refusal.SourceFault.TheVariants.{Lex, Parse, NotBuilt}
+use Rattle.k_top.specs.declared.refusal.SourceFault.TheVariants.{Lex, Parse, Types, NotBuilt}
 use Rattle.k_top.specs.declared.rows.Row.{Row}
 use Rattle.k_top.specs.Command.{command_of}
 use Rattle.k_top.specs.Refusal.{fault_text, named_at}
-use Rattle.k_top.specs.Form.{IsProgram}
 use Rattle.k_top.specs.Run.{listing_of, regions_of, step_budget}
 use Rattle.k_top.specs.Rows.{AreRows}
 use Rattle.k_top.specs.Report.{report_text, with_report}
@@ -112,11 +114,17 @@ ran end out = record { out = out; err = end_line end; status = end_status end }
 abbrev pub AnswersRun : tree.Unit → Answer → Type 0
 AnswersRun unit answer = (out : List ℕ) × IsOutput unit out × (answer ≡ ran (listing_of unit).end out)
 
--- the tree decides: a source without a tree is refused, and so is one whose tree is no program of the form that is run so far
+-- the faults in names and types decide: a source that has some is refused by the first one; a source that has none is run where it is a
+-- program of the form that is run so far, and else refused as a whole
+abbrev pub AnswersTyped : tree.Unit → List TypeFault → Answer → Type 0
+AnswersTyped unit (fault ∷ rest) answer = answer ≡ refusal 3 (refused_line (Types fault))
+AnswersTyped unit [] answer =
+    ((IsFirst unit → ⊥) × (answer ≡ refusal 3 (refused_line NotBuilt))) ⊎ (IsFirst unit × AnswersRun unit answer)
+
+-- the tree decides: a source without a tree is refused
 abbrev pub AnswersTree : Result tree.Unit ParseFault → Answer → Type 0
 AnswersTree (Err fault) answer = answer ≡ refusal 3 (refused_line (Parse fault))
-AnswersTree (Ok unit) answer =
-    ((IsProgram unit → ⊥) × (answer ≡ refusal 3 (refused_line NotBuilt))) ⊎ (IsProgram unit × AnswersRun unit answer)
+AnswersTree (Ok unit) answer = AnswersTyped unit (faults unit) answer
 
 -- the tokens decide: a source without tokens is refused
 abbrev pub AnswersTokens : Result (List Token) LexFault → Answer → Type 0

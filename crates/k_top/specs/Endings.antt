@@ -1,5 +1,5 @@
 -- How the top call ends, and what each of its parts leaves. The theorem on `kremlin` speaks of none of this.
-use Rattle.std.specs.Prelude.{ℕ, ◌≡◌, ◌⊎◌, List, Ok, Err, Vec}
+use Rattle.std.specs.Prelude.{ℕ, ◌≡◌, ◌⊎◌, List, [], ◌∷◌, Ok, Err, Vec}
 use Rattle.std.specs.declared.alloc.Global.{Global}
 use Rattle.k_edge.specs.Fault.{Rose}
 use Rattle.k_edge.specs.SinkWords.{SinkState, Grows, GrowsInPart}
@@ -13,9 +13,13 @@ use Rattle.k_lex.specs.Tokens.{tokens}
 use Rattle.k_parse.specs.declared.fault.ParseFault.{ParseFault}
 use Rattle.k_parse.specs.declared.fault.ParseFault.TheVariants as p
 use Rattle.k_parse.specs.Parse.{IsParse}
+use Rattle.k_form.specs.First.{IsFirst}
+use Rattle.k_typed.specs.declared.fault.TypeFault.{TypeFault}
+use Rattle.k_typed.specs.declared.fault.TypeFault.TheVariants as t
+use Rattle.k_typed.specs.Units.{faults}
 use Rattle.k_top.specs.declared.ending.Ending.{Ending}
 use Rattle.k_top.specs.declared.ending.Ending.TheVariants.{Ran, Refused, Usage, Absent, ReadFault, WriteFault, NoMemory, TooLong}
-use Rattle.k_top.specs.declared.refusal.SourceFault.TheVariants.{Lex, Parse, NotBuilt}
+use Rattle.k_top.specs.declared.refusal.SourceFault.TheVariants.{Lex, Parse, Types, NotBuilt}
 use Rattle.k_top.specs.Command.{command_of}
 use Rattle.k_top.specs.Form.{IsProgram}
 use Rattle.k_top.specs.Run.{listing_of}
@@ -56,9 +60,15 @@ EndsProgram unit WriteFault out out' = PutsPart unit out out' × Rose out.faults
 EndsProgram unit NoMemory out out' = ((out' ≡ out) ⊎ PutsPart unit out out') × (out'.faults ≡ out.faults)
 EndsProgram unit _ out out' = ⊥
 
--- how a tree ended: it is no program of the form that is run so far, or its run ended so
+-- how a tree without a typed tree ends
+abbrev pub ending_without_types : TypeFault → Ending
+ending_without_types t.Memory = NoMemory
+ending_without_types fault = Refused (Types fault)
+
+-- how a tree ended: it has a fault in names and types, it is no program of the form that is run so far, or its run ended so
 abbrev pub EndsTree : tree.Unit → Ending → SinkState → SinkState → Type 0
-EndsTree unit (Refused NotBuilt) out out' = (IsProgram unit → ⊥) × (out' ≡ out)
+EndsTree unit (Refused (Types fault)) out out' = (rest : List TypeFault) × (faults unit ≡ fault ∷ rest) × (out' ≡ out)
+EndsTree unit (Refused NotBuilt) out out' = (faults unit ≡ []) × (IsFirst unit → ⊥) × (out' ≡ out)
 EndsTree unit NoMemory out out' = (out' ≡ out) ⊎ (IsProgram unit × EndsProgram unit NoMemory out out')
 EndsTree unit ending out out' = IsProgram unit × EndsProgram unit ending out out'
 

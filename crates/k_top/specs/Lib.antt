@@ -8,5 +8,3 @@ pub mod Report
 pub mod Answer
 pub mod Clauses
 pub mod Endings
-pub mod Names
-pub mod KnownNames

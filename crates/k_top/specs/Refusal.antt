@@ -5,8 +5,10 @@ use Rattle.k_lex.specs.declared.fault.LexFault.{LexFault}
 use Rattle.k_lex.specs.declared.fault.LexFault.TheVariants as l
 use Rattle.k_parse.specs.declared.fault.ParseFault.{ParseFault}
 use Rattle.k_parse.specs.declared.fault.ParseFault.TheVariants as p
+use Rattle.k_typed.specs.declared.fault.TypeFault.{TypeFault}
+use Rattle.k_typed.specs.declared.fault.TypeFault.TheVariants as t
 use Rattle.k_top.specs.declared.refusal.SourceFault.{SourceFault}
-use Rattle.k_top.specs.declared.refusal.SourceFault.TheVariants.{Lex, Parse, NotBuilt}
+use Rattle.k_top.specs.declared.refusal.SourceFault.TheVariants.{Lex, Parse, Types, NotBuilt}
 use Rattle.k_top.specs.Report.{place_text}
 
 -- a name and a place, as NAME at line:column
@@ -39,8 +41,29 @@ parse_fault_text (p.TooDeep place) = named_at (codes "TooDeep") place
 parse_fault_text p.NodesMany = named_at (codes "NodesMany") whole_place
 parse_fault_text p.Memory = []
 
+-- the name of a fault, and the name that it is about in parentheses
+abbrev pub of_name : List ℕ → List ℕ → List ℕ
+of_name fault name = fault ++ codes "(" ++ name ++ codes ")"
+
+-- the name of each fault of names and types, and its place
+abbrev pub type_fault_text : TypeFault → List ℕ
+type_fault_text (t.Unknown name place) = named_at (of_name (codes "Unknown") name) place
+type_fault_text (t.Twice name place) = named_at (of_name (codes "Twice") name) place
+type_fault_text (t.Kinds place) = named_at (codes "Kinds") place
+type_fault_text (t.NotPlace place) = named_at (codes "NotPlace") place
+type_fault_text (t.ConstWrite place) = named_at (codes "ConstWrite") place
+type_fault_text (t.Arity place) = named_at (codes "Arity") place
+type_fault_text (t.BadSize place) = named_at (codes "BadSize") place
+type_fault_text (t.BadFormat place) = named_at (codes "BadFormat") place
+type_fault_text (t.NoMain place) = named_at (codes "NoMain") place
+type_fault_text (t.NotDefined name place) = named_at (of_name (codes "NotDefined") name) place
+type_fault_text (t.JumpOutside place) = named_at (codes "JumpOutside") place
+type_fault_text t.Memory = []
+type_fault_text (t.CaseAgain place) = named_at (codes "CaseAgain") place
+
 -- the name and the place of a refusal: a source whose tree is not of the form that is run so far is refused as a whole
 abbrev pub fault_text : SourceFault → List ℕ
 fault_text (Lex fault) = lex_fault_text fault
 fault_text (Parse fault) = parse_fault_text fault
+fault_text (Types fault) = type_fault_text fault
 fault_text NotBuilt = named_at (codes "NotBuilt") whole_place

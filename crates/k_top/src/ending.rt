@@ -15,7 +15,7 @@ use k_num::{NoMemory, Place};
 use std::alloc::Global;
 
 /// How the top call ends.
-#[derive(Clone, Copy)]
+#[derive(Drop)]
 pub enum Ending<'a> {
     /// The program ran, all that it puts on out was put, and the run ended so.
     Ran(End),
@@ -59,7 +59,7 @@ impl Ending<'_> {
         let mut line = Vec::new(alloc);
         match self {
             Ending::Ran(end) => push_end(&mut line, *end)?,
-            Ending::Refused(fault) => push_refused(&mut line, "kremlin: source refused: ", *fault)?,
+            Ending::Refused(fault) => push_refused(&mut line, "kremlin: source refused: ", fault)?,
             Ending::Usage(usage) => push_usage(&mut line, "kremlin: usage: ", *usage)?,
             Ending::Absent(file) => push_named(&mut line, "kremlin: no such file: ", file)?,
             Ending::ReadFault => push(&mut line, "kremlin: read fault\n")?,
@@ -109,8 +109,8 @@ fn push_counted(line: &mut Vec<u8>, what: &str, count: u64) -> Result<(), NoMemo
     push(line, "\n")
 }
 
-fn push_refused(line: &mut Vec<u8>, what: &str, fault: SourceFault) -> Result<(), NoMemory>
-    ensures { OnOk result (line.new.items ≡ line.old.items ++ (what.now ++ fault_text fault ++ codes "\n")) }
+fn push_refused(line: &mut Vec<u8>, what: &str, fault: &SourceFault) -> Result<(), NoMemory>
+    ensures { OnOk result (line.new.items ≡ line.old.items ++ (what.now ++ fault_text fault.now ++ codes "\n")) }
 {
     push(line, what)?;
     push_fault(line, fault)?;

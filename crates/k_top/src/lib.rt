@@ -3,8 +3,6 @@
 
 mod command;
 mod ending;
-mod form;
-mod names;
 mod output;
 mod refusal;
 mod report;

@@ -1,12 +1,11 @@
 //! The top call over files, sources and sinks in memory.
+mod calls;
 mod ends;
 mod faults;
 mod listings;
 mod parses;
 mod places;
-mod programs;
 mod puts;
-mod refusals;
 mod tokens;
 
 use crate::kremlin;
@@ -72,14 +71,12 @@ fn status_of<F: Files, S: Source, K: Sink, E: Sink>(
 fn mem_answers(
     alloc: Global,
     words: &[&str],
-    source: Option<&[u8]>,
+    source: &[u8],
     failing: Failing<'_>,
     wanted: Wanted<'_>,
 ) -> Result<bool, NoMemory> {
     let mut files = MemFiles::new(alloc, failing.loads)?;
-    if let Some(source) = source {
-        files.add("a.c", source)?;
-    }
+    files.add("a.c", source)?;
     let mut input = MemSource::new(alloc, b"x", &[0])?;
     let mut out = MemSink::new(alloc, failing.out)?;
     let mut err = MemSink::new(alloc, failing.err)?;
@@ -92,13 +89,11 @@ fn mem_answers(
 fn sure_answers(
     alloc: Global,
     words: &[&str],
-    source: Option<&[u8]>,
+    source: &[u8],
     wanted: Wanted<'_>,
 ) -> Result<bool, NoMemory> {
     let mut files = SureFiles::new(alloc)?;
-    if let Some(source) = source {
-        files.add("a.c", source)?;
-    }
+    files.add("a.c", source)?;
     let mut input = SureSource::new(alloc, b"x")?;
     let mut out = SureSink::new(alloc)?;
     let mut err = SureSink::new(alloc)?;
@@ -115,31 +110,11 @@ fn is_wanted(status: u8, out: &[u8], err: &[u8], wanted: Wanted<'_>) -> bool {
 fn answers(
     alloc: Global,
     words: &[&str],
-    source: Option<&[u8]>,
+    source: &[u8],
     wanted: Wanted<'_>,
 ) -> Result<bool, NoMemory> {
     Ok(
         mem_answers(alloc, words, source, NOTHING_FAILS, wanted)?
             && sure_answers(alloc, words, source, wanted)?,
     )
-}
-
-/// Whether a source is run with this on out.
-fn runs(alloc: Global, source: &[u8], out: &str) -> Result<bool, NoMemory> {
-    let wanted = Wanted {
-        status: 0,
-        out: out.as_bytes(),
-        err: "",
-    };
-    answers(alloc, RUN, Some(source), wanted)
-}
-
-/// Whether a source is refused with this line.
-fn is_refused(alloc: Global, source: &[u8], err: &str) -> Result<bool, NoMemory> {
-    let wanted = Wanted {
-        status: 3,
-        out: b"",
-        err,
-    };
-    answers(alloc, RUN, Some(source), wanted)
 }

@@ -1,22 +1,25 @@
 //! The top call.
-ghost use Rattle.std.specs.Prelude.{◌≡◌, ◌<◌, ◌⊎◌, map, string_bytes};
+ghost use Rattle.std.specs.Prelude.{◌≡◌, ◌<◌, ◌≤◌, ◌⊎◌, [], map, string_bytes};
 ghost use Rattle.k_edge.specs.Fault.{Rose};
 ghost use Rattle.k_form.specs.First.{IsFirst};
 ghost use Rattle.k_tree.specs.Closed.{EndsOnce};
+ghost use Rattle.k_tree.specs.Count.{unit_count};
+ghost use Rattle.k_typed.specs.Units.{faults};
 ghost use Rattle.k_top.specs.Clauses.{Answered, HasRun, IsRefusal, IsUsage, NoFault, PartOfAnswer, SameFaults, ToldFault};
-ghost use Rattle.k_top.specs.Endings.{EndsProgram, EndsTree, EndsTokens, EndsSource, EndsFile, EndsWords, ending_without_tokens, ending_without_tree, PutsLine, Tells};
+ghost use Rattle.k_top.specs.Endings.{EndsProgram, EndsTree, EndsTokens, EndsSource, EndsFile, EndsWords, ending_without_tokens, ending_without_tree, ending_without_types, PutsLine, Tells};
 
 use crate::command::file_to_run;
 use crate::ending::Ending;
-use crate::form::is_program;
 use crate::output::put_all;
 use crate::refusal::SourceFault;
 use crate::run::run;
 use k_edge::{Files, LoadFault, PutFault, Sink, Source};
+use k_form::is_first;
 use k_lex::{LexFault, lex};
 use k_num::Seq;
 use k_parse::{ParseFault, parse};
 use k_tree::{Token, Unit};
+use k_types::{TypeFault, check};
 use std::alloc::Global;
 
 /// How many bytes a file may have.
@@ -66,7 +69,9 @@ pub fn kremlin<F: Files, S: Source, K: Sink, E: Sink>(
     ensures files { (F.seen files.new).held ≡ (F.seen files.old).held }
 {
     let ending = run_words(alloc, words, files, out);
-    tell(alloc, &ending, err)
+    let status = tell(alloc, &ending, err);
+    drop(ending);
+    status
 }
 
 /// Runs what the words say.
@@ -146,12 +151,40 @@ fn without_tree(fault: ParseFault) -> Ending<'static>
 
 /// Runs a tree.
 fn run_tree<K: Sink>(alloc: Global, unit: &Unit, out: &mut K) -> Ending<'static>
+    requires { unit_count unit.now ≤ 262144 }
     ensures { EndsTree unit.now result (K.seen out.old) (K.seen out.new) }
 {
-    match is_program(alloc, unit) {
-        Ok(true) => run_program(alloc, unit, out),
-        Ok(false) => Ending::Refused(SourceFault::NotBuilt),
-        Err(_) => Ending::NoMemory,
+    match check(alloc, unit) {
+        Ok(typed) => {
+            drop(typed);
+            run_checked(alloc, unit, out)
+        }
+        Err(fault) => without_types(fault),
+    }
+}
+
+/// How a tree ends that has no typed tree.
+fn without_types(fault: TypeFault) -> Ending<'static>
+    ensures { result ≡ ending_without_types fault }
+{
+    match fault {
+        TypeFault::Memory => {
+            drop(fault);
+            Ending::NoMemory
+        }
+        fault => Ending::Refused(SourceFault::Types(fault)),
+    }
+}
+
+/// Runs a tree that has a typed tree.
+fn run_checked<K: Sink>(alloc: Global, unit: &Unit, out: &mut K) -> Ending<'static>
+    requires { faults unit.now ≡ [] }
+    ensures { EndsTree unit.now result (K.seen out.old) (K.seen out.new) }
+{
+    if is_first(unit) {
+        run_program(alloc, unit, out)
+    } else {
+        Ending::Refused(SourceFault::NotBuilt)
     }
 }
 

@@ -44,7 +44,7 @@ fn faults(rt: HostRuntime) -> Result<(), Fail> {
             out: out.as_bytes(),
             err,
         };
-        assert!(rt; mem_answers(rt.alloc(), words, Some(RETURN_ZERO), failing, wanted)?);
+        assert!(rt; mem_answers(rt.alloc(), words, RETURN_ZERO, failing, wanted)?);
     }
     Ok(())
 }

@@ -1,8 +1,8 @@
-//! Where the nodes of a tree stand.
+//! Where the nodes of a tree stand, also where no refusal and no trap shows it.
 use k_lex::lex;
 use k_num::Place;
 use k_parse::parse;
-use k_tree::{Declarator, Expr, Init, Item, Params, Stmt, Unit};
+use k_tree::{Expr, Item, Stmt, Unit};
 use std::alloc::Global;
 use std::test::Fail;
 
@@ -45,6 +45,9 @@ static STATEMENTS: [&[u8]; 13] = [
     b"int f(void){ int x;}",
     b"int f(void){ const int *x;}",
 ];
+
+/// Items that stand in column 2; a block ends in column 16.
+static ITEMS: [&[u8]; 3] = [b" int *a, b[2];", b" int *f(int a);", b" int *f(void){;} "];
 
 /// The tree of a source, if it has one.
 pub fn tree(alloc: Global, source: &[u8]) -> Option<Unit> {
@@ -127,75 +130,23 @@ fn statements(rt: HostRuntime) -> Result<(), Fail> {
     Ok(())
 }
 
-/// Whether a declarator and its initialiser stand in these columns.
-fn declared_at(declarator: &Declarator, name: u32, value: u32) -> bool {
-    let init = match &declarator.init {
-        Some(Init::One { place, .. } | Init::List { place, .. }) => at(*place, value),
-        None => false,
-    };
-    at(declarator.place, name) && init
-}
-
-/// Whether the declarators of the first item, and their initialisers, stand in these columns.
-fn declarators_at(unit: &Unit, columns: &[(u32, u32)]) -> bool {
+/// Whether the first item stands in this column, and the closing brace of its block, if it has one, in that one.
+fn item_at(unit: &Unit, column: u32, brace: u32) -> bool {
     match unit.items.as_slice().first() {
-        Some(Item::Objects { place, list, .. }) => {
-            at(*place, 2)
-                && list.len() == columns.len()
-                && list.as_slice().iter().zip(columns).all(|(
-                    declarator,
-                    (name, value),
-                )| declared_at(declarator, *name, *value))
-        }
-        _ => false,
+        Some(Item::Function { place, close, .. }) => at(*place, column) && at(*close, brace),
+        Some(Item::Prototype { place, .. } | Item::Objects { place, .. }) => at(*place, column),
+        None => false,
     }
 }
 
 #[test]
-fn declarators(rt: HostRuntime) -> Result<(), Fail> {
-    let stands = match tree(rt.alloc(), b" int *a = 1, b[2] = {3, 4};") {
-        Some(unit) => declarators_at(&unit, &[(7, 11), (14, 21)]),
-        None => false,
-    };
-    assert!(rt; stands);
-    Ok(())
-}
-
-/// Whether the first item is a function that stands in column 2, with its name in the first column given, its parameters
-/// in the next ones, and its closing brace in the last one.
-fn function_at(unit: &Unit, name: u32, parameters: &[u32], brace: u32) -> bool {
-    match unit.items.as_slice().first() {
-        Some(
-            Item::Function {
-                place,
-                head,
-                close,
-                ..
-            },
-        ) => {
-            let listed = match &head.params {
-                Params::List(list) => {
-                    list.len() == parameters.len()
-                        && list
-                            .as_slice()
-                            .iter()
-                            .zip(parameters)
-                            .all(|(param, column)| at(param.place, *column))
-                }
-                _ => false,
-            };
-            at(*place, 2) && at(head.name_place, name) && listed && at(*close, brace)
-        }
-        _ => false,
+fn items(rt: HostRuntime) -> Result<(), Fail> {
+    for source in &ITEMS {
+        let stands = match tree(rt.alloc(), source) {
+            Some(unit) => item_at(&unit, 2, 16),
+            None => false,
+        };
+        assert!(rt; stands);
     }
-}
-
-#[test]
-fn functions(rt: HostRuntime) -> Result<(), Fail> {
-    let stands = match tree(rt.alloc(), b" int *f(int *a, const int b){;} ") {
-        Some(unit) => function_at(&unit, 7, &[9, 17], 31) && at(unit.end, 33),
-        None => false,
-    };
-    assert!(rt; stands);
     Ok(())
 }
