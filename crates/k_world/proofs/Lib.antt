@@ -1,6 +1,7 @@
 mod Examples
 pub mod Alike
 pub mod Effects
+pub mod Elements
 pub mod Listed
 pub mod Near
 pub mod Operations

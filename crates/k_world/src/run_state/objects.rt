@@ -1,10 +1,11 @@
 //! The objects of a running program's state: made, set and let die without an operation.
 ghost use Rattle.std.specs.Prelude.{◌≡◌, ◌+◌, ◌^◌, ◌<◌, ◌≤◌, ◌++◌, length, replicate, vec_len, IfOk, OnOk, OnErr};
-ghost use Rattle.k_mem.specs.Calls.{HasLength, push_of};
-ghost use Rattle.k_world.specs.Changes.{object_made, objects_kept};
+ghost use Rattle.k_mem.specs.Calls.{HasLength, fill_of, push_of};
+ghost use Rattle.k_world.specs.Changes.{object_filled, object_made, objects_kept, without_origins};
+ghost use Rattle.k_world.specs.Worlds.{HasOrigins};
 
 use super::RunState;
-use k_mem::{PushFault, Start};
+use k_mem::{MemTrap, PushFault, Start};
 use k_num::NoMemory;
 
 impl<'a> RunState<'a> {
@@ -27,6 +28,23 @@ impl<'a> RunState<'a> {
         }
     }
 
+    /// Sets all elements of an object: to the values from the first on, and to 0 beyond them. No operation gave them. Values past
+    /// the last element are left out. A dead object is refused, and then a literal's.
+    pub fn fill_object(&mut self, object: u64, values: &[i128]) -> Result<(), MemTrap>
+        ensures answer { HasOrigins self.old → result ≡ fill_of self.old.memory object }
+        ensures ok { OnOk result (self.new ≡ object_filled self.old object values.now) }
+        ensures err { OnErr result (self.new ≡ self.old) }
+    {
+        let first = self.objects.first_element(object)? as usize;
+        let count = self.objects.length(object)? as usize;
+        if first + count > self.origins.len() {
+            return Err(MemTrap::OutOfBounds);
+        }
+        self.objects.fill(object, values)?;
+        clear_origins(&mut self.origins, first, count);
+        Ok(())
+    }
+
     /// Lets the newest objects die until `keep` are live.
     pub fn pop_objects(&mut self, keep: u64)
         requires { keep ≤ length self.old.memory.live }
@@ -45,4 +63,19 @@ fn append_none(origins: &mut Vec<Option<u64>>, count: u32) -> Result<(), NoMemor
 {
     origins.resize(origins.len() + count as usize, None)?;
     Ok(())
+}
+
+/// So many elements from the first on were given by no operation.
+fn clear_origins(origins: &mut [Option<u64>], first: usize, count: usize)
+    requires { first + count ≤ length origins.old }
+    ensures { origins.new ≡ without_origins (Ok first) (Ok count) origins.old }
+{
+    clear(&mut origins[first..first + count]);
+}
+
+/// None of these elements was given by an operation.
+fn clear(origins: &mut [Option<u64>])
+    ensures { origins.new ≡ replicate (length origins.old) None }
+{
+    origins.fill(None);
 }

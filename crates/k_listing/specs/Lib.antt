@@ -1,0 +1,3 @@
+pub mod Arounds
+pub mod Comes
+pub mod Frames
