@@ -1,10 +1,10 @@
 -- The entries of format 1 become those of a dictionary, one by one.
-use Rattle.std.proofs.Common.{◌≡◌, ℕ, zero, suc, ◌+◌, ◌*◌, ◌^◌, ◌<◌, ◌≤◌, ◌⊎◌, inl, inr, List, [], ◌∷◌, ◌++◌, length, get_or, Some, Err, slice_get, refl, sym, ap, ◌∙◌, subst, arith, append-nil, append_assoc, length-append}
+use Rattle.std.proofs.Common.{◌≡◌, ℕ, zero, suc, ◌+◌, ◌^◌, ◌<◌, ◌≤◌, ◌⊎◌, inl, inr, List, [], ◌∷◌, ◌++◌, length, get_or, Some, Err, slice_get, refl, sym, ap, ◌∙◌, subst, arith, append-nil, append_assoc, length-append}
 use Rattle.std.proofs.lemmas.List.{get_or_append_left, get_or_at}
 use Rattle.std.proofs.lemmas.List.Sums.{sum_by-append, sum_by-cons}
 use Rattle.std.proofs.lemmas.Bool.{cases_lt, cases_order}
 use Rattle.std.proofs.lemmas.Option.{none-some}
-use Rattle.k_dict.specs.Trees.{Forest, Label, Tree, alone, size}
+use Rattle.k_dict.specs.Trees.{Forest, Label, Tree, alone}
 use Rattle.k_dict.specs.Entries.{AreDistinct, AreInterned, NameBelow, all_runs, copies, label_of, laid, no_tree, tree_at, tree_of, trees_of}
 use Rattle.k_dict.specs.Gathering.{number_of, with_entry}
 use Rattle.k_dict.specs.Interning.{CanIntern, HasNumber, Interns}

@@ -1,5 +1,5 @@
 -- Profiles and their files: what is read of a file is its profile, and what is made of one of format 1.
-use Rattle.std.proofs.Common.{◌≡◌, ℕ, ◌+◌, ◌⊎◌, inl, inr, List, length, Result, Ok, Err, refl, sym, ap, ◌∙◌, subst, arith}
+use Rattle.std.proofs.Common.{◌≡◌, ℕ, ◌+◌, inl, inr, length, Result, Ok, Err, refl, sym, ap, ◌∙◌, subst, arith}
 use Rattle.k_dict.specs.Dictionary.{IsDictionaryOf}
 use Rattle.k_dict.specs.Entries.{NameEarlier, expansion, tree_at}
 use Rattle.k_dict.specs.Laws.{AreAlike}

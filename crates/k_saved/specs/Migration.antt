@@ -1,5 +1,5 @@
 -- The entries of format 1 as those of a dictionary.
-use Rattle.std.specs.Prelude.{ℕ, ◌+◌, ◌^◌, ◌<◌, ◌≡◌, List, [], ◌∷◌, Some, slice_get, slice_index_or}
+use Rattle.std.specs.Prelude.{ℕ, ◌^◌, ◌<◌, ◌≡◌, List, [], ◌∷◌, Some, slice_get, slice_index_or}
 use Rattle.k_optab.specs.Tree.{EachWith}
 use Rattle.k_dict.specs.Dictionary.{Firsts}
 use Rattle.k_dict.specs.Entries.{NameEarlier, trees_of}

@@ -1,4 +1,4 @@
-use Rattle.std.proofs.Common.{◌≡◌, ℕ, List, [], ◌∷◌, length, sym, ap, ◌∙◌, subst}
+use Rattle.std.proofs.Common.{ℕ, List, length, sym, ap, ◌∙◌, subst}
 use Rattle.k_dict.specs.Entries.{NameBelow}
 use Rattle.k_saved.specs.Migration.{renumbered_entry}
 use Rattle.k_saved.proofs.Migrating.{below_done, can_intern, migrating_more, migrating_start, never_full, place_of_next}

@@ -1,4 +1,3 @@
-use Rattle.std.proofs.Common.{◌≡◌, ◌+◌, [], ◌∙◌}
 use Rattle.std.proofs.lemmas.List.{nil_from_length}
 use Rattle.k_saved.proofs.Migrating.{add_fits, renumbering_done, renumbering_more, renumbering_start}
 use Rattle.k_saved.proofs.migration.tally_of.Goals as goal
