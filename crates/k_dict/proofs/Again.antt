@@ -93,13 +93,13 @@ listed_has u (grown x i l) has = elim has [
 ]
 
 -- what was kept stays
-kept_stays : (kept trees all : List Tree) → Firsts kept trees all → (n : ℕ) (k : Tree) → slice_get kept n ≡ Some k → slice_get all n ≡ Some k
+kept_stays : (kept trees all : List Tree) → Firsts SameShape kept trees all → (n : ℕ) (k : Tree) → slice_get kept n ≡ Some k → slice_get all n ≡ Some k
 kept_stays _ _ _ (ended kept) n k at = at
 kept_stays _ _ all (again t kept trees _ m j there same first) n k at = kept_stays kept trees all first n k at
 kept_stays _ _ all (anew t kept trees _ none first) n k at = kept_stays (kept ++ t ∷ []) trees all first n k (place_kept kept (t ∷ []) n k at)
 
 -- each tree of the list has the shape of one that is kept
-covered : (kept trees all : List Tree) → Firsts kept trees all → (n : ℕ) (u : Tree) → slice_get trees n ≡ Some u → IsShapeAt all u
+pub covered : (kept trees all : List Tree) → Firsts SameShape kept trees all → (n : ℕ) (u : Tree) → slice_get trees n ≡ Some u → IsShapeAt all u
 covered _ _ _ (ended kept) n u at = absurd (none-some u at)
 covered _ _ all (again t kept trees _ m j there same first) zero u at =
     let P : Tree → Type 0 = λ v. SameShape v j in (m, j, kept_stays kept trees all first m j there, subst P (same_Some t u at) same)
@@ -110,7 +110,7 @@ covered _ _ all (anew t kept trees _ none first) zero u at =
 covered _ _ all (anew t kept trees _ none first) (suc n) u at = covered (kept ++ t ∷ []) trees all first n u at
 
 -- each tree that is kept was kept before or is one of the list
-from_list : (kept trees all : List Tree) → Firsts kept trees all → (n : ℕ) (k : Tree) → slice_get all n ≡ Some k → IsAt kept k ⊎ IsAt trees k
+pub from_list : (kept trees all : List Tree) → Firsts SameShape kept trees all → (n : ℕ) (k : Tree) → slice_get all n ≡ Some k → IsAt kept k ⊎ IsAt trees k
 from_list _ _ _ (ended kept) n k at = inl (n, at)
 from_list _ _ all (again t kept trees _ m j there same first) n k at = elim (from_list kept trees all first n k at) [
   | inl before ↦ inl before

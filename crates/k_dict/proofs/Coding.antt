@@ -8,7 +8,7 @@ use Rattle.k_dict.specs.Gathering.{number_of}
 use Rattle.k_dict.specs.Tallies.{counted}
 use Rattle.k_dict.specs.declared.entry.Entry.{Entry}
 use Rattle.k_dict.specs.declared.entry.Run.{Run}
-use Rattle.k_dict.proofs.Counting.{run_with, counted-at, counted-before, counted-behind, counted-exchange, AreRuns-counted}
+use Rattle.k_dict.proofs.Counting.{run_with, counted-at, counted-before, counted-behind, counted-exchange, counted-sum, AreRuns-counted}
 use Rattle.k_dict.proofs.EntryTrees.{tree_is}
 use Rattle.k_dict.proofs.Forests.{Alike-refl, Alike-same, Alike-sym, beside, beside_front, beside_right, copies_alike, grown_alike, SameShape-refl}
 use Rattle.k_dict.proofs.Numbers.{IsIn, number_found, number_kept}
@@ -38,11 +38,19 @@ abbrev pub times : ℕ → ℕ → List Run → List Run
 times zero n runs = runs
 times (suc count) n runs = times count n (counted n 1 runs)
 
-code-copies : (entries : List Entry) (count : ℕ) (t : Tree) (f : Forest) (runs : List Run)
+pub code-copies : (entries : List Entry) (count : ℕ) (t : Tree) (f : Forest) (runs : List Run)
     → code entries (copies count t f) runs ≡ code entries f (times count (number_of entries (entry_at t.label (code entries t.inner []))) runs)
 code-copies entries zero t f runs = refl
 code-copies entries (suc count) t f runs =
     code-copies entries count t f (counted (number_of entries (entry_at t.label (code entries t.inner []))) 1 runs)
+
+-- .. or all at once
+pub times-counted : (count n : ℕ) (runs : List Run) → 1 ≤ count → times count n runs ≡ counted n count runs
+times-counted zero n runs some = absurd (omega arith)
+times-counted (suc zero) n runs some = refl
+times-counted (suc (suc count)) n runs some =
+    let sums : suc count + 1 ≡ suc (suc count) = omega arith in
+    times-counted (suc count) n (counted n 1 runs) (omega arith) ∙ counted-sum n (suc count) 1 runs ∙ ap (λ k. counted n k runs) sums
 
 -- these runs name entries below a number
 abbrev pub AreBelow : ℕ → List Run → Type 0

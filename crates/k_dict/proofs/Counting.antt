@@ -51,6 +51,20 @@ counted-less m a n b (run ∷ runs) less = elim (cases_order n run.entry) [
   ]
 ]
 
+-- one entry twice is that entry with the sum
+pub counted-sum : (n a b : ℕ) (runs : List Run) → counted n a (counted n b runs) ≡ counted n (a + b) runs
+counted-sum n a b [] = counted-at n a (run_with n b) [] refl
+counted-sum n a b (run ∷ runs) = elim (cases_order n run.entry) [
+  | inl at ↦ ap (counted n a) (counted-at n b run runs at) ∙ counted-at n a (run_with run.entry (b + run.count)) runs at
+      ∙ ap (λ c. run_with run.entry c ∷ runs) (sym (add_assoc a b run.count)) ∙ sym (counted-at n (a + b) run runs at)
+  | inr order ↦ elim order [
+    | inl before ↦ ap (counted n a) (counted-before n b run runs before) ∙ counted-at n a (run_with n b) (run ∷ runs) refl
+        ∙ sym (counted-before n (a + b) run runs before)
+    | inr behind ↦ ap (counted n a) (counted-behind n b run runs behind) ∙ counted-behind n a run (counted n b runs) behind
+        ∙ ap (λ l. run ∷ l) (counted-sum n a b runs) ∙ sym (counted-behind n (a + b) run runs behind)
+  ]
+]
+
 sums : (a b c : ℕ) → a + (b + c) ≡ b + (a + c)
 sums a b c = omega arith
 

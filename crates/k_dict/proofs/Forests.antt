@@ -1,6 +1,6 @@
 -- Forests that are equal up to the order of siblings.
-use Rattle.std.proofs.Common.{◌≡◌, ℕ, zero, suc, ◌+◌, refl, ap, ◌∙◌, sym, subst, arith}
-use Rattle.k_dict.specs.Trees.{Label, Forest, Tree, bare, grown, Alike, neither, both, exchanged, further, SameShape, alone, size}
+use Rattle.std.proofs.Common.{◌≡◌, ℕ, zero, suc, ◌+◌, max, refl, ap, ◌∙◌, sym, subst, arith}
+use Rattle.k_dict.specs.Trees.{Label, Forest, Tree, bare, grown, Alike, neither, both, exchanged, further, SameShape, alone, height, size}
 use Rattle.k_dict.specs.Entries.{copies}
 
 pub Alike-refl : (f : Forest) → Alike f f
@@ -45,6 +45,18 @@ Alike-size _ _ (both x i i' l l' inner later) =
     let one : size i ≡ size i' = Alike-size i i' inner in let other : size l ≡ size l' = Alike-size l l' later in omega arith
 Alike-size _ _ (exchanged x y i j l) = omega arith
 Alike-size _ _ (further f g h one other) = Alike-size f g one ∙ Alike-size g h other
+
+higher_turned : (a b c : ℕ) → max (1 + a) (max (1 + b) c) ≡ max (1 + b) (max (1 + a) c)
+higher_turned a b c = omega arith
+
+-- alike forests have as many levels
+pub Alike-height : (f g : Forest) → Alike f g → height f ≡ height g
+Alike-height _ _ neither = let P : height bare ≡ height bare = refl in P
+Alike-height _ _ (both x i i' l l' inner later) =
+    let a : height i ≡ height i' = Alike-height i i' inner in let b : height l ≡ height l' = Alike-height l l' later in
+    ap (λ n. max (1 + n) (height l)) a ∙ ap (λ n. max (1 + height i') n) b
+Alike-height _ _ (exchanged x y i j l) = higher_turned (height i) (height j) (height l)
+Alike-height _ _ (further f g h one other) = Alike-height f g one ∙ Alike-height g h other
 
 pub SameShape-refl : (t : Tree) → SameShape t t
 SameShape-refl t = record { label = refl; inner = Alike-refl t.inner }

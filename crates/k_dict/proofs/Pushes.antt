@@ -1,14 +1,17 @@
 -- What a dictionary's entries keep where one is added, or the newest go.
-use Rattle.std.proofs.Common.{◌≡◌, ℕ, ◌+◌, ◌-◌, ◌<◌, ◌≤◌, ◌⊎◌, if◌then◌else◌, inl, inr, Bool, true, false, ◌≢◌, List, [], ◌∷◌, ◌++◌, length, take, drop, Some, slice_get, position, Contains, sum_by, refl, sym, ap, ◌∙◌, subst, true≢false, arith, length-append, length-take}
+use Rattle.std.proofs.Common.{◌≡◌, ℕ, ◌+◌, ◌-◌, ◌<◌, ◌≤◌, ◌⊎◌, if◌then◌else◌, inl, inr, Bool, true, false, ◌≢◌, List, [], ◌∷◌, ◌++◌, length, take, drop, Some, Result, Ok, Err, slice_get, position, Contains, sum_by, refl, sym, ap, ◌∙◌, subst, true≢false, arith, length-append, length-take}
 use Rattle.std.specs.List.{list_any}
 use Rattle.std.proofs.lemmas.List.{take-append-drop}
 use Rattle.std.proofs.lemmas.List.Sums.{sum_by-append, sum_by-take-le}
 use Rattle.std.proofs.lemmas.List.Folds.{list_any_at}
 use Rattle.std.proofs.lemmas.List.Quantifiers.{position-Some}
 use Rattle.std.proofs.lemmas.Option.{slice_get-get_or}
-use Rattle.k_dict.specs.Entries.{AreRuns, NameEarlier, AreApart, AreInterned, all_runs}
-use Rattle.k_dict.specs.Interning.{CanIntern, HasNumber}
+use Rattle.k_dict.specs.Entries.{AreRuns, NameEarlier, AreApart, AreDistinct, AreInterned, all_runs}
+use Rattle.k_dict.specs.Interning.{CanIntern, HasNumber, Interns}
 use Rattle.k_dict.specs.declared.entry.Entry.{Entry}
+use Rattle.k_dict.specs.declared.dict.DictFault.{DictFault}
+use Rattle.k_dict.specs.declared.dict.DictFault.TheVariants.{Full, Memory}
+use Rattle.k_dict.specs.declared.dict.Which.TheVariants.{Entries, AllRuns}
 use Rattle.k_dict.proofs.Equal.{entry_eq, entry_decides}
 use Rattle.k_dict.proofs.Places.{place_of_push, place_in_take, place_behind, place_kept, is_there}
 
@@ -55,24 +58,41 @@ AreApart-push entries e apart absent m n x at_m at_n = elim (place_of_push entri
   ]
 ]
 
--- the entries of a dictionary with one more that there is room for
-pub AreInterned-push : (entries : List Entry) (e : Entry) → AreInterned entries → CanIntern entries e → ¬ Contains entries e
-    → length entries < 1048576 → all_runs entries + length e.runs ≤ 16777216 → AreInterned (entries ++ e ∷ [])
-AreInterned-push entries e are can absent room runs = record {
+-- entries without repeats, with one more that there is room for
+pub AreDistinct-push : (entries : List Entry) (e : Entry) → AreDistinct entries → ¬ Contains entries e
+    → length entries < 1048576 → all_runs entries + length e.runs ≤ 16777216 → AreDistinct (entries ++ e ∷ [])
+AreDistinct-push entries e are absent room runs = record {
   few = omega (arith, length-append entries (e ∷ []));
   few_runs = omega (arith, all_runs-push entries e);
-  earlier = NameEarlier-push entries e are.earlier can;
   apart = AreApart-push entries e are.apart absent;
 }
 
--- the first entries of a dictionary
-pub AreInterned-take : (keep : ℕ) (entries : List Entry) → AreInterned entries → AreInterned (take keep entries)
-AreInterned-take keep entries are = record {
+-- the first entries of a table
+pub AreDistinct-take : (keep : ℕ) (entries : List Entry) → AreDistinct entries → AreDistinct (take keep entries)
+AreDistinct-take keep entries are = record {
   few = omega (arith, length-take keep entries, are.few);
   few_runs = omega (arith, all_runs-cut keep entries, are.few_runs);
-  earlier = λ n e h. are.earlier n e (place_in_take keep entries n e h);
   apart = λ m n e h k. are.apart m n e (place_in_take keep entries m e h) (place_in_take keep entries n e k);
 }
+
+-- entries without repeats that name earlier ones are those of a dictionary
+pub interned : (entries : List Entry) → AreDistinct entries → NameEarlier entries → AreInterned entries
+interned entries are earlier = record { few = are.few; few_runs = are.few_runs; earlier = earlier; apart = are.apart }
+
+-- the first of the entries that name earlier ones
+pub NameEarlier-take : (keep : ℕ) (entries : List Entry) → NameEarlier entries → NameEarlier (take keep entries)
+NameEarlier-take keep entries earlier n e h = earlier n e (place_in_take keep entries n e h)
+
+-- entries still name earlier ones where one was added that does
+pub NameEarlier-interned : (old new : List Entry) (e : Entry) (result : Result ℕ DictFault) → NameEarlier old → CanIntern old e → Interns old e result new
+    → NameEarlier new
+NameEarlier-interned old new e (Ok n) earlier can has = let P : List Entry → Type 0 = NameEarlier in elim has.list [
+  | inl there ↦ subst P (sym there.1) earlier
+  | inr added ↦ subst P (sym added.1) (NameEarlier-push old e earlier can)
+]
+NameEarlier-interned old new e (Err (Full Entries)) earlier can has = let P : List Entry → Type 0 = NameEarlier in subst P (sym has.2) earlier
+NameEarlier-interned old new e (Err (Full AllRuns)) earlier can has = let P : List Entry → Type 0 = NameEarlier in subst P (sym has.3) earlier
+NameEarlier-interned old new e (Err Memory) earlier can has = let P : List Entry → Type 0 = NameEarlier in subst P (sym has) earlier
 
 -- the entry that was found is there with that number
 pub found_number : (keys now : List Entry) (e : Entry) (n : ℕ) → keys ≡ now → Some n ≡ position (entry_eq e) keys → HasNumber now now e n
@@ -86,23 +106,23 @@ pub absent : (keys now : List Entry) (e : Entry) → keys ≡ now → false ≡ 
 absent keys now e is none = let P : List Entry → Type 0 = λ entries. ¬ Contains entries e in subst P is (not_there keys e (sym none))
 
 -- there would be too many runs
-pub too_many : (keys now : List Entry) (e : Entry) (runs count : ℕ) → keys ≡ now → AreInterned keys → runs ≡ all_runs keys → count ≡ length e.runs
+pub too_many : (keys now : List Entry) (e : Entry) (runs count : ℕ) → keys ≡ now → AreDistinct keys → runs ≡ all_runs keys → count ≡ length e.runs
     → length keys ≢ 1048576 → 16777216 < runs + count → (length now < 1048576) × (16777216 < all_runs now + length e.runs)
 too_many keys now e runs count is are sum number other more =
     let P : List Entry → Type 0 = λ entries. (length entries < 1048576) × (16777216 < all_runs entries + length e.runs) in
     let few = are.few in subst P is (omega arith, omega arith)
 
--- the keys with one more are the entries of a dictionary
-pub added : (keys new : List Entry) (e : Entry) (runs count : ℕ) → AreInterned keys → runs ≡ all_runs keys → count ≡ length e.runs
-    → CanIntern keys e → false ≡ list_any (entry_eq e) keys → length keys ≢ 1048576 → runs + count ≤ 16777216
-    → new ≡ (if list_any (entry_eq e) keys then keys else keys ++ e ∷ []) → (runs + count ≡ all_runs new) × AreInterned new
-added keys new e runs count are sum number can none other most is =
+-- the keys with one more are entries without repeats
+pub added : (keys new : List Entry) (e : Entry) (runs count : ℕ) → AreDistinct keys → runs ≡ all_runs keys → count ≡ length e.runs
+    → false ≡ list_any (entry_eq e) keys → length keys ≢ 1048576 → runs + count ≤ 16777216
+    → new ≡ (if list_any (entry_eq e) keys then keys else keys ++ e ∷ []) → (runs + count ≡ all_runs new) × AreDistinct new
+added keys new e runs count are sum number none other most is =
     let last : new ≡ keys ++ e ∷ [] = is ∙ ap (λ t. if t then keys else keys ++ e ∷ []) (sym none) in
     let few = are.few in
-    let P : List Entry → Type 0 = λ entries. (runs + count ≡ all_runs entries) × AreInterned entries in
+    let P : List Entry → Type 0 = λ entries. (runs + count ≡ all_runs entries) × AreDistinct entries in
     subst P (sym last) (
       omega (arith, all_runs-push keys e),
-      AreInterned-push keys e are can (not_there keys e (sym none)) (omega arith) (omega arith),
+      AreDistinct-push keys e are (not_there keys e (sym none)) (omega arith) (omega arith),
     )
 
 -- the entry that was added stands last
@@ -123,7 +143,7 @@ newest_runs keep runs gone entries newest sum is count =
     let cut = all_runs-cut keep entries in let same : gone ≡ all_runs (drop keep entries) = count ∙ ap all_runs is in (omega arith, omega arith)
 
 -- there are no more runs of the newest entries than of all
-pub few_newest : (keep : ℕ) (entries newest : List Entry) → AreInterned entries → newest ≡ drop keep entries → all_runs newest ≤ 16777216
+pub few_newest : (keep : ℕ) (entries newest : List Entry) → AreDistinct entries → newest ≡ drop keep entries → all_runs newest ≤ 16777216
 few_newest keep entries newest are is =
     let cut = all_runs-cut keep entries in let few = are.few_runs in
     let same : all_runs newest ≡ all_runs (drop keep entries) = ap all_runs is in omega arith

@@ -19,13 +19,13 @@ use Rattle.k_dict.proofs.Ordered.{is_of_tree}
 use Rattle.k_dict.proofs.Places.{place_behind, place_kept, place_of_push}
 use Rattle.k_dict.proofs.Walking.{EachWith-at, EachWith-back, tree_there, walk, walk_is}
 
--- the first trees of each shape are the same ones
-Firsts-unique : (kept trees one other : List Tree) → Firsts kept trees one → Firsts kept trees other → one ≡ other
-Firsts-unique _ _ _ _ (ended kept) (ended _) = refl
-Firsts-unique _ _ one other (again t kept trees _ n k at same first) (again _ _ _ _ m j at' same' second) = Firsts-unique kept trees one other first second
-Firsts-unique _ _ one other (again t kept trees _ n k at same first) (anew _ _ _ _ none second) = absurd (none n k at same)
-Firsts-unique _ _ one other (anew t kept trees _ none first) (again _ _ _ _ n k at same second) = absurd (none n k at same)
-Firsts-unique _ _ one other (anew t kept trees _ none first) (anew _ _ _ _ none' second) = Firsts-unique (kept ++ t ∷ []) trees one other first second
+-- the first trees are the same ones
+pub Firsts-unique : (Same : Tree → Tree → Type 0) (kept trees one other : List Tree) → Firsts Same kept trees one → Firsts Same kept trees other → one ≡ other
+Firsts-unique Same _ _ _ _ (ended kept) (ended _) = refl
+Firsts-unique Same _ _ one other (again t kept trees _ n k at same first) (again _ _ _ _ m j at' same' second) = Firsts-unique Same kept trees one other first second
+Firsts-unique Same _ _ one other (again t kept trees _ n k at same first) (anew _ _ _ _ none second) = absurd (none n k at same)
+Firsts-unique Same _ _ one other (anew t kept trees _ none first) (again _ _ _ _ n k at same second) = absurd (none n k at same)
+Firsts-unique Same _ _ one other (anew t kept trees _ none first) (anew _ _ _ _ none' second) = Firsts-unique Same (kept ++ t ∷ []) trees one other first second
 
 -- no two of these trees have one shape
 abbrev pub HaveShapesApart : List Tree → Type 0
@@ -44,7 +44,7 @@ apart_with kept t apart none m n u v at other same = elim (place_of_push kept t 
   ]
 ]
 
-Firsts-apart : (kept trees all : List Tree) → Firsts kept trees all → HaveShapesApart kept → HaveShapesApart all
+Firsts-apart : (kept trees all : List Tree) → Firsts SameShape kept trees all → HaveShapesApart kept → HaveShapesApart all
 Firsts-apart _ _ _ (ended kept) apart = apart
 Firsts-apart _ _ all (again t kept trees _ n k at same first) apart = Firsts-apart kept trees all first apart
 Firsts-apart _ _ all (anew t kept trees _ none first) apart = Firsts-apart (kept ++ t ∷ []) trees all first (apart_with kept t apart none)
@@ -135,7 +135,7 @@ no_shapes m n s t at other same = absurd (none-some s at)
 -- a tree has one dictionary
 pub one_dictionary : (t : Tree) (one other : List Entry) → IsDictionaryOf t one → IsDictionaryOf t other → one ≡ other
 one_dictionary t one other first second =
-    let is : second.shapes ≡ first.shapes = Firsts-unique [] (post_order (alone t)) second.shapes first.shapes second.firsts first.firsts in
+    let is : second.shapes ≡ first.shapes = Firsts-unique SameShape [] (post_order (alone t)) second.shapes first.shapes second.firsts first.firsts in
     let P : List Tree → Type 0 = λ shapes. EachWith SameShape shapes (trees_of other) in
     same_entries first.shapes (Firsts-apart [] (post_order (alone t)) first.shapes first.firsts no_shapes) one other first.stands first.earlier
     (subst P is second.stands) second.earlier
@@ -180,23 +180,23 @@ smaller_push bound kept t are less n k at = elim (place_of_push kept t n k at) [
 pub record Splits (kept trees more all : List Tree) (bound : ℕ) : Type 0 where
   pub middle : List Tree
   pub smaller : AreSmaller bound middle
-  pub firsts : Firsts middle more all
+  pub firsts : Firsts SameShape middle more all
 
 -- the first of the trees was there or is kept
-first_case : (t : Tree) (kept trees all : List Tree) → Firsts kept (t ∷ trees) all
-    → ((n : ℕ) × (k : Tree) × (slice_get kept n ≡ Some k) × SameShape t k × Firsts kept trees all)
-    ⊎ (((n : ℕ) (k : Tree) → slice_get kept n ≡ Some k → ¬ SameShape t k) × Firsts (kept ++ t ∷ []) trees all)
-first_case _ _ _ _ (again t kept trees all n k at same first) = inl (n, k, at, same, first)
-first_case _ _ _ _ (anew t kept trees all none first) = inr (none, first)
+pub first_case : (Same : Tree → Tree → Type 0) (t : Tree) (kept trees all : List Tree) → Firsts Same kept (t ∷ trees) all
+    → ((n : ℕ) × (k : Tree) × (slice_get kept n ≡ Some k) × Same t k × Firsts Same kept trees all)
+    ⊎ (((n : ℕ) (k : Tree) → slice_get kept n ≡ Some k → ¬ Same t k) × Firsts Same (kept ++ t ∷ []) trees all)
+first_case Same _ _ _ _ (again t kept trees all n k at same first) = inl (n, k, at, same, first)
+first_case Same _ _ _ _ (anew t kept trees all none first) = inr (none, first)
 
 -- behind no trees all that are kept are those so far
-none_more : (kept all : List Tree) → Firsts kept [] all → all ≡ kept
-none_more _ _ (ended kept) = refl
+pub none_more : (Same : Tree → Tree → Type 0) (kept all : List Tree) → Firsts Same kept [] all → all ≡ kept
+none_more Same _ _ (ended kept) = refl
 
-split_firsts : (kept trees more all : List Tree) (bound : ℕ) → Firsts kept (trees ++ more) all → AreSmaller bound kept → EachSmaller bound trees
+split_firsts : (kept trees more all : List Tree) (bound : ℕ) → Firsts SameShape kept (trees ++ more) all → AreSmaller bound kept → EachSmaller bound trees
     → Splits kept trees more all bound
 split_firsts kept [] more all bound firsts are each = record { middle = kept; smaller = are; firsts = firsts }
-split_firsts kept (t ∷ trees) more all bound firsts are each = elim (first_case t kept (trees ++ more) all firsts) [
+split_firsts kept (t ∷ trees) more all bound firsts are each = elim (first_case SameShape t kept (trees ++ more) all firsts) [
   | inl there ↦ (let rest = split_firsts kept trees more all bound there.4 are each.1 in
       record { middle = rest.middle; smaller = rest.smaller; firsts = rest.firsts })
   | inr new ↦ (let rest = split_firsts (kept ++ t ∷ []) trees more all bound new.1 (smaller_push bound kept t are each.0) each.1 in
@@ -204,14 +204,14 @@ split_firsts kept (t ∷ trees) more all bound firsts are each = elim (first_cas
 ]
 
 -- the tree itself is the last shape of its instances
-last_shape : (t : Tree) (shapes : List Tree) → Firsts [] (post_order (alone t)) shapes → (middle : List Tree) × (shapes ≡ middle ++ t ∷ [])
+last_shape : (t : Tree) (shapes : List Tree) → Firsts SameShape [] (post_order (alone t)) shapes → (middle : List Tree) × (shapes ≡ middle ++ t ∷ [])
 last_shape t shapes firsts =
     let split = split_firsts [] (post_order t.inner) (t ∷ []) shapes (size t.inner) firsts (λ n k at. absurd (none-some k at))
     (smaller_within (size t.inner) t.inner (omega arith)) in
-    elim (first_case t split.middle [] shapes split.firsts) [
+    elim (first_case SameShape t split.middle [] shapes split.firsts) [
       | inl there ↦ (let less : size there.1.inner < size t.inner = split.smaller there.0 there.1 there.2 in
           let same : size t.inner ≡ size there.1.inner = Alike-size t.inner there.1.inner there.3.inner in absurd (omega arith))
-      | inr new ↦ (split.middle, none_more (split.middle ++ t ∷ []) shapes new.1)
+      | inr new ↦ (split.middle, none_more SameShape (split.middle ++ t ∷ []) shapes new.1)
     ]
 
 -- the last entry stands for the tree

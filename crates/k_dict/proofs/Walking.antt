@@ -37,19 +37,20 @@ EachWith-back R [] (b ∷ ys) n y each at = absurd each
 EachWith-back R (a ∷ xs) (b ∷ ys) zero y each at = let P : _ → Type 0 = λ z. R a z in (a, refl, subst P (same_Some b y at) each.0)
 EachWith-back R (a ∷ xs) (b ∷ ys) (suc n) y each at = EachWith-back R xs ys n y each.1 at
 
--- the first of each shape in two lists, one behind the other
-pub Firsts-further : (kept trees middle more all : List Tree) → Firsts kept trees middle → Firsts middle more all → Firsts kept (trees ++ more) all
-Firsts-further _ _ _ more all (ended kept) other = other
-Firsts-further _ _ middle more all (again t kept trees _ n k at same one) other =
-    again t kept (trees ++ more) all n k at same (Firsts-further kept trees middle more all one other)
-Firsts-further _ _ middle more all (anew t kept trees _ none one) other =
-    anew t kept (trees ++ more) all none (Firsts-further (kept ++ t ∷ []) trees middle more all one other)
+-- the first trees in two lists, one behind the other
+pub Firsts-further : (Same : Tree → Tree → Type 0) (kept trees middle more all : List Tree) → Firsts Same kept trees middle → Firsts Same middle more all
+    → Firsts Same kept (trees ++ more) all
+Firsts-further Same _ _ _ more all (ended kept) other = other
+Firsts-further Same _ _ middle more all (again t kept trees _ n k at same one) other =
+    again t kept (trees ++ more) all n k at same (Firsts-further Same kept trees middle more all one other)
+Firsts-further Same _ _ middle more all (anew t kept trees _ none one) other =
+    anew t kept (trees ++ more) all none (Firsts-further Same (kept ++ t ∷ []) trees middle more all one other)
 
 -- the entries of the trees that were seen
 pub record AreEntriesOf (entries : List Entry) (seen : List Tree) : Type 0 where
   pub proper : AreProper entries
   pub shapes : List Tree
-  pub firsts : Firsts [] seen shapes
+  pub firsts : Firsts SameShape [] seen shapes
   pub stands : EachWith SameShape shapes (trees_of entries)
 
 -- the tree at a place
@@ -106,7 +107,7 @@ module _ (entries : List Entry) (seen : List Tree) (are : AreEntriesOf entries s
       record {
         proper = are.proper;
         shapes = are.shapes;
-        firsts = Firsts-further [] seen are.shapes (t ∷ []) are.shapes are.firsts
+        firsts = Firsts-further SameShape [] seen are.shapes (t ∷ []) are.shapes are.firsts
             (again t are.shapes [] are.shapes there.0 shape.0 shape.1 shape.2 (ended are.shapes));
         stands = are.stands;
       }
@@ -123,7 +124,7 @@ module _ (entries : List Entry) (seen : List Tree) (are : AreEntriesOf entries s
           apart = AreApart-push entries e are.proper.apart (absent_is entries e absent);
         };
         shapes = are.shapes ++ t ∷ [];
-        firsts = Firsts-further [] seen are.shapes (t ∷ []) (are.shapes ++ t ∷ []) are.firsts
+        firsts = Firsts-further SameShape [] seen are.shapes (t ∷ []) (are.shapes ++ t ∷ []) are.firsts
             (anew t are.shapes [] (are.shapes ++ t ∷ []) (λ n k at same. let there = entry_there entries seen are x i n k at same in absent there.0 there.1)
             (ended (are.shapes ++ t ∷ [])));
         stands = subst P (sym (trees-push [] entries e))
@@ -131,7 +132,7 @@ module _ (entries : List Entry) (seen : List Tree) (are : AreEntriesOf entries s
       }
 
   -- the entries with that of one more instance, whose children are known
-  closing : AreEntriesOf (with_entry entries (entry_at x (code entries i []))) (seen ++ record { label = x; inner = i } ∷ [])
+  pub closing : AreEntriesOf (with_entry entries (entry_at x (code entries i []))) (seen ++ record { label = x; inner = i } ∷ [])
   closing = by (is_in_or_absent entries (entry_at x (code entries i [])))
     where
       by : IsIn entries (entry_at x (code entries i [])) ⊎ IsAbsent entries (entry_at x (code entries i []))
@@ -226,7 +227,8 @@ walks_well (grown x i l) entries seen are =
           ∙ ap (λ n. code last l (counted n 1 runs)) (sym number) ∙ ap (λ d. code last l (counted (number_of last d) 1 runs)) (sym now);
     }
 
-none_seen : AreEntriesOf [] []
+-- before the first tree
+pub none_seen : AreEntriesOf [] []
 none_seen = record {
   proper = record { earlier = λ n e at. absurd (none-some e at); apart = λ m n e at other. absurd (none-some e at) };
   shapes = [];

@@ -8,19 +8,19 @@ use Rattle.k_dict.specs.declared.entry.Entry.{Entry}
 use Rattle.k_dict.specs.declared.dict.Which.{Which}
 use Rattle.k_dict.specs.declared.dict.Which.TheVariants.{Entries, AllRuns}
 
--- the trees kept so far, then the trees of a list, and then all that are kept: of the trees of one shape the first
-pub data Firsts : List Tree → List Tree → List Tree → Type 0 where
-  ended : (kept : List Tree) → Firsts kept [] kept
-  again : (t : Tree) (kept trees all : List Tree) → (n : ℕ) (k : Tree) → slice_get kept n ≡ Some k → SameShape t k → Firsts kept trees all
-      → Firsts kept (t ∷ trees) all
-  anew : (t : Tree) (kept trees all : List Tree) → ((n : ℕ) (k : Tree) → slice_get kept n ≡ Some k → ¬ SameShape t k)
-      → Firsts (kept ++ t ∷ []) trees all → Firsts kept (t ∷ trees) all
+-- the trees kept so far, then the trees of a list, and then all that are kept: of the trees that are the same the first
+pub data Firsts (Same : Tree → Tree → Type 0) : List Tree → List Tree → List Tree → Type 0 where
+  ended : (kept : List Tree) → Firsts Same kept [] kept
+  again : (t : Tree) (kept trees all : List Tree) → (n : ℕ) (k : Tree) → slice_get kept n ≡ Some k → Same t k → Firsts Same kept trees all
+      → Firsts Same kept (t ∷ trees) all
+  anew : (t : Tree) (kept trees all : List Tree) → ((n : ℕ) (k : Tree) → slice_get kept n ≡ Some k → ¬ Same t k)
+      → Firsts Same (kept ++ t ∷ []) trees all → Firsts Same kept (t ∷ trees) all
 
 -- the entries of a tree: one for each shape of its instances, in post-order, with the first of each shape kept; each stands
 -- for its shape, with its children as runs by rising place, each place once
 pub record IsDictionaryOf (t : Tree) (entries : List Entry) : Type 0 where
   pub shapes : List Tree
-  pub firsts : Firsts [] (post_order (alone t)) shapes
+  pub firsts : Firsts SameShape [] (post_order (alone t)) shapes
   pub stands : EachWith SameShape shapes (trees_of entries)
   pub earlier : NameEarlier entries
 

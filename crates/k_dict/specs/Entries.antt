@@ -49,6 +49,11 @@ abbrev pub AreRuns : ℕ → ℕ → List Run → Type 0
 AreRuns low high [] = Unit {0}
 AreRuns low high (run ∷ runs) = (low ≤ run.entry) × (run.entry < high) × (1 ≤ run.count) × AreRuns (run.entry + 1) high runs
 
+-- these runs name entries below a number, with counts of at least 1
+abbrev pub NameBelow : ℕ → List Run → Type 0
+NameBelow high [] = Unit {0}
+NameBelow high (run ∷ runs) = (run.entry < high) × (1 ≤ run.count) × NameBelow high runs
+
 -- each entry's runs name entries before it
 abbrev pub NameEarlier : List Entry → Type 0
 NameEarlier entries = (n : ℕ) (e : Entry) → slice_get entries n ≡ Some e → AreRuns 0 n e.runs
@@ -60,6 +65,12 @@ AreApart entries = (m n : ℕ) (e : Entry) → slice_get entries m ≡ Some e �
 -- the runs of all entries together
 abbrev pub all_runs : List Entry → ℕ
 all_runs entries = sum_by (λ e. length e.runs) entries
+
+-- what holds of entries that are found by hash: each is there once, and they and their runs are within the limits
+pub record AreDistinct (entries : List Entry) : Type 0 where
+  pub few : length entries ≤ 1048576
+  pub few_runs : all_runs entries ≤ 16777216
+  pub apart : AreApart entries
 
 -- what holds of the entries of every dictionary
 pub record AreInterned (entries : List Entry) : Type 0 where

@@ -1,17 +1,10 @@
-//! The dictionary: entries in order of first use, found by hash.
+//! The dictionary: entries in order of first use, whose runs name earlier ones.
 ghost use Rattle.std.specs.Prelude.{◌≡◌, ◌<◌, ◌≤◌, [], length, nat_eq, take, slice_get, Some};
-ghost use Rattle.k_dict.specs.Entries.{all_runs};
 
 use crate::entry::Entry;
-use indexmap::IndexSet;
+use crate::table::EntryTable;
 use std::alloc::Global;
 use std::marker::Model;
-
-/// The greatest number of entries.
-const MOST_ENTRIES: usize = 1_048_576;
-
-/// The greatest number of runs of all entries together.
-const MOST_RUNS: u64 = 16_777_216;
 
 /// What a dictionary has the most of that it may have.
 #[derive(Clone, Copy, Debug, PartialEq, Eq)]
@@ -29,40 +22,26 @@ pub enum DictFault {
     Memory,
 }
 
-/// Entries without repeats, in order of first use. Contracts see their list.
+/// Entries without repeats, in order of first use, whose runs name earlier ones by rising number. Contracts see their list.
 #[derive(Drop)]
 pub struct Dict {
-    entries: IndexSet<Entry>,
-    /// The runs of all entries together.
-    runs: u64,
+    table: EntryTable,
 }
 
 impl Model for Dict {
-    ghost use Rattle.std.specs.Prelude.{◌≡◌, List};
+    ghost use Rattle.std.specs.Prelude.{List};
     ghost use Rattle.k_dict.specs.declared.entry.Entry.{Entry as EntryValue};
-    ghost use Rattle.k_dict.specs.Entries.{AreInterned, all_runs};
+    ghost use Rattle.k_dict.specs.Entries.{NameEarlier};
 
     ghost Value = { List EntryValue };
 
-    ghost view = { λ d. d.entries.keys };
+    ghost view = { λ d. d.table };
 
-    ghost invariant = { λ d. (d.runs ≡ all_runs d.entries.keys) × AreInterned d.entries.keys };
-}
-
-/// The runs of entries together.
-fn count_runs(entries: &[Entry]) -> u64
-    requires { all_runs entries.now ≤ 16777216 }
-    ensures { result ≡ all_runs entries.now }
-{
-    let mut runs = 0;
-    for entry in entries {
-        runs += entry.runs.len() as u64;
-    }
-    runs
+    ghost invariant = { λ d. NameEarlier d.table };
 }
 
 impl Dict {
-    ghost use Rattle.k_dict.specs.Entries.{AreInterned};
+    ghost use Rattle.k_dict.specs.Entries.{AreInterned, NameEarlier};
     ghost use Rattle.k_dict.specs.Interning.{CanIntern, Interns};
 
     /// The dictionary without entries. It takes no memory until an entry is added.
@@ -70,9 +49,16 @@ impl Dict {
         ensures { result ≡ [] }
     {
         Dict {
-            entries: IndexSet::new(alloc),
-            runs: 0,
+            table: EntryTable::new(alloc),
         }
+    }
+
+    /// The dictionary of entries whose runs name earlier ones by rising number, in the table's own memory.
+    pub fn from_table(table: EntryTable) -> Dict
+        requires { NameEarlier table }
+        ensures { result ≡ table }
+    {
+        Dict { table }
     }
 
     /// How many entries there are.
@@ -80,14 +66,14 @@ impl Dict {
         ensures count { result ≡ length self.now }
         ensures interned { AreInterned self.now }
     {
-        self.entries.len() as u32
+        self.table.len()
     }
 
     /// Whether there is no entry.
     pub fn is_empty(&self) -> bool
         ensures { result ≡ nat_eq (length self.now) 0 }
     {
-        self.entries.len() == 0
+        self.table.len() == 0
     }
 
     /// The entry of a number.
@@ -96,7 +82,7 @@ impl Dict {
         ensures value { slice_get self.now n ≡ Some result.now }
         ensures interned { AreInterned self.now }
     {
-        &self.entries.as_slice()[n as usize]
+        &self.table.entries()[n as usize]
     }
 
     /// All entries, by their numbers.
@@ -104,7 +90,7 @@ impl Dict {
         ensures value { result.now ≡ self.now }
         ensures interned { AreInterned self.now }
     {
-        self.entries.as_slice()
+        self.table.entries()
     }
 
     /// The number of an equal entry that is there, or else of this one, which is added last. A refusal drops the entry.
@@ -113,29 +99,7 @@ impl Dict {
         ensures answer { Interns self.old entry result self.new }
         ensures interned { AreInterned self.new }
     {
-        if let Some(number) = self.entries.get_index_of(&entry) {
-            drop(entry);
-            return Ok(number as u32);
-        }
-        let runs = self.runs + entry.runs.len() as u64;
-        if self.entries.len() == MOST_ENTRIES {
-            drop(entry);
-            return Err(DictFault::Full(Which::Entries));
-        }
-        if runs > MOST_RUNS {
-            drop(entry);
-            return Err(DictFault::Full(Which::AllRuns));
-        }
-        match self.entries.insert_full(entry) {
-            Ok((number, _)) => {
-                self.runs = runs;
-                Ok(number as u32)
-            }
-            Err(refused) => {
-                drop(refused);
-                Err(DictFault::Memory)
-            }
-        }
+        self.table.intern(entry)
     }
 
     /// Drops the newest entries until `keep` are left.
@@ -143,9 +107,6 @@ impl Dict {
         requires { keep ≤ length self.old }
         ensures { self.new ≡ take keep self.old }
     {
-        let (_, newest) = self.entries.as_slice().split_at(keep as usize);
-        let gone = count_runs(newest);
-        self.entries.truncate(keep as usize);
-        self.runs -= gone;
+        self.table.shorten(keep);
     }
 }

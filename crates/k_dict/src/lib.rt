@@ -8,6 +8,7 @@ mod expansion;
 mod gathering;
 pub mod laws;
 mod stack;
+mod table;
 mod tally;
 
 pub use dict::{Dict, DictFault, Which};
@@ -15,6 +16,7 @@ pub use entry::{Entry, Run};
 pub use expansion::{ExpandFault, expand};
 pub use gathering::gather;
 pub use k_optab::Node;
+pub use table::EntryTable;
 pub use tally::Tally;
 
 #[cfg(test)]

@@ -1,12 +1,4 @@
-pub mod EntrySteps
-pub mod Files
-pub mod HeadSteps
-pub mod Keeping
-pub mod Leading
-pub mod Made
-pub mod Marks
-pub mod ReadingRuns
-pub mod RegionSteps
-pub mod Spelled
-pub mod Sums
-pub mod Whole
+pub mod Migrated
+pub mod Migrating
+pub mod Profiles
+pub mod Shapes

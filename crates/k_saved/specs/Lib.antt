@@ -1,7 +1,4 @@
-pub mod Extents
 pub mod Laws
-pub mod Lines
+pub mod Migration
 pub mod Profile
-pub mod Reading
 pub mod SavedText
-pub mod Syntax

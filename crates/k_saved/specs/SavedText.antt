@@ -1,53 +1,23 @@
 -- The text of a saved profile.
-use Rattle.std.specs.Prelude.{ℕ, ℤ, List, [], ◌∷◌, ◌++◌, length, codes}
-use Rattle.std.specs.List.{flat_map}
-use Rattle.std.specs.Fmt.{decimal, signed_decimal}
-use Rattle.k_num.specs.declared.place.Place.{Place}
-use Rattle.k_optab.specs.declared.region.Region.{Region}
-use Rattle.k_optab.specs.declared.region.RegionKind.{RegionKind}
-use Rattle.k_optab.specs.declared.region.RegionKind.TheVariants.{Func, Loop, Body}
-use Rattle.k_dict.specs.declared.entry.Entry.{Entry}
-use Rattle.k_dict.specs.declared.entry.Run.{Run}
+use Rattle.std.specs.Prelude.{ℕ, List}
+use Rattle.k_lines.specs.FileText.{file_text}
+use Rattle.k_lines.specs.declared.file.File.{File}
+use Rattle.k_lines.specs.declared.format.Format.TheVariants.{One, Two}
+use Rattle.k_saved.specs.declared.saved.Old.{Old}
 use Rattle.k_saved.specs.declared.saved.Saved.{Saved}
 
--- the line of a name and a number
-abbrev pub named_line : List ℕ → List ℕ → List ℕ
-named_line name number = name ++ number ++ codes "\n"
+-- a profile as a file in format 2
+abbrev pub file_of_saved : Saved → File
+file_of_saved saved = record { format = Two; exit = saved.exit; ops = saved.ops; regions = saved.regions; entries = saved.dict }
 
--- the word for a kind of region
-abbrev pub kind_text : RegionKind → List ℕ
-kind_text Func = codes "func"
-kind_text Loop = codes "loop"
-kind_text Body = codes "body"
-
--- the line of a region: its kind, its function and its place as line:column
-abbrev pub region_line : Region → List ℕ
-region_line r = kind_text r.kind ++ codes " " ++ r.func ++ codes " " ++ decimal r.place.line ++ codes ":" ++ decimal r.place.column ++ codes "\n"
-
--- a run behind a space
-abbrev pub run_text : Run → List ℕ
-run_text run = codes " " ++ decimal run.entry ++ codes "*" ++ decimal run.count
-
--- the numbers of an entry: region, work and path
-abbrev pub numbers_text : Entry → List ℕ
-numbers_text e = decimal e.region ++ codes " " ++ decimal e.work ++ codes " " ++ decimal e.path
-
--- the line of an entry: its numbers and its runs
-abbrev pub entry_line : Entry → List ℕ
-entry_line e = numbers_text e ++ flat_map run_text e.runs ++ codes "\n"
-
--- the lines of the regions behind their count
-abbrev pub regions_text : List Region → List ℕ
-regions_text regions = named_line (codes "regions ") (decimal (length regions)) ++ flat_map region_line regions
-
--- the lines of the entries behind their count
-abbrev pub entries_text : List Entry → List ℕ
-entries_text entries = named_line (codes "entries ") (decimal (length entries)) ++ flat_map entry_line entries
-
--- the lines before the regions, where the first is this one
-abbrev pub head_text : List ℕ → ℤ → ℕ → List ℕ
-head_text first exit ops = first ++ named_line (codes "exit ") (signed_decimal exit) ++ named_line (codes "ops ") (decimal ops)
+-- a profile of format 1 as a file
+abbrev pub file_of_old : Old → File
+file_of_old old = record { format = One; exit = old.exit; ops = old.ops; regions = old.regions; entries = old.entries }
 
 -- the file of a saved profile
 abbrev pub saved_text : Saved → List ℕ
-saved_text saved = head_text (codes "kremlin 2\n") saved.exit saved.ops ++ regions_text saved.regions ++ entries_text saved.dict ++ codes "end\n"
+saved_text saved = file_text (file_of_saved saved)
+
+-- the file of a profile of format 1
+abbrev pub old_text : Old → List ℕ
+old_text old = file_text (file_of_old old)

@@ -1,6 +1,6 @@
-//! A profile as it is saved.
+//! Profiles as they are saved.
 
-use k_dict::Dict;
+use k_dict::{Dict, Entry};
 use k_num::Seq;
 use k_optab::Region;
 
@@ -16,11 +16,15 @@ pub struct Saved {
     pub dict: Dict,
 }
 
-/// Why no profile is read.
-#[derive(Clone, Copy, Debug, PartialEq, Eq)]
-pub enum SavedFault {
-    /// The bytes spell no saved profile: the first wrong line starts at this byte, counted from 0.
-    NotSaved(u64),
-    /// No memory was found.
-    Memory,
+/// A profile as format 1 has it: the children of an entry are in the order in which they were entered, as maximal runs. So there
+/// may be several entries for instances that differ in the order of their children alone.
+#[derive(Drop)]
+pub struct Old {
+    /// What main returned.
+    pub exit: i32,
+    /// How many operations were made.
+    pub ops: u64,
+    pub regions: Seq<Region>,
+    /// The entries of the instances in post-order, each where it first occurs.
+    pub entries: Seq<Entry>,
 }

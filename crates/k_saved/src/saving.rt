@@ -1,7 +1,8 @@
 //! The file of a saved profile, written line by line.
 ghost use Rattle.std.specs.Prelude.{◌≡◌, ◌++◌, IfOk, OnOk};
 ghost use Rattle.std.specs.List.{flat_map};
-ghost use Rattle.k_saved.specs.SavedText.{entries_text, entry_line, head_text, kind_text, named_line, numbers_text, region_line, regions_text, run_text, saved_text};
+ghost use Rattle.k_lines.specs.FileText.{entries_text, entry_line, head_text, kind_text, named_line, numbers_text, region_line, regions_text, run_text};
+ghost use Rattle.k_saved.specs.SavedText.{saved_text};
 
 use crate::saved::Saved;
 use itoa::{Buffer, Integer};

@@ -1,6 +1,6 @@
 use Rattle.std.proofs.Common.{◌≡◌, ◌++◌, drop}
 use Rattle.std.specs.List.{flat_map}
-use Rattle.k_saved.specs.SavedText.{entry_line, entries_text}
+use Rattle.k_lines.specs.FileText.{entry_line, entries_text}
 use Rattle.k_saved.proofs.saving.push_entries.Given as goal
 
 abbrev pub invariant-loop-entry : goal.invariant-loop-entry

@@ -1,6 +1,6 @@
 use Rattle.std.proofs.Common.{◌≡◌, ◌++◌, drop}
 use Rattle.std.specs.List.{flat_map}
-use Rattle.k_saved.specs.SavedText.{region_line, regions_text}
+use Rattle.k_lines.specs.FileText.{region_line, regions_text}
 use Rattle.k_saved.proofs.saving.push_regions.Given as goal
 
 abbrev pub invariant-loop-region : goal.invariant-loop-region

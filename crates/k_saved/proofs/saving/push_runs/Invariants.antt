@@ -1,6 +1,6 @@
 use Rattle.std.proofs.Common.{◌≡◌, ◌++◌, drop}
 use Rattle.std.specs.List.{flat_map}
-use Rattle.k_saved.specs.SavedText.{run_text}
+use Rattle.k_lines.specs.FileText.{run_text}
 use Rattle.k_saved.proofs.saving.push_runs.Given as goal
 
 abbrev pub invariant-loop-run : goal.invariant-loop-run

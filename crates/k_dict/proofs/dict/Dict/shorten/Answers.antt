@@ -1,23 +1,10 @@
-use Rattle.std.proofs.Common.{ap, ◌∙◌, sym, subst, drop, List}
-use Rattle.k_dict.specs.Entries.{AreInterned, all_runs}
+use Rattle.std.proofs.Common.{List, sym, subst}
+use Rattle.k_dict.specs.Entries.{NameEarlier}
 use Rattle.k_dict.specs.declared.entry.Entry.{Entry}
-use Rattle.k_dict.proofs.Pushes.{AreInterned-take, few_newest, newest_runs}
+use Rattle.k_dict.proofs.Pushes.{NameEarlier-take}
 use Rattle.k_dict.proofs.dict.Dict.shorten.Goals as goal
-
-pub count_runs-gone-requires : goal.count_runs-gone-requires
-count_runs-gone-requires c =
-    few_newest c.args.keep c.self.inside.entries.keys c.split_at.result.1.now c.self.invariant.1
-    (c.split_at.ensures.back ∙ ap (drop c.args.keep) c.as_slice.ensures.keys)
-
-pub overflow_sub-self : goal.overflow_sub-self
-overflow_sub-self c =
-    (newest_runs c.args.keep c.self.inside.runs c.count_runs-gone.result c.self.inside.entries.keys c.split_at.result.1.now c.self.invariant.0
-    (c.split_at.ensures.back ∙ ap (drop c.args.keep) c.as_slice.ensures.keys) c.count_runs-gone.ensures).0
 
 pub invariant_of-self : goal.invariant_of-self
 invariant_of-self c =
-    let P : List Entry → Type 0 = AreInterned in (
-      (newest_runs c.args.keep c.self.inside.runs c.count_runs-gone.result c.self.inside.entries.keys c.split_at.result.1.now c.self.invariant.0
-          (c.split_at.ensures.back ∙ ap (drop c.args.keep) c.as_slice.ensures.keys) c.count_runs-gone.ensures).1 ∙ ap all_runs (sym c.truncate.ensures.keys),
-      subst P (sym c.truncate.ensures.keys) (AreInterned-take c.args.keep c.self.inside.entries.keys c.self.invariant.1),
-    )
+    let P : List Entry → Type 0 = NameEarlier in
+    subst P (sym c.shorten.ensures) (NameEarlier-take c.args.keep c.self.inside.table c.self.invariant)

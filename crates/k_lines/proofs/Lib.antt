@@ -1,0 +1,14 @@
+pub mod Apart
+pub mod EntrySteps
+pub mod Files
+pub mod HeadSteps
+pub mod Keeping
+pub mod Leading
+pub mod Made
+pub mod Marks
+pub mod ReadingRuns
+pub mod RegionSteps
+pub mod Spelled
+pub mod Sums
+pub mod Visiting
+pub mod Whole

@@ -1,0 +1,9 @@
+pub mod Extents
+pub mod FileText
+pub mod Files
+pub mod Formats
+pub mod Laws
+pub mod Lines
+pub mod Order
+pub mod Reading
+pub mod Syntax
