@@ -8,6 +8,7 @@ pub mod Grouped
 pub mod ItemLists
 pub mod Listed
 pub mod Lowest
+pub mod Nested
 pub mod Profile
 pub mod Rowed
 pub mod Siblings

@@ -3,6 +3,7 @@ pub mod Counts
 pub mod Grouping
 pub mod Items
 pub mod Laws
+pub mod Nested
 pub mod Ratio
 pub mod Rows
 pub mod Sums

@@ -7,6 +7,7 @@ ghost use Rattle.k_dict.specs.Tallies.{total as count_all};
 ghost use Rattle.k_selfpar.specs.Contexts.{ContextsAreAtLeastOne, GivesContexts, has_turns, is_body, is_loop};
 ghost use Rattle.k_selfpar.specs.Grouping.{AddsContexts, AreChildren, Fits, IsContextOf, item_for, tallied};
 ghost use Rattle.k_selfpar.specs.Items.{AreItems, Rise, items_in, total, totals};
+ghost use Rattle.k_selfpar.specs.Nested.{CanPlan};
 ghost use Rattle.k_selfpar.specs.Sums.{AreSmall, HaveChildren};
 
 use crate::Frac;
@@ -209,6 +210,7 @@ pub fn contexts(
     requires regions { NameRegions (length regions.now) dict.now }
     ensures contexts { GivesContexts regions.now (expansion dict.now root) result }
     ensures at_least_one { IfOk result ContextsAreAtLeastOne }
+    ensures can_plan { IfOk result CanPlan }
 {
     let first = item_of(dict, root, 1);
     let mut contexts = Seq::new(alloc);
