@@ -81,7 +81,10 @@ impl EntryTable {
     pub fn into_entries(self, alloc: Global) -> Result<Seq<Entry>, NoMemory>
         ensures { IfOk result (λ entries. entries ≡ self) }
     {
-        let EntryTable { mut entries, runs: _ } = self;
+        let EntryTable {
+            mut entries,
+            runs: _,
+        } = self;
         let mut list = Vec::new(alloc);
         'entries: while let Some(entry) = entries.pop() {
             list.push(entry)?;

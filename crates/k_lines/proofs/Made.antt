@@ -1,5 +1,5 @@
 -- The text of a file: its lines lead to its end, and it is that of no other file.
-use Rattle.std.proofs.Common.{◌≡◌, ◌≢◌, ℕ, suc, ◌+◌, ◌^◌, ◌<◌, ◌≤◌, ◌⊎◌, inl, inr, List, [], ◌∷◌, ◌++◌, length, get_or, Option, Some, None, slice_get, refl, sym, ap, ◌∙◌, subst, append-nil, append_assoc, length-append, arith}
+use Rattle.std.proofs.Common.{◌≡◌, ℕ, suc, ◌+◌, ◌≤◌, inl, inr, List, [], ◌∷◌, ◌++◌, length, get_or, Option, Some, None, slice_get, refl, sym, ap, ◌∙◌, subst, append-nil, append_assoc, length-append, arith}
 use Rattle.std.specs.Prelude.{codes}
 use Rattle.std.specs.List.{flat_map}
 use Rattle.std.specs.Fmt.{decimal, signed_decimal}
@@ -23,7 +23,6 @@ use Rattle.k_lines.specs.declared.format.Accepts.{Accepts}
 use Rattle.k_lines.specs.declared.format.Accepts.TheVariants.{Both}
 use Rattle.k_lines.specs.declared.format.Format.{Format}
 use Rattle.k_lines.specs.declared.format.Format.TheVariants.{One}
-use Rattle.k_lines.specs.declared.saved.SavedFault.TheVariants as faults
 use Rattle.k_dict.proofs.EntryTrees.{length-trees, trees-kept}
 use Rattle.k_lines.proofs.Files.{IsSmall, no_wrong, one_line}
 use Rattle.k_lines.proofs.HeadSteps.{exit_again, first_again, head_leads, head_parts}

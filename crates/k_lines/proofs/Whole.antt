@@ -1,5 +1,5 @@
 -- A whole file: what its parts tell together.
-use Rattle.std.proofs.Common.{◌≡◌, ◌≢◌, ◌↔◌, ◌==◌, Bool, true, false, IsTrue, suc, ℕ, ℤ, ◌+◌, ◌<◌, ◌≤◌, ◌⊎◌, inl, inr, List, [], ◌∷◌, ◌++◌, length, Some, None, Result, Ok, Err, refl, sym, ap, ◌∙◌, subst, append_assoc, arith, ne_eqb}
+use Rattle.std.proofs.Common.{◌≡◌, ◌≢◌, ◌↔◌, ◌==◌, Bool, IsTrue, suc, ℕ, ℤ, inl, inr, List, [], ◌∷◌, ◌++◌, length, Some, None, Result, Ok, Err, refl, sym, ap, ◌∙◌, subst, append_assoc, arith, ne_eqb}
 use Rattle.std.specs.Prelude.{codes, IfOk}
 use Rattle.std.proofs.lemmas.Bool.{false≢true}
 use Rattle.std.proofs.lemmas.Option.{none-some, same_Some}
@@ -8,7 +8,7 @@ use Rattle.k_scan.proofs.Front.{word_again, word_takes}
 use Rattle.std.specs.List.{flat_map}
 use Rattle.std.specs.Fmt.{decimal, signed_decimal}
 use Rattle.k_optab.specs.declared.region.Region.{Region}
-use Rattle.k_lines.specs.Lines.{Follows, GoesWrong, InEntries, InRegions, Leads, Named, Stage, Opened}
+use Rattle.k_lines.specs.Lines.{Follows, GoesWrong, InEntries, InRegions, Leads, Named, Stage}
 use Rattle.k_lines.specs.Formats.{first_line, IsAccepted}
 use Rattle.k_lines.specs.Files.{IsFile}
 use Rattle.k_lines.specs.Reading.{AllEntries, AllRegions, Ends, Finishes, FoundCount, HasHead, ReadsLines, head_lines, ReadsAll, first_at}

@@ -1,5 +1,5 @@
 -- How large the trees of entries are.
-use Rattle.std.specs.Prelude.{ℕ, ◌+◌, ◌-◌, ◌*◌, ◌<◌, ◌≤◌, ◌≡◌, max, min, Bool, ◌&&◌, nat_le, nat_lt, List, [], ◌∷◌, map, slice_index_or}
+use Rattle.std.specs.Prelude.{ℕ, ◌+◌, ◌-◌, ◌*◌, max, min, Bool, ◌&&◌, nat_le, nat_lt, List, [], ◌∷◌, map, slice_index_or}
 use Rattle.k_dict.specs.Entries.{trees_of}
 use Rattle.k_dict.specs.Trees.{Tree, alone, height, size}
 use Rattle.k_dict.specs.declared.entry.Entry.{Entry}

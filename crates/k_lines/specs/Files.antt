@@ -1,5 +1,5 @@
 -- The rules of a file, and what reading one answers.
-use Rattle.std.specs.Prelude.{ℕ, ◌+◌, ◌≤◌, ◌≡◌, List, [], ◌∷◌, length, Option, Some, None, slice_get, FitsSigned, Result, Ok, Err}
+use Rattle.std.specs.Prelude.{ℕ, ◌≤◌, ◌≡◌, List, [], ◌∷◌, length, Option, Some, None, slice_get, FitsSigned, Result, Ok, Err}
 use Rattle.std.specs.Int.{w32}
 use Rattle.k_optab.specs.declared.region.Region.{Region}
 use Rattle.k_dict.specs.Entries.{AreDistinct}

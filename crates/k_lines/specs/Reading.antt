@@ -1,5 +1,5 @@
 -- What the parts of the reading answer.
-use Rattle.std.specs.Prelude.{ℕ, ℤ, ◌+◌, ◌<◌, ◌≤◌, ◌≡◌, ◌≢◌, Bool, true, ◌&&◌, ◌||◌, List, [], ◌∷◌, ◌++◌, length, slice_get, slice_set, Contains, Option, Some, None, Result, Ok, Err, FitsSigned, codes}
+use Rattle.std.specs.Prelude.{ℕ, ℤ, ◌+◌, ◌<◌, ◌≤◌, ◌≡◌, ◌≢◌, Bool, true, ◌&&◌, List, [], ◌∷◌, ◌++◌, length, slice_get, slice_set, Contains, Option, Some, None, Result, Ok, Err, FitsSigned, codes}
 use Rattle.std.specs.Int.{w32}
 use Rattle.std.specs.Fmt.{decimal, signed_decimal}
 use Rattle.std.specs.List.{flat_map}

@@ -1,4 +1,4 @@
-use Rattle.std.proofs.Common.{◌≡◌, List, refl, sym, subst, ◌∙◌}
+use Rattle.std.proofs.Common.{List, refl, sym, subst, ◌∙◌}
 use Rattle.std.proofs.lemmas.Bool.{false≢true}
 use Rattle.k_optab.specs.declared.region.Region.{Region}
 use Rattle.k_dict.specs.Entries.{AreDistinct}

@@ -1,4 +1,4 @@
-use Rattle.std.proofs.Common.{◌≡◌, ℤ, sym, subst, rules}
+use Rattle.std.proofs.Common.{ℤ, sym, subst, rules}
 use Rattle.std.specs.Int.{w32}
 use Rattle.std.proofs.lemmas.Int.{to_z-of_z}
 use Rattle.k_lines.specs.Reading.{HasHead}

@@ -1,4 +1,3 @@
-use Rattle.std.proofs.Common.{◌≡◌, [], ◌∙◌}
 use Rattle.std.proofs.lemmas.Bool.{false≢true}
 use Rattle.k_lines.proofs.Whole.{end_alone, no_end_here}
 use Rattle.k_lines.proofs.reading.is_end.Goals as goal

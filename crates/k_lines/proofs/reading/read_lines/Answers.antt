@@ -1,4 +1,4 @@
-use Rattle.std.proofs.Common.{◌≡◌, ◌≤◌, arith, length, List, ℤ, sym, subst, ◌∙◌, None, Some}
+use Rattle.std.proofs.Common.{◌≡◌, ◌≤◌, arith, length, List, ℤ, sym, subst, None, Some}
 use Rattle.std.specs.Int.{w32}
 use Rattle.std.proofs.lemmas.Int.{to_z-of_z}
 use Rattle.k_optab.specs.declared.region.Region.{Region}

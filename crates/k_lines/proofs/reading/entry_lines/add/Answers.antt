@@ -1,4 +1,4 @@
-use Rattle.std.proofs.Common.{◌≡◌, List, ap, ◌∙◌, subst}
+use Rattle.std.proofs.Common.{List, ap, ◌∙◌, subst}
 use Rattle.k_lines.specs.Extents.{extent_of}
 use Rattle.k_dict.specs.Entries.{tree_of, trees_of}
 use Rattle.k_lines.specs.Reading.{IsWithinRules}

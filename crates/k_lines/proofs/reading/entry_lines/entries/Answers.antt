@@ -1,4 +1,4 @@
-use Rattle.std.proofs.Common.{◌≡◌, Err, ◌∙◌, subst, refl, ◌<◌, ◌≤◌, arith}
+use Rattle.std.proofs.Common.{Err, subst, refl, arith}
 use Rattle.k_lines.specs.Reading.{NextEntry}
 use Rattle.k_lines.specs.declared.reading.stop.Stop.{Stop}
 use Rattle.k_lines.proofs.EntrySteps.{entries_done, entries_more, entries_start, wrong_entry}

@@ -1,4 +1,4 @@
-use Rattle.std.proofs.Common.{◌≡◌, ◌≤◌, ◌<◌, ◌^◌, List, ℕ, Bor, sym, ◌∙◌, subst, arith}
+use Rattle.std.proofs.Common.{List, ℕ, Bor, sym, ◌∙◌, subst, arith}
 use Rattle.std.proofs.lemmas.Bool.{false≢true}
 use Rattle.k_dict.specs.Entries.{NameBelow}
 use Rattle.k_lines.specs.Formats.{AreRunsOf}

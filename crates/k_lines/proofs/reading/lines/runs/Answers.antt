@@ -1,4 +1,4 @@
-use Rattle.std.proofs.Common.{◌≡◌, ◌∷◌, [], ◌++◌, List, sym, subst, ◌-◌, ◌+◌}
+use Rattle.std.proofs.Common.{◌≡◌, List, sym, subst, ◌-◌, ◌+◌}
 use Rattle.k_lines.specs.Syntax.{runs_at}
 use Rattle.k_dict.specs.declared.entry.Run.{Run}
 use Rattle.k_lines.proofs.ReadingRuns.{ends_here, goes_on, no_room, no_run, with_front}

@@ -1,4 +1,4 @@
-use Rattle.std.proofs.Common.{◌≡◌, arith}
+use Rattle.std.proofs.Common.{arith}
 use Rattle.std.proofs.lemmas.List.{nil_from_length}
 use Rattle.k_lines.proofs.Visiting.{fails_at, more_at, visited_before, visiting_done, visiting_from, visiting_wrong}
 use Rattle.k_lines.proofs.reading.order.+visit.Goals as goal

@@ -1,4 +1,4 @@
-use Rattle.std.proofs.Common.{◌≡◌, sym, ◌∙◌, ℕ, List, Bor}
+use Rattle.std.proofs.Common.{sym, ◌∙◌, ℕ, List, Bor}
 use Rattle.k_optab.specs.declared.region.Region.{Region}
 use Rattle.std.proofs.lemmas.Bool.{false≢true}
 use Rattle.k_lines.specs.Lines.{last_of}

@@ -1,4 +1,4 @@
-use Rattle.std.proofs.Common.{◌≡◌, List, Err, Ok, refl, subst, arith}
+use Rattle.std.proofs.Common.{List, Err, Ok, refl, subst, arith}
 use Rattle.k_optab.specs.declared.region.Region.{Region}
 use Rattle.k_lines.specs.Reading.{NextRegion}
 use Rattle.k_lines.specs.declared.reading.stop.Stop.{Stop}
