@@ -47,7 +47,7 @@ each_split {A} {B} R (x ∷ xs) ys (z ∷ zs) each =
     let rest : (us : List B) × (vs : List B) × (zs ≡ us ++ vs) × EachWith R xs us × EachWith R ys vs = each_split R xs ys zs each.1 in
     (z ∷ rest.0, rest.1, ap (λ l. z ∷ l) rest.2, (each.0, rest.3), rest.4)
 
-enter_split : (count : ℕ) (xs ys : List Event) → EnterBelow count (xs ++ ys) → EnterBelow count xs × EnterBelow count ys
+pub enter_split : (count : ℕ) (xs ys : List Event) → EnterBelow count (xs ++ ys) → EnterBelow count xs × EnterBelow count ys
 enter_split count [] ys below = (tt, below)
 enter_split count (Op class latency sources place ∷ xs) ys below = enter_split count xs ys below
 enter_split count (Enter region ∷ xs) ys below = let rest = enter_split count xs ys below.1 in ((below.0, rest.0), rest.1)

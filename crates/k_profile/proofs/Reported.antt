@@ -4,17 +4,18 @@ use Rattle.std.specs.Prelude.{All}
 use Rattle.k_optab.specs.declared.region.Region.{Region}
 use Rattle.k_dict.specs.Trees.{Tree, alone}
 use Rattle.k_dict.specs.Entries.{tree_at}
+use Rattle.k_dict.proofs.Lists.{same_tree}
 use Rattle.k_saved.specs.Profile.{IsSaved}
 use Rattle.k_saved.specs.declared.saved.Saved.{Saved}
-use Rattle.k_selfpar.specs.Contexts.{AreContexts}
+use Rattle.k_selfpar.specs.Contexts.{AreContexts, AreUnder}
 use Rattle.k_selfpar.specs.Rows.{AreRows}
 use Rattle.k_selfpar.specs.declared.context.Context.{Context}
 use Rattle.k_selfpar.specs.declared.row.Row.{Row}
+use Rattle.k_selfpar.proofs.Nested.{contexts_can_be_planned}
 use Rattle.k_selfpar.proofs.Siblings.{contexts_are_unique, rows_are_unique}
 use Rattle.k_plan.specs.Plan.{CanPlan}
 use Rattle.k_plan.specs.declared.advice.Advice.{Advice}
 use Rattle.k_plan.proofs.Exchange.{advice_is_unique}
-use Rattle.k_plan.proofs.Nested.{contexts_can_be_planned}
 use Rattle.k_report.specs.Report.{report_text}
 use Rattle.k_profile.specs.Laws.{ReportIsUnique}
 use Rattle.k_profile.specs.Report.{IsPlanned, IsReport, asked, limits, nodes_of_profile}
@@ -39,7 +40,11 @@ module _ (saved : Saved) (is : IsSaved saved) where
 
   -- and they can be planned, where they are no more than may be
   pub saved_plan : (contexts : List Context) → AreContexts saved.regions (nodes_of_profile saved) contexts → length contexts ≤ 65536 → CanPlan contexts
-  saved_plan contexts are few = contexts_can_be_planned saved.regions saved.dict (length saved.dict - 1) contexts is.profile root_is are few
+  saved_plan contexts are few =
+      let root : Tree = tree_at saved.dict (length saved.dict - 1) in
+      let same : are.0 ≡ root = same_tree are.0 root (sym are.1) in
+      contexts_can_be_planned saved.regions saved.dict (length saved.dict - 1) contexts is.profile root_is
+      (subst (λ t. AreUnder saved.regions 0 0 (alone t) contexts) same are.2) few
 
   -- contexts have one plan, or none
   one_plan : (contexts : List Context) (one other : Option Advice) → AreContexts saved.regions (nodes_of_profile saved) contexts

@@ -46,17 +46,18 @@ part_at count most (grown x i l) within have n t at =
     elim (place_either (post_order i) (record { label = x; inner = i } ∷ post_order l) n t at) [
       | inl inside ↦ part_wider count most (height i) (size i) (height (grown x i l)) (size (grown x i l)) t (omega arith) (omega arith)
           (part_at count most i within.2 have.1 inside.0 t inside.1)
-      | inr behind ↦ here_or_later behind.0 behind.1
+      | inr behind ↦ here_or_later behind.0 behind.1 (λ m later. part_at count most l within.3 have.2 m t later)
     ]
   where
-    here_or_later : (m : ℕ) → slice_get (record { label = x; inner = i } ∷ post_order l) m ≡ Some t → IsPart count most (height (grown x i l)) (size (grown x i l)) t
-    here_or_later zero here =
+    here_or_later : (m : ℕ) → slice_get (record { label = x; inner = i } ∷ post_order l) m ≡ Some t
+        → ((k : ℕ) → slice_get (post_order l) k ≡ Some t → IsPart count most (height l) (size l) t)
+        → IsPart count most (height (grown x i l)) (size (grown x i l)) t
+    here_or_later zero here rest =
         let P : Tree → Type 0 = λ u. IsPart count most (height (grown x i l)) (size (grown x i l)) u in
         subst P (same_Some (record { label = x; inner = i }) t here)
         (record { region = within.0; most = within.1; bounds = have.0; levels = omega arith; instances = omega arith })
-    here_or_later (suc m) later =
-        part_wider count most (height l) (size l) (height (grown x i l)) (size (grown x i l)) t (omega arith) (omega arith)
-        (part_at count most l within.3 have.2 m t later)
+    here_or_later (suc m) later rest =
+        part_wider count most (height l) (size l) (height (grown x i l)) (size (grown x i l)) t (omega arith) (omega arith) (rest m later)
 
 -- the dictionary of a tree of few levels and few instances, whose works are small
 module _ (t : Tree) (dict : List Entry) (is : IsDictionaryOf t dict) (count : ℕ) (within : AreWithin count 17592186044416 (alone t)) (have : HaveBounds (alone t)) where

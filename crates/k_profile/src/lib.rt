@@ -1,7 +1,9 @@
-//! From a profile to its report: the rows, the contexts, the plan and the text.
+//! The report of a profile, and the profile and the report of a run: rows, contexts, plan and text.
 #![tactic(auto)]
 
 pub mod laws;
 mod report;
+mod run;
 
 pub use report::report_of;
+pub use run::{Profiled, run_report};

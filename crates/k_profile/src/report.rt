@@ -1,6 +1,7 @@
 //! The report of a profile.
-ghost use Rattle.std.specs.Prelude.{◌≡◌, ◌≤◌, IfOk, length, option_copied};
+ghost use Rattle.std.specs.Prelude.{◌≡◌, IfOk, option_copied};
 ghost use Rattle.k_saved.specs.Profile.{IsSaved};
+ghost use Rattle.k_plan.specs.Plan.{CanPlan};
 ghost use Rattle.k_selfpar.specs.Contexts.{AreContexts};
 ghost use Rattle.k_selfpar.specs.Rows.{AreRows};
 ghost use Rattle.k_profile.specs.Report.{HasManyContexts, IsReport, asked, nodes_of_profile};
@@ -31,7 +32,7 @@ fn with_plan(
     requires saved { IsSaved saved.now }
     requires rows { AreRows (nodes_of_profile saved.now) rows.now }
     requires contexts { AreContexts saved.now.regions (nodes_of_profile saved.now) contexts.now }
-    requires few { length contexts.now ≤ 65536 }
+    requires can_plan { CanPlan contexts.now }
     ensures { IfOk result (λ text. IsReport saved.now with_dict text.items) }
 {
     let advice = plan(alloc, contexts, &standard_limits())?;
