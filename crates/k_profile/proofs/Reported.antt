@@ -1,9 +1,10 @@
 -- What a report is made of, and that there is one.
-use Rattle.std.proofs.Common.{◌≡◌, ℕ, ◌+◌, ◌-◌, ◌<◌, ◌≤◌, Bool, List, length, Option, Some, None, refl, sym, ap, ◌∙◌, subst, arith}
+use Rattle.std.proofs.Common.{◌≡◌, ℕ, ℤ, ◌+◌, ◌-◌, ◌<◌, ◌≤◌, Bool, List, length, Option, Some, None, refl, sym, ap, ◌∙◌, subst, arith}
 use Rattle.std.specs.Prelude.{All}
 use Rattle.k_optab.specs.declared.region.Region.{Region}
 use Rattle.k_dict.specs.Trees.{Tree, alone}
-use Rattle.k_dict.specs.Entries.{tree_at}
+use Rattle.k_dict.specs.Entries.{expansion, tree_at}
+use Rattle.k_dict.specs.declared.entry.Entry.{Entry}
 use Rattle.k_dict.proofs.Lists.{same_tree}
 use Rattle.k_saved.specs.Profile.{IsSaved}
 use Rattle.k_saved.specs.declared.saved.Saved.{Saved}
@@ -13,12 +14,13 @@ use Rattle.k_selfpar.specs.declared.context.Context.{Context}
 use Rattle.k_selfpar.specs.declared.row.Row.{Row}
 use Rattle.k_selfpar.proofs.Nested.{contexts_can_be_planned}
 use Rattle.k_selfpar.proofs.Siblings.{contexts_are_unique, rows_are_unique}
-use Rattle.k_plan.specs.Plan.{CanPlan}
+use Rattle.k_plan.specs.Plan.{CanPlan, IsAdvice}
 use Rattle.k_plan.specs.declared.advice.Advice.{Advice}
+use Rattle.k_plan.specs.declared.limits.Limits.{Limits}
 use Rattle.k_plan.proofs.Exchange.{advice_is_unique}
 use Rattle.k_report.specs.Report.{report_text}
 use Rattle.k_profile.specs.Laws.{ReportIsUnique}
-use Rattle.k_profile.specs.Report.{IsPlanned, IsReport, asked, limits, nodes_of_profile}
+use Rattle.k_profile.specs.Report.{HasManyContexts, IsPlanned, IsReport, asked, limits, nodes_of_profile}
 use Rattle.k_profile.proofs.Named.{contexts_named, named_tree, rows_named}
 
 module _ (saved : Saved) (is : IsSaved saved) where
@@ -61,6 +63,39 @@ module _ (saved : Saved) (is : IsSaved saved) where
       let contexts : r.contexts ≡ q.contexts = contexts_are_unique saved.regions (nodes_of_profile saved) r.contexts q.contexts r.are_contexts q.are_contexts in
       let plan : r.plan ≡ q.plan = one_plan q.contexts r.plan q.plan q.are_contexts (subst (λ (l : List Context). IsPlanned l r.plan) contexts r.planned) q.planned in
       r.is ∙ (λ i. report_text saved.regions saved.exit saved.ops (rows i) (asked with_dict saved.dict) (contexts i) (plan i)) ∙ sym q.is
+
+-- the text with a plan is the report
+pub planned_report : (saved : Saved) (with_dict : Bool) (rows : List Row) (contexts : List Context) (advice : Advice) (limit : Limits) (exit : ℤ)
+    (dict : Option (List Entry)) (text : List ℕ) → AreRows (nodes_of_profile saved) rows → AreContexts saved.regions (nodes_of_profile saved) contexts
+    → CanPlan contexts → limit ≡ limits → exit ≡ saved.exit → dict ≡ asked with_dict saved.dict → IsAdvice limit contexts advice
+    → text ≡ report_text saved.regions exit saved.ops rows dict contexts (Some advice) → IsReport saved with_dict text
+planned_report saved with_dict rows contexts advice limit exit dict text are_rows are_contexts can limit_is exit_is dict_is is_advice is = record {
+  rows = rows;
+  contexts = contexts;
+  plan = Some advice;
+  are_rows = are_rows;
+  are_contexts = are_contexts;
+  planned = (can.few, subst (λ l. IsAdvice l contexts advice) limit_is is_advice);
+  is = is ∙ (λ i. report_text saved.regions (exit_is i) saved.ops rows (dict_is i) contexts (Some advice));
+}
+
+-- the text without one is the report of a profile with many contexts
+pub wide_report : (saved : Saved) (with_dict : Bool) (rows : List Row) (contexts : List Context) (exit : ℤ) (dict : Option (List Entry)) (text : List ℕ)
+    → AreRows (nodes_of_profile saved) rows → HasManyContexts saved → exit ≡ saved.exit → dict ≡ asked with_dict saved.dict
+    → text ≡ report_text saved.regions exit saved.ops rows dict contexts None → IsReport saved with_dict text
+wide_report saved with_dict rows contexts exit dict text are_rows many exit_is dict_is is = record {
+  rows = rows;
+  contexts = many.0;
+  plan = None;
+  are_rows = are_rows;
+  are_contexts = many.1;
+  planned = many.2;
+  is = is ∙ (λ i. report_text saved.regions (exit_is i) saved.ops rows (dict_is i) contexts None);
+}
+
+-- the instances of the last entry are the profile's
+pub at_root : (saved : Saved) (count : ℕ) → count ≡ length saved.dict → expansion saved.dict (count - 1) ≡ nodes_of_profile saved
+at_root saved count is = ap (λ n. expansion saved.dict (n - 1)) is
 
 pub report_is_unique : ReportIsUnique
 report_is_unique saved with_dict one other is = one_report saved is with_dict one other
