@@ -1,6 +1,6 @@
 -- What a run leaves can be saved, and its report is that of its profile.
 use Rattle.std.proofs.Common.{◌≡◌, ℕ, ℤ, ◌+◌, ◌-◌, ◌<◌, ◌≤◌, max, Bool, List, [], ◌∷◌, ◌++◌, length, length-append, append-nil, append_assoc, Option, Some, None, slice_get, refl, sym, ap, ◌∙◌, subst, arith}
-use Rattle.std.specs.Prelude.{FitsSigned}
+use Rattle.std.specs.Prelude.{FitsSigned, IfOk, Result, Ok, Err}
 use Rattle.std.specs.Int.{w32}
 use Rattle.std.proofs.lemmas.Option.{slice_get_within}
 use Rattle.k_optab.specs.declared.event.Event.{Event}
@@ -36,6 +36,11 @@ use Rattle.k_profile.proofs.Children.{HaveBounds, tree_has_bounds}
 use Rattle.k_profile.proofs.Grown.{AreWithin, IsGrown, enter_split, grown_of}
 use Rattle.k_profile.proofs.Rules.{are_profile, name_regions}
 use Rattle.k_profile.proofs.Within.{interned_of}
+
+-- what two clauses say of a value
+pub both_ok : {X Y : Type 0} (r : Result X Y) (P Q R : X → Type 0) → ((x : X) → P x → Q x → R x) → IfOk r P → IfOk r Q → IfOk r R
+both_ok (Ok x) P Q R f p q = f x p q
+both_ok (Err e) P Q R f p q = tt
 
 -- works that are at most a number are at most a greater one
 within_more : (count most more : ℕ) (f : Forest) → most ≤ more → AreWithin count most f → AreWithin count more f

@@ -18,12 +18,12 @@ use Rattle.k_profile.proofs.Children.{HasBounds, HaveBounds}
 use Rattle.k_profile.proofs.Grown.{AreWithin}
 
 -- a tree of this forest, with those within it: its numbers are bounded, its region is one of the list, and it is no higher or larger than the forest
-record IsPart (count most levels instances : ℕ) (t : Tree) : Type 0 where
+record IsPart (count bound high large : ℕ) (t : Tree) : Type 0 where
   region : t.label.region < count
-  most : t.label.work ≤ most
+  most : t.label.work ≤ bound
   bounds : HasBounds t.label t.inner
-  levels : height (alone t) ≤ levels
-  instances : size (alone t) ≤ instances
+  levels : height (alone t) ≤ high
+  instances : size (alone t) ≤ large
 
 -- .. of a larger forest too
 part_wider : (count most levels instances levels' instances' : ℕ) (t : Tree) → levels ≤ levels' → instances ≤ instances' → IsPart count most levels instances t

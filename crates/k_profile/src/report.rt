@@ -60,6 +60,7 @@ fn without_plan(
     requires many { HasManyContexts saved.now }
     ensures { IfOk result (λ text. IsReport saved.now with_dict text.items) }
 {
+    let contexts = Seq::new(alloc);
     report(
         alloc,
         &saved.regions,
@@ -67,7 +68,7 @@ fn without_plan(
         saved.ops,
         rows,
         listed(saved, with_dict),
-        &Seq::new(alloc),
+        &contexts,
         None,
     )
 }

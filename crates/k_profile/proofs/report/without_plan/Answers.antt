@@ -1,4 +1,4 @@
-use Rattle.std.proofs.Common.{◌≡◌, ◌<◌, List, sym, subst, w32}
+use Rattle.std.proofs.Common.{◌<◌, sym, subst, w32}
 use Rattle.std.specs.Prelude.{All, length}
 use Rattle.std.proofs.lemmas.Int.{to_z-of_z}
 use Rattle.std.proofs.lemmas.List.Elements.{All-nil}
@@ -15,14 +15,14 @@ report-requires-clause-rows c = saved_rows c.args.saved.now c.requires.saved c.a
 pub report-requires-clause-contexts : goal.report-requires-clause-contexts
 report-requires-clause-contexts c =
     let P : Context → Type 0 = λ x. x.region < length c.args.saved.now.regions in
-    subst (λ l. All P l) (sym c.new.ensures) (All-nil P)
+    subst (λ l. All P l) (sym c.new-contexts.ensures) (All-nil P)
 
 pub report-requires-clause-parents : goal.report-requires-clause-parents
-report-requires-clause-parents c = subst ParentsComeFirst (sym c.new.ensures) tt
+report-requires-clause-parents c = subst ParentsComeFirst (sym c.new-contexts.ensures) tt
 
 pub returns : goal.returns
 returns c =
     IfOk-weaker c.report.result _ (λ text. IsReport c.args.saved.now c.args.with_dict text.items)
-    (λ text is. wide_report c.args.saved.now c.args.with_dict c.args.rows.now c.new.result _ _ text.items
+    (λ text is. wide_report c.args.saved.now c.args.with_dict c.args.rows.now c.new-contexts.result _ _ text.items
     c.requires.rows c.requires.many (to_z-of_z w32 c.args.saved.now.exit c.requires.saved.exit) c.listed.ensures is)
     c.report.ensures
