@@ -1,6 +1,6 @@
 use Rattle.std.proofs.Common.{◌≡◌, ℕ, ◌≤◌, List, Option, Some, None, Err, length, refl, sym, ap, ◌∙◌, subst, arith, w32, to_z, of_z}
-use Rattle.std.specs.Option.{ForSome}
 use Rattle.std.proofs.lemmas.Int.{to_z-of_z}
+use Rattle.std.proofs.lemmas.Option.{same_Some}
 use Rattle.std.proofs.lemmas.Result.{IfOk-weaker}
 use Rattle.k_optab.specs.declared.node.Node.{Node}
 use Rattle.k_optab.specs.Events.{operations}
@@ -72,9 +72,8 @@ returns-in-Ok-clause-saved c =
     let count = c.len.ensures in
     let test = c.if-len-gt-MOST_INSTANCES.false in
     let few : length nodes ≤ 576460752303423488 = omega arith in
-    let P : Option Saved → Type 0 = λ s. ForSome s IsSaved in
-    let can : P (Some saved) = run_saved ran c.requires nodes c.in_ok-nodes.ensures saved is few in
-    IfOk-weaker c.with_profile.result _ _ (λ profiled some. subst P (sym some) can)
+    let can : IsSaved saved = run_saved ran c.requires nodes c.in_ok-nodes.ensures saved is few in
+    IfOk-weaker c.with_profile.result _ _ (λ profiled some x at. subst IsSaved (same_Some saved x (sym some ∙ at)) can)
     c.with_profile.ensures.saved
 
 pub returns-in-Err-Full-clause-report : goal.returns-in-Err-Full-clause-report
