@@ -2,5 +2,6 @@
 mod fractions;
 mod graphs;
 mod plans;
+mod profiles;
 mod reports;
 mod rows;
