@@ -70,12 +70,26 @@ def shared():
     return LOOP + ("func f 1:1",) * 26, lines
 
 
-PROFILES = (many_entries, many_runs, many_contexts, shared)
+def alternating_runs():
+    """15 loops of 1,048,575 turns, of which every second one does more: 18 entries with 15,728,640 runs in format 1, of which 45 are left."""
+    turns, loops = 1_048_575, 15
+    lines = [line(2, 1, ()), line(2, 2, ())]
+    whole = 0
+    for loop in range(loops):
+        runs = [(0, 1 + loop)] + [(turn % 2, 1) for turn in range(1, turns)]
+        work = sum((turn + 1) * count for turn, count in runs)
+        lines.append(line(1, work, runs))
+        whole += work
+    lines.append(line(0, whole, ((2 + loop, 1) for loop in range(loops))))
+    return LOOP, lines
 
 
-def write(name, make):
+PROFILES = ((2, many_entries), (2, many_runs), (2, many_contexts), (2, shared), (1, many_entries), (1, alternating_runs))
+
+
+def write(name, form, make):
     regions, lines = make()
-    head = ["kremlin 2", "exit 0", "ops 0", f"regions {len(regions) + 1}", "func main 1:1", *regions, f"entries {len(lines)}"]
+    head = [f"kremlin {form}", "exit 0", "ops 0", f"regions {len(regions) + 1}", "func main 1:1", *regions, f"entries {len(lines)}"]
     with open(name, "w") as file:
         for part in (head, lines, ["end"]):
             file.writelines(text + "\n" for text in part)
@@ -94,17 +108,17 @@ def run(command):
 def main():
     program, folder = sys.argv[1:]
     os.makedirs(folder, exist_ok=True)
-    for make in PROFILES:
-        name = f"{folder}/{make.__name__}"
+    for form, make in PROFILES:
+        name = f"{folder}/{make.__name__}.{form}"
         # (in a process of its own: a command would start with this one's memory)
-        writer = multiprocessing.Process(target=write, args=(name, make))
+        writer = multiprocessing.Process(target=write, args=(name, form, make))
         writer.start()
         writer.join()
         results = [run([program, stage, name]) for stage in STAGES]
         cells = [f"{printed} {seconds:.2f}" for printed, seconds, _ in results]
         size = os.path.getsize(name) / 1e6
         most = max(memory for _, _, memory in results)
-        print("|", " | ".join([make.__name__, f"{size:.2f} MB", *cells, f"{most:.0f} MB"]), "|")
+        print("|", " | ".join([f"{make.__name__}, format {form}", f"{size:.2f} MB", *cells, f"{most:.0f} MB"]), "|")
     for instances in ("1000000", "10000000"):
         for works in ("1", "4", "1000"):
             printed, seconds, memory = run([program, "gather", instances, works])
