@@ -6,7 +6,7 @@ use Rattle.std.proofs.lemmas.Bool.{cases_lt}
 use Rattle.std.proofs.lemmas.Bool.Decides.{nat_tests}
 use Rattle.std.proofs.Math.Nat.{min-eq_left, min-eq_right, mul-le-mul}
 use Rattle.k_typed.specs.Dimensions as dims
-use Rattle.k_typed.specs.Dimensions.{Size, all_sizes, size_before, within_limit}
+use Rattle.k_typed.specs.Dimensions.{Size, all_sizes, known_size, known_sizes, size_before, times_known, within_limit}
 use Rattle.k_typed.specs.Types.{elements}
 use Rattle.k_declaring.specs.declared.dimension.Size as kept
 use Rattle.k_declaring.specs.declared.dimension.Size.TheVariants as size
@@ -148,3 +148,38 @@ by_wrong n s sizes is = sym (ap (λ t. counted n (size_in t ∷ sizes)) is ∙ c
 
 pub by_size : (n d next : ℕ) (s : kept.Size) (sizes : List Size) → s ≡ size.Is d → next ≡ min (n * d) 4194305 → counted next sizes ≡ counted n (size_in s ∷ sizes)
 by_size n d next s sizes is product = sym (ap (λ t. counted n (size_in t ∷ sizes)) is ∙ counted_more n d next sizes product)
+
+-- what is known of a size, by whether there are too many elements with it
+known_by : (n d : ℕ) (b : Bool) → nat_le (n * d) 4194304 ≡ b → cond b d 0 ≡ known_size n (dims.Is d)
+known_by n d b is = ap (λ x. cond x d 0) (sym is)
+
+-- nothing is known of one with which there are too many
+pub known_too_many : (n d count : ℕ) → count ≡ min (n * d) 4194305 → 4194304 < count → 0 ≡ known_size n (dims.Is d)
+known_too_many n d count is many =
+    let above : 4194304 < n * d = omega arith in
+    known_by n d false (grind (arith, nat_tests))
+
+-- one with which there are not too many is known
+pub known_few : (n d count : ℕ) → count ≡ min (n * d) 4194305 → count ≤ 4194304 → d ≡ known_size n (dims.Is d)
+known_few n d count is most =
+    let below : n * d ≤ 4194304 = omega arith in
+    known_by n d true (grind (arith, nat_tests))
+
+-- there are as many elements with it
+pub few_times : (n d count : ℕ) → count ≡ min (n * d) 4194305 → count ≤ 4194304 → n * d ≤ 4194304
+few_times n d count is most = omega arith
+
+-- one size more is known
+pub known_more : (n k next : ℕ) (s : kept.Size) (rest more : List kept.Size) (put items whole : List ℕ)
+    → k ≡ known_size n (size_in s) → next ≡ times_known n k → items ≡ put ++ k ∷ [] → rest ≡ s ∷ more
+    → put ++ known_sizes n (sizes_in rest) ≡ whole → items ++ known_sizes next (sizes_in more) ≡ whole
+known_more n k next s rest more put items whole known times added is so_far =
+    (λ i. added i ++ known_sizes (times i) (sizes_in more))
+    ∙ (append_assoc put (k ∷ []) (known_sizes (times_known n k) (sizes_in more))
+    ∙ (ap (λ m. put ++ (m ∷ known_sizes (times_known n m) (sizes_in more))) known
+    ∙ (ap (λ l. put ++ known_sizes n (sizes_in l)) (sym is) ∙ so_far)))
+
+-- all sizes are known
+pub known_all : (n : ℕ) (rest : List kept.Size) (put whole : List ℕ) → put ++ known_sizes n (sizes_in rest) ≡ whole → length rest ≡ 0 → put ≡ whole
+known_all n [] put whole so_far none = sym (append-nil put) ∙ so_far
+known_all n (s ∷ more) put whole so_far none = absurd (omega arith)

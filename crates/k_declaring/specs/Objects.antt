@@ -8,13 +8,14 @@ use Rattle.k_typed.specs.declared.fault.TypeFault.TheVariants as fault
 use Rattle.k_typed.specs.declared.types.CType.{CType}
 use Rattle.k_typed.specs.declared.types.CType.TheVariants as ctype
 use Rattle.k_typed.specs.declared.tree.declaration.TInit.{TInit}
-use Rattle.k_typed.specs.Declarations.{Object, Saying, declarator_judged, declared_type, object_fixed, names_behind}
+use Rattle.k_typed.specs.Declarations.{Object, Saying, declarator_judged, is_sized, object_fixed, names_behind, type_for}
 use Rattle.k_typed.specs.Dimensions.{Sizes, dimensions}
 use Rattle.k_typed.specs.Initialisers.{Beginning}
 use Rattle.k_typed.specs.Made.{Made, Fine}
 use Rattle.k_typed.specs.Names.{Names}
 use Rattle.k_typing.specs.Views.{Refuses}
 use Rattle.k_declaring.specs.declared.declarator.Begun.{Begun}
+use Rattle.k_declaring.specs.declared.declarator.Shape.{Shape}
 
 -- numbers of a kind in these dimensions
 abbrev pub array_of : Bool → Kind → List ℕ → Option CType
@@ -40,10 +41,14 @@ may_have file (star ∷ []) plain = not file && plain
 may_have file (star ∷ other ∷ stars) plain = false
 
 -- The dimensions of a declarator were judged, and the variables to which `&` is applied in them were put behind the older ones: it has
--- this type, if any; or they have a fault first.
-abbrev pub GivesType : Result (Option CType) TypeFault → Bool → Saying → Declarator → List ℕ → List ℕ → Made Sizes → Type 0
-GivesType (Ok of) file s d older newer m =
-    (found : Sizes) × (m ≡ Fine found) × (newer ≡ older ++ found.taken) × (of ≡ declared_type file s (Fine found) d)
+-- this type, if any, and they are right or not; or they have a fault first.
+abbrev pub GivesType : Result Shape TypeFault → Bool → Saying → Declarator → List ℕ → List ℕ → Made Sizes → Type 0
+GivesType (Ok shape) file s d older newer m =
+    (found : Sizes)
+    × (m ≡ Fine found)
+    × (newer ≡ older ++ found.taken)
+    × (shape.of ≡ type_for file s (Fine found) d)
+    × (shape.is_sized ≡ is_sized (Fine found) d)
 GivesType (Err f) file s d older newer m = Refuses f m
 
 -- An initialiser was judged, and the variables to which `&` is applied in it were put behind the older ones: an object begins so, if it
@@ -67,7 +72,7 @@ Comes (Ok b) file s n names d older newer behind =
     ≡ Fine (record { place = d.place; name = d.name; of = b.of; fixed = object_fixed s.fixed d.stars; init = b.init; taken = taken }))
     × (newer ≡ older ++ taken)
     × (behind ≡ names_behind file s n names d)
-    × (declared_type file s (dimensions names d.dims) d ≡ Some b.of)
+    × (type_for file s (dimensions names d.dims) d ≡ Some b.of)
 Comes (Err f) file s n names d older newer behind = Refuses f (declarator_judged file s n names d)
 
 -- The fault is that of a name that is declared again in its scope, or want of memory.

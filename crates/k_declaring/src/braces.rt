@@ -15,12 +15,13 @@ ghost use Rattle.k_declaring.specs.Braces.{Puts, PutsItem};
 
 use crate::alone::{judge_all_alone, judge_alone};
 use crate::constants::constant;
+use crate::extent::room;
 use k_judging::judge;
 use k_names::Scopes;
 use k_num::{Kind, NoMemory, Place, Seq};
 use k_tree::{Expr, Init};
 use k_typed::{TExpr, TItem, TypeFault};
-use k_typing::{Judged, TypeView, passed};
+use k_typing::{Judged, TypeView, count, passed};
 use std::alloc::Global;
 
 /// What braces give items to: numbers of a kind, at file scope or not.
@@ -61,9 +62,10 @@ fn put(
             let Some((count, dims)) = dims.split_first() else {
                 return refuse_all(alloc, names, *place, items, found);
             };
-            let each = part(each, *count)?;
+            let each = part(each, *count, dims)?;
+            let count = room(*count);
             put_all(
-                alloc, names, filled, items, *count, dims, each, element, found,
+                alloc, names, filled, items, count, dims, each, element, found,
             )
         }
     }
@@ -113,14 +115,28 @@ fn behind(element: u32, each: u32) -> Result<u32, NoMemory>
     }
 }
 
-/// How many numbers one of so many parts has. No array has no part.
-fn part(each: u32, count: u32) -> Result<u32, NoMemory>
-    ensures { IfOk result (λ part. (n : ℕ) → each ≡ count * n → part ≡ n) }
+/// How many numbers one of so many parts has, each of which has these dimensions.
+fn part(each: u32, count: u32, dims: &[u32]) -> Result<u32, NoMemory>
+    requires { each ≡ count * elements dims.now }
+    ensures { IfOk result (λ part. part ≡ elements dims.now) }
 {
     if count == 0 {
-        return Err(NoMemory);
+        return numbers_in(dims);
     }
     Ok(each / count)
+}
+
+/// How many numbers there are in dimensions.
+pub(crate) fn numbers_in(dims: &[u32]) -> Result<u32, NoMemory>
+    ensures { IfOk result (λ n. n ≡ elements dims.now) }
+{
+    let Some(numbers) = count(dims) else {
+        return Err(NoMemory);
+    };
+    match u32::try_from(numbers) {
+        Ok(numbers) => Ok(numbers),
+        Err(_) => Err(NoMemory),
+    }
 }
 
 /// Braces where a number is wanted.
@@ -269,7 +285,7 @@ pub(crate) fn fitting<'a>(
 fn fitting_bytes<'a>(kind: Kind, count: u32, bytes: &'a Seq<u8>) -> Option<&'a Seq<u8>>
     ensures { option_copied result ≡ rules.fitting kind [] count (Some bytes.now) }
 {
-    if is_char(kind) && is_within(bytes.len(), count) {
+    if is_char(kind) && is_within(bytes.len(), room(count)) {
         Some(bytes)
     } else {
         None

@@ -7,7 +7,7 @@ ghost use Rattle.k_typing.specs.Views.{type_option};
 ghost use Rattle.k_declaring.specs.Objects.{Comes, GivesType, IsTwice, Makes};
 
 use crate::declared_type::{copied_type, declared_type, has_type, is_fixed};
-use crate::dimension::{dimensions, object_sizes};
+use crate::dimension::{dimensions, object_sizes, sizes_or_known};
 use crate::initialiser::{begun, first_given};
 use crate::specifier::Saying;
 use k_names::Scopes;
@@ -24,6 +24,14 @@ pub(crate) struct Begun {
     pub(crate) init: Box<TInit>,
 }
 
+/// The type of a declarator's object, if it has one, where a size is wrong by what is known of them; and whether the
+/// sizes are right.
+#[derive(Drop)]
+pub(crate) struct Shape {
+    pub(crate) of: Option<Box<CType>>,
+    pub(crate) is_sized: bool,
+}
+
 /// Judges a declarator with its number among the variables or the file objects: its sizes, then its initialiser,
 /// where its name is known, then the declarator itself (C17 6.7p3, 6.7.6, 6.7.9). Its name enters the innermost
 /// scope, and the variables to which `&` is applied in it are put behind those in `taken`.
@@ -38,14 +46,14 @@ pub(crate) fn judge_declarator(
 ) -> Result<Begun, TypeFault>
     ensures { Comes result file saying.now number names.old declarator.now taken.old taken.new names.new }
 {
-    let of = match judge_sizes(alloc, file, saying, names, declarator, taken) {
-        Ok(of) => of,
+    let shape = match judge_sizes(alloc, file, saying, names, declarator, taken) {
+        Ok(shape) => shape,
         Err(fault) => return Err(fault),
     };
-    judge_beginning(alloc, file, saying, number, names, declarator, of, taken)
+    judge_beginning(alloc, file, saying, number, names, declarator, shape, taken)
 }
 
-/// Judges a declarator of which the sizes were judged, and the type is known, if it has one.
+/// Judges a declarator of which the sizes were judged.
 fn judge_beginning(
     alloc: Global,
     file: bool,
@@ -53,11 +61,12 @@ fn judge_beginning(
     number: u32,
     names: &mut Scopes,
     declarator: &Declarator,
-    of: Option<Box<CType>>,
+    shape: Shape,
     taken: &mut Seq<u32>,
 ) -> Result<Begun, TypeFault>
-    ensures { (found : sizing.Sizes) (older : List ℕ) → sizing.dimensions names.old declarator.now.dims ≡ Fine found → of ≡ rules.declared_type file saying.now (Fine found) declarator.now → taken.old ≡ older ++ found.taken → Comes result file saying.now number names.old declarator.now older taken.new names.new }
+    ensures { (found : sizing.Sizes) (older : List ℕ) → sizing.dimensions names.old declarator.now.dims ≡ Fine found → shape.of ≡ rules.type_for file saying.now (Fine found) declarator.now → shape.is_sized ≡ rules.is_sized (Fine found) declarator.now → taken.old ≡ older ++ found.taken → Comes result file saying.now number names.old declarator.now older taken.new names.new }
 {
+    let Shape { of, is_sized } = shape;
     let fixed = is_fixed(saying.fixed(), declarator.stars.as_slice());
     let meaning = meaning_of(alloc, file, number, &of, fixed)?;
     let twice = names.declare(alloc, &declarator.name, meaning)?;
@@ -79,12 +88,13 @@ fn judge_beginning(
         &declarator.name,
         twice,
         typed,
+        is_sized,
         of,
         init,
     )
 }
 
-/// Judges the sizes of a declarator, and answers its type, if it has one.
+/// Judges the sizes of a declarator.
 fn judge_sizes(
     alloc: Global,
     file: bool,
@@ -92,14 +102,22 @@ fn judge_sizes(
     names: &Scopes,
     declarator: &Declarator,
     taken: &mut Seq<u32>,
-) -> Result<Option<Box<CType>>, TypeFault>
+) -> Result<Shape, TypeFault>
     ensures { GivesType result file saying.now declarator.now taken.old taken.new (sizing.dimensions names.now declarator.now.dims) }
 {
     let sizes = dimensions(alloc, names, &declarator.dims, taken)?;
     let given = first_given(&declarator.init)?;
     let dims = object_sizes(alloc, &sizes, given)?;
-    let of = declared_type(alloc, file, saying, declarator.stars.as_slice(), dims)?;
-    Ok(of)
+    let is_sized = dims.is_some();
+    let dims = sizes_or_known(alloc, &sizes, dims)?;
+    let of = declared_type(
+        alloc,
+        file,
+        saying,
+        declarator.stars.as_slice(),
+        dims.as_slice(),
+    )?;
+    Ok(Shape { of, is_sized })
 }
 
 /// What the name of a declarator means: a variable or a file object of this number. Where the declarator has no
@@ -149,10 +167,11 @@ fn made(
     name: &Text,
     twice: bool,
     typed: bool,
+    is_sized: bool,
     of: Option<Box<CType>>,
     init: Option<Box<TInit>>,
 ) -> Result<Begun, TypeFault>
-    ensures { (fixed : Bool) (taken : List ℕ) → Makes result place name.now fixed taken of (rules.object_made place name.now twice typed fixed taken of init) }
+    ensures { (fixed : Bool) (taken : List ℕ) → Makes result place name.now fixed taken of (rules.object_made place name.now twice typed fixed taken (rules.where_sized is_sized of) init) }
 {
     if twice {
         return Err(declared_twice(alloc, place, name));
@@ -163,6 +182,9 @@ fn made(
     let Some(init) = init else {
         return Err(TypeFault::Kinds(place));
     };
+    if !is_sized {
+        return Err(TypeFault::BadSize(place));
+    }
     let Some(of) = of else {
         return Err(TypeFault::BadSize(place));
     };

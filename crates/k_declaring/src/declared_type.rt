@@ -9,21 +9,17 @@ use k_tree::Declarator;
 use k_typed::{Base, CType, Element};
 use std::alloc::Global;
 
-/// The type of a declarator with these sizes, if it has one: none where the sizes are known to be wrong, and at
-/// file scope none where it is a pointer.
+/// The type of a declarator with these sizes, if it has one: at file scope none where it is a pointer.
 pub(crate) fn declared_type(
     alloc: Global,
     file: bool,
     saying: &Saying,
     stars: &[bool],
-    dims: Option<Seq<u32>>,
+    dims: &[u32],
 ) -> Result<Option<Box<CType>>, NoMemory>
-    ensures { IfOk result (λ of. of ≡ rules.no_pointer file (rules.sized_type saying.now.fixed saying.now.names_base stars.now dims)) }
+    ensures { IfOk result (λ of. of ≡ rules.no_pointer file (rules.object_type saying.now.fixed saying.now.names_base stars.now dims.now)) }
 {
-    let Some(dims) = dims else {
-        return Ok(None);
-    };
-    let of = object_type(alloc, saying.fixed(), saying.base(), stars, dims.as_slice())?;
+    let of = object_type(alloc, saying.fixed(), saying.base(), stars, dims)?;
     Ok(at_scope(file, of))
 }
 

@@ -5,7 +5,7 @@ ghost use Rattle.k_declaring.specs.Results.{GivesSizes};
 ghost use Rattle.k_declaring.specs.Sizes.{size_in, sizes_in, GivesSize};
 
 use crate::constants::constant;
-use crate::extent::within_limit;
+use crate::extent::{known_sizes, within_limit};
 use k_judging::judge;
 use k_names::Scopes;
 use k_num::{NoMemory, Seq};
@@ -128,6 +128,20 @@ fn sizes_of_object(
         },
         Size::Is(_) => within_limit(alloc, None, sizes),
         Size::NoSize => Ok(None),
+    }
+}
+
+/// The dimensions of an object, and where one is wrong what is known of them.
+pub(crate) fn sizes_or_known(
+    alloc: Global,
+    sizes: &Sizes,
+    dims: Option<Seq<u32>>,
+) -> Result<Seq<u32>, NoMemory>
+    ensures { IfOk result (λ known. known ≡ rules.sizes_or_known sizes.now dims) }
+{
+    match dims {
+        None => known_sizes(alloc, sizes.list.as_slice()),
+        Some(dims) => Ok(dims),
     }
 }
 

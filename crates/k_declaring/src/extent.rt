@@ -119,3 +119,68 @@ fn put_sizes(dims: &mut Seq<u32>, sizes: &[Size]) -> Result<(), NoMemory>
     }
     Ok(())
 }
+
+/// What is known of sizes of which one is wrong: 0 in place of each of which nothing is known.
+pub(crate) fn known_sizes(alloc: Global, sizes: &[Size]) -> Result<Seq<u32>, NoMemory>
+    ensures { IfOk result (λ dims. dims ≡ rules.known_sizes 1 (sizes_in sizes.now)) }
+{
+    let mut dims = Seq::new(alloc);
+    let mut elements = 1;
+    let mut rest = sizes;
+    while let Some((size, more)) = rest.split_first() {
+        let known = known_size(elements, size)?;
+        dims.push(known)?;
+        elements = times_known(elements, known);
+        rest = more;
+    }
+    Ok(dims)
+}
+
+/// What is known of a size, where those before it make so many elements.
+fn known_size(elements: u64, size: &Size) -> Result<u32, NoMemory>
+    requires { elements ≤ 4194304 }
+    ensures value { IfOk result (λ known. known ≡ rules.known_size elements (size_in size.now)) }
+    ensures within { IfOk result (λ known. elements * known ≤ 4194304) }
+{
+    match size {
+        Size::LeftOut => Ok(0),
+        Size::Is(size) => size_within(elements, *size),
+        Size::NoSize => Ok(0),
+    }
+}
+
+/// A size, where there are not too many elements with it, else 0.
+fn size_within(elements: u64, size: u64) -> Result<u32, NoMemory>
+    requires { elements ≤ 4194304 }
+    ensures value { IfOk result (λ known. known ≡ rules.known_size elements (rules.Is size)) }
+    ensures within { IfOk result (λ known. elements * known ≤ 4194304) }
+{
+    if times(elements, size) > LIMIT {
+        return Ok(0);
+    }
+    match u32::try_from(size) {
+        Ok(size) => Ok(size),
+        Err(_) => Err(NoMemory),
+    }
+}
+
+/// So many elements, each with as many as a size says, where it is known.
+fn times_known(elements: u64, known: u32) -> u64
+    requires few { elements ≤ 4194304 }
+    requires within { elements * known ≤ 4194304 }
+    ensures value { result ≡ rules.times_known elements known }
+    ensures within { result ≤ 4194304 }
+{
+    if 1 <= known {
+        elements * u64::from(known)
+    } else {
+        elements
+    }
+}
+
+/// How many elements an array of a size takes: where the size is not known, as many as any object has.
+pub(crate) fn room(size: u32) -> u32
+    ensures { result ≡ rules.room size }
+{
+    if 1 <= size { size } else { 4_194_304 }
+}

@@ -3,6 +3,7 @@ ghost use Rattle.std.specs.Prelude.{◌≡◌, ℕ, List, Some, IfOk, map};
 ghost use Rattle.std.specs.Option.{option_copied};
 ghost use Rattle.k_tree.specs.declared.tree.declaration.Init.{out-Init};
 ghost use Rattle.k_typed.specs.Conversions as conversions;
+ghost use Rattle.k_typed.specs.Dimensions as sizing;
 ghost use Rattle.k_typed.specs.Expressions as expressions;
 ghost use Rattle.k_typed.specs.Initialisers as rules;
 ghost use Rattle.k_typed.specs.Initialisers.{beginning, giving};
@@ -13,13 +14,14 @@ ghost use Rattle.k_typing.specs.Views.{type_of, type_option, typed};
 ghost use Rattle.k_declaring.specs.Objects.{GivesBeginning};
 
 use crate::alone::{judge_all_alone, judge_alone};
-use crate::braces::{Filled, Found, fitting, may_begin, put_all, string_in};
+use crate::braces::{Filled, Found, fitting, may_begin, numbers_in, put_all, string_in};
+use crate::extent::room;
 use k_judging::judge;
 use k_names::Scopes;
 use k_num::{Box, NoMemory, Seq};
 use k_tree::{Expr, Init};
 use k_typed::{TInit, TItem, TypeFault};
-use k_typing::{ElementView, Judged, TypeView, count, passed};
+use k_typing::{ElementView, Judged, TypeView, passed};
 use std::alloc::Global;
 use std::mem;
 
@@ -186,7 +188,7 @@ fn elements_given(
     items: &Seq<Init>,
     taken: &mut Seq<u32>,
 ) -> Result<Option<Box<TInit>>, TypeFault>
-    ensures { GivesBeginning result taken.old taken.new (then_made (rules.items_within file element.entry.kind element.entry.dims.now count 0 (map (giving names.now) items.now)) (λ found. Fine (beginning (Some (begins.Elements found.items)) found.taken))) }
+    ensures { GivesBeginning result taken.old taken.new (then_made (rules.items_within file element.entry.kind element.entry.dims.now (sizing.room count) 0 (map (giving names.now) items.now)) (λ found. Fine (beginning (Some (begins.Elements found.items)) found.taken))) }
 {
     let each = numbers_in(element.dims)?;
     let filled = Filled {
@@ -203,7 +205,7 @@ fn elements_given(
         names,
         filled,
         items,
-        count,
+        room(count),
         element.dims,
         each,
         0,
@@ -213,19 +215,6 @@ fn elements_given(
     drop(mem::replace(taken, more));
     let init = Box::new(alloc, TInit::Elements(items))?;
     Ok(Some(init))
-}
-
-/// How many numbers there are in dimensions.
-fn numbers_in(dims: &[u32]) -> Result<u32, NoMemory>
-    ensures { IfOk result (λ n. n ≡ elements dims.now) }
-{
-    let Some(numbers) = count(dims) else {
-        return Err(NoMemory);
-    };
-    match u32::try_from(numbers) {
-        Ok(numbers) => Ok(numbers),
-        Err(_) => Err(NoMemory),
-    }
 }
 
 /// The count that an initialiser gives to a first dimension that is left out: of a string with the 0 behind it, of

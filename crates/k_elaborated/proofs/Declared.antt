@@ -1,12 +1,13 @@
 -- Judging declarators and the relation of what they declare agree.
 use Rattle.std.proofs.Common.{◌≡◌, refl, sym, ◌∙◌, ap, subst, ℕ, Bool, true, false, List, [], ◌∷◌, ◌++◌, length, Option, Some, None}
+use Rattle.std.proofs.lemmas.Option.{none-some}
 use Rattle.k_num.specs.declared.place.Place.{Place}
 use Rattle.k_tree.specs.declared.tree.declaration.Declarator.{Declarator}
 use Rattle.k_typed.specs.declared.fault.TypeFault.TheVariants as fault
 use Rattle.k_typed.specs.declared.tree.declaration.TDeclarator.{TDeclarator}
 use Rattle.k_typed.specs.declared.tree.declaration.TInit.{TInit}
 use Rattle.k_typed.specs.declared.types.CType.{CType}
-use Rattle.k_typed.specs.Declarations.{Object, Saying, is_twice, has_type, declared_type, object_fixed, as_meaning, entered, begun_object, object_made, declarator_judged, names_behind, type_or_int}
+use Rattle.k_typed.specs.Declarations.{Object, Saying, is_twice, has_type, declared_type, is_sized, where_sized, type_for, object_fixed, as_meaning, entered, begun_object, object_made, declarator_judged, names_behind, type_or_int}
 use Rattle.k_typed.specs.Dimensions.{Sizes, dimensions}
 use Rattle.k_typed.specs.Initialisers.{begun}
 use Rattle.k_typed.specs.Made.{Fine, then_made}
@@ -38,19 +39,30 @@ object_fine p x false true fixed taken of init o is =
     let made = begun_fine p x fixed taken of init o is in
     (refl, refl, made.0, made.1, made.2, made.3, made.4)
 
+-- a type whose sizes are right
+sized_is : (right : Bool) (of : Option CType) (t : CType) → where_sized right of ≡ Some t → of ≡ Some t
+sized_is true of t is = is
+sized_is false of t is = absurd (none-some t is)
+
+-- the type by which the initialiser is judged, where the sizes are right
+type_is : (file : Bool) (s : Saying) (names : Names) (d : Declarator) (sizes : Sizes) (of : CType) → dimensions names d.dims ≡ Fine sizes
+    → declared_type file s (Fine sizes) d ≡ Some of → type_for file s (dimensions names d.dims) d ≡ Some of
+type_is file s names d sizes of sized typed =
+    ap (λ m. type_for file s m d) sized ∙ sized_is (is_sized (Fine sizes) d) (type_for file s (Fine sizes) d) of typed
+
 module _ (file : Bool) (s : Saying) (n : ℕ) (names : Names) (d : Declarator) where
   -- the initialiser of a declarator of this type
   start_is : (sizes : Sizes) (of : CType) → dimensions names d.dims ≡ Fine sizes → declared_type file s (Fine sizes) d ≡ Some of
-      → begun (names_behind file s n names d) file (declared_type file s (dimensions names d.dims) d) d.init
+      → begun (names_behind file s n names d) file (type_for file s (dimensions names d.dims) d) d.init
       ≡ begun (names_within file s n names d of) file (Some of) d.init
   start_is sizes of sized typed =
-      ap (λ t. begun (names_within file s n names d (type_or_int t)) file t d.init) (ap (λ m. declared_type file s m d) sized ∙ typed)
+      ap (λ t. begun (names_within file s n names d (type_or_int t)) file t d.init) (type_is file s names d sizes of sized typed)
 
   -- what judging a declarator makes, it declares
   pub object_sound : (o : Object) → declarator_judged file s n names d ≡ Fine o → ElabObject file s n names d o
   unfolding declarator_judged
   object_sound o is =
-      let parts = both_fine (dimensions names d.dims) (begun (names_behind file s n names d) file (declared_type file s (dimensions names d.dims) d) d.init)
+      let parts = both_fine (dimensions names d.dims) (begun (names_behind file s n names d) file (type_for file s (dimensions names d.dims) d) d.init)
       (λ sizes start. object_made d.place d.name (is_twice names d.name) (has_type file s d) (object_fixed s.fixed d.stars)
       (sizes.taken ++ start.taken) (declared_type file s (Fine sizes) d) start.init) o is in
       let made = object_fine d.place d.name (is_twice names d.name) (has_type file s d) (object_fixed s.fixed d.stars)
@@ -72,13 +84,13 @@ object_complete _ _ _ _ _ _ (object file s n names d sizes of start init free si
 pub names_are : (file : Bool) (s : Saying) (n : ℕ) (names : Names) (d : Declarator) (o : Object) → ElabObject file s n names d o
     → names_behind file s n names d ≡ entered o.name (as_meaning file n o.of o.fixed) names
 names_are _ _ _ _ _ _ (object file s n names d sizes of start init free sized typed is begins some) =
-    ap (λ t. names_within file s n names d (type_or_int t)) (ap (λ m. declared_type file s m d) sized ∙ is)
+    ap (λ t. names_within file s n names d (type_or_int t)) (type_is file s names d sizes of sized is)
 
 -- the variable of a declarator
 variable_is : (s : Saying) (n : ℕ) (names : Names) (d : Declarator) (o : Object) → ElabObject false s n names d o
-    → (type_or_int (declared_type false s (dimensions names d.dims) d) ≡ o.of) × (d.place ≡ o.place)
+    → (type_or_int (type_for false s (dimensions names d.dims) d) ≡ o.of) × (d.place ≡ o.place)
 variable_is _ _ _ _ _ (object _ s n names d sizes of start init free sized typed is begins some) =
-    (ap type_or_int (ap (λ m. declared_type false s m d) sized ∙ is), refl)
+    (ap type_or_int (type_is false s names d sizes of sized is), refl)
 
 -- what a declarator in a function comes to
 pub declare_comes : (s : Saying) (known : Known) (d : Declarator) (o : Object) → ElabObject false s (length known.variables) known.names d o

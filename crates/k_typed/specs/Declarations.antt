@@ -13,7 +13,7 @@ use Rattle.k_typed.specs.declared.types.Base.TheVariants as base
 use Rattle.k_typed.specs.declared.types.CType.{CType}
 use Rattle.k_typed.specs.declared.types.CType.TheVariants as ctype
 use Rattle.k_typed.specs.declared.tree.declaration.TInit.{TInit}
-use Rattle.k_typed.specs.Dimensions.{Sizes, dimensions, object_sizes}
+use Rattle.k_typed.specs.Dimensions.{Sizes, dimensions, object_sizes, sizes_or_known}
 use Rattle.k_typed.specs.Initialisers.{begun, first_given}
 use Rattle.k_typed.specs.Made.{Made, Fine, Faulty, refused, both}
 use Rattle.k_typed.specs.Names.{Names, meaning_in, library}
@@ -33,11 +33,6 @@ object_type fixed (Some (base.Of kind)) (star ∷ other ∷ stars) dims = None
 abbrev pub object_fixed : Bool → List Bool → Bool
 object_fixed fixed [] = fixed
 object_fixed fixed (star ∷ stars) = star
-
--- sizes that are known to be none count as none
-abbrev pub sized_type : Bool → Option Base → List Bool → Option (List ℕ) → Option CType
-sized_type fixed b stars None = None
-sized_type fixed b stars (Some dims) = object_type fixed b stars dims
 
 -- the type that a name has in its own initialiser where its declarator names none: the declaration is refused in any case
 abbrev pub type_or_int : Option CType → CType
@@ -104,14 +99,25 @@ no_pointer true (Some (ctype.Array count e)) = Some (ctype.Array count e)
 abbrev pub has_type : Bool → Saying → Declarator → Bool
 has_type file s d = is_some (no_pointer file (object_type s.fixed s.names_base d.stars (map (λ e. 1) d.dims)))
 
--- the sizes of a declarator, as far as they are known
-abbrev pub sizes_known : Made Sizes → Declarator → Option (List ℕ)
-sizes_known (Fine found) d = object_sizes found.sizes (first_given d.init)
-sizes_known (Faulty f fs) d = None
+-- the type of a declarator whose sizes were judged, where it has one: where a size is wrong, by what is known of them
+abbrev pub type_for : Bool → Saying → Made Sizes → Declarator → Option CType
+type_for file s (Faulty f fs) d = None
+type_for file s (Fine found) d =
+    no_pointer file (object_type s.fixed s.names_base d.stars (sizes_or_known found.sizes (object_sizes found.sizes (first_given d.init))))
+
+-- the sizes of a declarator were judged, and they are right
+abbrev pub is_sized : Made Sizes → Declarator → Bool
+is_sized (Faulty f fs) d = false
+is_sized (Fine found) d = is_some (object_sizes found.sizes (first_given d.init))
+
+-- a type, where the sizes are right
+abbrev pub where_sized : Bool → Option CType → Option CType
+where_sized false of = None
+where_sized true of = of
 
 -- the type of a declarator whose sizes were judged, where it has one and they are right
 abbrev pub declared_type : Bool → Saying → Made Sizes → Declarator → Option CType
-declared_type file s sizes d = no_pointer file (sized_type s.fixed s.names_base d.stars (sizes_known sizes d))
+declared_type file s sizes d = where_sized (is_sized sizes d) (type_for file s sizes d)
 
 -- A declarator as a meaning: a variable or a file object of this number.
 abbrev pub as_meaning : Bool → ℕ → CType → Bool → Meaning
@@ -121,12 +127,12 @@ as_meaning true n of fixed = meaning.Object n of fixed
 -- the names that are known from behind a declarator on, which has this number
 abbrev pub names_behind : Bool → Saying → ℕ → Names → Declarator → Names
 names_behind file s n names d =
-    entered d.name (as_meaning file n (type_or_int (declared_type file s (dimensions names d.dims) d)) (object_fixed s.fixed d.stars)) names
+    entered d.name (as_meaning file n (type_or_int (type_for file s (dimensions names d.dims) d)) (object_fixed s.fixed d.stars)) names
 
 -- C17 6.7p3, 6.7.6, 6.7.9: a declarator at file scope or in a function, with its number: its sizes are judged, then its initialiser
--- where its name is known, then the declarator itself
+-- where its name is known, then the declarator itself; where a size is wrong, its initialiser is judged by what is known of them
 unfoldable pub declarator_judged : Bool → Saying → ℕ → Names → Declarator → Made Object
 declarator_judged file s n names d =
-    both (dimensions names d.dims) (begun (names_behind file s n names d) file (declared_type file s (dimensions names d.dims) d) d.init)
+    both (dimensions names d.dims) (begun (names_behind file s n names d) file (type_for file s (dimensions names d.dims) d) d.init)
     (λ sizes start. object_made d.place d.name (is_twice names d.name) (has_type file s d) (object_fixed s.fixed d.stars)
     (sizes.taken ++ start.taken) (declared_type file s (Fine sizes) d) start.init)

@@ -1,6 +1,6 @@
 -- The dimensions of declarators and parameters (C17 6.7.6.2): integer constants of 1 or more, and at most 4,194,304 elements in
 -- one object.
-use Rattle.std.specs.Prelude.{ℕ, nat_le, int_le, unsigned_abs, if◌then◌else◌, ℤ, pos, List, [], ◌∷◌, map, Option, Some, None}
+use Rattle.std.specs.Prelude.{ℕ, ◌*◌, nat_le, int_le, unsigned_abs, if◌then◌else◌, ℤ, pos, List, [], ◌∷◌, map, Option, Some, None}
 use Rattle.std.specs.List.{concat}
 use Rattle.k_tree.specs.declared.tree.expression.Expr.{Expr}
 use Rattle.k_typed.specs.Constants.{constant}
@@ -75,6 +75,31 @@ object_sizes [] given = Some []
 object_sizes (LeftOut ∷ sizes) given = within_limit (given_before given (all_sizes sizes))
 object_sizes (Is d ∷ sizes) given = within_limit (size_before d (all_sizes sizes))
 object_sizes (NoSize ∷ sizes) given = None
+
+-- What is known of a size of a declarator of which a size is wrong, where those before it make so many elements: the size, where it is one
+-- and there are not too many with it; else 0, since nothing is known of it.
+abbrev pub known_size : ℕ → Size → ℕ
+known_size n LeftOut = 0
+known_size n NoSize = 0
+known_size n (Is d) = if nat_le (n * d) 4194304 then d else 0
+
+-- so many elements, each with as many as a size says, where it is known
+abbrev pub times_known : ℕ → ℕ → ℕ
+times_known n d = if nat_le 1 d then n * d else n
+
+-- what is known of sizes, where those before them make so many elements
+abbrev pub known_sizes : ℕ → List Size → List ℕ
+known_sizes n [] = []
+known_sizes n (size ∷ sizes) = known_size n size ∷ known_sizes (times_known n (known_size n size)) sizes
+
+-- the sizes of one object, and where one is wrong what is known of them
+abbrev pub sizes_or_known : List Size → Option (List ℕ) → List ℕ
+sizes_or_known sizes None = known_sizes 1 sizes
+sizes_or_known sizes (Some dims) = dims
+
+-- how many elements an array of a size takes: where the size is not known, as many as any object has
+abbrev pub room : ℕ → ℕ
+room d = if nat_le 1 d then d else 4194304
 
 -- C17 6.7.6.3p7: the dimensions of a parameter behind the first, which may be left out and counts for nothing; none where one is
 -- wrong

@@ -19,6 +19,7 @@ use Rattle.k_typed.specs.declared.tree.declaration.TItem.{TItem}
 use Rattle.k_typed.specs.declared.tree.declaration.TItem.TheVariants as item
 use Rattle.k_typed.specs.Constants.{constant}
 use Rattle.k_typed.specs.Conversions.{Typed, passed}
+use Rattle.k_typed.specs.Dimensions.{room}
 use Rattle.k_typed.specs.Expressions.{judge}
 use Rattle.k_typed.specs.Made.{Made, Fine, both, then_made, all_made, refused}
 use Rattle.k_typed.specs.Names.{Names}
@@ -39,7 +40,7 @@ string_of = fold-Expr (Option (List ℕ)) string_step
 abbrev pub fitting : Kind → List ℕ → ℕ → Option (List ℕ) → Option (List ℕ)
 fitting kind dims count None = None
 fitting kind (d ∷ ds) count (Some bytes) = None
-fitting kind [] count (Some bytes) = if same_kind kind I8 && nat_le (length bytes) count then Some bytes else None
+fitting kind [] count (Some bytes) = if same_kind kind I8 && nat_le (length bytes) (room count) then Some bytes else None
 
 -- items of braces in text order, and the variables that `&` is applied to in them
 pub record Items : Type 0 where
@@ -89,7 +90,7 @@ items_within file kind dims (suc count) n (g ∷ gs) =
 -- braces, by the dimensions that are left: a number has none
 abbrev pub braces : Bool → Place → Kind → List ℕ → ℕ → List Giving → Made Items
 braces file p kind [] n items = then_made (all_made (map (λ (g : Giving). g.alone) items)) (λ taken. excess p)
-braces file p kind (d ∷ ds) n items = items_within file kind ds d n items
+braces file p kind (d ∷ ds) n items = items_within file kind ds (room d) n items
 
 -- an initialiser whose items are known
 abbrev pub giving_step : Names → Init-F Giving → Giving
@@ -137,7 +138,7 @@ one_given file (ctype.Array count element) text e = string_given (fitting elemen
 -- C17 6.7.9p16: braces for an object of a type: only an array has them
 abbrev pub list_given : Bool → CType → List Giving → Made Beginning
 list_given file (ctype.Array count element) items =
-    then_made (items_within file element.kind element.dims count 0 items) (λ found. Fine (beginning (Some (begins.Elements found.items)) found.taken))
+    then_made (items_within file element.kind element.dims (room count) 0 items) (λ found. Fine (beginning (Some (begins.Elements found.items)) found.taken))
 list_given file of items =
     then_made (all_made (map (λ (g : Giving). g.alone) items)) (λ taken. Fine (beginning None (concat taken)))
 

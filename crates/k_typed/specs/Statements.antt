@@ -26,7 +26,7 @@ use Rattle.k_typed.specs.declared.tree.statement.TPart.{TPart}
 use Rattle.k_typed.specs.declared.tree.statement.TPart.TheVariants as typed_part
 use Rattle.k_typed.specs.Constants.{constant}
 use Rattle.k_typed.specs.Conversions.{Typed, in_kind, passed}
-use Rattle.k_typed.specs.Declarations.{Object, Saying, saying, declared_type, declarator_judged, names_behind, type_or_int}
+use Rattle.k_typed.specs.Declarations.{Object, Saying, saying, declarator_judged, names_behind, type_for, type_or_int}
 use Rattle.k_typed.specs.Dimensions.{dimensions}
 use Rattle.k_typed.specs.Expressions.{judge}
 use Rattle.k_typed.specs.Made.{Made, Fine, Faulty, both, three, four, then_made, refused}
@@ -92,7 +92,7 @@ object_taken (Faulty f fs) = []
 
 -- the type of a variable that is declared
 abbrev pub variable_type : Saying → Known → Declarator → CType
-variable_type s known d = type_or_int (declared_type false s (dimensions known.names d.dims) d)
+variable_type s known d = type_or_int (type_for false s (dimensions known.names d.dims) d)
 
 -- C17 6.7: one declarator of a declaration in a function
 abbrev pub declared : Saying → Known → Declarator → Made Object → Judged TDeclarator

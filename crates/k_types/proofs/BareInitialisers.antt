@@ -18,8 +18,8 @@ use Rattle.k_typed.specs.declared.types.CType.TheVariants as ctype
 use Rattle.k_typed.specs.Bare.{bare_expr, bare_init, bare_item}
 use Rattle.k_typed.specs.Constants.{constant}
 use Rattle.k_typed.specs.Conversions.{Typed, passed}
-use Rattle.k_typed.specs.Declarations.{Object, Saying, begun_object, declarator_judged, declared_type, has_type, is_twice, names_behind, object_fixed, object_made}
-use Rattle.k_typed.specs.Dimensions.{Sizes, dimensions}
+use Rattle.k_typed.specs.Declarations.{Object, Saying, begun_object, declarator_judged, declared_type, has_type, is_twice, names_behind, object_fixed, object_made, type_for}
+use Rattle.k_typed.specs.Dimensions.{Sizes, dimensions, room}
 use Rattle.k_typed.specs.Expressions.{judge}
 use Rattle.k_typed.specs.Initialisers.{Beginning, Giving, Items, beginning, begun, begun_step, begun_with, braces, excess, fitting, given_item, giving, giving_step, items_of_both, items_within, list_given, one_given, one_item, string_given, string_item, string_of, value_given}
 use Rattle.k_typed.specs.Made.{Made, Fine, all_made, refused, then_made}
@@ -99,7 +99,7 @@ within_bare file kind dims (suc count) n (g ∷ gs) all =
 braces_bare : (file : Bool) (p : Place) (kind : Kind) (dims : List ℕ) (n : ℕ) (gs : List Giving) → AllOf GivesBare gs → IfFine AreBareItems (braces file p kind dims n gs)
 braces_bare file p kind [] n gs all =
     then_has Anything AreBareItems (all_made (map (λ (g : Giving). g.alone) gs)) (λ taken. excess p) (anything (all_made (map (λ (g : Giving). g.alone) gs))) (λ taken h. tt)
-braces_bare file p kind (d ∷ ds) n gs all = within_bare file kind ds d n gs all
+braces_bare file p kind (d ∷ ds) n gs all = within_bare file kind ds (room d) n gs all
 
 init_if : (b : Bool) (i : TInit) → IsBareInit i → IfThere IsBareInit (cond b (Some i) None)
 init_if true i h = h
@@ -152,8 +152,8 @@ module _ (names : Names) where
 
   list_given_bare : (file : Bool) (of : CType) (gs : List Giving) → AllOf GivesBare gs → IfFine BareBeginning (list_given file of gs)
   list_given_bare file (ctype.Array count e) gs all =
-      then_has AreBareItems BareBeginning (items_within file e.kind e.dims count 0 gs) (λ found. Fine (beginning (Some (begins.Elements found.items)) found.taken))
-      (within_bare file e.kind e.dims count 0 gs all) (λ found h. ap begins.Elements (all_items_bare found.items h))
+      then_has AreBareItems BareBeginning (items_within file e.kind e.dims (room count) 0 gs) (λ found. Fine (beginning (Some (begins.Elements found.items)) found.taken))
+      (within_bare file e.kind e.dims (room count) 0 gs all) (λ found h. ap begins.Elements (all_items_bare found.items h))
   list_given_bare file ctype.Void gs all = alone_bare gs
   list_given_bare file (ctype.Number kind) gs all = alone_bare gs
   list_given_bare file (ctype.Pointer e) gs all = alone_bare gs
@@ -194,9 +194,9 @@ object_bare p x twice typed fixed taken of i h =
 pub declarator_bare : (file : Bool) (s : Saying) (n : ℕ) (names : Names) (d : Declarator) → IfFine IsBareObject (declarator_judged file s n names d)
 unfolding declarator_judged
 declarator_bare file s n names d =
-    both_has Anything BareBeginning IsBareObject (dimensions names d.dims) (begun (names_behind file s n names d) file (declared_type file s (dimensions names d.dims) d) d.init)
+    both_has Anything BareBeginning IsBareObject (dimensions names d.dims) (begun (names_behind file s n names d) file (type_for file s (dimensions names d.dims) d) d.init)
     (λ sizes start. object_made d.place d.name (is_twice names d.name) (has_type file s d) (object_fixed s.fixed d.stars)
     (sizes.taken ++ start.taken) (declared_type file s (Fine sizes) d) start.init)
-    (anything (dimensions names d.dims)) (begun_bare (names_behind file s n names d) file (declared_type file s (dimensions names d.dims) d) d.init)
+    (anything (dimensions names d.dims)) (begun_bare (names_behind file s n names d) file (type_for file s (dimensions names d.dims) d) d.init)
     (λ sizes start h k. object_bare d.place d.name (is_twice names d.name) (has_type file s d) (object_fixed s.fixed d.stars)
     (sizes.taken ++ start.taken) (declared_type file s (Fine sizes) d) start.init k)

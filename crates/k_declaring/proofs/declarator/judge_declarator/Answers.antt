@@ -7,4 +7,4 @@ returns-in-Err c = sizes_refused c.args.file c.args.saying.now c.args.number c.a
 pub returns : goal.returns
 returns c =
     let given = c.in-Ok.ensures in
-    c.judge_beginning.ensures given.0 c.args.taken.now given.1 given.3 given.2
+    c.judge_beginning.ensures given.0 c.args.taken.now given.1 given.3 given.4 given.2
