@@ -3,16 +3,35 @@ use Rattle.std.proofs.Common.{◌≡◌, ◌∙◌, List, ◌∷◌, Option, Res
 use Rattle.k_world.specs.declared.answer.Stop.{Stop}
 use Rattle.k_world.specs.declared.answer.Stop.TheVariants as stop
 use Rattle.k_world.specs.declared.value.Held.{Held}
+use Rattle.k_evaluation.specs.declared.operand.Operand.{Operand}
+use Rattle.k_evaluation.specs.declared.operand.Target.{Target}
 use Rattle.k_evaluation.specs.Flows.{Within}
-use Rattle.k_evaluation.specs.States.{State, Outcome, Goes, Stops, Part, follow}
+use Rattle.k_evaluation.specs.States.{State, Outcome, Goes, Stops, Part, follow, ◌>>=◌}
 use Rattle.k_listing.specs.Comes.{Comes}
 use Rattle.k_pending.specs.declared.given.Given.{Given}
+use Rattle.k_pending.specs.declared.given.Given.TheVariants as given
 use Rattle.k_pending.specs.declared.plan.Plan.TheVariants as plan
 use Rattle.k_pending.specs.declared.task.Task.{Task}
-use Rattle.k_pending.specs.Givens.{start}
+use Rattle.k_pending.specs.Givens.{gives_list, gives_operand, gives_target, list_in, operand_in, start, target_in}
 use Rattle.k_pending.specs.Leads.{Leads, performs}
 use Rattle.k_pending.specs.Plans.{planned}
 use Rattle.k_pending.specs.Tasks.{works}
+
+-- what is done with an operand, of what is given
+abbrev pub from_operand : (Operand → Part Operand) → Given → Part Given
+from_operand f g = f (operand_in g) >>= gives_operand
+
+-- what is done with a place, of what is given
+abbrev pub from_target : (Target → Part Operand) → Given → Part Given
+from_target f g = f (target_in g) >>= gives_operand
+
+-- what is done with operands, of what is given
+abbrev pub from_list : (List Operand → Part Operand) → Given → Part Given
+from_list f g = f (list_in g) >>= gives_operand
+
+-- which place is found by an operand, of what is given
+abbrev pub to_target : (Operand → Part Target) → Given → Part Given
+to_target f g = f (operand_in g) >>= gives_target
 
 -- What follows the first part of two is what is done with what the first one gives.
 pub then_given : {A B : Type 0} (o : Outcome A) (f : A → Part B) (wrap : B → Part Given) (hand : A → Part Given) (give : A → Given) (next : Given → Part Given)
@@ -22,6 +41,22 @@ pub then_given : {A B : Type 0} (o : Outcome A) (f : A → Part B) (wrap : B →
 then_given (Goes a u) f wrap hand give next gives_it as_next =
     as_next a u ∙ sym (ap (λ (o : Outcome Given). follow o next) (gives_it a u))
 then_given (Stops end v) f wrap hand give next gives_it as_next = refl
+
+-- an operand, and what is done with it
+pub on_operand : (o : Outcome Operand) (f : Operand → Part Operand) → follow (follow o f) gives_operand ≡ follow (follow o gives_operand) (from_operand f)
+on_operand o f = then_given o f gives_operand gives_operand given.Operand (from_operand f) (λ x u. refl) (λ x u. refl)
+
+-- a place, and what is done with it
+pub on_target : (o : Outcome Target) (f : Target → Part Operand) → follow (follow o f) gives_operand ≡ follow (follow o gives_target) (from_target f)
+on_target o f = then_given o f gives_operand gives_target given.Target (from_target f) (λ x u. refl) (λ x u. refl)
+
+-- operands, and what is done with them
+pub on_list : (o : Outcome (List Operand)) (f : List Operand → Part Operand) → follow (follow o f) gives_operand ≡ follow (follow o gives_list) (from_list f)
+on_list o f = then_given o f gives_operand gives_list given.List (from_list f) (λ x u. refl) (λ x u. refl)
+
+-- an operand, and the place that is found by it
+pub finds : (o : Outcome Operand) (f : Operand → Part Target) → follow (follow o f) gives_target ≡ follow (follow o gives_operand) (to_target f)
+finds o f = then_given o f gives_target gives_operand given.Operand (to_target f) (λ x u. refl) (λ x u. refl)
 
 -- what the part is, by an equation
 pub as_part : (w : Within) (r : Result Given Stop) (o part : Outcome Given) (before after : List Task) (s : State)

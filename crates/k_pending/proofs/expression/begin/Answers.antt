@@ -10,4 +10,13 @@ use Rattle.k_pending.proofs.expression.begin.Goals as goal
 
 pub returns-in_ok-push-in-Three-3 : goal.returns-in_ok-push-in-Three-3
 returns-in_ok-push-in-Three-3 c =
-    as_part (within_of c.args.around.now) (Ok start) (planned (within_of c.args.around.now) (plan.Three c.in-Three.first c.in-Three.second c.in-Three.third) c.args.state.now) (planned (within_of c.args.around.now) c.args.plan c.args.state.now) c.args.tasks.now c.push-in-Three-3.new.self c.args.state.now (ap (λ (p : Plan). planned (within_of c.args.around.now) p c.args.state.now) c.in-Three.is) (waits_three (within_of c.args.around.now) c.args.state.now c.in-Three.first c.in-Three.second c.in-Three.third c.args.tasks.now c.push-in-Three-3.new.self (c.in_ok-push-in-Three-3.ensures ∙ ap (λ (ts : List Task). c.in-Three.first ∷ ts) (c.in_ok-push-in-Three-2.ensures ∙ ap (λ (ts : List Task). c.in-Three.second ∷ ts) c.in_ok-push-in-Three.ensures)))
+    let w = within_of c.args.around.now in
+    let s = c.args.state.now in
+    let a = c.in-Three.first in
+    let b = c.in-Three.second in
+    let d = c.in-Three.third in
+    let after = c.push-in-Three-3.new.self in
+    as_part w (Ok start) (planned w (plan.Three a b d) s) (planned w c.args.plan s) c.args.tasks.now after s
+    (ap (λ (p : Plan). planned w p s) c.in-Three.is)
+    (waits_three w s a b d c.args.tasks.now after
+    (c.in_ok-push-in-Three-3.ensures ∙ ap (λ (ts : List Task). a ∷ ts) (c.in_ok-push-in-Three-2.ensures ∙ ap (λ (ts : List Task). b ∷ ts) c.in_ok-push-in-Three.ensures)))

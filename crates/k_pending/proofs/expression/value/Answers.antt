@@ -7,4 +7,8 @@ use Rattle.k_pending.proofs.expression.value.Goals as goal
 
 pub returns : goal.returns
 returns c =
-    as_part (within_of c.args.around.now) c.begin.result (planned (within_of c.args.around.now) c.plan_value-plan.result c.args.state.now) (valued (within_of c.args.around.now) c.args.e.now c.args.used c.args.state.now) c.args.tasks.now c.begin.new.tasks c.begin.new.state (c.plan_value-plan.ensures (within_of c.args.around.now) c.args.state.now (sym c.control.ensures)) c.begin.ensures
+    let w = within_of c.args.around.now in
+    let s = c.args.state.now in
+    let plan = c.plan_value-plan in
+    as_part w c.begin.result (planned w plan.result s) (valued w c.args.e.now c.args.used s) c.args.tasks.now c.begin.new.tasks c.begin.new.state
+    (plan.ensures w s (sym c.control.ensures)) c.begin.ensures

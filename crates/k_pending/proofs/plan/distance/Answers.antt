@@ -10,4 +10,5 @@ use Rattle.k_pending.proofs.plan.distance.Goals as goal
 
 pub returns : goal.returns
 returns c =
-    λ w. (let f : ℕ → Making = λ (k : ℕ). record { class = class.Div; place = c.args.node.place; act = borrowed.PtrDistance k } in ap f (c.scale_of.ensures ∙ (ap (λ (n : Node). scale_of n.of) (c.node_of.ensures w) ∙ ap (λ (e : TExpr). scale_of (means w e).node.of) c.get.ensures)))
+    let f : ℕ → Making = λ (k : ℕ). record { class = class.Div; place = c.args.node.place; act = borrowed.PtrDistance k } in
+    λ w. ap f (c.scale_of.ensures ∙ (ap (λ (n : Node). scale_of n.of) (c.node_of.ensures w) ∙ ap (λ (x : TExpr). scale_of (means w x).node.of) c.get.ensures))

@@ -8,4 +8,6 @@ use Rattle.k_pending.proofs.plan.plan_place.Goals as goal
 
 pub returns-in-Index : goal.returns-in-Index
 returns-in-Index c =
-    λ w s. at_Index w s c.args.e.now c.in-Index.node c.in-Index.base c.in-Index.index c.scale_of.result c.in-Index.is (c.scale_of.ensures ∙ (ap (λ (n : Node). scale_of n.of) (c.node_of.ensures w) ∙ ap (λ (e : TExpr). scale_of (means w e).node.of) c.get.ensures))
+    let at = c.in-Index in
+    λ w s. at_Index w s c.args.e.now at.node at.base at.index c.scale_of.result at.is
+    (c.scale_of.ensures ∙ (ap (λ (n : Node). scale_of n.of) (c.node_of.ensures w) ∙ ap (λ (x : TExpr). scale_of (means w x).node.of) c.get.ensures))

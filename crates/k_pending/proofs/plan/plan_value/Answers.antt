@@ -33,7 +33,9 @@ returns-in-Variable c =
 
 pub returns-in-Index : goal.returns-in-Index
 returns-in-Index c =
-    λ w s is. row_Index w s c.args.e.now c.in-Index.node c.in-Index.base c.in-Index.index c.args.used c.scale_of.result c.in-Index.is (c.scale_of.ensures ∙ (ap (λ (n : Node). scale_of n.of) (c.node_of.ensures w) ∙ ap (λ (e : TExpr). scale_of (means w e).node.of) c.get.ensures))
+    let at = c.in-Index in
+    λ w s is. row_Index w s c.args.e.now at.node at.base at.index c.args.used c.scale_of.result at.is
+    (c.scale_of.ensures ∙ (ap (λ (n : Node). scale_of n.of) (c.node_of.ensures w) ∙ ap (λ (x : TExpr). scale_of (means w x).node.of) c.get.ensures))
 
 pub returns-in-Call : goal.returns-in-Call
 returns-in-Call c =
@@ -89,7 +91,9 @@ returns-in-Cast c =
 
 pub returns-in-Binary : goal.returns-in-Binary
 returns-in-Binary c =
-    λ w s is. row_Binary w s c.args.e.now c.in-Binary.node c.in-Binary.op c.in-Binary.kind c.in-Binary.left c.in-Binary.right c.args.used (record { class = c.class_of.result; place = c.in-Binary.node.place; act = borrowed.Binary c.in-Binary.op c.in-Binary.kind }) c.in-Binary.is (let f : Class → Making = λ (k : Class). record { class = k; place = c.in-Binary.node.place; act = borrowed.Binary c.in-Binary.op c.in-Binary.kind } in ap f c.class_of.ensures)
+    let at = c.in-Binary in
+    let f : Class → Making = λ (k : Class). record { class = k; place = at.node.place; act = borrowed.Binary at.op at.kind } in
+    λ w s is. row_Binary w s c.args.e.now at.node at.op at.kind at.left at.right c.args.used (f c.class_of.result) at.is (ap f c.class_of.ensures)
 
 pub returns-in-Both : goal.returns-in-Both
 returns-in-Both c =

@@ -1,11 +1,10 @@
 use Rattle.std.proofs.Common.{false, true, ◌∙◌, sym}
 use Rattle.k_evaluation.specs.Flows.{means}
-use Rattle.k_evaluation.specs.States.{Outcome, follow}
-use Rattle.k_listing.specs.Arounds.{program_of, within_of}
-use Rattle.k_pending.specs.Givens.{gives_operand}
-use Rattle.k_world.specs.declared.value.Held.{Held}
 use Rattle.k_evaluation.specs.Meanings.{tests}
 use Rattle.k_evaluation.specs.Operators.{arm_by}
+use Rattle.k_evaluation.specs.States.{follow}
+use Rattle.k_listing.specs.Arounds.{within_of}
+use Rattle.k_pending.specs.Givens.{gives_operand}
 use Rattle.k_pending.specs.Leads.{armed}
 use Rattle.k_pending.proofs.Begun.{as_part}
 use Rattle.k_pending.proofs.StepRows.{chosen}
@@ -13,10 +12,22 @@ use Rattle.k_pending.proofs.step.choose.Goals as goal
 
 pub returns-then-holds : goal.returns-then-holds
 returns-then-holds c =
-    as_part (within_of c.args.around.now) c.arm.result (armed (within_of c.args.around.now) c.args.node c.args.first.now c.test.new.self) ((λ (o : Outcome Held). follow (follow o (arm_by (program_of c.args.around.now) c.args.node (means (within_of c.args.around.now) c.args.first.now) (means (within_of c.args.around.now) c.args.second.now))) gives_operand) (tests (program_of c.args.around.now) c.args.node.place c.args.a c.args.state.now)) c.args.tasks.now c.arm.new.tasks c.test.new.self
-    (chosen (within_of c.args.around.now) c.args.state.now c.test.new.self c.args.node c.args.a c.args.first.now c.args.second.now c.in_ok-test.test true c.in_ok-test.ensures (sym c.holds.ensures ∙ c.if-holds.true)) (c.arm.ensures (within_of c.args.around.now) c.test.new.self)
+    let w = within_of c.args.around.now in
+    let s = c.args.state.now in
+    let u = c.test.new.self in
+    let node = c.args.node in
+    let part = follow (follow (tests w.program node.place c.args.a s) (arm_by w.program node (means w c.args.first.now) (means w c.args.second.now))) gives_operand in
+    as_part w c.arm.result (armed w node c.args.first.now u) part c.args.tasks.now c.arm.new.tasks u
+    (chosen w s u node c.args.a c.args.first.now c.args.second.now c.in_ok-test.test true c.in_ok-test.ensures (sym c.holds.ensures ∙ c.if-holds.true))
+    (c.arm.ensures w u)
 
 pub returns-else-holds : goal.returns-else-holds
 returns-else-holds c =
-    as_part (within_of c.args.around.now) c.arm-else-holds.result (armed (within_of c.args.around.now) c.args.node c.args.second.now c.test.new.self) ((λ (o : Outcome Held). follow (follow o (arm_by (program_of c.args.around.now) c.args.node (means (within_of c.args.around.now) c.args.first.now) (means (within_of c.args.around.now) c.args.second.now))) gives_operand) (tests (program_of c.args.around.now) c.args.node.place c.args.a c.args.state.now)) c.args.tasks.now c.arm-else-holds.new.tasks c.test.new.self
-    (chosen (within_of c.args.around.now) c.args.state.now c.test.new.self c.args.node c.args.a c.args.first.now c.args.second.now c.in_ok-test.test false c.in_ok-test.ensures (sym c.holds.ensures ∙ c.if-holds.false)) (c.arm-else-holds.ensures (within_of c.args.around.now) c.test.new.self)
+    let w = within_of c.args.around.now in
+    let s = c.args.state.now in
+    let u = c.test.new.self in
+    let node = c.args.node in
+    let part = follow (follow (tests w.program node.place c.args.a s) (arm_by w.program node (means w c.args.first.now) (means w c.args.second.now))) gives_operand in
+    as_part w c.arm-else-holds.result (armed w node c.args.second.now u) part c.args.tasks.now c.arm-else-holds.new.tasks u
+    (chosen w s u node c.args.a c.args.first.now c.args.second.now c.in_ok-test.test false c.in_ok-test.ensures (sym c.holds.ensures ∙ c.if-holds.false))
+    (c.arm-else-holds.ensures w u)
