@@ -1,0 +1,4 @@
+pub mod Lists
+pub mod Begun
+pub mod ValueRows
+pub mod StepRows

@@ -1,0 +1,4 @@
+pub mod Givens
+pub mod Tasks
+pub mod Leads
+pub mod Plans
