@@ -12,10 +12,10 @@ use k_steps::declaration::initialiser::{After, Brace, Opened};
 use k_steps::declaration::{Declaration, DeclarationStage, Declared, Front};
 use k_steps::expression::{Fed, Reading};
 use k_steps::level::plus;
-use k_steps::operators::{is_bracket, is_equal, is_left_brace, is_right_brace, is_spec};
+use k_steps::operators::{is_bracket, is_equal, is_left_brace, is_right_brace};
 use k_steps::reading::{Closer, Maybe};
 use k_steps::stack::Stack;
-use k_steps::stars::{Stars, all_stars, constant, no_stars, star};
+use k_steps::stars::{Stars, all_stars, no_stars, star, type_word};
 use k_steps::turn::Turn;
 use k_tree::{Declarator, Init, Mark, Token, TokenKind, Word};
 use std::alloc::Global;
@@ -48,21 +48,17 @@ pub fn begin_declaration(alloc: Global, word: Word, level: usize) -> Result<Decl
 
 /// A keyword before a name: `const` behind a star, or one more specifier.
 #[tactic(auto, unfolding(k_steps::specs::Declarations::word))]
-fn word(mut front: Front, stars: Stars, word: Word) -> Result<Declared, NoMemory>
+fn word(front: Front, stars: Stars, word: Word) -> Result<Declared, NoMemory>
     ensures { IfOk result (λ fed. fed ≡ spec.word front stars word) }
 {
-    if stars.pending {
-        if !matches!(word, Word::Const) {
-            return Ok(Turn::Refused);
+    let Front { specs, list, level } = front;
+    match type_word(specs, stars, list.len() == 0, word)? {
+        Some((specs, stars)) => {
+            let front = Front { specs, list, level };
+            Ok(declares(front, DeclarationStage::Before { stars }, 0))
         }
-        let stars = constant(stars)?;
-        return Ok(declares(front, DeclarationStage::Before { stars }, 0));
+        None => Ok(Turn::Refused),
     }
-    if stars.done.len() > 0 || front.list.len() > 0 || !is_spec(word) {
-        return Ok(Turn::Refused);
-    }
-    front.specs.push(word)?;
-    Ok(declares(front, DeclarationStage::Before { stars }, 0))
 }
 
 /// The name of a declarator.

@@ -5,9 +5,8 @@ ghost use Rattle.k_steps.specs.Expressions as spec;
 use crate::expression::{goes, refused};
 use k_num::{NoMemory, Place, Seq};
 use k_steps::expression::{ExpressionStage, Fed, Open, Site, Term};
-use k_steps::operators::is_spec;
 use k_steps::stack::Stack;
-use k_steps::stars::{Stars, all_stars, constant, star};
+use k_steps::stars::{Stars, all_stars, star, type_word};
 use k_steps::turn::Turn;
 use k_tree::{Expr, Mark, Token, TokenKind, Word};
 
@@ -91,24 +90,16 @@ fn cast(site: Site, mut opens: Stack<Open>, around: Open) -> Result<Fed, NoMemor
 fn word(
     site: Site,
     opens: Stack<Open>,
-    mut specs: Seq<Word>,
+    specs: Seq<Word>,
     stars: Stars,
     word: Word,
 ) -> Result<Fed, NoMemory>
     ensures { IfOk result (λ fed. fed ≡ spec.word_of_type site opens specs stars word) }
 {
-    if stars.pending {
-        if !matches!(word, Word::Const) {
-            return Ok(Turn::Refused);
-        }
-        let stars = constant(stars)?;
-        return Ok(goes(site, opens, ExpressionStage::Type { specs, stars }, 0));
+    match type_word(specs, stars, true, word)? {
+        Some((specs, stars)) => Ok(goes(site, opens, ExpressionStage::Type { specs, stars }, 0)),
+        None => Ok(Turn::Refused),
     }
-    if stars.done.len() > 0 || !is_spec(word) {
-        return Ok(Turn::Refused);
-    }
-    specs.push(word)?;
-    Ok(goes(site, opens, ExpressionStage::Type { specs, stars }, 0))
 }
 
 /// One more mark in the name of a type.
