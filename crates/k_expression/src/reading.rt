@@ -4,9 +4,9 @@ ghost use Rattle.k_steps.specs.Readings as spec;
 ghost use Rattle.k_steps.specs.Expressions.{is_left_paren};
 ghost use Rattle.k_steps.specs.declared.reading.Closer.TheVariants as closers;
 
-use crate::expression::feed;
+use crate::expression::feed_boxed;
 use k_num::{Box, NoMemory};
-use k_steps::expression::{ExpressionStage, Fed, Reading};
+use k_steps::expression::{ExpressionStage, Reading};
 use k_steps::operators::{is_close, is_open, is_semicolon};
 use k_steps::reading::{Closer, Maybe, Read};
 use k_steps::turn::Turn;
@@ -81,18 +81,14 @@ pub fn read_needed(
 ) -> Result<Read, NoMemory>
     ensures { IfOk result (λ read. read ≡ spec.read_needed reading token.now closer) }
 {
-    match feed(alloc, reading.into_inner(), token)? {
-        Turn::Goes(reading, reach) => {
-            let reading = Box::new(alloc, reading)?;
-            Ok(Turn::Goes(reading, reach))
-        }
+    match feed_boxed(alloc, reading, token)? {
+        Turn::Goes(reading, reach) => Ok(Turn::Goes(reading, reach)),
         Turn::Done(value) => {
             if closes(token, closer) {
-                let value = Box::new(alloc, value)?;
-                return Ok(Turn::Done(value));
+                Ok(Turn::Done(value))
+            } else {
+                Ok(Turn::Refused)
             }
-            drop(value);
-            Ok(Turn::Refused)
         }
         Turn::Refused => Ok(Turn::Refused),
     }
