@@ -5,19 +5,19 @@ ghost use Rattle.std.specs.Prelude.{◌≡◌, IfOk, length};
 ghost use Rattle.k_steps.specs.Level as levels;
 ghost use Rattle.k_steps.specs.Declarations as spec;
 
-use k_expression::expression::{begin, begin_boxed, feed};
+use k_expression::expression::{begin_boxed, feed_boxed};
 use k_expression::reading::{read_maybe, unboxed};
 use k_num::{Box, NoMemory, Place, Seq, Text};
 use k_steps::declaration::initialiser::{After, Brace, Opened};
 use k_steps::declaration::{Declaration, DeclarationStage, Declared, Front};
-use k_steps::expression::{Fed, Reading};
+use k_steps::expression::Reading;
 use k_steps::level::plus;
-use k_steps::operators::{is_bracket, is_equal, is_left_brace, is_right_brace, is_spec};
-use k_steps::reading::{Closer, Maybe};
+use k_steps::operators::{is_bracket, is_equal, is_left_brace, is_right_brace};
+use k_steps::reading::{Closer, Maybe, Read};
 use k_steps::stack::Stack;
-use k_steps::stars::{Stars, all_stars, constant, no_stars, star};
+use k_steps::stars::{Stars, all_stars, no_stars, star, type_word};
 use k_steps::turn::Turn;
-use k_tree::{Declarator, Init, Mark, Token, TokenKind, Word};
+use k_tree::{Declarator, Expr, Init, Mark, Token, TokenKind, Word};
 use std::alloc::Global;
 
 /// The declaration goes on.
@@ -28,8 +28,15 @@ fn declares(front: Front, stage: DeclarationStage, reach: usize) -> Declared
     Turn::Goes(declaration, reach)
 }
 
+/// What a token does in a declaration that is kept in a box.
+pub type Boxed = Turn<Box<Declaration>, (Seq<Word>, Seq<Declarator>)>;
+
 /// A declaration whose first specifier was read.
-pub fn begin_declaration(alloc: Global, word: Word, level: usize) -> Result<Declaration, NoMemory>
+pub fn begin_declaration(
+    alloc: Global,
+    word: Word,
+    level: usize,
+) -> Result<Box<Declaration>, NoMemory>
     ensures { IfOk result (λ declaration. declaration ≡ spec.begin_declaration word level) }
 {
     let mut specs = Seq::new(alloc);
@@ -40,29 +47,23 @@ pub fn begin_declaration(alloc: Global, word: Word, level: usize) -> Result<Decl
         level,
     };
     let stars = no_stars(alloc);
-    Ok(Declaration {
-        front,
-        stage: DeclarationStage::Before { stars },
-    })
+    let stage = DeclarationStage::Before { stars };
+    Box::new(alloc, Declaration { front, stage })
 }
 
 /// A keyword before a name: `const` behind a star, or one more specifier.
 #[tactic(auto, unfolding(k_steps::specs::Declarations::word))]
-fn word(mut front: Front, stars: Stars, word: Word) -> Result<Declared, NoMemory>
+fn word(front: Front, stars: Stars, word: Word) -> Result<Declared, NoMemory>
     ensures { IfOk result (λ fed. fed ≡ spec.word front stars word) }
 {
-    if stars.pending {
-        if !matches!(word, Word::Const) {
-            return Ok(Turn::Refused);
+    let Front { specs, list, level } = front;
+    match type_word(specs, stars, list.len() == 0, word)? {
+        Some((specs, stars)) => {
+            let front = Front { specs, list, level };
+            Ok(declares(front, DeclarationStage::Before { stars }, 0))
         }
-        let stars = constant(stars)?;
-        return Ok(declares(front, DeclarationStage::Before { stars }, 0));
+        None => Ok(Turn::Refused),
     }
-    if stars.done.len() > 0 || front.list.len() > 0 || !is_spec(word) {
-        return Ok(Turn::Refused);
-    }
-    front.specs.push(word)?;
-    Ok(declares(front, DeclarationStage::Before { stars }, 0))
 }
 
 /// The name of a declarator.
@@ -85,6 +86,7 @@ fn name(
         dims: Seq::new(alloc),
         init: None,
     };
+    let declarator = Box::new(alloc, declarator)?;
     Ok(declares(front, DeclarationStage::Named { declarator }, 0))
 }
 
@@ -120,26 +122,27 @@ fn mark_before(front: Front, stars: Stars, mark: Mark) -> Result<Declared, NoMem
 fn end(
     alloc: Global,
     mut front: Front,
-    declarator: Declarator,
+    declarator: Box<Declarator>,
     mark: Mark,
 ) -> Result<Declared, NoMemory>
     ensures { IfOk result (λ fed. fed ≡ spec.end front declarator mark) }
 {
     match mark {
         Mark::Comma => {
-            front.list.push(declarator)?;
+            front.list.push(declarator.into_inner())?;
             let stars = no_stars(alloc);
             Ok(declares(front, DeclarationStage::Before { stars }, 0))
         }
         Mark::Semicolon => {
-            front.list.push(declarator)?;
-            let Front { specs, list, .. } = front;
+            let Front {
+                specs,
+                mut list,
+                ..
+            } = front;
+            list.push(declarator.into_inner())?;
             Ok(Turn::Done((specs, list)))
         }
-        _ => {
-            drop(declarator);
-            Ok(Turn::Refused)
-        }
+        _ => Ok(Turn::Refused),
     }
 }
 
@@ -148,41 +151,23 @@ fn end(
 fn named(
     alloc: Global,
     front: Front,
-    declarator: Declarator,
+    declarator: Box<Declarator>,
     mark: Mark,
 ) -> Result<Declared, NoMemory>
     ensures { IfOk result (λ fed. fed ≡ spec.named front declarator mark) }
 {
     if is_bracket(mark) {
-        let reading = match begin_boxed(alloc, 2, front.level) {
-            Ok(reading) => reading,
-            Err(NoMemory) => {
-                drop(declarator);
-                return Err(NoMemory);
-            }
+        let reading = begin_boxed(alloc, 2, front.level)?;
+        let stage = DeclarationStage::Size {
+            declarator,
+            reading,
         };
-        Ok(declares(
-            front,
-            DeclarationStage::Size {
-                declarator,
-                reading,
-            },
-            0,
-        ))
+        Ok(declares(front, stage, 0))
     } else if is_equal(mark) {
-        let reach = match plus(front.level, 1) {
-            Ok(reach) => reach,
-            Err(NoMemory) => {
-                drop(declarator);
-                return Err(NoMemory);
-            }
-        };
+        let reach = plus(front.level, 1)?;
         let braces = Stack::new(alloc);
-        Ok(declares(
-            front,
-            DeclarationStage::Starts { declarator, braces },
-            reach,
-        ))
+        let stage = DeclarationStage::Starts { declarator, braces };
+        Ok(declares(front, stage, reach))
     } else {
         end(alloc, front, declarator, mark)
     }
@@ -192,18 +177,31 @@ fn named(
 fn behind_name(
     alloc: Global,
     front: Front,
-    declarator: Declarator,
+    declarator: Box<Declarator>,
     token: &Token,
 ) -> Result<Declared, NoMemory>
     ensures { IfOk result (λ fed. fed ≡ spec.kind_named front declarator token.now.what) }
 {
     match &token.what {
         TokenKind::Mark(mark) => named(alloc, front, declarator, *mark),
-        _ => {
-            drop(declarator);
-            Ok(Turn::Refused)
-        }
+        _ => Ok(Turn::Refused),
     }
+}
+
+/// A declarator with one more dimension.
+fn sized(
+    alloc: Global,
+    declarator: Box<Declarator>,
+    size: Option<Expr>,
+) -> Result<Box<Declarator>, NoMemory>
+    ensures { IfOk result (λ made. made ≡ spec.sized declarator size) }
+{
+    let mut declarator = declarator.into_inner();
+    if let Err(NoMemory) = declarator.dims.push(size) {
+        drop(declarator);
+        return Err(NoMemory);
+    }
+    Box::new(alloc, declarator)
 }
 
 /// A token in a dimension.
@@ -211,41 +209,25 @@ fn behind_name(
 fn size(
     alloc: Global,
     front: Front,
-    mut declarator: Declarator,
+    declarator: Box<Declarator>,
     reading: Box<Reading>,
     token: &Token,
 ) -> Result<Declared, NoMemory>
     ensures { IfOk result (λ fed. fed ≡ spec.size front declarator reading token.now) }
 {
-    let read = match read_maybe(alloc, reading, token, Closer::Bracket) {
-        Ok(read) => read,
-        Err(NoMemory) => {
-            drop(declarator);
-            return Err(NoMemory);
-        }
-    };
-    match read {
+    match read_maybe(alloc, reading, token, Closer::Bracket)? {
         Turn::Goes(reading, reach) => {
-            Ok(declares(
-                front,
-                DeclarationStage::Size {
-                    declarator,
-                    reading,
-                },
-                reach,
-            ))
+            let stage = DeclarationStage::Size {
+                declarator,
+                reading,
+            };
+            Ok(declares(front, stage, reach))
         }
         Turn::Done(value) => {
-            if let Err(NoMemory) = declarator.dims.push(unboxed(value)) {
-                drop(declarator);
-                return Err(NoMemory);
-            }
+            let declarator = sized(alloc, declarator, unboxed(value))?;
             Ok(declares(front, DeclarationStage::Named { declarator }, 0))
         }
-        Turn::Refused => {
-            drop(declarator);
-            Ok(Turn::Refused)
-        }
+        Turn::Refused => Ok(Turn::Refused),
     }
 }
 
@@ -255,10 +237,9 @@ fn behind(alloc: Global, front: Front, opened: Opened, token: &Token) -> Result<
     ensures { IfOk result (λ fed. fed ≡ spec.after front opened token.now) }
 {
     let TokenKind::Mark(mark) = &token.what else {
-        drop(opened);
         return Ok(Turn::Refused);
     };
-    match initialiser::behind(opened, *mark)? {
+    match initialiser::behind(alloc, opened, *mark)? {
         After::Starts { opened } => {
             let Opened { declarator, braces } = opened;
             Ok(declares(front, DeclarationStage::Starts { declarator, braces }, 0))
@@ -297,7 +278,7 @@ fn mark_starts(
     if is_left_brace(mark) {
         open_brace(alloc, front, opened, token.place)
     } else if is_right_brace(mark) {
-        last_comma(front, opened)
+        last_comma(alloc, front, opened)
     } else {
         first(alloc, front, opened, token)
     }
@@ -324,31 +305,19 @@ fn open_brace(
         declarator,
         mut braces,
     } = opened;
-    let reach = match below_braces(front.level, &braces, 2) {
-        Ok(reach) => reach,
-        Err(NoMemory) => {
-            drop(declarator);
-            return Err(NoMemory);
-        }
-    };
+    let reach = below_braces(front.level, &braces, 2)?;
     let items = Seq::new(alloc);
-    if let Err(NoMemory) = braces.push(Brace { place, items }) {
-        drop(declarator);
-        return Err(NoMemory);
-    }
-    Ok(declares(
-        front,
-        DeclarationStage::Starts { declarator, braces },
-        reach,
-    ))
+    braces.push(Brace { place, items })?;
+    let stage = DeclarationStage::Starts { declarator, braces };
+    Ok(declares(front, stage, reach))
 }
 
 /// A brace closes behind a comma.
 #[tactic(auto, unfolding(k_steps::specs::Declarations::last_comma))]
-fn last_comma(front: Front, opened: Opened) -> Result<Declared, NoMemory>
+fn last_comma(alloc: Global, front: Front, opened: Opened) -> Result<Declared, NoMemory>
     ensures { IfOk result (λ fed. fed ≡ spec.last_comma front opened) }
 {
-    match initialiser::last_comma(opened)? {
+    match initialiser::last_comma(alloc, opened)? {
         None => Ok(Turn::Refused),
         Some(opened) => {
             let Opened { declarator, braces } = opened;
@@ -363,29 +332,10 @@ fn first(alloc: Global, front: Front, opened: Opened, token: &Token) -> Result<D
     ensures { IfOk result (λ fed. fed ≡ spec.first_token front opened token.now) }
 {
     let Opened { declarator, braces } = opened;
-    let level = match below_braces(front.level, &braces, 1) {
-        Ok(level) => level,
-        Err(NoMemory) => {
-            drop(declarator);
-            return Err(NoMemory);
-        }
-    };
-    let fed = match feed(alloc, begin(alloc, 1, level), token) {
-        Ok(fed) => fed,
-        Err(NoMemory) => {
-            drop(declarator);
-            return Err(NoMemory);
-        }
-    };
-    match fed {
+    let level = below_braces(front.level, &braces, 1)?;
+    let reading = begin_boxed(alloc, 1, level)?;
+    match feed_boxed(alloc, reading, token)? {
         Turn::Goes(reading, reach) => {
-            let reading = match Box::new(alloc, reading) {
-                Ok(reading) => reading,
-                Err(NoMemory) => {
-                    drop(declarator);
-                    return Err(NoMemory);
-                }
-            };
             let place = token.place;
             let stage = DeclarationStage::Value {
                 declarator,
@@ -397,13 +347,9 @@ fn first(alloc: Global, front: Front, opened: Opened, token: &Token) -> Result<D
         }
         Turn::Done(value) => {
             drop(value);
-            drop(declarator);
             Ok(Turn::Refused)
         }
-        Turn::Refused => {
-            drop(declarator);
-            Ok(Turn::Refused)
-        }
+        Turn::Refused => Ok(Turn::Refused),
     }
 }
 
@@ -419,22 +365,8 @@ fn value(
 ) -> Result<Declared, NoMemory>
     ensures { IfOk result (λ fed. fed ≡ spec.value front opened place reading token.now) }
 {
-    let fed = match feed(alloc, reading.into_inner(), token) {
-        Ok(fed) => fed,
-        Err(NoMemory) => {
-            drop(opened);
-            return Err(NoMemory);
-        }
-    };
-    match fed {
+    match feed_boxed(alloc, reading, token)? {
         Turn::Goes(reading, reach) => {
-            let reading = match Box::new(alloc, reading) {
-                Ok(reading) => reading,
-                Err(NoMemory) => {
-                    drop(opened);
-                    return Err(NoMemory);
-                }
-            };
             let Opened { declarator, braces } = opened;
             let stage = DeclarationStage::Value {
                 declarator,
@@ -445,23 +377,35 @@ fn value(
             Ok(declares(front, stage, reach))
         }
         Turn::Done(value) => {
-            let opened = initialiser::plug(opened, Init::One { place, value })?;
+            let value = value.into_inner();
+            let opened = initialiser::plug(alloc, opened, Init::One { place, value })?;
             behind(alloc, front, opened, token)
         }
-        Turn::Refused => {
-            drop(opened);
-            Ok(Turn::Refused)
-        }
+        Turn::Refused => Ok(Turn::Refused),
     }
 }
 
 /// The next token of a declaration.
-#[tactic(auto, unfolding(k_steps::specs::Declarations::feed_declaration))]
 pub fn feed_declaration(
     alloc: Global,
-    declaration: Declaration,
+    declaration: Box<Declaration>,
     token: &Token,
-) -> Result<Declared, NoMemory>
+) -> Result<Boxed, NoMemory>
+    ensures { IfOk result (λ fed. fed ≡ spec.feed_declaration declaration token.now) }
+{
+    match feed(alloc, declaration.into_inner(), token)? {
+        Turn::Goes(declaration, reach) => {
+            let declaration = Box::new(alloc, declaration)?;
+            Ok(Turn::Goes(declaration, reach))
+        }
+        Turn::Done(declared) => Ok(Turn::Done(declared)),
+        Turn::Refused => Ok(Turn::Refused),
+    }
+}
+
+/// The next token of a declaration that is out of its box.
+#[tactic(auto, unfolding(k_steps::specs::Declarations::feed_declaration))]
+fn feed(alloc: Global, declaration: Declaration, token: &Token) -> Result<Declared, NoMemory>
     ensures { IfOk result (λ fed. fed ≡ spec.feed_declaration declaration token.now) }
 {
     let Declaration { front, stage } = declaration;

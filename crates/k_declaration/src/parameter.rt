@@ -9,7 +9,7 @@ use k_steps::expression::Reading;
 use k_steps::operators::{is_bracket, is_spec, is_star};
 use k_steps::parameter::{ParameterStage, Parameters, Parametric};
 use k_steps::reading::{Closer, Maybe};
-use k_steps::stars::{Stars, all_stars, constant, no_stars, star};
+use k_steps::stars::{Stars, all_stars, no_stars, star, type_word};
 use k_steps::turn::Turn;
 use k_tree::{Mark, Param, Params, Token, TokenKind, Word};
 use std::alloc::Global;
@@ -163,37 +163,29 @@ fn behind_name(
 
 /// A keyword in the type of a parameter.
 #[tactic(auto, unfolding(k_steps::specs::Parameters::word))]
-fn word(
-    list: Seq<Param>,
-    mut param: Param,
-    stars: Stars,
-    word: Word,
-) -> Result<Parametric, NoMemory>
+fn word(list: Seq<Param>, param: Param, stars: Stars, word: Word) -> Result<Parametric, NoMemory>
     ensures { IfOk result (λ fed. fed ≡ spec.word list param stars word) }
 {
-    if stars.pending {
-        if !matches!(word, Word::Const) {
-            drop(param);
-            return Ok(Turn::Refused);
+    let Param {
+        place,
+        specs,
+        stars: done,
+        name,
+        dims,
+    } = param;
+    match type_word(specs, stars, true, word)? {
+        Some((specs, stars)) => {
+            let param = Param {
+                place,
+                specs,
+                stars: done,
+                name,
+                dims,
+            };
+            Ok(follows(list, ParameterStage::Typed { param, stars }, 0))
         }
-        let stars = match constant(stars) {
-            Ok(stars) => stars,
-            Err(NoMemory) => {
-                drop(param);
-                return Err(NoMemory);
-            }
-        };
-        return Ok(follows(list, ParameterStage::Typed { param, stars }, 0));
+        None => Ok(Turn::Refused),
     }
-    if stars.done.len() > 0 || !is_spec(word) {
-        drop(param);
-        return Ok(Turn::Refused);
-    }
-    if let Err(NoMemory) = param.specs.push(word) {
-        drop(param);
-        return Err(NoMemory);
-    }
-    Ok(follows(list, ParameterStage::Typed { param, stars }, 0))
 }
 
 /// The stars of a parameter are done.

@@ -14,6 +14,7 @@ use k_num::{Box, NoMemory, Place, Seq, Text};
 use k_steps::expression::{ExpressionStage, Fed, Open, Reading, Site, Term};
 use k_steps::level::plus;
 use k_steps::operators::right_rank;
+use k_steps::reading::Read;
 use k_steps::stack::Stack;
 use k_steps::turn::Turn;
 use k_tree::{Expr, Mark, Token};
@@ -73,14 +74,16 @@ fn prefix_rank(op: Mark) -> u8
 
 /// The next token of an expression.
 #[tactic(auto, unfolding(k_steps::specs::Expressions::feed))]
-pub fn feed(alloc: Global, reading: Reading, token: &Token) -> Result<Fed, NoMemory>
+fn feed(alloc: Global, reading: Reading, token: &Token) -> Result<Fed, NoMemory>
     ensures { IfOk result (λ fed. fed ≡ spec.feed reading token.now) }
 {
     let Reading { site, opens, state } = reading;
     match state {
         ExpressionStage::Operand => operand::operand(alloc, site, opens, token),
         ExpressionStage::Named { place, name } => named(alloc, site, opens, place, name, token),
-        ExpressionStage::Type { specs, stars } => types::in_type(site, opens, specs, stars, token),
+        ExpressionStage::Type { specs, stars } => {
+            types::in_type(alloc, site, opens, specs, stars, token)
+        },
         ExpressionStage::Value { term } => close::value(alloc, site, opens, term, token),
     }
 }
@@ -107,7 +110,7 @@ fn named(
         return Ok(goes(site, opens, ExpressionStage::Operand, 0));
     }
     let term = Term {
-        tree: Expr::Name { place, name },
+        tree: Box::new(alloc, Expr::Name { place, name })?,
         rank: 16,
         height: 1,
     };
@@ -115,7 +118,7 @@ fn named(
 }
 
 /// An expression begins.
-pub fn begin(alloc: Global, rank: u8, level: usize) -> Reading
+fn begin(alloc: Global, rank: u8, level: usize) -> Reading
     ensures { result ≡ spec.begin rank level }
 {
     Reading {
@@ -130,4 +133,18 @@ pub fn begin_boxed(alloc: Global, rank: u8, level: usize) -> Result<Box<Reading>
     ensures { IfOk result (λ reading. reading ≡ spec.begin rank level) }
 {
     Box::new(alloc, begin(alloc, rank, level))
+}
+
+/// The next token of an expression in a box.
+pub fn feed_boxed(alloc: Global, reading: Box<Reading>, token: &Token) -> Result<Read, NoMemory>
+    ensures { IfOk result (λ read. read ≡ spec.feed reading token.now) }
+{
+    match feed(alloc, reading.into_inner(), token)? {
+        Turn::Goes(reading, reach) => {
+            let reading = Box::new(alloc, reading)?;
+            Ok(Turn::Goes(reading, reach))
+        }
+        Turn::Done(value) => Ok(Turn::Done(value)),
+        Turn::Refused => Ok(Turn::Refused),
+    }
 }

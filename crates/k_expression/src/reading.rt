@@ -3,11 +3,11 @@ ghost use Rattle.std.specs.Prelude.{◌≡◌, ◌&&◌, IfOk};
 ghost use Rattle.k_steps.specs.Readings as spec;
 ghost use Rattle.k_steps.specs.Expressions.{is_left_paren};
 ghost use Rattle.k_steps.specs.declared.reading.Closer.TheVariants as closers;
-ghost use Rattle.k_tree.specs.declared.tokens.TokenKind.TheVariants as kinds;
 
-use crate::expression::feed;
+use crate::expression::feed_boxed;
 use k_num::{Box, NoMemory};
-use k_steps::expression::{ExpressionStage, Fed, Reading};
+use k_steps::expression::{ExpressionStage, Reading};
+use k_steps::operators::{is_close, is_open, is_semicolon};
 use k_steps::reading::{Closer, Maybe, Read};
 use k_steps::turn::Turn;
 use k_tree::{Expr, Mark, Token, TokenKind};
@@ -25,12 +25,13 @@ pub fn closes(token: &Token, closer: Closer) -> bool
 }
 
 /// Is it this mark?
+#[tactic(auto, unfolding(k_steps::specs::Operators::is_close, k_steps::specs::Operators::is_semicolon))]
 fn mark_closes(mark: Mark, closer: Closer) -> bool
     ensures { result ≡ spec.mark_closes closer mark }
 {
     match closer {
         Closer::Bracket => is_right_bracket(mark),
-        Closer::Paren => is_right_paren(mark),
+        Closer::Paren => is_close(mark),
         Closer::Semicolon => is_semicolon(mark),
         Closer::Colon => is_colon(mark),
     }
@@ -48,33 +49,15 @@ fn is_right_bracket(mark: Mark) -> bool
     matches!(mark, Mark::RightBracket)
 }
 
-fn is_right_paren(mark: Mark) -> bool
-    ensures { result ≡ spec.mark_closes closers.Paren mark }
-{
-    matches!(mark, Mark::RightParen)
-}
-
-fn is_semicolon(mark: Mark) -> bool
-    ensures { result ≡ spec.mark_closes closers.Semicolon mark }
-{
-    matches!(mark, Mark::Semicolon)
-}
-
 /// Is a token `(`?
+#[tactic(auto, unfolding(k_steps::specs::Operators::is_open))]
 pub fn is_left_paren(token: &Token) -> bool
     ensures { result ≡ is_left_paren token.now.what }
 {
     match &token.what {
-        TokenKind::Mark(mark) => is_mark_left_paren(*mark),
+        TokenKind::Mark(mark) => is_open(*mark),
         _ => false,
     }
-}
-
-/// Is a mark `(`?
-fn is_mark_left_paren(mark: Mark) -> bool
-    ensures { result ≡ is_left_paren (kinds.Mark mark) }
-{
-    matches!(mark, Mark::LeftParen)
 }
 
 /// Has nothing of the expression been read yet?
@@ -98,18 +81,14 @@ pub fn read_needed(
 ) -> Result<Read, NoMemory>
     ensures { IfOk result (λ read. read ≡ spec.read_needed reading token.now closer) }
 {
-    match feed(alloc, reading.into_inner(), token)? {
-        Turn::Goes(reading, reach) => {
-            let reading = Box::new(alloc, reading)?;
-            Ok(Turn::Goes(reading, reach))
-        }
+    match feed_boxed(alloc, reading, token)? {
+        Turn::Goes(reading, reach) => Ok(Turn::Goes(reading, reach)),
         Turn::Done(value) => {
             if closes(token, closer) {
-                let value = Box::new(alloc, value)?;
-                return Ok(Turn::Done(value));
+                Ok(Turn::Done(value))
+            } else {
+                Ok(Turn::Refused)
             }
-            drop(value);
-            Ok(Turn::Refused)
         }
         Turn::Refused => Ok(Turn::Refused),
     }

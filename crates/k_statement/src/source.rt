@@ -7,11 +7,11 @@ ghost use Rattle.k_steps.specs.declared.turn.Turn.TheVariants as turns;
 ghost use Rattle.k_steps.specs.Declarations.{feed_declaration};
 
 use crate::statement::{begin_body, feed_body};
-use k_declaration::declaration::{begin_declaration, feed_declaration};
+use k_declaration::declaration::{Boxed, begin_declaration, feed_declaration};
 use k_declaration::parameter::{begin_parameters, feed_parameters};
 use k_expression::reading::is_left_paren;
 use k_num::{Box, NoMemory, Place, Seq};
-use k_steps::declaration::{Declaration, DeclarationStage, Declared, Front};
+use k_steps::declaration::{Declaration, DeclarationStage, Front};
 use k_steps::operators::is_spec;
 use k_steps::parameter::{Parameters, Parametric};
 use k_steps::source::{Source, SourceStage, Sourced, Title};
@@ -58,7 +58,6 @@ fn starts(alloc: Global, items: Seq<Item>, token: &Token) -> Result<Sourced, NoM
                 return Ok(Turn::Refused);
             }
             let declaration = begin_declaration(alloc, *word, 1)?;
-            let declaration = Box::new(alloc, declaration)?;
             Ok(goes_on(items, SourceStage::Declares { place, declaration }, 0))
         }
         _ => Ok(Turn::Refused),
@@ -72,14 +71,14 @@ fn is_titled(declaration: &Declaration) -> bool
 {
     match &declaration.stage {
         DeclarationStage::Named { declarator } => {
-            declaration.front.list.len() == 0 && declarator.dims.len() == 0
+            declaration.front.list.len() == 0 && declarator.get().dims.len() == 0
         }
         _ => false,
     }
 }
 
 /// The head of a function before its parameters.
-fn title_of(front: Front, declarator: Declarator) -> Title
+fn title_of(front: Front, declarator: Box<Declarator>) -> Title
     ensures { result ≡ spec.title_of front declarator }
 {
     let Front { specs, .. } = front;
@@ -89,7 +88,7 @@ fn title_of(front: Front, declarator: Declarator) -> Title
         name,
         dims,
         init,
-    } = declarator;
+    } = declarator.into_inner();
     drop(dims);
     drop(init);
     Title {
@@ -106,7 +105,7 @@ fn parameters_begin(
     items: Seq<Item>,
     place: Place,
     front: Front,
-    declarator: Declarator,
+    declarator: Box<Declarator>,
 ) -> Result<Sourced, NoMemory>
     ensures { IfOk result (λ fed. fed ≡ spec.goes_on items (phases.Parameters place (spec.title_of front declarator) begin_parameters) 0) }
 {
@@ -176,9 +175,8 @@ fn declared(
 ) -> Result<Sourced, NoMemory>
     ensures { IfOk result (λ fed. fed ≡ spec.declares_by items place (feed_declaration declaration token.now)) }
 {
-    match feed_declaration(alloc, declaration.into_inner(), token)? {
+    match feed_declaration(alloc, declaration, token)? {
         Turn::Goes(declaration, reach) => {
-            let declaration = Box::new(alloc, declaration)?;
             Ok(goes_on(items, SourceStage::Declares { place, declaration }, reach))
         }
         Turn::Done((specs, list)) => item_done(items, Item::Objects { place, specs, list }),

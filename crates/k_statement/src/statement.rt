@@ -7,10 +7,10 @@ mod switch;
 ghost use Rattle.std.specs.Prelude.{◌≡◌, IfOk};
 ghost use Rattle.k_steps.specs.Statements as spec;
 
-use k_declaration::declaration::feed_declaration;
+use k_declaration::declaration::{Boxed, feed_declaration};
 use k_expression::reading::{closes, read_maybe, read_needed};
 use k_num::{Box, NoMemory, Place, Seq};
-use k_steps::declaration::{Declaration, Declared};
+use k_steps::declaration::Declaration;
 use k_steps::expression::Reading;
 use k_steps::level::plus;
 use k_steps::reading::{Closer, Maybe, Read};
@@ -137,9 +137,8 @@ fn local(
 ) -> Result<Stepped, NoMemory>
     ensures { IfOk result (λ fed. fed ≡ spec.local parts frames place declaration token.now) }
 {
-    match feed_declaration(alloc, declaration.into_inner(), token)? {
+    match feed_declaration(alloc, declaration, token)? {
         Turn::Goes(declaration, reach) => {
-            let declaration = Box::new(alloc, declaration)?;
             Ok(steps(
                 parts,
                 frames,

@@ -11,12 +11,12 @@ use Rattle.k_tree.specs.Ranked.{Specs, IfGiven, RankedInit, RankedDeclarator, Ra
 use Rattle.k_tree.specs.Spelling.{spell_init, spell_initialised, spell_dims, spell_stars, spell_specs, spell_declarator, the_name, behind_commas, with_commas}
 use Rattle.k_steps.specs.Operators.{is_equal, is_bracket, is_spec_word}
 use Rattle.k_steps.specs.Level.{plus}
-use Rattle.k_steps.specs.Stars.{no_stars, all_stars, star, constant}
+use Rattle.k_steps.specs.Stars.{no_stars, all_stars, star, constant, type_word}
 use Rattle.k_steps.specs.Expressions.{begin}
 use Rattle.k_steps.specs.Readings.{read_maybe, is_fresh, closes}
 use Rattle.k_steps.specs.declared.reading.Closer.TheVariants as closer
 use Rattle.k_steps.specs.Initialisers as inits
-use Rattle.k_steps.specs.Declarations.{mark_before, feed_declaration, declaration_at, declares, front_of, begin_declaration, before, word, name, named, end, size, size_by, after}
+use Rattle.k_steps.specs.Declarations.{mark_before, feed_declaration, declaration_at, front_of, begin_declaration, before, word, name, named, end, size, size_by, after, word_by}
 use Rattle.k_steps.specs.declared.declaration.DeclarationStage.TheVariants as stage
 use Rattle.k_steps.specs.declared.turn.Turn.TheVariants as turn
 use Rattle.k_steps.proofs.CompleteLeads.{token_at, Leads, leads-then, leads-more}
@@ -40,7 +40,7 @@ unfolding feed_declaration before mark_before
 star_goes f v p = refl
 
 const_goes : (f : Front) (v : Stars) (p : Place) → Declares (before_name f (star v)) (token_at p (token.Word word_.Const)) (before_name f (constant (star v))) 0
-unfolding feed_declaration before word mark_before
+unfolding feed_declaration before word type_word mark_before
 const_goes f v p = refl
 
 name_goes : (f : Front) (v : Stars) (x : List ℕ) (p : Place)
@@ -50,8 +50,8 @@ name_goes f v x p = refl
 
 word_goes : (vs : List Word) (level : ℕ) (w : Word) (p : Place) → IsTrue (is_spec w)
     → Declares (before_name (front_of vs [] level) no_stars) (token_at p (token.Word w)) (before_name (front_of (vs ++ w ∷ []) [] level) no_stars) 0
-unfolding feed_declaration before word is_spec_word mark_before
-word_goes vs level w p h = ap (λ b. cond b (declares (front_of (vs ++ w ∷ []) [] level) (stage.Before no_stars) 0) turn.Refused) h
+unfolding feed_declaration before word type_word is_spec_word mark_before
+word_goes vs level w p h = ap (λ b. word_by (front_of vs [] level) (cond b (Some (vs ++ w ∷ [], no_stars)) None)) h
 
 -- stars and a name were read
 pub record Titled (f : Front) (stars : List Bool) (x : List ℕ) (z : Declaration) : Type 0 where

@@ -13,11 +13,11 @@ use Rattle.k_tree.specs.Nesting.{dims_depth, param_depth, params_depth, deepest}
 use Rattle.k_tree.specs.Ranked.{Specs, RankedDims, RankedParam, RankedParams, IsVoidAlone, is_spec}
 use Rattle.k_tree.specs.Spelling.{spell_dims, spell_stars, spell_specs, spell_optional_name, spell_param, spell_params, behind_commas}
 use Rattle.k_steps.specs.Operators.{is_star, is_bracket, is_spec_word}
-use Rattle.k_steps.specs.Stars.{no_stars, all_stars, star, constant}
+use Rattle.k_steps.specs.Stars.{no_stars, all_stars, star, constant, type_word}
 use Rattle.k_steps.specs.Expressions.{begin}
 use Rattle.k_steps.specs.Readings.{read_maybe, is_fresh, closes}
 use Rattle.k_steps.specs.declared.reading.Closer.TheVariants as closer
-use Rattle.k_steps.specs.Parameters.{mark_typed, mark_first, feed_parameters, begin_parameters, follows, first_token, starts, none, typed, word, name, named, end, size, size_by, is_void, is_void_list, is_void_alone}
+use Rattle.k_steps.specs.Parameters.{mark_typed, mark_first, feed_parameters, begin_parameters, follows, first_token, starts, none, typed, word, name, named, end, size, size_by, is_void, is_void_list, is_void_alone, word_by}
 use Rattle.k_steps.specs.declared.parameter.ParameterStage.TheVariants as part_
 use Rattle.k_steps.specs.declared.turn.Turn.TheVariants as turn
 use Rattle.k_steps.proofs.CompleteLeads.{token_at, Moves, Leads, leads-then, leads-more}
@@ -51,8 +51,8 @@ first_goes list w p h = ap (λ b. cond b (follows list (part_.Typed (param_at p 
 
 word_goes : (list : List Param) (at : Place) (vs : List Word) (w : Word) (p : Place) → IsTrue (is_spec w)
     → Follows (typed_at list at vs no_stars) (token_at p (token.Word w)) (typed_at list at (vs ++ w ∷ []) no_stars) 0
-unfolding feed_parameters typed word is_spec_word mark_typed is_star is_bracket
-word_goes list at vs w p h = ap (λ b. cond b (follows list (part_.Typed (param_at at (vs ++ w ∷ []) [] None []) no_stars) 0) turn.Refused) h
+unfolding feed_parameters typed word type_word is_spec_word mark_typed is_star is_bracket
+word_goes list at vs w p h = ap (λ b. word_by list (param_at at vs [] None []) (cond b (Some (vs ++ w ∷ [], no_stars)) None)) h
 
 star_goes : (list : List Param) (at : Place) (specs : List Word) (v : Stars) (p : Place)
     → Follows (typed_at list at specs v) (token_at p (token.Mark mark.Star)) (typed_at list at specs (star v)) 0
@@ -61,7 +61,7 @@ star_goes list at specs v p = refl
 
 const_goes : (list : List Param) (at : Place) (specs : List Word) (v : Stars) (p : Place)
     → Follows (typed_at list at specs (star v)) (token_at p (token.Word word_.Const)) (typed_at list at specs (constant (star v))) 0
-unfolding feed_parameters typed word mark_typed is_star is_bracket
+unfolding feed_parameters typed word type_word mark_typed is_star is_bracket
 const_goes list at specs v p = refl
 
 name_goes : (list : List Param) (at : Place) (specs : List Word) (v : Stars) (x : List ℕ) (p : Place)

@@ -1,5 +1,5 @@
 -- The name of a type in parentheses: a cast, and `sizeof` of a type.
-use Rattle.std.proofs.Common.{ℕ, ◌≡◌, ◌+◌, ◌≤◌, Bool, true, false, cond, ◌&&◌, nat_le, IsTrue, All, List, [], ◌∷◌, ◌++◌, length, sym, ap, ◌∙◌, subst, refl, arith, append_assoc, append-nil, le-leb}
+use Rattle.std.proofs.Common.{ℕ, ◌≡◌, ◌+◌, ◌≤◌, Bool, true, false, cond, ◌&&◌, nat_le, IsTrue, All, List, [], ◌∷◌, ◌++◌, length, sym, ap, ◌∙◌, subst, refl, arith, append_assoc, append-nil, le-leb, Some, None}
 use Rattle.std.proofs.lemmas.List.Elements.{All-head, All-tail}
 use Rattle.k_steps.specs.Types.{Place, Word, Expr, Stars, Term, Site, Reading}
 use Rattle.k_tree.specs.declared.tokens.TokenKind.TheVariants as token
@@ -14,8 +14,8 @@ use Rattle.k_tree.specs.Spelling.{Spelled, spell_expr, spell_expr_step, spell_sp
 use Rattle.k_steps.specs.Operators.{is_spec_word}
 use Rattle.k_steps.specs.Level.{plus, above}
 use Rattle.k_steps.specs.Top.{top}
-use Rattle.k_steps.specs.Stars.{no_stars, all_stars, star, constant}
-use Rattle.k_steps.specs.Expressions.{mark_of_type, feed, operand, hole, plug, Opens, goes, level, term, word_operand, is_before_type, is_sizeof, is_sizeof_open, type_begun, in_type, word_of_type, close_type, close_over}
+use Rattle.k_steps.specs.Stars.{no_stars, all_stars, star, constant, type_word}
+use Rattle.k_steps.specs.Expressions.{mark_of_type, feed, operand, hole, plug, Opens, goes, level, term, word_operand, is_before_type, is_sizeof, is_sizeof_open, type_begun, in_type, word_of_type, close_type, close_over, type_by}
 use Rattle.k_steps.specs.declared.expression.Open.TheVariants as open_
 use Rattle.k_steps.specs.declared.expression.ExpressionStage.TheVariants as now
 use Rattle.k_steps.specs.declared.turn.Turn.TheVariants as turn
@@ -32,8 +32,8 @@ in_name g s specs stars = reading g s (now.Type specs stars)
 -- one more specifier
 word_goes : (g : Site) (s : Opens) (specs : List Word) (w : Word) (p : Place) → IsTrue (is_spec w)
     → feed (in_name g s specs no_stars) (token_at p (token.Word w)) ≡ goes g s (now.Type (specs ++ w ∷ []) no_stars) 0
-unfolding feed in_type word_of_type is_spec_word mark_of_type
-word_goes g s specs w p h = ap (λ b. cond b (goes g s (now.Type (specs ++ w ∷ []) no_stars) 0) turn.Refused) h
+unfolding feed in_type word_of_type type_word is_spec_word mark_of_type
+word_goes g s specs w p h = ap (λ b. type_by g s (cond b (Some (specs ++ w ∷ [], no_stars)) None)) h
 
 words_lead : (bound : ℕ) (g : Site) (s : Opens) (specs ws : List Word) → 1 ≤ bound → All (λ w. IsTrue (is_spec w)) ws
     → Leads Feeds bound (spell_specs ws) (in_name g s specs no_stars) (λ r. r ≡ in_name g s (specs ++ ws) no_stars)
@@ -55,7 +55,7 @@ star_goes g s specs stars p = refl
 
 const_goes : (g : Site) (s : Opens) (specs : List Word) (stars : Stars) (p : Place)
     → feed (in_name g s specs (star stars)) (token_at p (token.Word word.Const)) ≡ goes g s (now.Type specs (constant (star stars))) 0
-unfolding feed in_type word_of_type mark_of_type
+unfolding feed in_type word_of_type type_word mark_of_type
 const_goes g s specs stars p = refl
 
 -- the name of a type is read up to here

@@ -1,14 +1,13 @@
 -- The levels that the tokens of a declaration make sure are within the limit.
-use Rattle.std.proofs.Common.{ℕ, ◌≡◌, ◌≢◌, ◌≤◌, ◌+◌, Bool, true, false, ◌&&◌, cond, nat_eq, List, [], ◌∷◌, ◌++◌, length, Some, None, refl, arith}
+use Rattle.std.proofs.Common.{ℕ, ◌≡◌, ◌≢◌, ◌≤◌, ◌+◌, Bool, true, false, ◌&&◌, cond, nat_eq, List, [], ◌∷◌, length, Some, None, refl, arith}
 use Rattle.std.proofs.lemmas.Bool.{cond_both, true≢false}
 use Rattle.k_steps.specs.Types.{Place, Token, TokenKind, Mark, Init, Declarator, Stars, Reading, Fed, Closer, Read, Maybe, Brace, Opened, Front, DeclarationStage, Declaration, Declared}
 use Rattle.k_tree.specs.declared.tokens.TokenKind.TheVariants as token
 use Rattle.k_tree.specs.declared.tokens.mark.Mark.TheVariants as mark
 use Rattle.k_tree.specs.declared.tree.declaration.Init.TheVariants as init
 use Rattle.k_steps.specs.Level.{plus}
-use Rattle.k_steps.specs.Operators.{is_spec_word, is_bracket, is_equal, is_left_brace, is_right_brace}
-use Rattle.k_steps.specs.Stars.{constant}
-use Rattle.k_steps.specs.Expressions.{begin, feed, is_const}
+use Rattle.k_steps.specs.Operators.{is_bracket, is_equal, is_left_brace, is_right_brace}
+use Rattle.k_steps.specs.Expressions.{begin, feed}
 use Rattle.k_steps.specs.declared.turn.Turn.TheVariants as turn
 use Rattle.k_steps.specs.Readings.{is_fresh, closes, read_by, read_needed, maybe_by, read_maybe}
 use Rattle.k_steps.specs.declared.reading.Closer.TheVariants as closer
@@ -18,6 +17,7 @@ use Rattle.k_steps.specs.declared.declaration.DeclarationStage.TheVariants as st
 use Rattle.k_steps.proofs.Commas.{not_none}
 use Rattle.k_steps.proofs.ExpressionReach.{Reached}
 use Rattle.k_steps.proofs.ReadingReach.{Begun, feed_begun}
+use Rattle.k_steps.proofs.TypeWords.{word_split}
 
 -- an expression up to a mark
 abbrev pub ReadStays : ℕ → Read → Type 0
@@ -81,13 +81,7 @@ module _ (lim : ℕ) where
   before_stays : (f : Front) (stars : Stars) (p : Place) (k : TokenKind) → DeclaredStays lim (spec.kind_before f stars p k)
   unfolding spec.word spec.name spec.mark_before
   before_stays f stars p (token.Word w) =
-      cond_stays stars.pending
-      (cond (is_const w) (spec.declares f (stage.Before (constant stars)) 0) turn.Refused)
-      (cond (nat_eq (length stars.done) 0 && (nat_eq (length f.list) 0 && is_spec_word w))
-      (spec.declares (spec.front_of (f.specs ++ w ∷ []) f.list f.level) (stage.Before stars) 0) turn.Refused)
-      (λ e. cond_stays (is_const w) (spec.declares f (stage.Before (constant stars)) 0) turn.Refused (λ q reach. tt) (λ q. tt))
-      (λ e. cond_stays (nat_eq (length stars.done) 0 && (nat_eq (length f.list) 0 && is_spec_word w))
-      (spec.declares (spec.front_of (f.specs ++ w ∷ []) f.list f.level) (stage.Before stars) 0) turn.Refused (λ q reach. tt) (λ q. tt))
+      word_split (λ x. DeclaredStays lim (spec.word_by f x)) f.specs stars (nat_eq (length f.list) 0) w (λ e q reach. tt) (λ e q m r reach. tt) tt
   before_stays f stars p (token.Name x) = λ reach. tt
   before_stays f stars p (token.Mark mark.Star) = λ reach. tt
   before_stays f stars p _ = tt

@@ -1,5 +1,5 @@
 -- Each token of a declaration keeps what was read true.
-use Rattle.std.proofs.Common.{ℕ, ◌≡◌, ◌≢◌, ◌+◌, ◌≤◌, Bool, true, false, ◌&&◌, cond, IsTrue, List, [], ◌∷◌, ◌++◌, length, Option, Some, None, refl, sym, ◌∙◌, ap, subst, arith, append_assoc, nat_eq}
+use Rattle.std.proofs.Common.{ℕ, ◌≡◌, ◌≢◌, ◌+◌, ◌≤◌, Bool, true, false, cond, IsTrue, List, [], ◌∷◌, ◌++◌, length, Option, Some, None, refl, sym, ◌∙◌, ap, subst, arith, append_assoc, nat_eq}
 use Rattle.std.specs.Prelude.{max}
 use Rattle.std.proofs.lemmas.Bool.{eqb-true, eqb-false}
 use Rattle.std.proofs.lemmas.List.{append-nil, map-append}
@@ -18,8 +18,8 @@ use Rattle.k_tree.proofs.Standing.{stand-append}
 use Rattle.k_steps.specs.Level.{plus}
 use Rattle.k_steps.specs.Operators.{is_spec_word, is_bracket, is_equal, is_left_brace, is_right_brace}
 use Rattle.k_steps.proofs.Marks.{is_bracket_mark, is_equal_mark, is_left_brace_mark, is_right_brace_mark}
-use Rattle.k_steps.specs.Stars.{all_stars, star, constant}
-use Rattle.k_steps.specs.Expressions.{begin, feed, is_const}
+use Rattle.k_steps.specs.Stars.{all_stars, star, constant, is_const}
+use Rattle.k_steps.specs.Expressions.{begin, feed}
 use Rattle.k_steps.specs.declared.turn.Turn.TheVariants as turn
 use Rattle.k_steps.specs.Readings.{read_maybe}
 use Rattle.k_steps.specs.declared.reading.Closer.TheVariants as closer
@@ -29,12 +29,13 @@ use Rattle.k_steps.specs.declared.declaration.DeclarationStage.TheVariants as st
 use Rattle.k_steps.proofs.Commas.{comma, lay_each, each_push, with_last, not_none}
 use Rattle.k_steps.proofs.Rows.{row_push, deepest_more, StartsAt, starts-more, at_stands}
 use Rattle.k_steps.proofs.ExpressionState.{IsRead, Keeps}
-use Rattle.k_steps.proofs.ExpressionTerms.{one_at, stand-more, regroup, three, and_left, and_right}
+use Rattle.k_steps.proofs.ExpressionTerms.{one_at, stand-more, regroup, three}
 use Rattle.k_steps.proofs.ExpressionTerms as terms
 use Rattle.k_steps.proofs.TypeSound.{stars_more, stars_const, is_const_word, no_stars_yet}
 use Rattle.k_steps.proofs.ReadingSound.{At, site, begin_at, at_keeps, IsMaybe, KeepsMaybe, maybe_keeps, Behind}
 use Rattle.k_steps.proofs.InitialiserSound.{bare_more, plug_keeps, comma_keeps, close_keeps, last_keeps}
 use Rattle.k_steps.proofs.DeclarationState.{lay_bare, lay_front, lay_equal, lay_braces, OkFront, IsDeclarator, OkAfter, OkStarts, OkNamed, OkSize, OkValue, OkStage, OkDeclaration, KeepsDeclared}
+use Rattle.k_steps.proofs.TypeWords.{word_split}
 
 none_yet : {A : Type 0} (xs : List A) → nat_eq (length xs) 0 ≡ true → xs ≡ []
 none_yet [] h = refl
@@ -108,13 +109,8 @@ module _ (lim : ℕ) (l : ℕ) (ts : List Token) (t : Token) where
       → Stand (lay_front f ++ plain (spell_stars (all_stars stars))) ts → KeepsDeclared lim l ts t (spec.word f stars w)
   unfolding spec.word
   word_keeps f stars w o e st =
-      declared_cond stars.pending _ _
-      (λ h. declared_cond (is_const w) _ turn.Refused (λ k. const_keeps f stars w o e h k st) (λ k. tt))
-      (λ h. declared_cond (nat_eq (length stars.done) 0 && (nat_eq (length f.list) 0 && is_spec_word w)) _ turn.Refused
-      (λ k. let c : (nat_eq (length f.list) 0 && is_spec_word w) ≡ true = and_right (nat_eq (length stars.done) 0) (nat_eq (length f.list) 0 && is_spec_word w) k in
-      spec_keeps f stars w o e (no_stars_yet stars h (and_left (nat_eq (length stars.done) 0) (nat_eq (length f.list) 0 && is_spec_word w) k))
-      (none_yet f.list (and_left (nat_eq (length f.list) 0) (is_spec_word w) c)) (and_right (nat_eq (length f.list) 0) (is_spec_word w) c) st)
-      (λ k. tt))
+      word_split (λ x. KeepsDeclared lim l ts t (spec.word_by f x)) f.specs stars (nat_eq (length f.list) 0) w
+      (λ h k. const_keeps f stars w o e h k st) (λ h k m r. spec_keeps f stars w o e (no_stars_yet stars h k) (none_yet f.list m) r st) tt
 
   name_keeps : (f : Front) (stars : Stars) (x : List ℕ) → OkFront lim l f → t.what ≡ token.Name x
       → Stand (lay_front f ++ plain (spell_stars (all_stars stars))) ts → KeepsDeclared lim l ts t (spec.name f stars x t.place)

@@ -1,5 +1,5 @@
 -- The levels that the tokens of an expression make sure are within the limit.
-use Rattle.std.proofs.Common.{ℕ, ◌≡◌, ◌≤◌, ◌+◌, Bool, true, false, ◌&&◌, cond, nat_eq, List, [], ◌∷◌, ◌++◌, length, refl, arith}
+use Rattle.std.proofs.Common.{ℕ, ◌≡◌, ◌≤◌, ◌+◌, Bool, true, false, ◌&&◌, cond, nat_eq, List, [], ◌∷◌, length, refl, arith}
 use Rattle.std.proofs.lemmas.Bool.{cond_both}
 use Rattle.k_steps.specs.Types.{Place, Token, TokenKind, Mark, Word, Stars, Term, Open, ExpressionStage, Site, Reading, Fed, Plugged, Called}
 use Rattle.k_tree.specs.declared.tokens.TokenKind.TheVariants as token
@@ -8,13 +8,14 @@ use Rattle.k_tree.specs.declared.tree.expression.Expr.TheVariants as expr
 use Rattle.k_steps.specs.Level.{plus}
 use Rattle.k_steps.specs.Top.{top}
 use Rattle.k_steps.specs.Operators.{is_step_mark, is_prefix_mark, is_spec_word, is_open, is_close, is_bracket, is_question}
-use Rattle.k_steps.specs.Stars.{all_stars, constant}
-use Rattle.k_steps.specs.Expressions.{Opens, goes, level, hole, term, valued, posted, plug, is_sizeof, is_sizeof_open, opened, no_arguments, prefix_operator, mark_operand, is_before_type, type_begun, word_operand, operand_at, operand, close_over, close_type, is_const, word_of_type, mark_of_type, in_type_at, in_type, operator_opens, take_operator, argued, then_ends, paren_ends, index_ends, enclose, takes_token, take_token, closed_by, value, is_left_paren, named, feed_at, feed}
+use Rattle.k_steps.specs.Stars.{all_stars}
+use Rattle.k_steps.specs.Expressions.{Opens, goes, level, hole, term, valued, posted, plug, is_sizeof, is_sizeof_open, opened, no_arguments, prefix_operator, mark_operand, is_before_type, type_begun, word_operand, operand_at, operand, close_over, close_type, word_of_type, mark_of_type, in_type_at, in_type, operator_opens, take_operator, argued, then_ends, paren_ends, index_ends, enclose, takes_token, take_token, closed_by, value, is_left_paren, named, feed_at, feed, type_by}
 use Rattle.k_steps.specs.declared.expression.Open.TheVariants as open_
 use Rattle.k_steps.specs.declared.expression.ExpressionStage.TheVariants as now
 use Rattle.k_steps.specs.declared.turn.Turn.TheVariants as turn
 use Rattle.k_steps.specs.declared.expression.plug.Plugged.TheVariants as plugged
 use Rattle.k_steps.proofs.ExpressionState.{lev}
+use Rattle.k_steps.proofs.TypeWords.{word_split}
 
 -- what a cast, a prefix operator or a parenthesis with its node at level l makes sure: an operand one level down;
 -- but `sizeof (` may go on with a type
@@ -102,13 +103,7 @@ module _ (lim : ℕ) (g : Site) where
   type_stays : (s : Opens) (specs : List Word) (stars : Stars) (k : TokenKind) → Reached lim g s
       → Stays lim g (in_type_at g s specs stars k)
   unfolding word_of_type mark_of_type
-  type_stays s specs stars (token.Word w) h =
-      cond_stays stars.pending
-      (cond (is_const w) (goes g s (now.Type specs (constant stars)) 0) turn.Refused)
-      (cond (nat_eq (length stars.done) 0 && is_spec_word w) (goes g s (now.Type (specs ++ w ∷ []) stars) 0) turn.Refused)
-      (λ e. cond_stays (is_const w) (goes g s (now.Type specs (constant stars)) 0) turn.Refused (λ q reach. (refl, h)) (λ q. tt))
-      (λ e. cond_stays (nat_eq (length stars.done) 0 && is_spec_word w) (goes g s (now.Type (specs ++ w ∷ []) stars) 0) turn.Refused
-      (λ q reach. (refl, h)) (λ q. tt))
+  type_stays s specs stars (token.Word w) h = word_split (λ x. Stays lim g (type_by g s x)) specs stars true w (λ e q reach. (refl, h)) (λ e q m r reach. (refl, h)) tt
   type_stays s specs stars (token.Mark mark.Star) h = λ reach. (refl, h)
   type_stays s specs stars (token.Mark mark.RightParen) h = close_stays s specs stars h
   type_stays s specs stars _ h = tt

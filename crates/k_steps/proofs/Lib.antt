@@ -51,4 +51,5 @@ pub mod StatementTerms
 pub mod StatementViable
 pub mod SwitchTerms
 pub mod TypeSound
+pub mod TypeWords
 pub mod ValueSound

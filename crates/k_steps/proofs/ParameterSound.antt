@@ -17,7 +17,7 @@ use Rattle.k_tree.proofs.Standing.{stand-append}
 use Rattle.k_steps.specs.Operators.{is_spec_word, is_bracket, is_star}
 use Rattle.k_steps.proofs.Marks.{is_bracket_mark, is_star_mark, false_true}
 use Rattle.k_steps.specs.Stars.{all_stars, star, constant}
-use Rattle.k_steps.specs.Expressions.{begin, is_const}
+use Rattle.k_steps.specs.Expressions.{begin}
 use Rattle.k_steps.specs.Readings.{read_maybe}
 use Rattle.k_steps.specs.declared.reading.Closer.TheVariants as closer
 use Rattle.k_steps.specs.declared.turn.Turn.TheVariants as turn
@@ -29,6 +29,7 @@ use Rattle.k_steps.proofs.ExpressionTerms.{one, stand-more, regroup, and_left, a
 use Rattle.k_steps.proofs.TypeSound.{stars_more, stars_const, is_const_word, no_stars_yet}
 use Rattle.k_steps.proofs.ReadingSound.{At, site, begin_at, IsMaybe, KeepsMaybe, maybe_keeps, Behind}
 use Rattle.k_steps.proofs.DeclarationSound.{behind_all, behind_now}
+use Rattle.k_steps.proofs.TypeWords.{word_split}
 
 -- the parameter that is read stands behind those before it, and begins at its place
 abbrev pub lay_inner : Param → Pieces
@@ -303,9 +304,8 @@ module _ (lim : ℕ) (ts : List Token) (t : Token) where
       → KeepsParametric lim ts t (spec.word list p stars w)
   unfolding spec.word
   word_keeps list p stars w o e k =
-      parametric_cond stars.pending _ _
-      (λ h. parametric_cond (is_const w) _ turn.Refused
-      (λ c z. record {
+      word_split (λ x. KeepsParametric lim ts t (spec.word_by list p x)) p.specs stars true w
+      (λ h c z. record {
         list = o;
         part = record {
           behind = typed_push list p p stars (constant stars) (token.Word word_.Const) k (e ∙ ap token.Word (is_const_word w c)) refl (const_laid p stars h);
@@ -314,10 +314,7 @@ module _ (lim : ℕ) (ts : List Token) (t : Token) where
           no_dims = k.no_dims;
         };
       })
-      (λ c. tt))
-      (λ h. parametric_cond (nat_eq (length stars.done) 0 && is_spec_word w) _ turn.Refused
-      (λ c. more_spec list p stars w o e k (no_stars_yet stars h (and_left (nat_eq (length stars.done) 0) (is_spec_word w) c)) (and_right (nat_eq (length stars.done) 0) (is_spec_word w) c))
-      (λ c. tt))
+      (λ h c m r. more_spec list p stars w o e k (no_stars_yet stars h c) r) tt
 
   starred_laid : (p : Param) (stars : Stars) → p.name ≡ None → p.dims ≡ [] → lay_inner (spec.starred p stars) ≡ lay_typed p stars
   starred_laid p stars a b =

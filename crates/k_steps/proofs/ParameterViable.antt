@@ -8,8 +8,8 @@ use Rattle.k_tree.specs.declared.tokens.mark.Mark.TheVariants as mark
 use Rattle.k_tree.specs.declared.tokens.word.Word.TheVariants as word_
 use Rattle.k_tree.specs.declared.tree.declaration.Params.TheVariants as params
 use Rattle.k_steps.specs.Operators.{is_spec_word, is_bracket, is_star}
-use Rattle.k_steps.specs.Stars.{no_stars, star, constant}
-use Rattle.k_steps.specs.Expressions.{begin, is_const}
+use Rattle.k_steps.specs.Stars.{no_stars, star}
+use Rattle.k_steps.specs.Expressions.{begin}
 use Rattle.k_steps.specs.Readings.{read_maybe}
 use Rattle.k_steps.specs.declared.reading.Closer.TheVariants as closer
 use Rattle.k_steps.specs.declared.turn.Turn.TheVariants as turn
@@ -22,6 +22,7 @@ use Rattle.k_steps.proofs.ReadingReach.{Begun}
 use Rattle.k_steps.proofs.ReadingSound.{At, site}
 use Rattle.k_steps.proofs.ReadingViable.{maybe_can_end}
 use Rattle.k_steps.proofs.Runs.{run_ends, CanEnd, goes_then}
+use Rattle.k_steps.proofs.TypeWords.{word_split}
 
 -- what a part makes sure
 abbrev pub PartReached : ℕ → ParameterStage → Type 0
@@ -72,13 +73,7 @@ module _ (lim : ℕ) where
   typed_stays : (list : List Param) (p : Param) (stars : Stars) (k : TokenKind) → ParametricStays lim (spec.kind_typed list p stars k)
   unfolding spec.word spec.name spec.mark_typed
   typed_stays list p stars (token.Word w) =
-      cond_stays stars.pending
-      (cond (is_const w) (spec.follows list (part_.Typed p (constant stars)) 0) turn.Refused)
-      (cond (nat_eq (length stars.done) 0 && is_spec_word w)
-      (spec.follows list (part_.Typed (record p { specs = p.specs ++ w ∷ [] }) stars) 0) turn.Refused)
-      (λ e. cond_stays (is_const w) (spec.follows list (part_.Typed p (constant stars)) 0) turn.Refused (λ q reach. tt) (λ q. tt))
-      (λ e. cond_stays (nat_eq (length stars.done) 0 && is_spec_word w)
-      (spec.follows list (part_.Typed (record p { specs = p.specs ++ w ∷ [] }) stars) 0) turn.Refused (λ q reach. tt) (λ q. tt))
+      word_split (λ x. ParametricStays lim (spec.word_by list p x)) p.specs stars true w (λ e q reach. tt) (λ e q m r reach. tt) tt
   typed_stays list p stars (token.Name x) = λ reach. tt
   typed_stays list p stars (token.Mark m) =
       cond_stays (is_star m) (spec.follows list (part_.Typed p (star stars)) 0) (spec.named list (spec.starred p stars) m) (λ e reach. tt)

@@ -1,5 +1,5 @@
 -- Tokens in the name of a type keep what was read true.
-use Rattle.std.proofs.Common.{ℕ, ◌≡◌, ◌≢◌, ◌≤◌, Bool, true, false, ◌&&◌, cond, IsTrue, List, [], ◌∷◌, ◌++◌, length, refl, sym, ◌∙◌, ap, subst, arith, nat_eq, append_assoc}
+use Rattle.std.proofs.Common.{ℕ, ◌≡◌, ◌≢◌, ◌≤◌, Bool, true, false, cond, IsTrue, List, [], ◌∷◌, ◌++◌, length, refl, sym, ◌∙◌, ap, subst, arith, nat_eq, append_assoc}
 use Rattle.std.proofs.lemmas.List.{map-append, append-nil}
 use Rattle.std.proofs.lemmas.Bool.{eqb-true, leb-true}
 use Rattle.std.proofs.lemmas.List.Elements.{All-nil, All-push}
@@ -14,15 +14,14 @@ use Rattle.k_tree.specs.Places.{Pieces, plain, at, lay_expr, lay_expr_step, Stan
 use Rattle.k_tree.specs.Ranked.{Specs, is_spec, sizeof_type}
 use Rattle.k_tree.specs.Spelling.{Spelled, the_mark, the_word, in_parens, spell_specs, spell_star, spell_stars, spell_type}
 use Rattle.k_steps.specs.Operators.{is_spec_word}
-use Rattle.k_steps.specs.Stars.{all_stars, star, constant}
-use Rattle.k_steps.specs.Expressions.{Opens, goes, hole, term, valued, is_before_type, cast_opened, close_over, close_type, is_const, word_of_type, mark_of_type, in_type_at, in_type}
+use Rattle.k_steps.specs.Stars.{all_stars, star, constant, is_const}
+use Rattle.k_steps.specs.Expressions.{Opens, goes, hole, term, valued, is_before_type, cast_opened, close_over, close_type, word_of_type, mark_of_type, in_type_at, in_type, type_by}
 use Rattle.k_steps.specs.declared.expression.Open.TheVariants as open_
 use Rattle.k_steps.specs.declared.expression.ExpressionStage.TheVariants as now
-use Rattle.k_steps.specs.declared.turn.Turn.TheVariants as turn
 use Rattle.k_steps.proofs.ExpressionState.{lay_opens, OkOpen, ok_cast, ok_sizeof, lev, ValidNow, Inv, Keeps}
-use Rattle.k_steps.proofs.ExpressionTerms.{one, stand-more, regroup, and_left, and_right}
-use Rattle.k_steps.proofs.OperandSound.{cond_keeps}
+use Rattle.k_steps.proofs.ExpressionTerms.{one, stand-more, regroup}
 use Rattle.k_steps.proofs.Rows.{no_items}
+use Rattle.k_steps.proofs.TypeWords.{word_split}
 
 -- spellings of stars
 pub stars_more : (xs : List Bool) (b : Bool) → spell_stars (xs ++ b ∷ []) ≡ spell_stars xs ++ spell_star b
@@ -115,11 +114,8 @@ module _ (lim : ℕ) (g : Site) (ts : List Token) (t : Token) where
       → Inv lim g s (now.Type specs stars) ts → Keeps lim g ts t (word_of_type g s specs stars w)
   unfolding word_of_type
   word_keeps s specs stars w e i =
-      cond_keeps lim g ts t stars.pending _ _
-      (λ h. cond_keeps lim g ts t (is_const w) _ turn.Refused (λ k. const_keeps s specs stars w e h k i) (λ k. tt))
-      (λ h. cond_keeps lim g ts t (nat_eq (length stars.done) 0 && is_spec_word w) _ turn.Refused
-      (λ k. spec_keeps s specs stars w e h (and_left (nat_eq (length stars.done) 0) (is_spec_word w) k) (and_right (nat_eq (length stars.done) 0) (is_spec_word w) k) i)
-      (λ k. tt))
+      word_split (λ x. Keeps lim g ts t (type_by g s x)) specs stars true w (λ h k. const_keeps s specs stars w e h k i)
+      (λ h k m r. spec_keeps s specs stars w e h k r i) tt
 
   parens_stand : (xs a : Pieces) (ys : Spelled) → t.what ≡ token.Mark mark.RightParen → Stand ((xs ++ a) ++ plain ys) ts
       → Stand (xs ++ (a ++ plain (ys ++ the_mark mark.RightParen))) (ts ++ t ∷ [])

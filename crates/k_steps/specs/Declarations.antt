@@ -1,13 +1,13 @@
 -- How a declaration is read, token by token, from behind its first specifier (C17 6.7).
-use Rattle.std.specs.Prelude.{ℕ, ◌&&◌, cond, nat_eq, List, [], ◌∷◌, ◌++◌, length, Option, Some, None}
+use Rattle.std.specs.Prelude.{ℕ, cond, nat_eq, List, [], ◌∷◌, ◌++◌, length, Option, Some, None}
 use Rattle.k_steps.specs.Types.{Place, Token, TokenKind, Mark, Word, Expr, Declarator, Stars, Reading, Fed, Maybe, Opened, After, Front, DeclarationStage, Declaration, Declared}
 use Rattle.k_tree.specs.declared.tokens.TokenKind.TheVariants as token
 use Rattle.k_tree.specs.declared.tokens.mark.Mark.TheVariants as mark
 use Rattle.k_tree.specs.declared.tree.declaration.Init.TheVariants as init
-use Rattle.k_steps.specs.Operators.{is_spec_word, is_bracket, is_equal, is_left_brace, is_right_brace}
+use Rattle.k_steps.specs.Operators.{is_bracket, is_equal, is_left_brace, is_right_brace}
 use Rattle.k_steps.specs.Level.{plus}
-use Rattle.k_steps.specs.Stars.{no_stars, all_stars, star, constant}
-use Rattle.k_steps.specs.Expressions.{begin, feed, is_const}
+use Rattle.k_steps.specs.Stars.{no_stars, all_stars, star, type_word}
+use Rattle.k_steps.specs.Expressions.{begin, feed}
 use Rattle.k_steps.specs.declared.turn.Turn.TheVariants as turn
 use Rattle.k_steps.specs.Readings.{read_maybe}
 use Rattle.k_steps.specs.declared.reading.Closer.TheVariants as closer
@@ -31,13 +31,14 @@ front_of specs list level = record { specs = specs; list = list; level = level }
 abbrev pub begin_declaration : Word → ℕ → Declaration
 begin_declaration w level = declaration_at (front_of (w ∷ []) [] level) (stage.Before no_stars)
 
+-- the declaration goes on with these specifiers and stars, or the word can't stand there
+abbrev pub word_by : Front → Option (List Word × Stars) → Declared
+word_by f (Some (specs, stars)) = declares (front_of specs f.list f.level) (stage.Before stars) 0
+word_by f None = turn.Refused
+
 -- a word before the name of a declarator: `const` behind a star, or one more specifier before the first star (C17 6.7.2, 6.7.6.1)
 unfoldable pub word : Front → Stars → Word → Declared
-word f stars w =
-    cond stars.pending
-    (cond (is_const w) (declares f (stage.Before (constant stars)) 0) turn.Refused)
-    (cond (nat_eq (length stars.done) 0 && (nat_eq (length f.list) 0 && is_spec_word w))
-    (declares (front_of (f.specs ++ w ∷ []) f.list f.level) (stage.Before stars) 0) turn.Refused)
+word f stars w = word_by f (type_word f.specs stars (nat_eq (length f.list) 0) w)
 
 -- the name of a declarator: behind it, a dimension or an initialiser may come (C17 6.7.6)
 unfoldable pub name : Front → Stars → List ℕ → Place → Declared

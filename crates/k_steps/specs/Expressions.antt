@@ -8,7 +8,7 @@ use Rattle.k_tree.specs.declared.tree.expression.Expr.TheVariants as expr
 use Rattle.k_steps.specs.Top.{top}
 use Rattle.k_steps.specs.Level.{plus, above}
 use Rattle.k_steps.specs.Operators.{own_rank, right_rank, takes, is_prefix_mark, is_step_mark, is_spec_word, is_open, is_close, is_bracket, is_question}
-use Rattle.k_steps.specs.Stars.{no_stars, all_stars, star, constant}
+use Rattle.k_steps.specs.Stars.{no_stars, all_stars, star, type_word}
 use Rattle.k_steps.specs.declared.expression.Open.TheVariants as open_
 use Rattle.k_steps.specs.declared.expression.ExpressionStage.TheVariants as now
 use Rattle.k_steps.specs.declared.turn.Turn.TheVariants as turn
@@ -135,17 +135,14 @@ close_type g [] specs stars = turn.Refused
 close_type g (open_.Paren p ∷ s) specs stars = close_over g s p specs (all_stars stars)
 close_type g (_ ∷ s) specs stars = turn.Refused
 
--- is it `const`?
-abbrev pub is_const : Word → Bool
-is_const word.Const = true
-is_const _ = false
+-- the name of the type goes on with these specifiers and stars, or the word can't stand there
+abbrev pub type_by : Site → Opens → Option (List Word × Stars) → Fed
+type_by g s (Some (specs, stars)) = goes g s (now.Type specs stars) 0
+type_by g s None = turn.Refused
 
 -- a word in the name of a type: `const` behind a star, or one more specifier before the first star (C17 6.7.7)
 unfoldable pub word_of_type : Site → Opens → List Word → Stars → Word → Fed
-word_of_type g s specs stars w =
-    cond stars.pending
-    (cond (is_const w) (goes g s (now.Type specs (constant stars)) 0) turn.Refused)
-    (cond (nat_eq (length stars.done) 0 && is_spec_word w) (goes g s (now.Type (specs ++ w ∷ []) stars) 0) turn.Refused)
+word_of_type g s specs stars w = type_by g s (type_word specs stars true w)
 
 -- a mark in the name of a type: one more star, or the closing parenthesis (C17 6.7.7)
 unfoldable pub mark_of_type : Site → Opens → List Word → Stars → Mark → Fed

@@ -9,9 +9,13 @@ use Rattle.k_steps.specs.declared.declaration.initialiser.After.TheVariants as a
 abbrev pub opened : Declarator → List Brace → Opened
 opened d s = record { declarator = d; braces = s }
 
+-- a declarator with its initialiser
+abbrev pub initialised : Declarator → Init → Declarator
+initialised d i = record d { init = Some i }
+
 -- an initialiser that ends goes to the innermost of these braces, or to the declarator if none is open
 abbrev pub plug_into : Declarator → List Brace → Init → Opened
-plug_into d [] i = opened (record d { init = Some i }) []
+plug_into d [] i = opened (initialised d i) []
 plug_into d (b ∷ s) i = opened d (record { place = b.place; items = b.items ++ i ∷ [] } ∷ s)
 
 -- an initialiser that ends belongs to the innermost brace, or to the declarator

@@ -1,13 +1,13 @@
 -- How parameters are read, token by token, from behind the opening parenthesis (C17 6.7.6.3).
-use Rattle.std.specs.Prelude.{ℕ, Bool, true, false, ◌&&◌, cond, nat_eq, is_none, List, [], ◌∷◌, ◌++◌, length, Some, None}
+use Rattle.std.specs.Prelude.{ℕ, Bool, true, false, ◌&&◌, cond, nat_eq, is_none, Option, List, [], ◌∷◌, ◌++◌, length, Some, None}
 use Rattle.k_steps.specs.Types.{Place, Token, TokenKind, Mark, Word, Param, Stars, Reading, Maybe, ParameterStage, Parameters, Parametric}
 use Rattle.k_tree.specs.declared.tokens.TokenKind.TheVariants as token
 use Rattle.k_tree.specs.declared.tokens.mark.Mark.TheVariants as mark
 use Rattle.k_tree.specs.declared.tokens.word.Word.TheVariants as word_
 use Rattle.k_tree.specs.declared.tree.declaration.Params.TheVariants as params
 use Rattle.k_steps.specs.Operators.{is_spec_word, is_bracket, is_star}
-use Rattle.k_steps.specs.Stars.{no_stars, all_stars, star, constant}
-use Rattle.k_steps.specs.Expressions.{begin, is_const}
+use Rattle.k_steps.specs.Stars.{no_stars, all_stars, star, type_word}
+use Rattle.k_steps.specs.Expressions.{begin}
 use Rattle.k_steps.specs.Readings.{read_maybe}
 use Rattle.k_steps.specs.declared.reading.Closer.TheVariants as closer
 use Rattle.k_steps.specs.declared.turn.Turn.TheVariants as turn
@@ -78,13 +78,14 @@ abbrev pub kind_named : List Param → Param → TokenKind → Parametric
 kind_named list p (token.Mark m) = named list p m
 kind_named list p _ = turn.Refused
 
+-- the parameter goes on with these specifiers and stars, or the word can't stand there
+abbrev pub word_by : List Param → Param → Option (List Word × Stars) → Parametric
+word_by list p (Some (specs, stars)) = follows list (part_.Typed (record p { specs = specs }) stars) 0
+word_by list p None = turn.Refused
+
 -- a word in the type of a parameter: `const` behind a star, or one more specifier before the first star (C17 6.7.2, 6.7.6.1)
 unfoldable pub word : List Param → Param → Stars → Word → Parametric
-word list p stars w =
-    cond stars.pending
-    (cond (is_const w) (follows list (part_.Typed p (constant stars)) 0) turn.Refused)
-    (cond (nat_eq (length stars.done) 0 && is_spec_word w)
-    (follows list (part_.Typed (record p { specs = p.specs ++ w ∷ [] }) stars) 0) turn.Refused)
+word list p stars w = word_by list p (type_word p.specs stars true w)
 
 -- a parameter with the stars that were read of it
 abbrev pub starred : Param → Stars → Param

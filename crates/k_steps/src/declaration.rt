@@ -27,28 +27,28 @@ pub enum DeclarationStage {
     },
     /// Behind the name of a declarator, or behind a dimension.
     Named {
-        declarator: Declarator,
+        declarator: Box<Declarator>,
     },
     /// In a dimension.
     Size {
-        declarator: Declarator,
+        declarator: Box<Declarator>,
         reading: Box<Reading>,
     },
     /// Before an initialiser.
     Starts {
-        declarator: Declarator,
+        declarator: Box<Declarator>,
         braces: Stack<Brace>,
     },
     /// In an expression that is an initialiser, of which the first token stands at `place`.
     Value {
-        declarator: Declarator,
+        declarator: Box<Declarator>,
         braces: Stack<Brace>,
         place: Place,
         reading: Box<Reading>,
     },
     /// Behind an initialiser.
     After {
-        declarator: Declarator,
+        declarator: Box<Declarator>,
         braces: Stack<Brace>,
     },
 }

@@ -5,13 +5,13 @@ pub mod plug;
 use crate::stack::Stack;
 use crate::stars::Stars;
 use crate::turn::Turn;
-use k_num::{Place, Seq, Text};
+use k_num::{Box, Place, Seq, Text};
 use k_tree::{Expr, Mark, Word};
 
 /// An expression that was read: its rank, and how many levels it has.
 #[derive(Drop)]
 pub struct Term {
-    pub tree: Expr,
+    pub tree: Box<Expr>,
     pub rank: u8,
     pub height: usize,
 }
@@ -98,4 +98,4 @@ pub struct Reading {
 }
 
 /// What a token does in an expression. It is done before the token, which belongs to what stands around it.
-pub type Fed = Turn<Reading, Expr>;
+pub type Fed = Turn<Reading, Box<Expr>>;

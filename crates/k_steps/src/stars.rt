@@ -1,8 +1,10 @@
-//! Stars before a name, each with `const` behind it or not (C17 6.7.6.1).
+//! Specifiers, and stars before a name, each with `const` behind it or not (C17 6.7.6.1).
 ghost use Rattle.std.specs.Prelude.{◌≡◌, [], IfOk, false};
 ghost use Rattle.k_steps.specs.Stars as spec;
 
+use crate::operators::is_spec;
 use k_num::{NoMemory, Seq};
+use k_tree::Word;
 use std::alloc::Global;
 
 /// Stars so far: those that are done, and whether one more was read behind which `const` may come.
@@ -54,4 +56,29 @@ pub fn constant(stars: Stars) -> Result<Stars, NoMemory>
         done,
         pending: false,
     })
+}
+
+/// A word behind these specifiers and stars: `const` behind a star, or one more specifier before the first star, where `more`
+/// says that one may stand. None: the word can't stand there.
+#[tactic(auto, unfolding(crate::specs::Stars::type_word))]
+pub fn type_word(
+    mut specs: Seq<Word>,
+    stars: Stars,
+    more: bool,
+    word: Word,
+) -> Result<Option<(Seq<Word>, Stars)>, NoMemory>
+    ensures { IfOk result (λ read. read ≡ spec.type_word specs stars more word) }
+{
+    if stars.pending {
+        if !matches!(word, Word::Const) {
+            return Ok(None);
+        }
+        let stars = constant(stars)?;
+        return Ok(Some((specs, stars)));
+    }
+    if stars.done.len() > 0 || !more || !is_spec(word) {
+        return Ok(None);
+    }
+    specs.push(word)?;
+    Ok(Some((specs, stars)))
 }

@@ -2,10 +2,11 @@
 ghost use Rattle.std.specs.Prelude.{◌≡◌, ◌++◌, ◌∷◌, [], IfOk, OnOk};
 ghost use Rattle.k_steps.specs.Initialisers as spec;
 
-use k_num::{NoMemory, Place, Seq};
+use k_num::{Box, NoMemory, Place, Seq};
 use k_steps::declaration::initialiser::{After, Brace, Opened};
 use k_steps::stack::Stack;
 use k_tree::{Declarator, Init, Mark};
+use std::alloc::Global;
 use std::mem;
 
 /// One more initialiser in the innermost brace, which was taken off.
@@ -19,30 +20,41 @@ fn put(braces: &mut Stack<Brace>, brace: Brace, init: Init) -> Result<(), NoMemo
 
 /// An initialiser that ends belongs to the innermost brace, or to the declarator.
 #[tactic(auto, unfolding(k_steps::specs::Initialisers::plug))]
-pub fn plug(opened: Opened, init: Init) -> Result<Opened, NoMemory>
+pub fn plug(alloc: Global, opened: Opened, init: Init) -> Result<Opened, NoMemory>
     ensures { IfOk result (λ made. made ≡ spec.plug opened init) }
 {
     let Opened {
-        mut declarator,
+        declarator,
         mut braces,
     } = opened;
     match braces.pop() {
         None => {
-            drop(mem::replace(&mut declarator.init, Some(init)));
+            let declarator = initialised(alloc, declarator, init)?;
+            Ok(Opened { declarator, braces })
         }
         Some(brace) => {
-            if let Err(NoMemory) = put(&mut braces, brace, init) {
-                drop(declarator);
-                return Err(NoMemory);
-            }
+            put(&mut braces, brace, init)?;
+            Ok(Opened { declarator, braces })
         }
     }
-    Ok(Opened { declarator, braces })
+}
+
+/// A declarator with its initialiser.
+fn initialised(
+    alloc: Global,
+    declarator: Box<Declarator>,
+    init: Init,
+) -> Result<Box<Declarator>, NoMemory>
+    ensures { IfOk result (λ made. made ≡ spec.initialised declarator init) }
+{
+    let mut declarator = declarator.into_inner();
+    drop(mem::replace(&mut declarator.init, Some(init)));
+    Box::new(alloc, declarator)
 }
 
 /// The mark behind an initialiser.
 #[tactic(auto, unfolding(k_steps::specs::Initialisers::after, k_steps::specs::Initialisers::plug))]
-pub fn behind(opened: Opened, mark: Mark) -> Result<After, NoMemory>
+pub fn behind(alloc: Global, opened: Opened, mark: Mark) -> Result<After, NoMemory>
     ensures { IfOk result (λ made. made ≡ spec.after opened mark) }
 {
     let Opened {
@@ -54,22 +66,16 @@ pub fn behind(opened: Opened, mark: Mark) -> Result<After, NoMemory>
     };
     match mark {
         Mark::Comma => {
-            if let Err(NoMemory) = braces.push(brace) {
-                drop(declarator);
-                return Err(NoMemory);
-            }
+            braces.push(brace)?;
             let opened = Opened { declarator, braces };
             Ok(After::Starts { opened })
         }
         Mark::RightBrace => {
             let opened = Opened { declarator, braces };
-            let opened = plug(opened, listed(brace, false))?;
+            let opened = plug(alloc, opened, listed(brace, false))?;
             Ok(After::Closed { opened })
         }
-        _ => {
-            drop(declarator);
-            Ok(After::Refused)
-        }
+        _ => Ok(After::Refused),
     }
 }
 
@@ -87,7 +93,7 @@ fn listed(brace: Brace, comma: bool) -> Init
 
 /// A closing brace behind a comma: some initialiser has to stand before that.
 #[tactic(auto, unfolding(k_steps::specs::Initialisers::last_comma, k_steps::specs::Initialisers::plug))]
-pub fn last_comma(opened: Opened) -> Result<Option<Opened>, NoMemory>
+pub fn last_comma(alloc: Global, opened: Opened) -> Result<Option<Opened>, NoMemory>
     ensures { IfOk result (λ made. made ≡ spec.last_comma opened) }
 {
     let Opened {
@@ -95,13 +101,11 @@ pub fn last_comma(opened: Opened) -> Result<Option<Opened>, NoMemory>
         mut braces,
     } = opened;
     let Some(brace) = braces.pop() else {
-        drop(declarator);
         return Ok(None);
     };
     if brace.items.len() == 0 {
-        drop(declarator);
         return Ok(None);
     }
     let opened = Opened { declarator, braces };
-    Ok(Some(plug(opened, listed(brace, true))?))
+    Ok(Some(plug(alloc, opened, listed(brace, true))?))
 }

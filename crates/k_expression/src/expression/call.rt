@@ -3,17 +3,19 @@ ghost use Rattle.std.specs.Prelude.{◌≡◌, IfOk};
 ghost use Rattle.k_steps.specs.Expressions as spec;
 
 use crate::expression::goes;
-use k_num::NoMemory;
+use k_num::{Box, NoMemory};
 use k_steps::expression::call::Called;
 use k_steps::expression::{ExpressionStage, Fed, Open, Site, Term};
 use k_steps::level::plus;
 use k_steps::stack::Stack;
 use k_steps::turn::Turn;
 use k_tree::{Expr, Mark};
+use std::alloc::Global;
 
 /// The mark behind an argument.
 #[tactic(auto, unfolding(k_steps::specs::Expressions::argued))]
 pub fn argued(
+    alloc: Global,
     site: Site,
     mut opens: Stack<Open>,
     called: Called,
@@ -40,7 +42,7 @@ pub fn argued(
         Mark::RightParen => {
             let height = plus(height, 1)?;
             let term = Term {
-                tree: Expr::Call { place, name, args },
+                tree: Box::new(alloc, Expr::Call { place, name, args })?,
                 rank: 15,
                 height,
             };

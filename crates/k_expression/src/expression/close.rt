@@ -4,7 +4,7 @@ ghost use Rattle.k_steps.specs.Expressions as spec;
 ghost use Rattle.k_steps.specs.Level as levels;
 
 use crate::expression::call::argued;
-use crate::expression::plug::{boxed, plug};
+use crate::expression::plug::plug;
 use crate::expression::{goes, hole, level, refused};
 use k_num::{Box, NoMemory, Place};
 use k_steps::expression::call::Called;
@@ -36,13 +36,7 @@ fn take(
 ) -> Result<Fed, NoMemory>
     ensures { IfOk result (λ fed. fed ≡ spec.take_operator site opens left op place) }
 {
-    let reach = match reach_of(site, &opens, left.height) {
-        Ok(reach) => reach,
-        Err(NoMemory) => {
-            drop(left);
-            return Err(NoMemory);
-        }
-    };
+    let reach = reach_of(site, &opens, left.height)?;
     if is_step(op) {
         let term = posted(alloc, place, op, left)?;
         return Ok(goes(site, opens, ExpressionStage::Value { term }, reach));
@@ -67,11 +61,10 @@ fn operator_opens(op: Mark, left: Term, place: Place) -> Open
 fn posted(alloc: Global, place: Place, op: Mark, term: Term) -> Result<Term, NoMemory>
     ensures { IfOk result (λ made. made ≡ spec.posted place op term) }
 {
-    let Term { tree, height, .. } = term;
-    let of = Box::new(alloc, tree)?;
-    let height = above(height, 0)?;
+    let height = above(term.height, 0)?;
+    let of = term.tree;
     Ok(Term {
-        tree: Expr::Post { place, op, of },
+        tree: Box::new(alloc, Expr::Post { place, op, of })?,
         rank: 15,
         height,
     })
@@ -80,11 +73,10 @@ fn posted(alloc: Global, place: Place, op: Mark, term: Term) -> Result<Term, NoM
 fn paren(alloc: Global, place: Place, term: Term) -> Result<Term, NoMemory>
     ensures { IfOk result (λ made. made ≡ spec.enclosed place term) }
 {
-    let Term { tree, height, .. } = term;
-    let of = Box::new(alloc, tree)?;
-    let height = above(height, 0)?;
+    let height = above(term.height, 0)?;
+    let of = term.tree;
     Ok(Term {
-        tree: Expr::Paren { place, of },
+        tree: Box::new(alloc, Expr::Paren { place, of })?,
         rank: 16,
         height,
     })
@@ -93,11 +85,10 @@ fn paren(alloc: Global, place: Place, term: Term) -> Result<Term, NoMemory>
 fn indexed(alloc: Global, place: Place, base: Term, index: Term) -> Result<Term, NoMemory>
     ensures { IfOk result (λ made. made ≡ spec.indexed place base index) }
 {
-    let (left, right) = (base.height, index.height);
-    let (base, index) = boxed(alloc, base.tree, index.tree)?;
-    let height = above(left, right)?;
+    let height = above(base.height, index.height)?;
+    let (base, index) = (base.tree, index.tree);
     Ok(Term {
-        tree: Expr::Index { place, base, index },
+        tree: Box::new(alloc, Expr::Index { place, base, index })?,
         rank: 15,
         height,
     })
@@ -138,11 +129,7 @@ fn then_ends(
 {
     match mark {
         Mark::Colon => colon(site, opens, place, test, then),
-        _ => {
-            drop(test);
-            drop(then);
-            Ok(Turn::Refused)
-        }
+        _ => Ok(Turn::Refused),
     }
 }
 
@@ -163,10 +150,7 @@ fn paren_ends(
             let term = paren(alloc, place, term)?;
             Ok(valued(site, opens, term))
         }
-        _ => {
-            drop(term);
-            Ok(Turn::Refused)
-        }
+        _ => Ok(Turn::Refused),
     }
 }
 
@@ -188,11 +172,7 @@ fn index_ends(
             let term = indexed(alloc, place, base, index)?;
             Ok(valued(site, opens, term))
         }
-        _ => {
-            drop(base);
-            drop(index);
-            Ok(Turn::Refused)
-        }
+        _ => Ok(Turn::Refused),
     }
 }
 
@@ -219,19 +199,16 @@ fn enclose(
             height,
         } => {
             let height = height.max(term.height);
-            args.push(term.tree)?;
+            args.push(term.tree.into_inner())?;
             let called = Called {
                 place,
                 name,
                 args,
                 height,
             };
-            argued(site, opens, called, mark)
+            argued(alloc, site, opens, called, mark)
         }
-        around => {
-            drop(term);
-            Ok(refused(around))
-        }
+        around => Ok(refused(around)),
     }
 }
 
@@ -257,10 +234,7 @@ fn take_token(
 {
     match &token.what {
         TokenKind::Mark(mark) => take(alloc, site, opens, term, *mark, token.place),
-        _ => {
-            drop(term);
-            Ok(Turn::Refused)
-        }
+        _ => Ok(Turn::Refused),
     }
 }
 
@@ -277,10 +251,7 @@ fn enclose_by(
 {
     match &token.what {
         TokenKind::Mark(mark) => enclose(alloc, site, opens, around, term, *mark),
-        _ => {
-            drop(term);
-            Ok(refused(around))
-        }
+        _ => Ok(refused(around)),
     }
 }
 
@@ -305,10 +276,7 @@ pub fn value(
         }
         Some(around) => {
             if goes_on {
-                if let Err(NoMemory) = opens.push(around) {
-                    drop(term);
-                    return Err(NoMemory);
-                }
+                opens.push(around)?;
                 return take_token(alloc, site, opens, term, token);
             }
             match plug(alloc, around, term)? {

@@ -6,7 +6,7 @@ ghost use Rattle.k_steps.specs.declared.expression.ExpressionStage.TheVariants a
 ghost use Rattle.k_tree.specs.Ranked as ranked;
 
 use crate::expression::{goes, hole, level, refused};
-use k_num::{NoMemory, Place, Seq, Text};
+use k_num::{Box, NoMemory, Place, Seq, Text};
 use k_steps::expression::{ExpressionStage, Fed, Open, Site, Term};
 use k_steps::level::plus;
 use k_steps::operators::{is_close, is_open, is_spec, is_step};
@@ -17,15 +17,21 @@ use k_tree::{Expr, Mark, Token, TokenKind, Word};
 use std::alloc::Global;
 
 /// An operand of one token, which lies at this level.
-fn leaf(site: Site, opens: Stack<Open>, tree: Expr, own: usize) -> Fed
-    ensures { result ≡ spec.goes site opens (stages.Value (spec.term tree 16 1)) own }
+fn leaf(
+    alloc: Global,
+    site: Site,
+    opens: Stack<Open>,
+    tree: Expr,
+    own: usize,
+) -> Result<Fed, NoMemory>
+    ensures { IfOk result (λ fed. fed ≡ spec.goes site opens (stages.Value (spec.term tree 16 1)) own) }
 {
     let term = Term {
-        tree,
+        tree: Box::new(alloc, tree)?,
         rank: 16,
         height: 1,
     };
-    goes(site, opens, ExpressionStage::Value { term }, own)
+    Ok(goes(site, opens, ExpressionStage::Value { term }, own))
 }
 
 /// `(` before an operand. Behind `sizeof` it may belong to a type, which adds no level.
@@ -51,8 +57,8 @@ fn has_none(args: &Seq<Expr>) -> bool
 
 /// `)` where an operand could begin: the end of a call without arguments.
 #[tactic(auto, unfolding(k_steps::specs::Expressions::no_arguments))]
-fn no_arguments(site: Site, mut opens: Stack<Open>) -> Fed
-    ensures { result ≡ spec.no_arguments site opens }
+fn no_arguments(alloc: Global, site: Site, mut opens: Stack<Open>) -> Result<Fed, NoMemory>
+    ensures { IfOk result (λ fed. fed ≡ spec.no_arguments site opens) }
 {
     match opens.pop() {
         Some(
@@ -64,17 +70,17 @@ fn no_arguments(site: Site, mut opens: Stack<Open>) -> Fed
             },
         ) => {
             if !has_none(&args) {
-                return Turn::Refused;
+                return Ok(Turn::Refused);
             }
             let term = Term {
-                tree: Expr::Call { place, name, args },
+                tree: Box::new(alloc, Expr::Call { place, name, args })?,
                 rank: 15,
                 height: 1,
             };
-            goes(site, opens, ExpressionStage::Value { term }, 0)
+            Ok(goes(site, opens, ExpressionStage::Value { term }, 0))
         }
-        Some(around) => refused(around),
-        None => Turn::Refused,
+        Some(around) => Ok(refused(around)),
+        None => Ok(Turn::Refused),
     }
 }
 
@@ -108,14 +114,20 @@ fn is_prefix(mark: Mark) -> bool
 
 /// A mark where an operand begins.
 #[tactic(auto, unfolding(k_steps::specs::Expressions::mark_operand))]
-fn mark(site: Site, opens: Stack<Open>, mark: Mark, place: Place) -> Result<Fed, NoMemory>
+fn mark(
+    alloc: Global,
+    site: Site,
+    opens: Stack<Open>,
+    mark: Mark,
+    place: Place,
+) -> Result<Fed, NoMemory>
     ensures { IfOk result (λ fed. fed ≡ spec.mark_operand site opens mark place) }
 {
     if is_open(mark) {
         return opened(site, opens, place);
     }
     if is_close(mark) {
-        return Ok(no_arguments(site, opens));
+        return no_arguments(alloc, site, opens);
     }
     if is_prefix(mark) {
         return prefix(site, opens, mark, place);
@@ -214,20 +226,20 @@ pub fn operand(
                 kind: *kind,
                 value: *value,
             };
-            Ok(leaf(site, opens, tree, own))
+            leaf(alloc, site, opens, tree, own)
         }
         TokenKind::Char(value) => {
             let tree = Expr::Char {
                 place,
                 value: *value,
             };
-            Ok(leaf(site, opens, tree, own))
+            leaf(alloc, site, opens, tree, own)
         }
         TokenKind::Str(bytes) => {
             let bytes = Seq::copy_of(alloc, bytes.as_slice())?;
-            Ok(leaf(site, opens, Expr::Str { place, bytes }, own))
+            leaf(alloc, site, opens, Expr::Str { place, bytes }, own)
         }
-        TokenKind::Mark(mark_read) => mark(site, opens, *mark_read, place),
+        TokenKind::Mark(mark_read) => mark(alloc, site, opens, *mark_read, place),
         TokenKind::Word(word_read) => word(alloc, site, opens, *word_read, place),
         TokenKind::End => Ok(Turn::Refused),
     }

@@ -13,30 +13,25 @@ use k_steps::operators::{is_step, own_rank};
 use k_tree::{Expr, Mark, Word};
 use std::alloc::Global;
 
-/// Two operands, each in memory of its own.
-pub fn boxed(alloc: Global, left: Expr, right: Expr) -> Result<(Box<Expr>, Box<Expr>), NoMemory>
-    ensures { IfOk result (λ both. both ≡ (left, right)) }
-{
-    let left = match Box::new(alloc, left) {
-        Ok(left) => left,
-        Err(NoMemory) => {
-            drop(right);
-            return Err(NoMemory);
-        }
-    };
-    let right = Box::new(alloc, right)?;
-    Ok((left, right))
-}
-
 #[tactic(auto, unfolding(k_steps::specs::Expressions::infix_made))]
 fn infix(alloc: Global, place: Place, op: Mark, left: Term, right: Term) -> Result<Term, NoMemory>
     ensures { IfOk result (λ term. term ≡ spec.infix_made place op left right) }
 {
-    let (before, behind) = (left.height, right.height);
+    let height = above(left.height, right.height)?;
     let rank = own_rank(op);
-    let (left, right) = boxed(alloc, left.tree, right.tree)?;
-    let height = above(before, behind)?;
-    let tree = match rank {
+    let tree = infix_tree(rank, place, op, left.tree, right.tree);
+    Ok(Term {
+        tree: Box::new(alloc, tree)?,
+        rank,
+        height,
+    })
+}
+
+/// The tree of an operator of this rank between its operands.
+fn infix_tree(rank: u8, place: Place, op: Mark, left: Box<Expr>, right: Box<Expr>) -> Expr
+    ensures { result ≡ spec.infix_tree rank place op left right }
+{
+    match rank {
         0 => Expr::Comma { place, left, right },
         1 => Expr::Assign {
             place,
@@ -50,8 +45,7 @@ fn infix(alloc: Global, place: Place, op: Mark, left: Term, right: Term) -> Resu
             left,
             right,
         },
-    };
-    Ok(Term { tree, rank, height })
+    }
 }
 
 fn conditional(
@@ -63,23 +57,15 @@ fn conditional(
 ) -> Result<Term, NoMemory>
     ensures { IfOk result (λ term. term ≡ spec.conditional place test «then» other) }
 {
-    let (first, rest) = (test.height, then.height.max(other.height));
-    let (test, then) = match boxed(alloc, test.tree, then.tree) {
-        Ok(both) => both,
-        Err(NoMemory) => {
-            drop(other);
-            return Err(NoMemory);
-        }
+    let height = above(test.height, then.height.max(other.height))?;
+    let tree = Expr::Cond {
+        place,
+        test: test.tree,
+        then: then.tree,
+        other: other.tree,
     };
-    let other = Box::new(alloc, other.tree)?;
-    let height = above(first, rest)?;
     Ok(Term {
-        tree: Expr::Cond {
-            place,
-            test,
-            then,
-            other,
-        },
+        tree: Box::new(alloc, tree)?,
         rank: 2,
         height,
     })
@@ -100,11 +86,9 @@ fn prefix_tree(place: Place, op: Mark, of: Box<Expr>) -> Expr
 fn prefixed(alloc: Global, place: Place, op: Mark, term: Term) -> Result<Term, NoMemory>
     ensures { IfOk result (λ made. made ≡ spec.prefixed place op term) }
 {
-    let Term { tree, height, .. } = term;
-    let of = Box::new(alloc, tree)?;
-    let height = above(height, 0)?;
+    let height = above(term.height, 0)?;
     Ok(Term {
-        tree: prefix_tree(place, op, of),
+        tree: Box::new(alloc, prefix_tree(place, op, term.tree))?,
         rank: 14,
         height,
     })
@@ -119,16 +103,15 @@ fn cast(
 ) -> Result<Term, NoMemory>
     ensures { IfOk result (λ made. made ≡ spec.term (expr.Cast place specs stars term.tree) 13 (above_of term.height 0)) }
 {
-    let Term { tree, height, .. } = term;
-    let of = Box::new(alloc, tree)?;
-    let height = above(height, 0)?;
+    let height = above(term.height, 0)?;
+    let tree = Expr::Cast {
+        place,
+        specs,
+        stars,
+        of: term.tree,
+    };
     Ok(Term {
-        tree: Expr::Cast {
-            place,
-            specs,
-            stars,
-            of,
-        },
+        tree: Box::new(alloc, tree)?,
         rank: 13,
         height,
     })
@@ -137,11 +120,10 @@ fn cast(
 fn sizeof(alloc: Global, place: Place, term: Term) -> Result<Term, NoMemory>
     ensures { IfOk result (λ made. made ≡ spec.term (expr.SizeofExpr place term.tree) 14 (above_of term.height 0)) }
 {
-    let Term { tree, height, .. } = term;
-    let of = Box::new(alloc, tree)?;
-    let height = above(height, 0)?;
+    let height = above(term.height, 0)?;
+    let of = term.tree;
     Ok(Term {
-        tree: Expr::SizeofExpr { place, of },
+        tree: Box::new(alloc, Expr::SizeofExpr { place, of })?,
         rank: 14,
         height,
     })

@@ -3,17 +3,18 @@ ghost use Rattle.std.specs.Prelude.{◌≡◌, IfOk};
 ghost use Rattle.k_steps.specs.Expressions as spec;
 
 use crate::expression::{goes, refused};
-use k_num::{NoMemory, Place, Seq};
+use k_num::{Box, NoMemory, Place, Seq};
 use k_steps::expression::{ExpressionStage, Fed, Open, Site, Term};
-use k_steps::operators::is_spec;
 use k_steps::stack::Stack;
-use k_steps::stars::{Stars, all_stars, constant, star};
+use k_steps::stars::{Stars, all_stars, star, type_word};
 use k_steps::turn::Turn;
 use k_tree::{Expr, Mark, Token, TokenKind, Word};
+use std::alloc::Global;
 
 /// The closing parenthesis of a type.
 #[tactic(auto, unfolding(k_steps::specs::Expressions::close_type))]
 fn close(
+    alloc: Global,
     site: Site,
     mut opens: Stack<Open>,
     specs: Seq<Word>,
@@ -23,7 +24,7 @@ fn close(
 {
     let stars = all_stars(stars)?;
     match opens.pop() {
-        Some(Open::Paren { place }) => close_over(site, opens, place, specs, stars),
+        Some(Open::Paren { place }) => close_over(alloc, site, opens, place, specs, stars),
         Some(around) => Ok(refused(around)),
         None => Ok(Turn::Refused),
     }
@@ -32,6 +33,7 @@ fn close(
 /// A type in parentheses, the first of which stands at `place`.
 #[tactic(auto, unfolding(k_steps::specs::Expressions::close_over))]
 fn close_over(
+    alloc: Global,
     site: Site,
     mut opens: Stack<Open>,
     place: Place,
@@ -48,7 +50,7 @@ fn close_over(
                 stars,
             };
             let term = Term {
-                tree,
+                tree: Box::new(alloc, tree)?,
                 rank: 14,
                 height: 1,
             };
@@ -91,29 +93,22 @@ fn cast(site: Site, mut opens: Stack<Open>, around: Open) -> Result<Fed, NoMemor
 fn word(
     site: Site,
     opens: Stack<Open>,
-    mut specs: Seq<Word>,
+    specs: Seq<Word>,
     stars: Stars,
     word: Word,
 ) -> Result<Fed, NoMemory>
     ensures { IfOk result (λ fed. fed ≡ spec.word_of_type site opens specs stars word) }
 {
-    if stars.pending {
-        if !matches!(word, Word::Const) {
-            return Ok(Turn::Refused);
-        }
-        let stars = constant(stars)?;
-        return Ok(goes(site, opens, ExpressionStage::Type { specs, stars }, 0));
+    match type_word(specs, stars, true, word)? {
+        Some((specs, stars)) => Ok(goes(site, opens, ExpressionStage::Type { specs, stars }, 0)),
+        None => Ok(Turn::Refused),
     }
-    if stars.done.len() > 0 || !is_spec(word) {
-        return Ok(Turn::Refused);
-    }
-    specs.push(word)?;
-    Ok(goes(site, opens, ExpressionStage::Type { specs, stars }, 0))
 }
 
 /// One more mark in the name of a type.
 #[tactic(auto, unfolding(k_steps::specs::Expressions::mark_of_type))]
 fn mark(
+    alloc: Global,
     site: Site,
     opens: Stack<Open>,
     specs: Seq<Word>,
@@ -127,7 +122,7 @@ fn mark(
             let stars = star(stars)?;
             Ok(goes(site, opens, ExpressionStage::Type { specs, stars }, 0))
         }
-        Mark::RightParen => close(site, opens, specs, stars),
+        Mark::RightParen => close(alloc, site, opens, specs, stars),
         _ => Ok(Turn::Refused),
     }
 }
@@ -135,6 +130,7 @@ fn mark(
 /// One more token in the name of a type.
 #[tactic(auto, unfolding(k_steps::specs::Expressions::in_type))]
 pub fn in_type(
+    alloc: Global,
     site: Site,
     opens: Stack<Open>,
     specs: Seq<Word>,
@@ -145,7 +141,7 @@ pub fn in_type(
 {
     match &token.what {
         TokenKind::Word(word_read) => word(site, opens, specs, stars, *word_read),
-        TokenKind::Mark(mark_read) => mark(site, opens, specs, stars, *mark_read),
+        TokenKind::Mark(mark_read) => mark(alloc, site, opens, specs, stars, *mark_read),
         _ => Ok(Turn::Refused),
     }
 }

@@ -7,10 +7,10 @@ ghost use Rattle.k_steps.specs.declared.statement.BlockStage.TheVariants as stag
 use crate::statement::switch::{case_begins, default_begins};
 use crate::statement::{await_part, inner_level, level, steps, whole};
 use k_declaration::declaration::begin_declaration;
-use k_expression::expression::{begin, begin_boxed, feed};
+use k_expression::expression::{begin_boxed, feed_boxed};
 use k_num::{Box, NoMemory, Place, Seq};
-use k_steps::expression::Fed;
 use k_steps::operators::{is_left_brace, is_right_brace, is_semicolon, is_spec};
+use k_steps::reading::Read;
 use k_steps::stack::Stack;
 use k_steps::statement::{BlockStage, Frame, Stepped, Tested};
 use k_steps::turn::Turn;
@@ -89,7 +89,6 @@ fn declares(
     }
     let reach = level(&frames)?;
     let declaration = begin_declaration(alloc, word, inner_level(&frames)?)?;
-    let declaration = Box::new(alloc, declaration)?;
     Ok(steps(
         parts,
         frames,
@@ -189,10 +188,9 @@ fn expression(
 ) -> Result<Stepped, NoMemory>
     ensures { IfOk result (λ fed. fed ≡ spec.expression parts frames token.now) }
 {
-    let reading = begin(alloc, 0, inner_level(&frames)?);
-    match feed(alloc, reading, token)? {
+    let reading = begin_boxed(alloc, 0, inner_level(&frames)?)?;
+    match feed_boxed(alloc, reading, token)? {
         Turn::Goes(reading, reach) => {
-            let reading = Box::new(alloc, reading)?;
             let place = token.place;
             Ok(steps(parts, frames, BlockStage::Value { place, reading }, reach))
         }

@@ -1,6 +1,7 @@
 //! Tests in parentheses, and the token behind a statement.
 ghost use Rattle.std.specs.Prelude.{◌≡◌, IfOk};
 ghost use Rattle.k_steps.specs.Statements as spec;
+ghost use Rattle.k_steps.specs.declared.statement.clause.Fitted.TheVariants as fit;
 
 use crate::statement::begin::begins;
 use crate::statement::switch::more_switched;
@@ -99,44 +100,60 @@ fn is_while(token: &Token) -> bool
 fn close(alloc: Global, frame: Frame, stmt: Box<Stmt>, other: bool) -> Result<Fitted, NoMemory>
     ensures { IfOk result (λ made. made ≡ spec.close frame stmt other) }
 {
-    let stmt = match frame {
+    match frame {
         Frame::Then { place, test } => {
             if other {
                 let frame = Frame::Then { place, test };
                 return Ok(Fitted::Part { frame, stmt });
             }
-            Stmt::If {
+            let whole = Stmt::If {
                 place,
                 test,
                 then: stmt,
                 other: None,
-            }
+            };
+            fitted(alloc, whole)
         }
-        Frame::Else { place, test, then } => Stmt::If {
-            place,
-            test,
-            then,
-            other: Some(stmt),
-        },
-        Frame::While { place, test } => Stmt::While {
-            place,
-            test,
-            body: stmt,
-        },
+        Frame::Else { place, test, then } => {
+            let whole = Stmt::If {
+                place,
+                test,
+                then,
+                other: Some(stmt),
+            };
+            fitted(alloc, whole)
+        }
+        Frame::While { place, test } => {
+            let whole = Stmt::While {
+                place,
+                test,
+                body: stmt,
+            };
+            fitted(alloc, whole)
+        }
         Frame::For {
             place,
             start,
             test,
             step,
-        } => Stmt::For {
-            place,
-            first: start.into_inner(),
-            test,
-            step,
-            body: stmt,
-        },
-        frame => return Ok(Fitted::Part { frame, stmt }),
-    };
+        } => {
+            let whole = Stmt::For {
+                place,
+                first: start.into_inner(),
+                test,
+                step,
+                body: stmt,
+            };
+            fitted(alloc, whole)
+        }
+        frame => Ok(Fitted::Part { frame, stmt }),
+    }
+}
+
+/// The statement around ends too.
+fn fitted(alloc: Global, stmt: Stmt) -> Result<Fitted, NoMemory>
+    ensures { IfOk result (λ made. made ≡ fit.Whole stmt) }
+{
     let stmt = Box::new(alloc, stmt)?;
     Ok(Fitted::Whole { stmt })
 }

@@ -1,14 +1,16 @@
 //! The parts of a `for` (C17 6.8.5.3).
 ghost use Rattle.std.specs.Prelude.{◌≡◌, IfOk};
+ghost use Rattle.k_steps.specs.Declarations.{begin_declaration};
 ghost use Rattle.k_steps.specs.Statements as spec;
+ghost use Rattle.k_steps.specs.declared.statement.BlockStage.TheVariants as stages;
 
 use crate::statement::switch::in_switch;
 use crate::statement::{await_part, inner_level, steps};
-use k_declaration::declaration::{begin_declaration, feed_declaration};
+use k_declaration::declaration::{Boxed, begin_declaration, feed_declaration};
 use k_expression::expression::begin_boxed;
 use k_expression::reading::{is_fresh, is_left_paren, read_maybe};
 use k_num::{Box, NoMemory, Place, Seq};
-use k_steps::declaration::{Declaration, Declared};
+use k_steps::declaration::Declaration;
 use k_steps::expression::Reading;
 use k_steps::operators::is_spec;
 use k_steps::reading::{Closer, Maybe};
@@ -42,11 +44,10 @@ fn second_begins(
     parts: Seq<Stmt>,
     frames: Stack<Frame>,
     place: Place,
-    start: First,
+    start: Box<First>,
 ) -> Result<Stepped, NoMemory>
     ensures { IfOk result (λ fed. fed ≡ spec.second_begins parts frames place start) }
 {
-    let start = Box::new(alloc, start)?;
     let reading = begin_boxed(alloc, 0, inner_level(&frames)?)?;
     let step = BlockStage::Second {
         place,
@@ -56,12 +57,12 @@ fn second_begins(
     Ok(steps(parts, frames, step, 0))
 }
 
-fn first_of(value: Option<Box<Expr>>) -> First
-    ensures { result ≡ spec.first_of value }
+fn first_of(alloc: Global, value: Option<Box<Expr>>) -> Result<Box<First>, NoMemory>
+    ensures { IfOk result (λ first. first ≡ spec.first_of value) }
 {
     match value {
-        None => First::Nothing,
-        Some(value) => First::Value(value.into_inner()),
+        None => Box::new(alloc, First::Nothing),
+        Some(value) => Box::new(alloc, First::Value(value.into_inner())),
     }
 }
 
@@ -82,6 +83,21 @@ fn specifier(reading: &Reading, token: &Token) -> Option<Word>
     }
 }
 
+/// The declaration of a `for` begins.
+fn declaration_begins(
+    alloc: Global,
+    parts: Seq<Stmt>,
+    frames: Stack<Frame>,
+    place: Place,
+    word: Word,
+) -> Result<Stepped, NoMemory>
+    ensures { IfOk result (λ fed. fed ≡ spec.steps parts frames (stages.Declares place (begin_declaration word (spec.inner frames))) 0) }
+{
+    let declaration = begin_declaration(alloc, word, inner_level(&frames)?)?;
+    let step = BlockStage::Declares { place, declaration };
+    Ok(steps(parts, frames, step, 0))
+}
+
 /// A token in the first part of a `for`.
 #[tactic(auto, unfolding(k_steps::specs::Statements::start))]
 fn start(
@@ -95,20 +111,16 @@ fn start(
     ensures { IfOk result (λ fed. fed ≡ spec.start parts frames place reading token.now) }
 {
     if let Some(word) = specifier(reading.get(), token) {
-        let declaration = begin_declaration(alloc, word, inner_level(&frames)?)?;
-        let declaration = Box::new(alloc, declaration)?;
-        return Ok(steps(
-            parts,
-            frames,
-            BlockStage::Declares { place, declaration },
-            0,
-        ));
+        return declaration_begins(alloc, parts, frames, place, word);
     }
     match read_maybe(alloc, reading, token, Closer::Semicolon)? {
         Turn::Goes(reading, reach) => {
             Ok(steps(parts, frames, BlockStage::Start { place, reading }, reach))
         }
-        Turn::Done(value) => second_begins(alloc, parts, frames, place, first_of(value)),
+        Turn::Done(value) => {
+            let first = first_of(alloc, value)?;
+            second_begins(alloc, parts, frames, place, first)
+        }
         Turn::Refused => Ok(Turn::Refused),
     }
 }
@@ -125,18 +137,14 @@ fn declares(
 ) -> Result<Stepped, NoMemory>
     ensures { IfOk result (λ fed. fed ≡ spec.for_declares parts frames place declaration token.now) }
 {
-    match feed_declaration(alloc, declaration.into_inner(), token)? {
+    match feed_declaration(alloc, declaration, token)? {
         Turn::Goes(declaration, reach) => {
-            let declaration = Box::new(alloc, declaration)?;
-            Ok(steps(
-                parts,
-                frames,
-                BlockStage::Declares { place, declaration },
-                reach,
-            ))
+            let step = BlockStage::Declares { place, declaration };
+            Ok(steps(parts, frames, step, reach))
         }
         Turn::Done((specs, list)) => {
-            second_begins(alloc, parts, frames, place, First::Declare(specs, list))
+            let first = Box::new(alloc, First::Declare(specs, list))?;
+            second_begins(alloc, parts, frames, place, first)
         }
         Turn::Refused => Ok(Turn::Refused),
     }

@@ -84,7 +84,11 @@ fn braces(
 
 /// A label was read.
 #[tactic(auto, unfolding(k_steps::specs::Statements::labelled))]
-fn labelled(parts: Seq<Stmt>, mut frames: Stack<Frame>, label: Part) -> Result<Stepped, NoMemory>
+fn labelled(
+    parts: Seq<Stmt>,
+    mut frames: Stack<Frame>,
+    label: Box<Part>,
+) -> Result<Stepped, NoMemory>
     ensures { IfOk result (λ fed. fed ≡ spec.labelled parts frames label) }
 {
     match frames.pop() {
@@ -95,7 +99,7 @@ fn labelled(parts: Seq<Stmt>, mut frames: Stack<Frame>, label: Part) -> Result<S
                 parts: mut inner,
             },
         ) => {
-            inner.push(label)?;
+            inner.push(label.into_inner())?;
             let frame = Frame::Switch {
                 place,
                 on,
@@ -105,13 +109,9 @@ fn labelled(parts: Seq<Stmt>, mut frames: Stack<Frame>, label: Part) -> Result<S
         }
         Some(frame) => {
             drop(frame);
-            drop(label);
             Ok(Turn::Refused)
         }
-        None => {
-            drop(label);
-            Ok(Turn::Refused)
-        }
+        None => Ok(Turn::Refused),
     }
 }
 
@@ -131,7 +131,10 @@ fn case_value(
         Turn::Goes(reading, reach) => {
             Ok(steps(parts, frames, BlockStage::Case { place, reading }, reach))
         }
-        Turn::Done(value) => labelled(parts, frames, Part::Case { place, value }),
+        Turn::Done(value) => {
+            let label = Box::new(alloc, Part::Case { place, value })?;
+            labelled(parts, frames, label)
+        }
         Turn::Refused => Ok(Turn::Refused),
     }
 }
@@ -139,6 +142,7 @@ fn case_value(
 /// The token behind `default`.
 #[tactic(auto, unfolding(k_steps::specs::Statements::default_label))]
 fn default_label(
+    alloc: Global,
     parts: Seq<Stmt>,
     frames: Stack<Frame>,
     place: Place,
@@ -149,7 +153,8 @@ fn default_label(
     if !closes(token, Closer::Colon) {
         return Ok(Turn::Refused);
     }
-    labelled(parts, frames, Part::Default { place })
+    let label = Box::new(alloc, Part::Default { place })?;
+    labelled(parts, frames, label)
 }
 
 /// One more statement in the braces, and the token behind it.
@@ -193,7 +198,7 @@ pub fn in_switch(
         BlockStage::Case { place, reading } => case_value(
             alloc, parts, frames, place, reading, token,
         ),
-        BlockStage::Default { place } => default_label(parts, frames, place, token),
+        BlockStage::Default { place } => default_label(alloc, parts, frames, place, token),
         step => {
             drop(step);
             Ok(Turn::Refused)

@@ -1,7 +1,7 @@
 //! Initialisers (C17 6.7.9).
 
 use crate::stack::Stack;
-use k_num::{Place, Seq};
+use k_num::{Box, Place, Seq};
 use k_tree::{Declarator, Init};
 
 /// A brace that is open, and the initialisers in it so far.
@@ -14,7 +14,7 @@ pub struct Brace {
 /// A declarator whose initialiser is read, and the braces that are open in that.
 #[derive(Drop)]
 pub struct Opened {
-    pub declarator: Declarator,
+    pub declarator: Box<Declarator>,
     pub braces: Stack<Brace>,
 }
 
@@ -26,7 +26,7 @@ pub enum After {
     /// A brace is closed.
     Closed { opened: Opened },
     /// The declarator ended before the mark.
-    Done { declarator: Declarator },
+    Done { declarator: Box<Declarator> },
     /// The mark can't stand here.
     Refused,
 }
