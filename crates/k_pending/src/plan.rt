@@ -1,5 +1,5 @@
 //! How expressions are begun: what is answered at once, and which tasks wait for the operands of the others (C17 6.5).
-ghost use Rattle.std.specs.Prelude.{◌≡◌};
+ghost use Rattle.std.specs.Prelude.{◌≡◌, true, false};
 ghost use Rattle.k_evaluation.specs.Flows.{Within, means};
 ghost use Rattle.k_evaluation.specs.Meanings.{scale_of as scale_meant};
 ghost use Rattle.k_evaluation.specs.Operators.{cast_to};
@@ -9,6 +9,9 @@ ghost use Rattle.k_pending.specs.Givens.{gives_operand};
 ghost use Rattle.k_world.specs.declared.act.ActRef.TheVariants.{Offset, PtrDistance};
 ghost use Rattle.k_pending.specs.Leads.{placed, valued};
 ghost use Rattle.k_pending.specs.Plans.{planned};
+ghost use Rattle.k_pending.specs.Tasks.{assignment_task, branch_task, value_task};
+ghost use Rattle.k_pending.specs.declared.task.BranchTask.TheVariants.{Settle};
+ghost use Rattle.k_pending.specs.declared.task.ValueTask.TheVariants.{Second};
 
 use crate::task::{AssignTask, BranchTask, CallTask, Task, ValueTask};
 use k_listing::{Making, class_of, kind_of, scale_of};
@@ -124,14 +127,8 @@ pub fn plan_value<'a>(e: &'a TExpr, used: bool, control: Option<u64>) -> Plan<'a
             Task::OfCall(CallTask::Arguments(args, 0)),
             Task::OfCall(CallTask::Print(node.place, format)),
         ),
-        TExpr::Post { node, change, of } => Plan::Two(
-            Task::OfValue(ValueTask::Place(of)),
-            Task::OfAssignment(AssignTask::Post(*node, *change, used)),
-        ),
-        TExpr::Pre { node, change, of } => Plan::Two(
-            Task::OfValue(ValueTask::Place(of)),
-            Task::OfAssignment(AssignTask::Pre(*node, *change)),
-        ),
+        TExpr::Post { node, change, of } => on_place(of, AssignTask::Post(*node, *change, used)),
+        TExpr::Pre { node, change, of } => on_place(of, AssignTask::Pre(*node, *change)),
         TExpr::Address { of, .. } => Plan::Two(
             Task::OfValue(ValueTask::Place(of)),
             Task::OfValue(ValueTask::Address),
@@ -142,18 +139,17 @@ pub fn plan_value<'a>(e: &'a TExpr, used: bool, control: Option<u64>) -> Plan<'a
             Task::OfValue(ValueTask::Read(*node, used)),
         ),
         TExpr::Plus { of, .. } => Plan::One(Task::OfValue(ValueTask::Value(of, used))),
-        TExpr::Unary { node, op, kind, of } => Plan::Two(
-            Task::OfValue(ValueTask::Value(of, true)),
-            Task::OfValue(ValueTask::One(Making {
+        TExpr::Unary { node, op, kind, of } => on_value(
+            of,
+            ValueTask::One(Making {
                 class: Class::Simple,
                 place: node.place,
                 act: ActRef::Unary(*op, *kind),
-            })),
+            }),
         ),
-        TExpr::Convert { node, of } => Plan::Two(
-            Task::OfValue(ValueTask::Value(of, true)),
-            Task::OfValue(ValueTask::Convert(node.place, kind_of(node.of))),
-        ),
+        TExpr::Convert { node, of } => {
+            on_value(of, ValueTask::Convert(node.place, kind_of(node.of)))
+        }
         TExpr::Cast { node, of } => cast(*node, of, used),
         TExpr::Binary {
             node,
@@ -161,84 +157,58 @@ pub fn plan_value<'a>(e: &'a TExpr, used: bool, control: Option<u64>) -> Plan<'a
             kind,
             left,
             right,
-        } => Plan::Two(
-            Task::OfValue(ValueTask::Value(left, true)),
-            Task::OfValue(ValueTask::Second(
-                Making {
-                    class: class_of(*op),
-                    place: node.place,
-                    act: ActRef::Binary(*op, *kind),
-                },
-                false,
-                right,
-            )),
+        } => on_two(
+            left,
+            Making {
+                class: class_of(*op),
+                place: node.place,
+                act: ActRef::Binary(*op, *kind),
+            },
+            false,
+            right,
         ),
-        TExpr::Both { node, left, right } => Plan::Three(
-            Task::OfValue(ValueTask::Value(left, true)),
-            Task::OfBranch(BranchTask::Logic(*node, false, right)),
-            Task::OfBranch(BranchTask::Settle(false, control)),
-        ),
-        TExpr::Either { node, left, right } => Plan::Three(
-            Task::OfValue(ValueTask::Value(left, true)),
-            Task::OfBranch(BranchTask::Logic(*node, true, right)),
-            Task::OfBranch(BranchTask::Settle(false, control)),
-        ),
-        TExpr::Forward { node, left, right } => Plan::Two(
-            Task::OfValue(ValueTask::Value(left, true)),
-            Task::OfValue(ValueTask::Second(moving(*node, false), false, right)),
-        ),
-        TExpr::Onto { node, left, right } => Plan::Two(
-            Task::OfValue(ValueTask::Value(left, true)),
-            Task::OfValue(ValueTask::Second(moving(*node, false), true, right)),
-        ),
-        TExpr::Back { node, left, right } => Plan::Two(
-            Task::OfValue(ValueTask::Value(left, true)),
-            Task::OfValue(ValueTask::Second(moving(*node, true), false, right)),
-        ),
+        TExpr::Both { node, left, right } => {
+            on_test(left, BranchTask::Logic(*node, false, right), control)
+        }
+        TExpr::Either { node, left, right } => {
+            on_test(left, BranchTask::Logic(*node, true, right), control)
+        }
+        TExpr::Forward { node, left, right } => on_two(left, moving(*node, false), false, right),
+        TExpr::Onto { node, left, right } => on_two(left, moving(*node, false), true, right),
+        TExpr::Back { node, left, right } => on_two(left, moving(*node, true), false, right),
         TExpr::PtrCompare {
             node,
             op,
             left,
             right,
-        } => Plan::Two(
-            Task::OfValue(ValueTask::Value(left, true)),
-            Task::OfValue(ValueTask::Second(
-                Making {
-                    class: Class::Simple,
-                    place: node.place,
-                    act: ActRef::PtrCompare(*op),
-                },
-                false,
-                right,
-            )),
+        } => on_two(
+            left,
+            Making {
+                class: Class::Simple,
+                place: node.place,
+                act: ActRef::PtrCompare(*op),
+            },
+            false,
+            right,
         ),
-        TExpr::PtrDistance { node, left, right } => Plan::Two(
-            Task::OfValue(ValueTask::Value(left, true)),
-            Task::OfValue(ValueTask::Second(distance(*node, left), false, right)),
-        ),
+        TExpr::PtrDistance { node, left, right } => {
+            on_two(left, distance(*node, left), false, right)
+        }
         TExpr::Cond {
             node,
             test,
             then,
             other,
-        } => Plan::Three(
-            Task::OfValue(ValueTask::Value(test, true)),
-            Task::OfBranch(BranchTask::Choose(*node, then, other)),
-            Task::OfBranch(BranchTask::Settle(false, control)),
-        ),
-        TExpr::Assign { node, left, right } => Plan::Two(
-            Task::OfValue(ValueTask::Place(left)),
-            Task::OfAssignment(AssignTask::Assign(node.place, right)),
-        ),
+        } => on_test(test, BranchTask::Choose(*node, then, other), control),
+        TExpr::Assign { node, left, right } => {
+            on_place(left, AssignTask::Assign(node.place, right))
+        }
         TExpr::AssignBy {
             node,
             change,
             left,
             right,
-        } => Plan::Two(
-            Task::OfValue(ValueTask::Place(left)),
-            Task::OfAssignment(AssignTask::AssignBy(*node, *change, right)),
-        ),
+        } => on_place(left, AssignTask::AssignBy(*node, *change, right)),
         TExpr::Comma { left, right, .. } => {
             Plan::Two(
                 Task::OfValue(ValueTask::Value(left, false)),
@@ -246,6 +216,46 @@ pub fn plan_value<'a>(e: &'a TExpr, used: bool, control: Option<u64>) -> Plan<'a
             )
         }
     }
+}
+
+/// A value, and what is done with it.
+fn on_value<'a>(e: &'a Box<TExpr>, task: ValueTask<'a>) -> Plan<'a>
+    ensures { (w : Within) (s : State) → follow (valued w e.now true s) (value_task w task.entry) ≡ planned w result s }
+{
+    Plan::Two(
+        Task::OfValue(ValueTask::Value(e, true)),
+        Task::OfValue(task),
+    )
+}
+
+/// Two operands, and the operation on both, or on the second and the first.
+fn on_two<'a>(
+    left: &'a Box<TExpr>,
+    making: Making,
+    swapped: bool,
+    right: &'a Box<TExpr>,
+) -> Plan<'a>
+    ensures { (w : Within) (s : State) → follow (valued w left.now true s) (value_task w (Second making swapped right.entry)) ≡ planned w result s }
+{
+    on_value(left, ValueTask::Second(making, swapped, right))
+}
+
+/// A place, and what is done with it.
+fn on_place<'a>(e: &'a Box<TExpr>, task: AssignTask<'a>) -> Plan<'a>
+    ensures { (w : Within) (s : State) → follow (placed w e.now s) (assignment_task w task.entry) ≡ planned w result s }
+{
+    Plan::Two(Task::OfValue(ValueTask::Place(e)), Task::OfAssignment(task))
+}
+
+/// A condition, what depends on it, and the control source as before.
+fn on_test<'a>(e: &'a Box<TExpr>, task: BranchTask<'a>, control: Option<u64>) -> Plan<'a>
+    ensures { (w : Within) (s : State) → follow (follow (valued w e.now true s) (branch_task w task.entry)) (branch_task w (Settle false control)) ≡ planned w result s }
+{
+    Plan::Three(
+        Task::OfValue(ValueTask::Value(e, true)),
+        Task::OfBranch(task),
+        Task::OfBranch(BranchTask::Settle(false, control)),
+    )
 }
 
 /// A cast, by the type that it names.

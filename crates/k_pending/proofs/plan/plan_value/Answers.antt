@@ -60,10 +60,12 @@ returns-in-Printf c =
 pub returns-in-Post : goal.returns-in-Post
 returns-in-Post c =
     λ w s is. row_Post w s c.args.e.now c.in-Post.node c.in-Post.change c.in-Post.of c.args.used c.in-Post.is
+    ∙ c.on_place.ensures w s
 
 pub returns-in-Pre : goal.returns-in-Pre
 returns-in-Pre c =
     λ w s is. row_Pre w s c.args.e.now c.in-Pre.node c.in-Pre.change c.in-Pre.of c.args.used c.in-Pre.is
+    ∙ c.on_place-in-Pre.ensures w s
 
 pub returns-in-Address : goal.returns-in-Address
 returns-in-Address c =
@@ -80,10 +82,12 @@ returns-in-Plus c =
 pub returns-in-Unary : goal.returns-in-Unary
 returns-in-Unary c =
     λ w s is. row_Unary w s c.args.e.now c.in-Unary.node c.in-Unary.op c.in-Unary.kind c.in-Unary.of c.args.used c.in-Unary.is
+    ∙ c.on_value.ensures w s
 
 pub returns-in-Convert : goal.returns-in-Convert
 returns-in-Convert c =
     λ w s is. row_Convert w s c.args.e.now c.in-Convert.node c.in-Convert.of c.args.used c.kind_of.result c.in-Convert.is c.kind_of.ensures
+    ∙ c.on_value-in-Convert.ensures w s
 
 pub returns-in-Cast : goal.returns-in-Cast
 returns-in-Cast c =
@@ -94,46 +98,57 @@ returns-in-Binary c =
     let at = c.in-Binary in
     let f : Class → Making = λ (k : Class). record { class = k; place = at.node.place; act = borrowed.Binary at.op at.kind } in
     λ w s is. row_Binary w s c.args.e.now at.node at.op at.kind at.left at.right c.args.used (f c.class_of.result) at.is (ap f c.class_of.ensures)
+    ∙ c.on_two.ensures w s
 
 pub returns-in-Both : goal.returns-in-Both
 returns-in-Both c =
     λ w s is. row_Both w s c.args.e.now c.in-Both.node c.in-Both.left c.in-Both.right c.args.used c.args.control c.in-Both.is is
+    ∙ c.on_test.ensures w s
 
 pub returns-in-Either : goal.returns-in-Either
 returns-in-Either c =
     λ w s is. row_Either w s c.args.e.now c.in-Either.node c.in-Either.left c.in-Either.right c.args.used c.args.control c.in-Either.is is
+    ∙ c.on_test-in-Either.ensures w s
 
 pub returns-in-Forward : goal.returns-in-Forward
 returns-in-Forward c =
     λ w s is. row_Forward w s c.args.e.now c.in-Forward.node c.in-Forward.left c.in-Forward.right c.args.used c.moving.result c.in-Forward.is c.moving.ensures
+    ∙ c.on_two-in-Forward.ensures w s
 
 pub returns-in-Onto : goal.returns-in-Onto
 returns-in-Onto c =
     λ w s is. row_Onto w s c.args.e.now c.in-Onto.node c.in-Onto.left c.in-Onto.right c.args.used c.moving-in-Onto.result c.in-Onto.is c.moving-in-Onto.ensures
+    ∙ c.on_two-in-Onto.ensures w s
 
 pub returns-in-Back : goal.returns-in-Back
 returns-in-Back c =
     λ w s is. row_Back w s c.args.e.now c.in-Back.node c.in-Back.left c.in-Back.right c.args.used c.moving-in-Back.result c.in-Back.is c.moving-in-Back.ensures
+    ∙ c.on_two-in-Back.ensures w s
 
 pub returns-in-PtrCompare : goal.returns-in-PtrCompare
 returns-in-PtrCompare c =
     λ w s is. row_PtrCompare w s c.args.e.now c.in-PtrCompare.node c.in-PtrCompare.op c.in-PtrCompare.left c.in-PtrCompare.right c.args.used c.in-PtrCompare.is
+    ∙ c.on_two-in-PtrCompare.ensures w s
 
 pub returns-in-PtrDistance : goal.returns-in-PtrDistance
 returns-in-PtrDistance c =
     λ w s is. row_PtrDistance w s c.args.e.now c.in-PtrDistance.node c.in-PtrDistance.left c.in-PtrDistance.right c.args.used c.distance.result c.in-PtrDistance.is (c.distance.ensures w)
+    ∙ c.on_two-in-PtrDistance.ensures w s
 
 pub returns-in-Cond : goal.returns-in-Cond
 returns-in-Cond c =
     λ w s is. row_Cond w s c.args.e.now c.in-Cond.node c.in-Cond.test c.in-Cond.then c.in-Cond.other c.args.used c.args.control c.in-Cond.is is
+    ∙ c.on_test-in-Cond.ensures w s
 
 pub returns-in-Assign : goal.returns-in-Assign
 returns-in-Assign c =
     λ w s is. row_Assign w s c.args.e.now c.in-Assign.node c.in-Assign.left c.in-Assign.right c.args.used c.in-Assign.is
+    ∙ c.on_place-in-Assign.ensures w s
 
 pub returns-in-AssignBy : goal.returns-in-AssignBy
 returns-in-AssignBy c =
     λ w s is. row_AssignBy w s c.args.e.now c.in-AssignBy.node c.in-AssignBy.change c.in-AssignBy.left c.in-AssignBy.right c.args.used c.in-AssignBy.is
+    ∙ c.on_place-in-AssignBy.ensures w s
 
 pub returns-in-Comma : goal.returns-in-Comma
 returns-in-Comma c =
