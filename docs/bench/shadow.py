@@ -4,32 +4,28 @@
     gcc -O2 -o /tmp/shadow docs/bench/shadow.c
     python3 docs/bench/shadow.py crates/k_bench/out/k_bench /tmp/shadow [TURNS]
 
-For each loop, number of locations and depth: the median over the turns of the processor time of the operations less that
-of one operation, in nanoseconds for each operation. Each turn runs each loop once, on one processor.
+Each turn runs each loop twice at each number of locations and each depth, all on one processor: with some operations, and
+with four times as many. Of each of the two the least processor time over the turns is taken, that of the turn that was
+disturbed least, and the difference is divided by the operations that the longer run has more. So what stands before and
+behind the operations is not counted, nor are the first uses of memory and of code.
 """
 
 import os
-import resource
-import statistics
 import subprocess
 import sys
 
-LOCATIONS = (1024, 65536)
+# locations, and the operations of the shorter run
+SIZES = ((1024, 60_000), (65536, 200_000))
 DEPTHS = (1, 4, 8, 32)
-OPERATIONS = 1_000_000
 
 
 def seconds(command):
-    before = resource.getrusage(resource.RUSAGE_CHILDREN)
-    subprocess.run(command, stdout=subprocess.DEVNULL, check=True)
-    after = resource.getrusage(resource.RUSAGE_CHILDREN)
-    return after.ru_utime - before.ru_utime + after.ru_stime - before.ru_stime
-
-
-def nanoseconds(loop, locations, depth):
-    words = [*loop, str(locations), str(depth)]
-    whole, one = seconds([*words, str(OPERATIONS)]), seconds([*words, "1"])
-    return (whole - one) / OPERATIONS * 1e9
+    nowhere = [(os.POSIX_SPAWN_OPEN, 1, os.devnull, os.O_WRONLY, 0)]
+    process = os.posix_spawn(command[0], command, os.environ, file_actions=nowhere)
+    _, status, used = os.wait4(process, 0)
+    if status:
+        sys.exit(f"{command} ended with {status}")
+    return used.ru_utime + used.ru_stime
 
 
 def main(rattle, c, turns):
@@ -38,20 +34,29 @@ def main(rattle, c, turns):
     for shadow in ("regs", "pages"):
         for way in ("read", "raise", "after"):
             loops[f"{shadow} {way}"] = [rattle, shadow, way]
-    for locations in LOCATIONS:
-        print(f"{locations} locations, nanoseconds and times C's, at depth {'/'.join(map(str, DEPTHS))}")
-        medians = {name: [] for name in loops}
-        for depth in DEPTHS:
-            taken = {name: [] for name in loops}
-            for _ in range(turns):
+    least = {}
+    for _ in range(turns):
+        for locations, operations in SIZES:
+            for depth in DEPTHS:
                 for name, loop in loops.items():
-                    taken[name].append(nanoseconds(loop, locations, depth))
-            for name in loops:
-                medians[name].append(statistics.median(taken[name]))
-        first = medians["C, one array"]
-        for name, found in medians.items():
-            times = "/".join(f"{a / b:.2f}" for a, b in zip(found, first))
-            print(f"{name:12} {'/'.join(f'{it:.0f}' for it in found):18} {times}")
+                    for count in (operations, 4 * operations):
+                        taken = seconds([*loop, str(locations), str(depth), str(count)])
+                        key = name, locations, depth, count
+                        least[key] = min(taken, least.get(key, taken))
+    for locations, operations in SIZES:
+        print(f"{locations} locations, nanoseconds and times C's, at depth {'/'.join(map(str, DEPTHS))}")
+        found = {
+            name: [
+                (least[name, locations, depth, 4 * operations] - least[name, locations, depth, operations])
+                / (3 * operations)
+                * 1e9
+                for depth in DEPTHS
+            ]
+            for name in loops
+        }
+        for name, each in found.items():
+            times = "/".join(f"{a / b:.2f}" for a, b in zip(each, found["C, one array"]))
+            print(f"{name:12} {'/'.join(f'{it:.0f}' for it in each):18} {times}")
 
 
-main(sys.argv[1], sys.argv[2], int(sys.argv[3]) if len(sys.argv) > 3 else 7)
+main(sys.argv[1], sys.argv[2], int(sys.argv[3]) if len(sys.argv) > 3 else 15)

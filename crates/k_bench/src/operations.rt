@@ -44,6 +44,7 @@ pub fn run<W: Way, S: Shadow, L: Ledger>(
     shadow.reserve(0, plan.last + 1)?;
     let mut times = Times::new(alloc);
     times.resize(plan.levels);
+    control.under(&times);
     let slots = times.as_mut_slice();
     let mut draws = Draws::new();
     for _operation in 0..plan.operations {

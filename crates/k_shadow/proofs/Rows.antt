@@ -6,7 +6,7 @@ use Rattle.std.proofs.lemmas.Bool.{cases_eq, cases_lt}
 use Rattle.std.proofs.lemmas.List.{ext_get_or, get_or-replicate, get_or_past, length-replicate}
 use Rattle.k_shadow.specs.declared.row.Row.{Row}
 use Rattle.k_shadow.specs.Content.{with_time, set_times, without}
-use Rattle.k_shadow.specs.Numbers.{WereGiven}
+use Rattle.k_shadow.specs.Numbers.{AreRising, WereGiven}
 use Rattle.k_shadow.specs.Rows.{row_time, blank_row, with_places, times_of, levels_of, row_at, WereStamped}
 use Rattle.k_shadow.proofs.Places.{length-with_places, with_places-append, with_places-take, get_or-with_places, with_places_same}
 
@@ -27,6 +27,38 @@ WereGiven-take given (suc k) (n ∷ ns) h = (h.0, h.1, WereGiven-take given k ns
 -- the number of the next instance after those that were given
 pub WereGiven-next : (given : ℕ) (ns : List ℕ) → WereGiven given ns → WereGiven (given + 1) (ns ++ (given + 1) ∷ [])
 WereGiven-next given ns h = WereGiven-append (given + 1) ns (given + 1) (WereGiven-later given (given + 1) ns (omega arith) h) (omega arith) (omega arith)
+
+pub AreRising-next : (low given : ℕ) (ns : List ℕ) → low ≤ given → WereGiven given ns → AreRising low ns → AreRising low (ns ++ (given + 1) ∷ [])
+AreRising-next low given [] le h rising = (omega arith, tt)
+AreRising-next low given (n ∷ ns) le h rising = (rising.0, AreRising-next n given ns h.1 h.2 rising.1)
+
+pub AreRising-take : (low k : ℕ) (ns : List ℕ) → AreRising low ns → AreRising low (take k ns)
+AreRising-take low zero ns h = tt
+AreRising-take low (suc k) [] h = tt
+AreRising-take low (suc k) (n ∷ ns) h = (h.0, AreRising-take n k ns h.1)
+
+above_low : (low : ℕ) (ns : List ℕ) → AreRising low ns → (k : ℕ) → k < length ns → low < get_or ns k 0
+above_low low [] h k lt = absurd (omega arith)
+above_low low (n ∷ ns) h zero lt = h.0
+above_low low (n ∷ ns) h (suc k) lt = let more : n < get_or ns k 0 = above_low n ns h.1 k (omega arith) in omega (arith, h.0)
+
+-- an outer level's number is below an inner one's
+pub rising_to : (low : ℕ) (ns : List ℕ) → AreRising low ns → (i k : ℕ) → i ≤ k → k < length ns → get_or ns i 0 ≤ get_or ns k 0
+rising_to low [] h i k le lt = absurd (omega arith)
+rising_to low (n ∷ ns) h zero zero le lt = omega arith
+rising_to low (n ∷ ns) h zero (suc k) le lt = let more : n < get_or ns k 0 = above_low n ns h.1 k (omega arith) in omega arith
+rising_to low (n ∷ ns) h (suc i) zero le lt = absurd (omega arith)
+rising_to low (n ∷ ns) h (suc i) (suc k) le lt = rising_to n ns h.1 i k (omega arith) (omega arith)
+
+at_most : (n stamp : ℕ) → nat_le n stamp ≡ true → n ≤ stamp
+at_most n stamp h = grind (arith, nat_tests)
+
+-- where the innermost level's instance began no later than a stamp was given, none did
+pub since_last : (ns : List ℕ) (stamp : ℕ) → AreRising 0 ns → nat_le (get_or ns (length ns - 1) 0) stamp ≡ true → (k : ℕ) → k < length ns → get_or ns k 0 ≤ stamp
+since_last ns stamp rising h k lt =
+    let up : get_or ns k 0 ≤ get_or ns (length ns - 1) 0 = rising_to 0 ns rising k (length ns - 1) (omega arith) (omega arith) in
+    let last : get_or ns (length ns - 1) 0 ≤ stamp = at_most (get_or ns (length ns - 1) 0) stamp h in
+    omega arith
 
 pub WereStamped-later : (given later : ℕ) (rows : List Row) → given ≤ later → WereStamped given rows → WereStamped later rows
 WereStamped-later given later [] le h = tt

@@ -22,3 +22,8 @@ number_left v = record v { live = take (length v.live - 1) v.live }
 abbrev pub WereGiven : ℕ → List ℕ → Type 0
 WereGiven given [] = Unit {0}
 WereGiven given (n ∷ ns) = (0 < n) × (n ≤ given) × WereGiven given ns
+
+-- each number is above the one before, and the first above `low`: instances nest, so an inner one began later
+abbrev pub AreRising : ℕ → List ℕ → Type 0
+AreRising low [] = Unit {0}
+AreRising low (n ∷ ns) = (low < n) × AreRising n ns

@@ -1,7 +1,7 @@
 -- One stamp for each location: the last instance number that was given when the location was last written. Instances
 -- nest and a write goes to all live levels, so a level's time is live exactly where the level's instance began no
 -- later than that write.
-use Rattle.std.specs.Prelude.{ℕ, ◌+◌, ◌≤◌, nat_le, if◌then◌else◌, List, [], ◌∷◌, replicate, map, slice_index, slice_index_or, Bool}
+use Rattle.std.specs.Prelude.{ℕ, ◌+◌, ◌≤◌, nat_le, if◌then◌else◌, List, [], ◌∷◌, length, take, replicate, map, slice_index, slice_index_or, Bool}
 use Rattle.k_shadow.specs.Content.{Content}
 use Rattle.k_shadow.specs.Numbers.{Numbers}
 use Rattle.k_shadow.specs.Stack.{Stack}
@@ -41,10 +41,10 @@ abbrev pub WereStamped : ℕ → List Row → Type 0
 WereStamped given [] = Unit {0}
 WereStamped given (row ∷ rows) = (row.stamp ≤ given) × WereStamped given rows
 
--- the control stack whose entries are these rows
-abbrev pub stack_in : Row → List Row → Numbers → Bool → Stack
+-- the control stack whose current entry has these times at the front, and whose saved entries are these rows
+abbrev pub stack_in : List ℕ → List Row → Numbers → Bool → Stack
 stack_in current saved numbers room = record {
-  current = times_of current numbers.live;
+  current = take (length numbers.live) current;
   saved = map (λ row. times_of row numbers.live) saved;
   entries = numbers.given;
   room = room;

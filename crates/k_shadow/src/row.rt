@@ -68,17 +68,15 @@ impl Row {
         }
     }
 
-    /// Fills the list with the row's times, in one step a level. The levels' instances have these numbers.
+    /// Copies the row's times to the front of a list. The levels' instances have these numbers.
     #[inline]
-    pub fn fill<L: Ledger>(&self, numbers: &[u64], times: &mut [u64], steps: &mut Steps<L>)
+    pub fn copy_to(&self, numbers: &[u64], to: &mut [u64])
         requires few { length numbers.now ≤ 32 }
-        requires each { length times.old ≡ length numbers.now }
-        ensures filled { (k : ℕ) → k < length numbers.now → slice_index times.new k ≡ row_time self.now (slice_index numbers.now k) k }
-        ensures steps { steps.new ≡ steps.old + length numbers.now }
+        requires room { length numbers.now ≤ length to.old }
+        ensures { (k : ℕ) → k < length numbers.now → slice_index to.new k ≡ row_time self.now (slice_index numbers.now k) k }
     {
-        let stamp = self.stamp;
         for (level, number) in numbers.iter().enumerate() {
-            times[level] = time_since(*number, stamp, self.times[level], steps);
+            to[level] = self.time(*number, level);
         }
     }
 
@@ -110,9 +108,9 @@ pub fn time_since<L: Ledger>(number: u64, stamp: u64, time: u64, steps: &mut Ste
     if number <= stamp { time } else { 0 }
 }
 
-/// Copies times to the front of a row's.
+/// Copies times to the front of a list.
 #[inline]
-fn copy_times(to: &mut [u64; 32], from: &[u64])
+pub fn copy_times(to: &mut [u64; 32], from: &[u64])
     requires { length from.now ≤ 32 }
     ensures { (k : ℕ) → k < length from.now → slice_index to.new k ≡ slice_index from.now k }
 {

@@ -1,6 +1,6 @@
 //! Numbers by which old times are told from live ones.
 ghost use Rattle.std.specs.Prelude.{◌≡◌, ◌<◌, ◌≤◌, ◌^◌, length, slice_index};
-ghost use Rattle.k_shadow.specs.Numbers.{none_given, number_given, number_left, WereGiven};
+ghost use Rattle.k_shadow.specs.Numbers.{none_given, number_given, number_left, AreRising, WereGiven};
 
 use std::marker::Model;
 
@@ -14,13 +14,13 @@ pub struct Versions {
 
 impl Model for Versions {
     ghost use Rattle.std.specs.Prelude.{◌≤◌, take};
-    ghost use Rattle.k_shadow.specs.Numbers.{Numbers, WereGiven};
+    ghost use Rattle.k_shadow.specs.Numbers.{Numbers, AreRising, WereGiven};
 
     ghost Value = { Numbers };
 
     ghost view = { λ v. record { live = take v.depth v.numbers; given = v.given } };
 
-    ghost invariant = { λ v. (v.depth ≤ 32) × WereGiven v.given (take v.depth v.numbers) };
+    ghost invariant = { λ v. (v.depth ≤ 32) × WereGiven v.given (take v.depth v.numbers) × AreRising 0 (take v.depth v.numbers) };
 }
 
 impl Versions {
@@ -83,6 +83,7 @@ impl Versions {
     pub fn live(&self) -> &[u64]
         ensures live { result.now ≡ self.now.live }
         ensures shallow { length result.now ≤ 32 }
+        ensures rising { AreRising 0 result.now }
     {
         &self.numbers[..self.depth]
     }

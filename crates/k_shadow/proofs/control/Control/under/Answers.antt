@@ -1,17 +1,17 @@
-use Rattle.std.proofs.Common.{◌≡◌, ℕ, ◌<◌, length, ◌∙◌, ap, sym}
+use Rattle.std.proofs.Common.{◌≡◌, ℕ, ◌<◌, ◌≤◌, List, length, take, subst, ap, sym, ◌∙◌, arith}
 use Rattle.std.specs.Prelude.{slice_index}
-use Rattle.k_shadow.specs.Rows.{times_of}
-use Rattle.k_shadow.proofs.Rows.{times-written}
-use Rattle.k_shadow.proofs.Entries.{levels_counted}
+use Rattle.k_shadow.proofs.Entries.{levels_counted, front_is}
 use Rattle.k_shadow.proofs.control.Control.under.Goals as goal
 
 pub returns : goal.returns
 returns c =
     let s = c.self.inside in
-    let row = c.write.new.self in
-    let same : length s.versions.live ≡ length c.args.self.now.current = levels_counted s.current s.versions.live c.args.self.now (ap (λ x. x.current) c.self.view_is) in
-    let stamp : row.stamp ≡ s.versions.given = c.write.ensures.stamp ∙ c.last_given-stamp.ensures.last in
-    let each : (k : ℕ) → k < length c.args.times.now → slice_index row.times k ≡ slice_index c.args.times.now k =
-    λ k h. c.write.ensures.times k (rw c.as_slice.ensures.times h) ∙ ap (λ ts. slice_index ts k) c.as_slice.ensures.times in
-    let current : times_of row s.versions.live ≡ c.args.times.now = times-written row s.versions.given c.args.times.now s.versions.live stamp each c.self.invariant.2 (c.requires ∙ sym same) in
+    let new = c.copy_times.new.to in
+    let within : length s.versions.live ≤ length s.current = omega (arith, c.self.invariant.0) in
+    let same : length s.versions.live ≡ length c.args.self.now.current = levels_counted s.current s.versions.live c.args.self.now within (ap (λ x. x.current) c.self.view_is) in
+    let P : List ℕ → Type 0 = λ ts. (k : ℕ) → k < length ts → slice_index new k ≡ slice_index ts k in
+    let each = subst P c.as_slice.ensures.times c.copy_times.ensures in
+    let as_many : length c.args.times.now ≡ length s.versions.live = c.requires ∙ sym same in
+    let room_for : length s.versions.live ≤ length new = omega (arith, c.self.invariant.0) in
+    let current : take (length s.versions.live) new ≡ c.args.times.now = front_is new s.versions.live c.args.times.now room_for as_many (λ k lt. each k (omega (arith, as_many))) in
     record { current = λ i. record { current = current i; saved = (c.self.view_is i).saved; entries = (c.self.view_is i).entries; room = (c.self.view_is i).room } }

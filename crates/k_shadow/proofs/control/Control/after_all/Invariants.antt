@@ -1,11 +1,10 @@
 use Rattle.std.proofs.Common.{◌≡◌, ℕ, ◌+◌, ◌*◌, ◌<◌, get_or}
 use Rattle.k_shadow.specs.Content.{time_after}
-use Rattle.k_shadow.specs.Rows.{row_time}
-use Rattle.k_shadow.proofs.control.Control.times_after.Given as goal
+use Rattle.k_shadow.proofs.control.Control.after_all.Given as goal
 
 -- the times so far are those of the operation
 abbrev pub invariant-loop-level : goal.invariant-loop-level
 invariant-loop-level g l = record {
-  done : (k : ℕ) → k < l.level → get_or l.times k 0 ≡ time_after (row_time l.left (get_or l.numbers k 0) k) (row_time l.right (get_or l.numbers k 0) k) (row_time l.entry (get_or l.live k 0) k) l.latency;
+  done : (k : ℕ) → k < l.level → get_or l.times k 0 ≡ time_after (get_or l.left.times k 0) (get_or l.right.times k 0) (get_or l.self.current k 0) l.latency;
   steps : l.steps ≡ l.initial.steps + 3 * l.level;
 }
