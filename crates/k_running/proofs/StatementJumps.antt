@@ -1,0 +1,86 @@
+-- The jumps that lead out of each statement, by those of its parts.
+use Rattle.std.proofs.Common.{ℕ, ◌≡◌, ◌∙◌, ◌⊎◌, inl, inr, List, map, Option, ap}
+use Rattle.std.specs.Option.{option_map}
+use Rattle.k_num.specs.declared.numbers.Kind.{Kind}
+use Rattle.k_typed.specs.declared.tree.declaration.TDeclarator.{TDeclarator}
+use Rattle.k_typed.specs.declared.tree.expression.TExpr.{TExpr}
+use Rattle.k_typed.specs.declared.tree.statement.Spot.{Spot}
+use Rattle.k_typed.specs.declared.tree.statement.TFirst.{TFirst}
+use Rattle.k_typed.specs.declared.tree.statement.TPart.{TPart}
+use Rattle.k_typed.specs.declared.tree.statement.TStmt.{TStmt}
+use Rattle.k_typed.specs.declared.tree.statement.TStmt.TheVariants as stmt
+use Rattle.k_evaluation.specs.declared.jumps.Jumps.{Jumps}
+use Rattle.k_evaluation.specs.Flows.{Doing, Within, jumps_of_all}
+use Rattle.k_evaluation.specs.Jumps.{a_break, a_continue, a_return, jumps_of_both, no_jumps, out_of_loop, out_of_switch}
+use Rattle.k_evaluation.specs.Loops.{do_loop, while_loop}
+use Rattle.k_evaluation.specs.Statements.{break, compound, continue, declaration, does, empty, expression, for_loop, if_else, jumps_or_none, return}
+use Rattle.k_evaluation.specs.Switches.{statements_of, switch}
+use Rattle.k_running.specs.Parts.{part_of}
+use Rattle.k_running.proofs.Meant.{does_Block, does_Break, does_Continue, does_Declare, does_DoWhile, does_Empty, does_Expr, does_For, does_If, does_Return, does_Switch, does_While}
+
+-- the jumps of what is done
+abbrev jumps_in : Doing → Jumps
+jumps_in d = d.jumps
+
+-- the jumps of a statement
+abbrev pub jumps_at : Within → TStmt → Jumps
+jumps_at w s = (does w s).jumps
+
+module _ (w : Within) (spot : Spot) where
+  pub jumps_Expr : (e : TExpr) → (does w (stmt.Expr spot e)).jumps ≡ no_jumps
+  unfolding expression
+  jumps_Expr e = ap jumps_in (does_Expr w spot e)
+
+  pub jumps_Empty : (does w (stmt.Empty spot)).jumps ≡ no_jumps
+  unfolding empty
+  jumps_Empty = ap jumps_in (does_Empty w spot)
+
+  pub jumps_Block : (parts : List TStmt) → (does w (stmt.Block spot parts)).jumps ≡ jumps_of_all (map (does w) parts)
+  unfolding compound
+  jumps_Block parts = ap jumps_in (does_Block w spot parts)
+
+  pub jumps_If : (test : TExpr) (a : TStmt) (b : Option TStmt)
+      → (does w (stmt.If spot test a b)).jumps ≡ jumps_of_both (does w a).jumps (jumps_or_none (option_map (does w) b))
+  unfolding if_else
+  jumps_If test a b = ap jumps_in (does_If w spot test a b)
+
+  pub jumps_While : (n : ℕ) (test : TExpr) (a : TStmt) → (does w (stmt.While spot n test a)).jumps ≡ out_of_loop (does w a).jumps
+  unfolding while_loop
+  jumps_While n test a = ap jumps_in (does_While w spot n test a)
+
+  pub jumps_DoWhile : (n : ℕ) (a : TStmt) (test : TExpr) → (does w (stmt.DoWhile spot n a test)).jumps ≡ out_of_loop (does w a).jumps
+  unfolding do_loop
+  jumps_DoWhile n a test = ap jumps_in (does_DoWhile w spot n a test)
+
+  pub jumps_For : (n : ℕ) (start : TFirst) (test step : Option TExpr) (a : TStmt) → (does w (stmt.For spot n start test step a)).jumps ≡ out_of_loop (does w a).jumps
+  unfolding for_loop
+  jumps_For n start test step a = ap jumps_in (does_For w spot n start test step a)
+
+  pub jumps_Switch : (kind : Kind) (on : TExpr) (parts : List TPart)
+      → (does w (stmt.Switch spot kind on parts)).jumps ≡ out_of_switch (jumps_of_all (statements_of (map (part_of w) parts)))
+  unfolding switch
+  jumps_Switch kind on parts = ap jumps_in (does_Switch w spot kind on parts)
+
+  pub jumps_Break : (does w (stmt.Break spot)).jumps ≡ a_break
+  unfolding break
+  jumps_Break = ap jumps_in (does_Break w spot)
+
+  pub jumps_Continue : (does w (stmt.Continue spot)).jumps ≡ a_continue
+  unfolding continue
+  jumps_Continue = ap jumps_in (does_Continue w spot)
+
+  pub jumps_Return : (value : Option TExpr) → (does w (stmt.Return spot value)).jumps ≡ a_return
+  unfolding return
+  jumps_Return value = ap jumps_in (does_Return w spot value)
+
+  pub jumps_Declare : (list : List TDeclarator) → (does w (stmt.Declare spot list)).jumps ≡ no_jumps
+  unfolding declaration
+  jumps_Declare list = ap jumps_in (does_Declare w spot list)
+
+-- a statement without jumps
+pub no_jumps_at : (w : Within) (s : TStmt)
+    → ((spot : Spot) × (e : TExpr) × (s ≡ stmt.Expr spot e)) ⊎ (((spot : Spot) × (s ≡ stmt.Empty spot)) ⊎ ((spot : Spot) × (list : List TDeclarator) × (s ≡ stmt.Declare spot list)))
+    → jumps_at w s ≡ no_jumps
+no_jumps_at w s (inl is) = ap (jumps_at w) is.2 ∙ jumps_Expr w is.0 is.1
+no_jumps_at w s (inr (inl is)) = ap (jumps_at w) is.1 ∙ jumps_Empty w is.0
+no_jumps_at w s (inr (inr is)) = ap (jumps_at w) is.2 ∙ jumps_Declare w is.0 is.1

@@ -1,0 +1,3 @@
+pub mod Parts
+pub mod Tasks
+pub mod Resumes

@@ -1,0 +1,17 @@
+//! Statements that run over what waits behind their parts: how each is begun, the tasks that then wait, and what follows when
+//! a task is given what it waited for. Calls of the program that runs are frames on a stack, so that they are no calls of this one.
+#![tactic(auto)]
+
+mod calls;
+mod declarations;
+mod jumps;
+mod loops;
+mod resume;
+mod runner;
+mod scope;
+mod statement;
+mod switches;
+mod task;
+
+pub use runner::Runner;
+pub use task::{DeclareTask, LoopTask, ScopeTask, StatementTask, SwitchTask, Turns, Waiting};

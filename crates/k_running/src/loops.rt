@@ -1,0 +1,323 @@
+//! Loops, turn by turn (C17 6.8.5).
+ghost use Rattle.std.specs.Prelude.{◌≡◌, ◌+◌, ◌-◌, ◌<◌, []};
+ghost use Rattle.std.specs.Option.{option_copied};
+ghost use Rattle.k_evaluation.specs.Flows.{Within};
+ghost use Rattle.k_evaluation.specs.Loops.{do_loop, loop_parts, resets, while_loop};
+ghost use Rattle.k_evaluation.specs.States.{Goes};
+ghost use Rattle.k_evaluation.specs.Statements.{does, for_loop};
+ghost use Rattle.k_pending.specs.declared.given.Given.TheVariants as given;
+ghost use Rattle.k_listing.specs.Arounds.{program_of, within_of};
+ghost use Rattle.k_running.specs.Parts.{bodied, doing, fuel_of, looped, parts_of, rounded, tested, turned};
+ghost use Rattle.k_running.specs.Resumes.{Resumes};
+ghost use Rattle.k_running.specs.Tasks.{first_task_of, loop_task};
+ghost use Rattle.k_running.specs.declared.task.LoopTask.TheVariants as turning;
+
+use crate::jumps::jumps_of;
+use crate::runner::Runner;
+use crate::scope::holds;
+use crate::task::{LoopTask, ScopeTask, StatementTask, Turns, Waiting};
+use k_code::End;
+use k_evaluation::{Flow, Operand};
+use k_listing::{Around, Evaluator, body_region, flag, loop_region};
+use k_num::{Box, Place};
+use k_pending::{Given, value};
+use k_typed::{Spot, TExpr, TFirst, TStmt};
+use k_world::{Held, Stop, Value};
+
+/// The turns of a loop of the source.
+fn turns_of<'a>(
+    around: &Around<'a>,
+    place: Place,
+    number: u32,
+    test: Option<&'a Box<TExpr>>,
+    step: Option<&'a Box<TExpr>>,
+    body: &'a Box<TStmt>,
+) -> Turns<'a>
+    ensures parts { parts_of (within_of around.now) result ≡ loop_parts (within_of around.now) place number (option_copied test.entry) (option_copied step.entry) (does (within_of around.now) body.now) }
+    ensures number { result.number ≡ number }
+{
+    Turns {
+        place,
+        number,
+        test,
+        step,
+        body,
+        counted: flag(around.marks.counted.as_slice(), number),
+        jumps: jumps_of(body.get()),
+        before: None,
+    }
+}
+
+/// An expression that may be left out, as it is lent.
+fn lent<'a>(e: &'a Option<Box<TExpr>>) -> Option<&'a Box<TExpr>>
+    ensures { option_copied result ≡ e.now }
+{
+    e.as_ref()
+}
+
+/// In a counted loop each test, body and step starts with the control source as before the loop.
+fn reset(evaluator: &mut Evaluator<'_>, turns: &Turns<'_>)
+    ensures { Goes tt evaluator.new ≡ resets turns.now.counted turns.now.before evaluator.old }
+{
+    evaluator.settle(!turns.counted, turns.before);
+}
+
+/// The turns that may still be made: as many as there may be, or so many.
+fn fuel(left: u64, count: Option<u128>) -> u128
+    ensures { result ≡ fuel_of left count }
+{
+    match count {
+        None => u128::from(left) + 1,
+        Some(count) => count,
+    }
+}
+
+/// The first task of a loop, which begins with a test or with its body.
+fn first_task<'a>(turns: Turns<'a>, tested: bool) -> LoopTask<'a>
+    ensures { result ≡ first_task_of turns.entry tested }
+{
+    if tested {
+        LoopTask::Turn(turns, None)
+    } else {
+        LoopTask::Body(turns, None, turns.before)
+    }
+}
+
+impl<'a> Runner<'a> {
+    /// `while`
+    pub fn begin_while(
+        &mut self,
+        around: &Around<'a>,
+        spot: Spot,
+        number: u32,
+        test: &'a Box<TExpr>,
+        body: &'a Box<TStmt>,
+    ) -> Result<Given, Stop>
+        requires { self.old.tasks ≡ [] }
+        ensures { Resumes (within_of around.now) result (doing (while_loop (within_of around.now) spot number test.now (does (within_of around.now) body.now)) self.old.evaluator) self.old.rest self.new.tasks self.new.rest self.new.evaluator }
+    {
+        let turns = turns_of(around, spot.place, number, Some(test), None, body);
+        self.begin_loop(around, turns, true)
+    }
+
+    /// `do`
+    pub fn begin_do(
+        &mut self,
+        around: &Around<'a>,
+        spot: Spot,
+        number: u32,
+        body: &'a Box<TStmt>,
+        test: &'a Box<TExpr>,
+    ) -> Result<Given, Stop>
+        requires { self.old.tasks ≡ [] }
+        ensures { Resumes (within_of around.now) result (doing (do_loop (within_of around.now) spot number (does (within_of around.now) body.now) test.now) self.old.evaluator) self.old.rest self.new.tasks self.new.rest self.new.evaluator }
+    {
+        let turns = turns_of(around, spot.place, number, Some(test), None, body);
+        self.begin_loop(around, turns, false)
+    }
+
+    /// `for`
+    pub fn begin_for(
+        &mut self,
+        around: &Around<'a>,
+        spot: Spot,
+        number: u32,
+        first: &'a TFirst,
+        test: &'a Option<Box<TExpr>>,
+        step: &'a Option<Box<TExpr>>,
+        body: &'a Box<TStmt>,
+    ) -> Result<Given, Stop>
+        requires { self.old.tasks ≡ [] }
+        ensures { Resumes (within_of around.now) result (doing (for_loop (within_of around.now) spot number first.now test.now step.now (does (within_of around.now) body.now)) self.old.evaluator) self.old.rest self.new.tasks self.new.rest self.new.evaluator }
+    {
+        let turns = turns_of(around, spot.place, number, lent(test), lent(step), body);
+        let live = self.evaluator.live();
+        self.rest.push(Waiting::OfScope(ScopeTask::Keep(live)))?;
+        self.rest.push(Waiting::OfLoop(LoopTask::Loop(turns)))?;
+        self.first(around, first)
+    }
+
+    /// A loop is begun, with a test or with its body.
+    pub fn begin_loop(
+        &mut self,
+        around: &Around<'a>,
+        turns: Turns<'a>,
+        tested: bool,
+    ) -> Result<Given, Stop>
+        requires { self.old.tasks ≡ [] }
+        ensures { Resumes (within_of around.now) result (looped (within_of around.now) turns.entry tested self.old.evaluator) self.old.rest self.new.tasks self.new.rest self.new.evaluator }
+    {
+        let before = self.evaluator.control();
+        let turns = Turns { before, ..turns };
+        let region = loop_region(around.function, turns.number)?;
+        self.evaluator.enter(region)?;
+        self.rest.push(Waiting::OfLoop(LoopTask::Leave(turns)))?;
+        self.rest.push(Waiting::OfLoop(first_task(turns, tested)))?;
+        Ok(Given::Flow(Flow::Normal))
+    }
+
+    /// The turns from a test on.
+    fn turn(
+        &mut self,
+        around: &Around<'a>,
+        turns: Turns<'a>,
+        count: Option<u128>,
+    ) -> Result<Given, Stop>
+        requires { self.old.tasks ≡ [] }
+        ensures { Resumes (within_of around.now) result (turned (within_of around.now) turns.entry count self.old.evaluator) self.old.rest self.new.tasks self.new.rest self.new.evaluator }
+    {
+        let count = fuel(self.evaluator.left(), count);
+        if count == 0 {
+            return Err(Stop::Ended(End::OutOfSteps));
+        }
+        self.tested(around, turns, count)
+    }
+
+    /// The test of a turn, where one may still be made.
+    fn tested(&mut self, around: &Around<'a>, turns: Turns<'a>, count: u128) -> Result<Given, Stop>
+        requires none { self.old.tasks ≡ [] }
+        requires some { 0 < count }
+        ensures { Resumes (within_of around.now) result (tested (within_of around.now) turns.entry (count - 1) self.old.evaluator) self.old.rest self.new.tasks self.new.rest self.new.evaluator }
+    {
+        reset(&mut self.evaluator, &turns);
+        self.rest
+            .push(Waiting::OfLoop(LoopTask::Test(turns, count - 1)))?;
+        match turns.test {
+            None => Ok(Given::Operand(Operand::Constant(Value::Number(1)))),
+            Some(e) => value(e.get(), true, &mut self.evaluator, around, &mut self.tasks),
+        }
+    }
+
+    /// A turn behind its condition.
+    fn behind_test(
+        &mut self,
+        around: &Around<'a>,
+        turns: Turns<'a>,
+        count: u128,
+        a: Operand,
+    ) -> Result<Given, Stop>
+        requires { self.old.tasks ≡ [] }
+        ensures { Resumes (within_of around.now) result (loop_task (within_of around.now) (turning.Test turns.entry count) (given.Operand a) self.old.evaluator) self.old.rest self.new.tasks self.new.rest self.new.evaluator }
+    {
+        let test = self.evaluator.test(around, turns.place, a)?;
+        if holds(test) {
+            self.rest.push(Waiting::OfLoop(LoopTask::Body(turns, Some(count), test.source)))?;
+            return Ok(Given::Flow(Flow::Normal));
+        }
+        Ok(Given::Flow(Flow::Normal))
+    }
+
+    /// A turn from its body on.
+    fn body(
+        &mut self,
+        around: &Around<'a>,
+        turns: Turns<'a>,
+        count: Option<u128>,
+        last: Option<u64>,
+    ) -> Result<Given, Stop>
+        requires { self.old.tasks ≡ [] }
+        ensures { Resumes (within_of around.now) result (bodied (within_of around.now) turns.entry count last self.old.evaluator) self.old.rest self.new.tasks self.new.rest self.new.evaluator }
+    {
+        reset(&mut self.evaluator, &turns);
+        let region = body_region(around.function, turns.number)?;
+        self.evaluator.enter(region)?;
+        self.rest
+            .push(Waiting::OfLoop(LoopTask::Behind(turns, count, last)))?;
+        self.rest
+            .push(Waiting::OfStatement(StatementTask::Do(turns.body)))?;
+        Ok(Given::Flow(Flow::Normal))
+    }
+
+    /// A turn behind its body, which ended so.
+    fn behind(
+        &mut self,
+        around: &Around<'a>,
+        turns: Turns<'a>,
+        count: Option<u128>,
+        last: Option<u64>,
+        flow: Flow,
+    ) -> Result<Given, Stop>
+        requires { self.old.tasks ≡ [] }
+        ensures { Resumes (within_of around.now) result (loop_task (within_of around.now) (turning.Behind turns.entry count last) (given.Flow flow) self.old.evaluator) self.old.rest self.new.tasks self.new.rest self.new.evaluator }
+    {
+        self.evaluator.exit()?;
+        self.evaluator
+            .settle(turns.jumps.breaks || turns.jumps.returns, last);
+        match flow {
+            Flow::Normal => self.round(around, turns, count),
+            Flow::Continued => self.round(around, turns, count),
+            Flow::Broke => Ok(Given::Flow(Flow::Normal)),
+            Flow::Returned(held) => Ok(Given::Flow(Flow::Returned(held))),
+        }
+    }
+
+    /// The step, and then the next turn.
+    fn round(
+        &mut self,
+        around: &Around<'a>,
+        turns: Turns<'a>,
+        count: Option<u128>,
+    ) -> Result<Given, Stop>
+        requires { self.old.tasks ≡ [] }
+        ensures { Resumes (within_of around.now) result (rounded (within_of around.now) turns.entry count self.old.evaluator) self.old.rest self.new.tasks self.new.rest self.new.evaluator }
+    {
+        reset(&mut self.evaluator, &turns);
+        self.rest
+            .push(Waiting::OfLoop(LoopTask::Turn(turns, count)))?;
+        match turns.step {
+            None => Ok(Given::Flow(Flow::Normal)),
+            Some(e) => value(e.get(), false, &mut self.evaluator, around, &mut self.tasks),
+        }
+    }
+
+    /// The loop is left.
+    fn leave(&mut self, turns: Turns<'a>, flow: Flow) -> Result<Given, Stop>
+        requires { self.old.tasks ≡ [] }
+        ensures { (w : Within) → Resumes w result (loop_task w (turning.Leave turns.entry) (given.Flow flow) self.old.evaluator) self.old.rest self.new.tasks self.new.rest self.new.evaluator }
+    {
+        self.evaluator.exit()?;
+        self.evaluator
+            .settle(!turns.counted && turns.jumps.returns, turns.before);
+        Ok(Given::Flow(flow))
+    }
+
+    /// A task of a loop is given this.
+    pub fn step_loop(
+        &mut self,
+        around: &Around<'a>,
+        task: LoopTask<'a>,
+        given: Given,
+    ) -> Result<Given, Stop>
+        requires { self.old.tasks ≡ [] }
+        ensures { Resumes (within_of around.now) result (loop_task (within_of around.now) task.entry given self.old.evaluator) self.old.rest self.new.tasks self.new.rest self.new.evaluator }
+    {
+        match task {
+            LoopTask::Loop(turns) => {
+                drop(given);
+                self.begin_loop(around, turns, true)
+            }
+            LoopTask::Turn(turns, count) => {
+                drop(given);
+                self.turn(around, turns, count)
+            }
+            LoopTask::Test(turns, count) => self.behind_test(
+                around,
+                turns,
+                count,
+                given.into_operand(),
+            ),
+            LoopTask::Body(turns, count, last) => {
+                drop(given);
+                self.body(around, turns, count, last)
+            }
+            LoopTask::Behind(turns, count, last) => self.behind(
+                around,
+                turns,
+                count,
+                last,
+                given.into_flow(),
+            ),
+            LoopTask::Leave(turns) => self.leave(turns, given.into_flow()),
+        }
+    }
+}

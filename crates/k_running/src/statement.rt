@@ -1,0 +1,277 @@
+//! How statements are begun, and what follows their parts (C17 6.8).
+ghost use Rattle.std.specs.Prelude.{◌≡◌, ◌+◌, ◌^◌, ◌<◌, [], map, option_map, slice_get, IfSome};
+ghost use Rattle.std.specs.Option.{option_copied};
+ghost use Rattle.k_evaluation.specs.Flows.{Within};
+ghost use Rattle.k_evaluation.specs.Statements.{compound, declaration, does, expression, if_else, return};
+ghost use Rattle.k_listing.specs.Arounds.{program_of, within_of};
+ghost use Rattle.k_running.specs.Parts.{doing, ordered, other, started};
+ghost use Rattle.k_running.specs.Resumes.{Resumes};
+ghost use Rattle.k_running.specs.Tasks.{statement_task};
+ghost use Rattle.k_pending.specs.declared.given.Given.TheVariants as given;
+ghost use Rattle.k_running.specs.declared.task.StatementTask.TheVariants as statement;
+
+use crate::jumps::{any, jumps_of, jumps_of_both, jumps_of_else};
+use crate::runner::Runner;
+use crate::scope::holds;
+use crate::task::{DeclareTask, ScopeTask, StatementTask, Waiting};
+use k_evaluation::{Flow, Operand};
+use k_listing::Around;
+use k_num::{Box, Place, Seq};
+use k_pending::{Given, value};
+use k_typed::{Spot, TDeclarator, TExpr, TFirst, TStmt};
+use k_world::Stop;
+
+impl<'a> Runner<'a> {
+    /// A statement is begun.
+    pub fn statement(&mut self, around: &Around<'a>, s: &'a TStmt) -> Result<Given, Stop>
+        requires { self.old.tasks ≡ [] }
+        ensures { Resumes (within_of around.now) result (doing (does (within_of around.now) s.now) self.old.evaluator) self.old.rest self.new.tasks self.new.rest self.new.evaluator }
+    {
+        match s {
+            TStmt::Expr { value, .. } => self.begin_expression(around, value),
+            TStmt::Empty { .. } => Ok(Given::Flow(Flow::Normal)),
+            TStmt::Block { parts, .. } => self.begin_block(parts),
+            TStmt::If {
+                spot,
+                test,
+                then,
+                other,
+            } => self.begin_if(around, *spot, test, then, other),
+            TStmt::While {
+                spot,
+                turns,
+                test,
+                body,
+            } => self.begin_while(around, *spot, *turns, test, body),
+            TStmt::DoWhile {
+                spot,
+                turns,
+                body,
+                test,
+            } => self.begin_do(around, *spot, *turns, body, test),
+            TStmt::For {
+                spot,
+                turns,
+                first,
+                test,
+                step,
+                body,
+            } => self.begin_for(around, *spot, *turns, first, test, step, body),
+            TStmt::Switch {
+                kind,
+                on,
+                parts,
+                ..
+            } => self.begin_switch(around, *kind, on, parts),
+            TStmt::Break { .. } => Ok(Given::Flow(Flow::Broke)),
+            TStmt::Continue { .. } => Ok(Given::Flow(Flow::Continued)),
+            TStmt::Return { spot, value } => self.begin_return(around, *spot, value),
+            TStmt::Declare { list, .. } => self.begin_declaration(list),
+        }
+    }
+
+    /// `e;`
+    fn begin_expression(&mut self, around: &Around<'a>, e: &'a Box<TExpr>) -> Result<Given, Stop>
+        requires { self.old.tasks ≡ [] }
+        ensures { Resumes (within_of around.now) result (doing (expression (within_of around.now) e.now) self.old.evaluator) self.old.rest self.new.tasks self.new.rest self.new.evaluator }
+    {
+        self.rest.push(Waiting::OfStatement(StatementTask::Done))?;
+        value(e.get(), false, &mut self.evaluator, around, &mut self.tasks)
+    }
+
+    /// A block.
+    fn begin_block(&mut self, parts: &'a Seq<TStmt>) -> Result<Given, Stop>
+        requires { self.old.tasks ≡ [] }
+        ensures { (w : Within) → Resumes w result (doing (compound (map (does w) parts.now)) self.old.evaluator) self.old.rest self.new.tasks self.new.rest self.new.evaluator }
+    {
+        let live = self.evaluator.live();
+        self.rest.push(Waiting::OfScope(ScopeTask::Keep(live)))?;
+        self.rest
+            .push(Waiting::OfStatement(StatementTask::InOrder(parts, 0)))?;
+        Ok(Given::Flow(Flow::Normal))
+    }
+
+    /// `if`
+    fn begin_if(
+        &mut self,
+        around: &Around<'a>,
+        spot: Spot,
+        test: &'a Box<TExpr>,
+        then: &'a Box<TStmt>,
+        other: &'a Option<Box<TStmt>>,
+    ) -> Result<Given, Stop>
+        requires { self.old.tasks ≡ [] }
+        ensures { Resumes (within_of around.now) result (doing (if_else (within_of around.now) spot test.now (does (within_of around.now) then.now) (option_map (does (within_of around.now)) other.now)) self.old.evaluator) self.old.rest self.new.tasks self.new.rest self.new.evaluator }
+    {
+        let stays = any(jumps_of_both(jumps_of(then.get()), jumps_of_else(other)));
+        let control = self.evaluator.control();
+        self.rest
+            .push(Waiting::OfScope(ScopeTask::Settle(stays, control)))?;
+        self.rest.push(Waiting::OfStatement(StatementTask::Choose(spot.place, then, other)))?;
+        value(
+            test.get(),
+            true,
+            &mut self.evaluator,
+            around,
+            &mut self.tasks,
+        )
+    }
+
+    /// `return`, with or without a value.
+    fn begin_return(
+        &mut self,
+        around: &Around<'a>,
+        spot: Spot,
+        e: &'a Option<Box<TExpr>>,
+    ) -> Result<Given, Stop>
+        requires { self.old.tasks ≡ [] }
+        ensures { Resumes (within_of around.now) result (doing (return (within_of around.now) spot e.now) self.old.evaluator) self.old.rest self.new.tasks self.new.rest self.new.evaluator }
+    {
+        match e {
+            None => Ok(Given::Flow(Flow::Returned(None))),
+            Some(e) => {
+                self.rest
+                    .push(Waiting::OfStatement(StatementTask::Return(spot.place)))?;
+                value(e.get(), true, &mut self.evaluator, around, &mut self.tasks)
+            }
+        }
+    }
+
+    /// A declaration.
+    fn begin_declaration(&mut self, list: &'a Seq<TDeclarator>) -> Result<Given, Stop>
+        requires { self.old.tasks ≡ [] }
+        ensures { (w : Within) → Resumes w result (doing (declaration w list.now) self.old.evaluator) self.old.rest self.new.tasks self.new.rest self.new.evaluator }
+    {
+        self.rest
+            .push(Waiting::OfDeclaration(DeclareTask::All(list, 0)))?;
+        Ok(Given::Flow(Flow::Normal))
+    }
+
+    /// The first part of a `for`.
+    pub fn first(&mut self, around: &Around<'a>, first: &'a TFirst) -> Result<Given, Stop>
+        requires { self.old.tasks ≡ [] }
+        ensures { Resumes (within_of around.now) result (started (within_of around.now) first.now self.old.evaluator) self.old.rest self.new.tasks self.new.rest self.new.evaluator }
+    {
+        match first {
+            TFirst::Nothing => Ok(Given::Flow(Flow::Normal)),
+            TFirst::Value(e) => {
+                self.rest.push(Waiting::OfStatement(StatementTask::Done))?;
+                value(e, false, &mut self.evaluator, around, &mut self.tasks)
+            }
+            TFirst::Declare(list) => {
+                self.rest
+                    .push(Waiting::OfDeclaration(DeclareTask::All(list, 0)))?;
+                Ok(Given::Flow(Flow::Normal))
+            }
+        }
+    }
+
+    /// A task of statements is given this.
+    pub fn step_statement(
+        &mut self,
+        around: &Around<'a>,
+        task: StatementTask<'a>,
+        given: Given,
+    ) -> Result<Given, Stop>
+        requires { self.old.tasks ≡ [] }
+        ensures { Resumes (within_of around.now) result (statement_task (within_of around.now) task.entry given self.old.evaluator) self.old.rest self.new.tasks self.new.rest self.new.evaluator }
+    {
+        match task {
+            StatementTask::Done => {
+                drop(given);
+                Ok(Given::Flow(Flow::Normal))
+            }
+            StatementTask::Do(s) => {
+                drop(given);
+                self.statement(around, s.get())
+            }
+            StatementTask::InOrder(ss, from) => self.in_order(around, ss, from, given.into_flow()),
+            StatementTask::Choose(place, first, second) => {
+                self.choose(around, place, first, second, given.into_operand())
+            }
+            StatementTask::Return(place) => self.give_back(around, place, given.into_operand()),
+        }
+    }
+
+    /// The statements from this one on follow one that ended so.
+    fn in_order(
+        &mut self,
+        around: &Around<'a>,
+        ss: &'a Seq<TStmt>,
+        from: usize,
+        flow: Flow,
+    ) -> Result<Given, Stop>
+        requires { self.old.tasks ≡ [] }
+        ensures { Resumes (within_of around.now) result (statement_task (within_of around.now) (statement.InOrder ss.entry from) (given.Flow flow) self.old.evaluator) self.old.rest self.new.tasks self.new.rest self.new.evaluator }
+    {
+        match flow {
+            Flow::Normal => self.next(around, ss, from),
+            Flow::Broke => Ok(Given::Flow(Flow::Broke)),
+            Flow::Continued => Ok(Given::Flow(Flow::Continued)),
+            Flow::Returned(held) => Ok(Given::Flow(Flow::Returned(held))),
+        }
+    }
+
+    /// The statements from this one on.
+    fn next(&mut self, around: &Around<'a>, ss: &'a Seq<TStmt>, from: usize) -> Result<Given, Stop>
+        requires { self.old.tasks ≡ [] }
+        ensures { Resumes (within_of around.now) result (ordered (within_of around.now) ss.now from self.old.evaluator) self.old.rest self.new.tasks self.new.rest self.new.evaluator }
+    {
+        match statement_at(ss, from) {
+            None => Ok(Given::Flow(Flow::Normal)),
+            Some(s) => {
+                self.rest
+                    .push(Waiting::OfStatement(StatementTask::InOrder(ss, from + 1)))?;
+                self.statement(around, s)
+            }
+        }
+    }
+
+    /// The arm that a test chooses.
+    fn choose(
+        &mut self,
+        around: &Around<'a>,
+        place: Place,
+        first: &'a Box<TStmt>,
+        second: &'a Option<Box<TStmt>>,
+        a: Operand,
+    ) -> Result<Given, Stop>
+        requires { self.old.tasks ≡ [] }
+        ensures { Resumes (within_of around.now) result (statement_task (within_of around.now) (statement.Choose place first.entry second.entry) (given.Operand a) self.old.evaluator) self.old.rest self.new.tasks self.new.rest self.new.evaluator }
+    {
+        let test = self.evaluator.test(around, place, a)?;
+        if holds(test) {
+            self.statement(around, first.get())
+        } else {
+            self.other(around, second)
+        }
+    }
+
+    /// A statement that may be left out.
+    fn other(&mut self, around: &Around<'a>, s: &'a Option<Box<TStmt>>) -> Result<Given, Stop>
+        requires { self.old.tasks ≡ [] }
+        ensures { Resumes (within_of around.now) result (other (within_of around.now) s.now self.old.evaluator) self.old.rest self.new.tasks self.new.rest self.new.evaluator }
+    {
+        match s {
+            None => Ok(Given::Flow(Flow::Normal)),
+            Some(s) => self.statement(around, s.get()),
+        }
+    }
+
+    /// The move of a value that is returned.
+    fn give_back(&mut self, around: &Around<'a>, place: Place, a: Operand) -> Result<Given, Stop>
+        requires { self.old.tasks ≡ [] }
+        ensures { Resumes (within_of around.now) result (statement_task (within_of around.now) (statement.Return place) (given.Operand a) self.old.evaluator) self.old.rest self.new.tasks self.new.rest self.new.evaluator }
+    {
+        let held = self.evaluator.move_held(around, place, a)?;
+        Ok(Given::Flow(Flow::Returned(Some(held))))
+    }
+}
+
+/// The statement of this number, if there is one.
+fn statement_at(ss: &Seq<TStmt>, from: usize) -> Option<&TStmt>
+    ensures at { option_copied result ≡ slice_get ss.now from }
+    ensures bound { IfSome result (λ s. from + 1 < 2 ^ 64) }
+{
+    ss.as_slice().get(from)
+}
