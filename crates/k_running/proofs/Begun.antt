@@ -3,20 +3,17 @@ use Rattle.std.proofs.Common.{ℕ, ◌≡◌, ◌∙◌, Bool, true, false, List
 use Rattle.k_typed.specs.declared.tree.expression.TExpr.{TExpr}
 use Rattle.k_world.specs.declared.answer.Stop.{Stop}
 use Rattle.k_world.specs.declared.answer.Stop.TheVariants as stop
-use Rattle.k_world.specs.declared.value.Held.{Held}
 use Rattle.k_evaluation.specs.declared.flow.Flow.{Flow}
 use Rattle.k_evaluation.specs.declared.flow.Flow.TheVariants.{Normal}
 use Rattle.k_evaluation.specs.declared.operand.Operand.{Operand}
 use Rattle.k_evaluation.specs.Flows.{Within, means}
 use Rattle.k_evaluation.specs.States.{State, Outcome, Goes, Stops, Part, follow, ◌>>=◌, gives, settles}
-use Rattle.k_listing.specs.Comes.{Comes}
 use Rattle.k_pending.specs.declared.given.Given.{Given}
 use Rattle.k_pending.specs.declared.given.Given.TheVariants as given
 use Rattle.k_pending.specs.declared.task.Task.{Task}
 use Rattle.k_pending.specs.Givens.{gives_done, gives_flow, gives_operand}
-use Rattle.k_pending.specs.Leads.{Leads, performs, valued}
+use Rattle.k_pending.specs.Leads.{Leads, valued}
 use Rattle.k_running.specs.declared.task.Waiting.{Waiting}
-use Rattle.k_running.specs.Parts.{passed}
 use Rattle.k_running.specs.Resumes.{Resumes, resumes, resumes_one}
 
 -- a part that goes on has not ended the run
@@ -140,18 +137,6 @@ goes_to w g part t before pushed none u none_is on is =
     (subst (λ (list : List Waiting). Resumes w (Ok g) part before [] list u) (sym on)
     (λ behind. ap (λ (o : Outcome Given). follow o (resumes w behind before)) is))
 
--- the run ended in the first part
-pub stopped : {A : Type 0} (w : Within) (why : Stop) (o : Outcome A) (k : A → Part Given) (before after : List Waiting) (tasks : List Task) (u : State)
-    → Comes {A = A} (Err why) o u → Resumes w (Err why) (follow o k) before tasks after u
-stopped {A} w (stop.Ended end) o k before after tasks u come = ap (λ (o : Outcome A). follow o k) come
-stopped {A} w stop.Memory o k before after tasks u come = tt
-
--- the same where two parts follow
-pub stopped_2 : {A B : Type 0} (w : Within) (why : Stop) (o : Outcome A) (f : A → Part B) (g : B → Part Given) (before after : List Waiting) (tasks : List Task) (u : State)
-    → Comes {A = A} (Err why) o u → Resumes w (Err why) (follow (follow o f) g) before tasks after u
-stopped_2 {A} {B} w (stop.Ended end) o f g before after tasks u come = ap (λ (o : Outcome A). follow (follow o f) g) come
-stopped_2 {A} {B} w stop.Memory o f g before after tasks u come = tt
-
 -- the control source behind a part that gives the end of a statement
 pub settled_as : (stays : Bool) (c : Option ℕ) (f : Flow) (u : State)
     → follow ((settles stays c >>= λ done. gives f) u) gives_flow ≡ (settles stays c >>= λ done. gives (given.Flow f)) u
@@ -162,19 +147,3 @@ settled_as false c f u = refl
 pub done_as : (o : Outcome (Unit {0})) → follow (follow o (λ done. gives Normal)) gives_flow ≡ follow o gives_done
 done_as (Goes done u) = refl
 done_as (Stops end world) = refl
-
--- what was given is passed on behind what was done
-pub passes : (w : Within) (done : Result (Unit {0}) Stop) (r : Result Given Stop) (g : Given) (o : Outcome (Unit {0})) (before : List Waiting) (none : List Task) (u : State)
-    → none ≡ [] → r ≡ passed done g → Comes done o u → Resumes w r (follow o (λ done. gives g)) before none before u
-passes w done r g o before none u none_is r_is come =
-    subst (λ (r : Result Given Stop). Resumes w r (follow o (λ done. gives g)) before none before u) (sym r_is) (by done come)
-  where
-    by : (done : Result (Unit {0}) Stop) → Comes done o u → Resumes w (passed done g) (follow o (λ done. gives g)) before none before u
-    by (Ok x) come = goes_on w g (follow o (λ done. gives g)) before none u none_is (ap (λ (o : Outcome (Unit {0})). follow o (λ done. gives g)) come)
-    by (Err (stop.Ended end)) come = ap (λ (o : Outcome (Unit {0})). follow o (λ done. gives g)) come
-    by (Err stop.Memory) come = tt
-
--- what was given is passed on behind what cannot fail
-pub passes_by : (w : Within) (g : Given) (o : Outcome (Unit {0})) (before : List Waiting) (none : List Task) (u : State) → none ≡ [] → Goes tt u ≡ o
-    → Resumes w (Ok g) (follow o (λ done. gives g)) before none before u
-passes_by w g o before none u none_is done = goes_on w g (follow o (λ done. gives g)) before none u none_is (ap (λ (o : Outcome (Unit {0})). follow o (λ done. gives g)) (sym done))

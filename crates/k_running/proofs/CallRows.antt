@@ -1,5 +1,5 @@
 -- A function begins, and what waits behind its block.
-use Rattle.std.proofs.Common.{ℕ, ◌≡◌, ◌∙◌, ◌+◌, ◌*◌, ◌⊎◌, inl, inr, List, [], ◌∷◌, map, Option, Some, None, Result, Ok, Err, refl, sym, ap, subst}
+use Rattle.std.proofs.Common.{ℕ, ◌≡◌, ◌∙◌, ◌⊎◌, inl, inr, List, [], ◌∷◌, map, Option, Result, Ok, refl, sym, ap, subst}
 use Rattle.std.specs.Borrow.{Bor}
 use Rattle.k_num.specs.declared.place.Place.{Place}
 use Rattle.k_typed.specs.declared.tree.statement.TStmt.{TStmt}
@@ -14,8 +14,7 @@ use Rattle.k_evaluation.specs.Calls.{at_end, body, function_region, result_of, r
 use Rattle.k_evaluation.specs.Flows.{Within, in_order}
 use Rattle.k_evaluation.specs.Objects.{keeps, live}
 use Rattle.k_evaluation.specs.Statements.{does}
-use Rattle.k_evaluation.specs.States.{Program, State, Outcome, Goes, Stops, Part, follow, ◌>>=◌, gives, enters, exits}
-use Rattle.k_listing.specs.Comes.{Comes}
+use Rattle.k_evaluation.specs.States.{Program, State, Outcome, Goes, Part, follow, ◌>>=◌, gives, enters, exits}
 use Rattle.k_pending.specs.declared.given.Given.{Given}
 use Rattle.k_pending.specs.declared.given.Given.TheVariants as given
 use Rattle.k_pending.specs.declared.task.Task.{Task}
@@ -26,7 +25,7 @@ use Rattle.k_running.specs.declared.task.Waiting.{Waiting}
 use Rattle.k_running.specs.declared.task.Waiting.TheVariants as waiting
 use Rattle.k_running.specs.Parts.{called, called_body, ends_call, finished}
 use Rattle.k_running.specs.Resumes.{Resumes}
-use Rattle.k_running.proofs.Begun.{goes_to, later_2, stopped_2}
+use Rattle.k_running.proofs.Begun.{goes_to, later_2}
 
 -- the value of a call, by how its block ended
 result_as : (w : Within) (f : TFunc) (flow : Flow) (u : State)
@@ -65,15 +64,6 @@ module _ (w : Within) (before pushed more : List Waiting) (s u : State) (f : TFu
       (ap (λ (o : Outcome (Unit {0})). follow (follow o (λ (served : Unit {0}). in_order (map (does (within w.program w.calls w.function f)) f.body))) gives_flow) served
       ∙ (ap (λ (vs : List TVariable). follow (in_order (map (does (record w { vars = vs })) f.body) u) gives_flow) (sym vars_is)
       ∙ ap (λ (list : List TStmt). follow (in_order (map (does w) list) u) gives_flow) (sym body_is))))
-
-  -- the parameters ended the run
-  pub block_stopped : (after : List Waiting) (tasks : List Task) (why : Stop) → Comes {A = Unit {0}} (Err why) (serves w.program 0 f.params f.variables s) u
-      → Resumes w (Err why) (called_body w f s) before tasks after u
-  block_stopped after tasks why come =
-      later_2 w (Err why) (body w.program w.calls w.function f s) (result_of w.program w.function f) gives_result gives_flow given.Flow
-      (waiting.Finish f.close f.result) before after tasks u (λ flow v. refl) (result_as w f)
-      (stopped_2 w why (serves w.program 0 f.params f.variables s) (λ (served : Unit {0}). in_order (map (does (within w.program w.calls w.function f)) f.body)) gives_flow
-      (waiting.Finish f.close f.result ∷ before) after tasks u come)
 
 -- a block that ended without a `return`
 pub ends_at_end : (program : Program) (number : ℕ) (close : Place) (of : TType) (flow : Flow) → (flow ≡ Normal) ⊎ ((flow ≡ Broke) ⊎ (flow ≡ Continued)) → (s : State)

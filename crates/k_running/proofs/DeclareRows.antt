@@ -1,41 +1,28 @@
 -- Declarations, and how a variable begins.
-use Rattle.std.proofs.Common.{ℕ, suc, ◌≡◌, ◌∙◌, ◌+◌, Bool, true, false, List, [], ◌∷◌, drop, slice_get, Option, Some, None, Result, Ok, Err, refl, sym, ap, subst}
+use Rattle.std.proofs.Common.{ℕ, suc, ◌≡◌, ◌∙◌, ◌+◌, List, [], ◌∷◌, drop, slice_get, Some, None, Result, Ok, Err, refl, sym, ap, subst}
 use Rattle.std.specs.Borrow.{Bor}
-use Rattle.k_num.specs.declared.place.Place.{Place}
 use Rattle.k_mem.specs.declared.start.Start.TheVariants.{Unset}
 use Rattle.k_typed.specs.declared.tree.declaration.TDeclarator.{TDeclarator}
-use Rattle.k_typed.specs.declared.tree.declaration.TInit.{TInit}
-use Rattle.k_typed.specs.declared.tree.declaration.TInit.TheVariants as init
 use Rattle.k_typed.specs.declared.tree.declaration.TItem.{TItem}
-use Rattle.k_typed.specs.declared.tree.declaration.TItem.TheVariants as item
-use Rattle.k_typed.specs.declared.tree.expression.TExpr.{TExpr}
-use Rattle.k_typed.specs.declared.tree.unit.TVariable.{TVariable}
 use Rattle.k_world.specs.declared.answer.Stop.{Stop}
 use Rattle.k_world.specs.declared.answer.Stop.TheVariants as stop
 use Rattle.k_world.specs.declared.value.Held.{Held}
 use Rattle.k_evaluation.specs.declared.flow.Flow.TheVariants.{Normal}
-use Rattle.k_evaluation.specs.declared.operand.Operand.{Operand}
-use Rattle.k_evaluation.specs.declared.operand.Operand.TheVariants.{Constant}
-use Rattle.k_evaluation.specs.declared.operand.Target.{Target}
-use Rattle.k_evaluation.specs.declared.operand.Target.TheVariants.{InMemory, InRegister}
-use Rattle.k_evaluation.specs.Assignments.{writes}
-use Rattle.k_evaluation.specs.Declarations.{begins_object, begins_register, begins_variable, declares, declares_all, declares_by, element_of, elements_of, initialises, stores, stores_item, stores_items, values_from}
-use Rattle.k_evaluation.specs.Flows.{Within, means}
-use Rattle.k_evaluation.specs.Objects.{fills, makes_object}
-use Rattle.k_evaluation.specs.States.{State, Outcome, Goes, Stops, Part, follow, ◌>>=◌, gives, sets}
+use Rattle.k_evaluation.specs.Declarations.{begins_object, begins_variable, declares, declares_all, declares_by, elements_of, stores_item, stores_items}
+use Rattle.k_evaluation.specs.Flows.{Within}
+use Rattle.k_evaluation.specs.Objects.{makes_object}
+use Rattle.k_evaluation.specs.States.{State, Outcome, Goes, follow, sets}
 use Rattle.k_listing.specs.Comes.{Comes}
 use Rattle.k_pending.specs.declared.given.Given.{Given}
 use Rattle.k_pending.specs.declared.given.Given.TheVariants as given
 use Rattle.k_pending.specs.declared.task.Task.{Task}
 use Rattle.k_pending.specs.Givens.{gives_done}
-use Rattle.k_pending.specs.Leads.{Leads, valued}
 use Rattle.k_running.specs.declared.task.DeclareTask.TheVariants as declare
 use Rattle.k_running.specs.declared.task.Waiting.{Waiting}
 use Rattle.k_running.specs.declared.task.Waiting.TheVariants as waiting
-use Rattle.k_running.specs.Parts.{begun_item, begun_items, begun_object, begun_register, declared, declared_all, stored}
+use Rattle.k_running.specs.Parts.{begun_item, begun_items, begun_object, begun_register, declared, declared_all}
 use Rattle.k_running.specs.Resumes.{Resumes}
-use Rattle.k_running.specs.Tasks.{declare_task}
-use Rattle.k_running.proofs.Begun.{begun_2, begun_3, goes_on, goes_to, later_2}
+use Rattle.k_running.proofs.Begun.{goes_on, later_2}
 use Rattle.k_running.proofs.Lists.{item_none, item_there}
 
 -- no declarator is left
@@ -90,68 +77,6 @@ declared_stopped w before after tasks s u d count less (stop.Ended end) count_is
     ∙ ap (λ (o : Outcome Held). follow (follow o (begins_variable w d)) gives_done) (ap (λ (n : ℕ). makes_object d.place Unset n s) (sym is) ∙ come)
 declared_stopped w before after tasks s u d count less stop.Memory count_is is come = tt
 
--- how a variable begins
-module _ (w : Within) (before : List Waiting) (none : List Task) (none_is : none ≡ []) (s : State) (d : TDeclarator) where
-  pub register_nothing : (u : State) → d.init ≡ init.Nothing → Goes tt u ≡ sets d.variable None s
-      → Resumes w (Ok (given.Flow Normal)) (begun_register w d s) before none before u
-  register_nothing u is set =
-      goes_on w (given.Flow Normal) (begun_register w d s) before none u none_is
-      (ap (λ (i : TInit). follow (begins_register w d i s) gives_done) is ∙ ap (λ (o : Outcome (Unit {0})). follow o gives_done) (sym set))
-
-  pub register_elements : (items : List TItem) → d.init ≡ init.Elements items → Resumes w (Ok (given.Flow Normal)) (begun_register w d s) before none before s
-  register_elements items is =
-      goes_on w (given.Flow Normal) (begun_register w d s) before none s none_is (ap (λ (i : TInit). follow (begins_register w d i s) gives_done) is)
-
-  pub object_nothing : (home : Held) → d.init ≡ init.Nothing → Resumes w (Ok (given.Flow Normal)) (begun_object w d home s) before none before s
-  object_nothing home is =
-      goes_on w (given.Flow Normal) (begun_object w d home s) before none s none_is (ap (λ (i : TInit). follow (begins_object w d i home s) gives_done) is)
-
-  pub object_elements : (home : Held) (items : Bor (List TItem)) (u : State) (pushed : List Waiting) → d.init ≡ init.Elements items.now
-      → fills home (values_from 0 items.now) s ≡ Goes tt u
-      → pushed ≡ waiting.OfDeclaration (declare.Items home items 0) ∷ before → Resumes w (Ok (given.Flow Normal)) (begun_object w d home s) before none pushed u
-  object_elements home items u pushed is filled on =
-      goes_to w (given.Flow Normal) (begun_object w d home s) (waiting.OfDeclaration (declare.Items home items 0)) before pushed none u none_is on
-      (ap (λ (i : TInit). follow (begins_object w d i home s) gives_done) is
-      ∙ ap (λ (o : Outcome (Unit {0})). follow (follow o (λ (done : Unit {0}). stores_items w home items.now)) gives_done) filled)
-
-module _ (w : Within) (r : Result Given Stop) (before pushed : List Waiting) (none tasks : List Task) (none_is : none ≡ []) (s s' : State) (d : TDeclarator) (e x : TExpr)
-    (is : d.init ≡ init.Value e) (x_is : x ≡ e) (led : Leads w r (valued w x true s) none tasks s') where
-  pub register_value : pushed ≡ waiting.OfDeclaration (declare.Begin d.place (InRegister d.variable false)) ∷ before → Resumes w r (begun_register w d s) before tasks pushed s'
-  register_value on =
-      subst (λ (i : TInit). Resumes w r (follow (begins_register w d i s) gives_done) before tasks pushed s') (sym is)
-      (begun_2 w r e x true (λ (a : Operand). writes w.program d.place (InRegister d.variable false) a >>= λ v. gives {A = Unit {0}} tt) gives_done
-      (waiting.OfDeclaration (declare.Begin d.place (InRegister d.variable false))) before pushed none tasks s s' (λ a u. refl) x_is none_is on led)
-
-  pub object_value : (home : Held) → pushed ≡ waiting.OfDeclaration (declare.Begin d.place (InMemory (Constant home.value))) ∷ before
-      → Resumes w r (begun_object w d home s) before tasks pushed s'
-  object_value home on =
-      subst (λ (i : TInit). Resumes w r (follow (begins_object w d i home s) gives_done) before tasks pushed s') (sym is)
-      (begun_2 w r e x true (λ (a : Operand). writes w.program d.place (InMemory (Constant home.value)) a >>= λ v. gives {A = Unit {0}} tt) gives_done
-      (waiting.OfDeclaration (declare.Begin d.place (InMemory (Constant home.value)))) before pushed none tasks s s' (λ a u. refl) x_is none_is on led)
-
--- a fault of the fill
-pub fill_stopped : (w : Within) (before after : List Waiting) (tasks : List Task) (s u : State) (d : TDeclarator) (home : Held) (items : List TItem) (why : Stop)
-    → d.init ≡ init.Elements items → Comes {A = Unit {0}} (Err why) (fills home (values_from 0 items) s) u
-    → Resumes w (Err why) (begun_object w d home s) before tasks after u
-fill_stopped w before after tasks s u d home items (stop.Ended end) is come =
-    ap (λ (i : TInit). follow (begins_object w d i home s) gives_done) is
-    ∙ ap (λ (o : Outcome (Unit {0})). follow (follow o (λ (done : Unit {0}). stores_items w home items)) gives_done) come
-fill_stopped w before after tasks s u d home items stop.Memory is come = tt
-
--- a write that was made
-pub written : (w : Within) (before : List Waiting) (none : List Task) (s u : State) (place : Place) (target : Target) (a v : Operand) → none ≡ []
-    → writes w.program place target a s ≡ Goes v u
-    → Resumes w (Ok (given.Flow Normal)) (follow (follow (writes w.program place target a s) (λ (v : Operand). gives {A = Unit {0}} tt)) gives_done) before none before u
-written w before none s u place target a v none_is made =
-    goes_on w (given.Flow Normal) (follow (follow (writes w.program place target a s) (λ (v : Operand). gives {A = Unit {0}} tt)) gives_done) before none u none_is
-    (ap (λ (o : Outcome Operand). follow (follow o (λ (v : Operand). gives {A = Unit {0}} tt)) gives_done) made)
-
--- a store that was made
-pub stored_at : (w : Within) (before : List Waiting) (none : List Task) (s u : State) (place : Place) (address a : Operand) → none ≡ []
-    → stores w.program place address a s ≡ Goes tt u → Resumes w (Ok (given.Flow Normal)) (stored w place address a s) before none before u
-stored_at w before none s u place address a none_is made =
-    goes_on w (given.Flow Normal) (stored w place address a s) before none u none_is (ap (λ (o : Outcome (Unit {0})). follow o gives_done) made)
-
 -- no item is left
 pub items_none : (w : Within) (before : List Waiting) (none : List Task) (s : State) (home : Held) (items : List TItem) (n : ℕ) → none ≡ [] → slice_get items n ≡ None
     → Resumes w (Ok (given.Flow Normal)) (begun_items w home items n s) before none before s
@@ -168,18 +93,3 @@ items_one w r before pushed after tasks s s' home items n i is on led =
     (later_2 w r (stores_item w home i s) (λ done. stores_items w home (drop (n + 1) items.now)) gives_done gives_done (λ done. given.Flow Normal)
     (waiting.OfDeclaration (declare.Items home items (n + 1))) before after tasks s' (λ done u. refl) (λ done u. refl)
     (subst (λ (list : List Waiting). Resumes w r (begun_item w home i s) list tasks after s') on led))
-
--- an item that is a string was set before
-pub item_bytes : (w : Within) (before : List Waiting) (none : List Task) (s : State) (home : Held) (i : TItem) (n : ℕ) (bytes : List ℕ) → none ≡ [] → i ≡ item.Bytes n bytes
-    → Resumes w (Ok (given.Flow Normal)) (begun_item w home i s) before none before s
-item_bytes w before none s home i n bytes none_is is =
-    goes_on w (given.Flow Normal) (begun_item w home i s) before none s none_is (ap (λ (i : TItem). follow (stores_item w home i s) gives_done) is)
-
--- an item that is a value
-pub item_value : (w : Within) (r : Result Given Stop) (before pushed : List Waiting) (none tasks : List Task) (s s' : State) (home : Held) (i : TItem) (place : Place) (n : ℕ) (e x : TExpr)
-    → none ≡ [] → i ≡ item.Value place n e → x ≡ e → pushed ≡ waiting.OfDeclaration (declare.Store place home n) ∷ before
-    → Leads w r (valued w x true s) none tasks s' → Resumes w r (begun_item w home i s) before tasks pushed s'
-item_value w r before pushed none tasks s s' home i place n e x none_is is x_is on led =
-    subst (λ (i : TItem). Resumes w r (follow (stores_item w home i s) gives_done) before tasks pushed s') (sym is)
-    (begun_2 w r e x true (stores w.program place (element_of home n)) gives_done (waiting.OfDeclaration (declare.Store place home n)) before pushed none tasks s s'
-    (λ a u. refl) x_is none_is on led)

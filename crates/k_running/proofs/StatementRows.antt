@@ -1,43 +1,36 @@
 -- Statements are begun, and what follows their parts.
-use Rattle.std.proofs.Common.{ℕ, ◌≡◌, ◌∙◌, ◌+◌, Bool, true, false, if◌then◌else◌, List, [], ◌∷◌, map, drop, slice_get, Option, Some, None, Result, Ok, Err, refl, sym, ap, subst}
+use Rattle.std.proofs.Common.{ℕ, ◌≡◌, ◌∙◌, ◌+◌, Bool, true, false, List, [], ◌∷◌, map, drop, slice_get, Option, Some, None, Result, Ok, refl, sym, ap, subst}
 use Rattle.std.specs.Borrow.{Bor}
 use Rattle.std.specs.Option.{option_map}
-use Rattle.k_num.specs.declared.place.Place.{Place}
-use Rattle.k_optab.specs.declared.class.Class.TheVariants as class
 use Rattle.k_typed.specs.declared.tree.declaration.TDeclarator.{TDeclarator}
 use Rattle.k_typed.specs.declared.tree.expression.TExpr.{TExpr}
 use Rattle.k_typed.specs.declared.tree.statement.Spot.{Spot}
-use Rattle.k_typed.specs.declared.tree.statement.TFirst.{TFirst}
-use Rattle.k_typed.specs.declared.tree.statement.TFirst.TheVariants as first
 use Rattle.k_typed.specs.declared.tree.statement.TStmt.{TStmt}
-use Rattle.k_world.specs.declared.act.Act.TheVariants as act
 use Rattle.k_world.specs.declared.answer.Stop.{Stop}
 use Rattle.k_world.specs.declared.value.Held.{Held}
 use Rattle.k_evaluation.specs.declared.flow.Flow.{Flow}
 use Rattle.k_evaluation.specs.declared.flow.Flow.TheVariants.{Normal, Broke, Continued, Returned}
 use Rattle.k_evaluation.specs.declared.operand.Operand.{Operand}
 use Rattle.k_evaluation.specs.Declarations.{declares_all}
-use Rattle.k_evaluation.specs.Flows.{Doing, Within, in_order, means, unless_left}
+use Rattle.k_evaluation.specs.Flows.{Within, in_order, means, unless_left}
 use Rattle.k_evaluation.specs.Jumps.{is_left}
-use Rattle.k_evaluation.specs.Meanings.{holds, tests}
+use Rattle.k_evaluation.specs.Meanings.{tests}
 use Rattle.k_evaluation.specs.Objects.{keeps, live}
 use Rattle.k_evaluation.specs.Statements.{break, chosen_arm, compound, continue, declaration, does, does_or_none, empty, expression, if_else, if_jumps, return, returns_moved}
-use Rattle.k_evaluation.specs.States.{State, Outcome, Goes, Stops, Part, follow, ◌>>=◌, gives, makes, settles}
+use Rattle.k_evaluation.specs.States.{State, Outcome, Goes, Part, follow, ◌>>=◌, gives, settles}
 use Rattle.k_pending.specs.declared.given.Given.{Given}
 use Rattle.k_pending.specs.declared.given.Given.TheVariants as given
 use Rattle.k_pending.specs.declared.task.Task.{Task}
-use Rattle.k_pending.specs.Givens.{gives_done, gives_flow, operand_in}
+use Rattle.k_pending.specs.Givens.{gives_flow}
 use Rattle.k_pending.specs.Leads.{Leads, valued}
 use Rattle.k_running.specs.declared.task.DeclareTask.TheVariants as declare
 use Rattle.k_running.specs.declared.task.ScopeTask.TheVariants as scope
-use Rattle.k_running.specs.declared.task.StatementTask.{StatementTask}
 use Rattle.k_running.specs.declared.task.StatementTask.TheVariants as statement
 use Rattle.k_running.specs.declared.task.Waiting.{Waiting}
 use Rattle.k_running.specs.declared.task.Waiting.TheVariants as waiting
-use Rattle.k_running.specs.Parts.{doing, ordered, other, started}
+use Rattle.k_running.specs.Parts.{doing, ordered}
 use Rattle.k_running.specs.Resumes.{Resumes}
-use Rattle.k_running.specs.Tasks.{statement_task}
-use Rattle.k_running.proofs.Begun.{begun_2, begun_3, done_as, goes_on, goes_to, later, later_2, settled_as}
+use Rattle.k_running.proofs.Begun.{begun_2, begun_3, done_as, goes_on, goes_to, later_2, settled_as}
 use Rattle.k_running.proofs.Lists.{item_none, item_there}
 
 module _ (w : Within) (r : Result Given Stop) (before : List Waiting) (none : List Task) (none_is : none ≡ []) where
@@ -76,13 +69,6 @@ module _ (w : Within) (r : Result Given Stop) (before : List Waiting) (none : Li
       (begun_3 w r test x true (tests w.program spot.place) arms gives_flow choose (settle ∷ before) more none tasks s s' (λ q u. refl) x_is none_is
       (again ∙ ap (λ (list : List Waiting). choose ∷ list) (on ∙ (ap (λ (b : Bool). waiting.OfScope (scope.Settle b c) ∷ before) stays_is
       ∙ ap (λ (c : Option ℕ). waiting.OfScope (scope.Settle left c) ∷ before) c_is))) led)
-
-  -- the first part of a `for` that is an expression
-  pub first_value : (start : TFirst) (e x : TExpr) (pushed : List Waiting) (tasks : List Task) (s s' : State) → start ≡ first.Value e → x ≡ e
-      → pushed ≡ waiting.OfStatement statement.Done ∷ before → Leads w r (valued w x false s) none tasks s' → Resumes w r (started w start s) before tasks pushed s'
-  first_value start e x pushed tasks s s' is x_is on led =
-      subst (λ (start : TFirst). Resumes w r (started w start s) before tasks pushed s') (sym is)
-      (begun_2 w r e x false (λ (a : Operand). gives {A = Unit {0}} tt) gives_done (waiting.OfStatement statement.Done) before pushed none tasks s s' (λ a u. refl) x_is none_is on led)
 
 module _ (w : Within) (before : List Waiting) (none : List Task) (none_is : none ≡ []) (s : State) where
   -- `return;`
@@ -130,19 +116,6 @@ module _ (w : Within) (before : List Waiting) (none : List Task) (none_is : none
       goes_to w (given.Flow Normal) (follow (follow (declares_all w list.now s) (λ done. gives Normal)) gives_flow) (waiting.OfDeclaration (declare.All list 0))
       before pushed none s none_is on (done_as (declares_all w list.now s))
 
-  -- the first part of a `for` that declares
-  pub first_declares : (start : TFirst) (list : Bor (List TDeclarator)) (pushed : List Waiting) → start ≡ first.Declare list.now
-      → pushed ≡ waiting.OfDeclaration (declare.All list 0) ∷ before → Resumes w (Ok (given.Flow Normal)) (started w start s) before none pushed s
-  first_declares start list pushed is on =
-      subst (λ (start : TFirst). Resumes w (Ok (given.Flow Normal)) (started w start s) before none pushed s) (sym is)
-      (goes_to w (given.Flow Normal) (follow (declares_all w list.now s) gives_done) (waiting.OfDeclaration (declare.All list 0)) before pushed none s none_is on refl)
-
-  -- a `for` that begins with nothing
-  pub first_nothing : (start : TFirst) → start ≡ first.Nothing → Resumes w (Ok (given.Flow Normal)) (started w start s) before none before s
-  first_nothing start is =
-      subst (λ (start : TFirst). Resumes w (Ok (given.Flow Normal)) (started w start s) before none before s) (sym is)
-      (goes_on w (given.Flow Normal) (Goes (given.Flow Normal) s) before none s none_is refl)
-
   -- no statement is left
   pub ordered_none : (ss : List TStmt) (n : ℕ) → slice_get ss n ≡ None → Resumes w (Ok (given.Flow Normal)) (ordered w ss n s) before none before s
   ordered_none ss n is =
@@ -158,38 +131,3 @@ ordered_one w r before pushed after tasks s s' ss n x is on led =
     (later_2 w r ((does w x).does s) (unless_left (in_order (map (does w) (drop (n + 1) ss.now)))) gives_flow gives_flow given.Flow
     (waiting.OfStatement (statement.InOrder ss (n + 1))) before after tasks s' (λ f u. refl) (λ f u. refl)
     (subst (λ (list : List Waiting). Resumes w r (doing (does w x) s) list tasks after s') on led))
-
--- behind a test that was made, an arm runs
-module _ (w : Within) (r : Result Given Stop) (before after : List Waiting) (tasks : List Task) (s u s' : State) (place : Place) (a : Operand) (first second : Part Flow) (test : Held)
-    (made : tests w.program place a s ≡ Goes test u) where
-  pub chose_first : holds test ≡ true → Resumes w r (follow (first u) gives_flow) before tasks after s'
-      → Resumes w r (follow (follow (tests w.program place a s) (chosen_arm first second)) gives_flow) before tasks after s'
-  chose_first held led =
-      subst (λ (o : Outcome Held). Resumes w r (follow (follow o (chosen_arm first second)) gives_flow) before tasks after s') (sym made)
-      (subst (λ (b : Bool). Resumes w r (follow ((if b then first else second) u) gives_flow) before tasks after s') (sym held) led)
-
-  pub chose_second : holds test ≡ false → Resumes w r (follow (second u) gives_flow) before tasks after s'
-      → Resumes w r (follow (follow (tests w.program place a s) (chosen_arm first second)) gives_flow) before tasks after s'
-  chose_second held led =
-      subst (λ (o : Outcome Held). Resumes w r (follow (follow o (chosen_arm first second)) gives_flow) before tasks after s') (sym made)
-      (subst (λ (b : Bool). Resumes w r (follow ((if b then first else second) u) gives_flow) before tasks after s') (sym held) led)
-
--- a value was returned
-pub returned_moved : (w : Within) (before : List Waiting) (none : List Task) (s u : State) (place : Place) (a : Operand) (held : Held) → none ≡ []
-    → makes w.program class.Move place act.Move (a ∷ []) s ≡ Goes held u
-    → Resumes w (Ok (given.Flow (Returned (Some held)))) (follow (returns_moved w.program place a s) gives_flow) before none before u
-returned_moved w before none s u place a held none_is made =
-    goes_on w (given.Flow (Returned (Some held))) (follow (returns_moved w.program place a s) gives_flow) before none u none_is
-    (ap (λ (o : Outcome Held). follow (follow o (λ (held : Held). gives (Returned (Some held)))) gives_flow) made)
-
--- a statement that is left out
-pub other_none : (w : Within) (before : List Waiting) (none : List Task) (u : State) (s : Option TStmt) → none ≡ [] → s ≡ None
-    → Resumes w (Ok (given.Flow Normal)) (other w s u) before none before u
-other_none w before none u s none_is is = goes_on w (given.Flow Normal) (other w s u) before none u none_is (ap (λ (s : Option TStmt). other w s u) is)
-
--- one that is not
-pub other_some : (w : Within) (r : Result Given Stop) (before after : List Waiting) (tasks : List Task) (u u' : State) (s : Option TStmt) (a x : TStmt) → s ≡ Some a → x ≡ a
-    → Resumes w r (doing (does w x) u) before tasks after u' → Resumes w r (other w s u) before tasks after u'
-other_some w r before after tasks u u' s a x is x_is led =
-    subst (λ (s : Option TStmt). Resumes w r (other w s u) before tasks after u') (sym is)
-    (subst (λ (x : TStmt). Resumes w r (doing (does w x) u) before tasks after u') x_is led)

@@ -1,5 +1,5 @@
 -- Switches: which part runs, and what follows it.
-use Rattle.std.proofs.Common.{ℕ, ◌≡◌, ◌∙◌, ◌+◌, ◌^◌, ◌<◌, ◌⊎◌, inl, inr, Bool, true, false, if◌then◌else◌, ℤ, List, [], ◌∷◌, map, drop, Option, Some, None, Result, Ok, Err, refl, sym, ap, subst}
+use Rattle.std.proofs.Common.{ℕ, ◌≡◌, ◌∙◌, ◌+◌, ◌^◌, ◌<◌, ◌⊎◌, inl, inr, Bool, if◌then◌else◌, ℤ, List, [], ◌∷◌, map, drop, Option, Result, Ok, Err, refl, sym, ap, subst}
 use Rattle.std.specs.Borrow.{Bor}
 use Rattle.k_num.specs.declared.numbers.Kind.{Kind}
 use Rattle.k_num.specs.declared.place.Place.{Place}
@@ -10,14 +10,14 @@ use Rattle.k_world.specs.declared.answer.Stop.{Stop}
 use Rattle.k_world.specs.declared.answer.Stop.TheVariants as stop
 use Rattle.k_world.specs.declared.value.Held.{Held}
 use Rattle.k_evaluation.specs.declared.flow.Flow.{Flow}
-use Rattle.k_evaluation.specs.declared.flow.Flow.TheVariants.{Normal, Broke, Continued, Returned}
+use Rattle.k_evaluation.specs.declared.flow.Flow.TheVariants.{Normal}
 use Rattle.k_evaluation.specs.declared.operand.Operand.{Operand}
 use Rattle.k_evaluation.specs.Flows.{Doing, Within, in_order, means, unless_left}
 use Rattle.k_evaluation.specs.Jumps.{is_left}
 use Rattle.k_evaluation.specs.Meanings.{holds}
 use Rattle.k_evaluation.specs.Statements.{does}
-use Rattle.k_evaluation.specs.States.{State, Outcome, Goes, Stops, Part, follow, ◌>>=◌, gives, settles}
-use Rattle.k_evaluation.specs.Switches.{PartDoing, ACase, ADefault, AStatement, behind_default, behind_switch, chooses, has_case, runs_chosen, selects, statements_of, switch, switch_jumps, switches}
+use Rattle.k_evaluation.specs.States.{State, Outcome, Goes, Part, follow, ◌>>=◌, gives, settles}
+use Rattle.k_evaluation.specs.Switches.{PartDoing, ACase, ADefault, AStatement, behind_default, chooses, has_case, runs_chosen, selects, statements_of, switch, switch_jumps, switches}
 use Rattle.k_listing.specs.Comes.{Comes}
 use Rattle.k_pending.specs.declared.given.Given.{Given}
 use Rattle.k_pending.specs.declared.given.Given.TheVariants as given
@@ -128,20 +128,6 @@ module _ (w : Within) (kind : Kind) (parts : Bor (List TPart)) (n : ℕ) (on : O
       (subst (λ (o : Outcome Held). Resumes w r (follow (follow (follow o by_select) runs_chosen) gives_flow) before tasks after s') (sym made)
       (subst (λ (b : Bool). Resumes w r (behind_case w b kind parts.now (n + 1) on u) before tasks after s') equal_is led))
 
-  -- behind a case that is equal
-  pub case_equal : (r : Result Given Stop) (before after : List Waiting) (tasks : List Task) (s s' : State) (equal : Bool) → equal ≡ true
-      → Resumes w r (chosen w parts.now n s) before tasks after s' → Resumes w r (behind_case w equal kind parts.now n on s) before tasks after s'
-  case_equal r before after tasks s s' equal is led =
-      subst (λ (b : Bool). Resumes w r (behind_case w b kind parts.now n on s) before tasks after s') (sym is) led
-
-  -- behind a case that is not
-  pub case_unequal : (before pushed : List Waiting) (none : List Task) (s : State) (equal : Bool) → none ≡ [] → equal ≡ false
-      → pushed ≡ waiting.OfSwitch (switching.Cases kind parts n on) ∷ before
-      → Resumes w (Ok (given.Flow Normal)) (behind_case w equal kind parts.now n on s) before none pushed s
-  case_unequal before pushed none s equal none_is is on_is =
-      goes_to w (given.Flow Normal) (behind_case w equal kind parts.now n on s) (waiting.OfSwitch (switching.Cases kind parts n on)) before pushed none s none_is on_is
-      (ap (λ (b : Bool). behind_case w b kind parts.now n on s) is)
-
 module _ (w : Within) (parts : Bor (List TPart)) (n : ℕ) where
   -- there is no default
   pub default_end : (before : List Waiting) (none : List Task) (s : State) → none ≡ [] → map (part_of w) (drop n parts.now) ≡ []
@@ -185,15 +171,6 @@ module _ (w : Within) (parts : Bor (List TPart)) (n : ℕ) where
       → Resumes w r (chosen w parts.now (n + 1) s) before tasks after s' → Resumes w r (chosen_default w parts.now n s) before tasks after s'
   default_found r before after tasks s s' is led =
       subst (λ (list : List PartDoing). Resumes w r (follow (runs_chosen (behind_default list) s) gives_flow) before tasks after s') (sym is) led
-
-  -- the parts from this one on run, up to a `break`
-  pub parts_run : (before pushed more : List Waiting) (none : List Task) (s : State) → none ≡ [] → pushed ≡ waiting.OfSwitch switching.Ended ∷ before
-      → more ≡ waiting.OfSwitch (switching.Parts parts n) ∷ pushed → Resumes w (Ok (given.Flow Normal)) (chosen w parts.now n s) before none more s
-  parts_run before pushed more none s none_is on again =
-      later_2 w (Ok (given.Flow Normal)) (in_order (statements_of (map (part_of w) (drop n parts.now))) s) (λ (f : Flow). gives (behind_switch f)) gives_flow gives_flow given.Flow
-      (waiting.OfSwitch switching.Ended) before more none s (λ f u. refl) (λ f u. refl)
-      (goes_to w (given.Flow Normal) (parted w parts.now n s) (waiting.OfSwitch (switching.Parts parts n)) (waiting.OfSwitch switching.Ended ∷ before) more none s none_is
-      (again ∙ ap (λ (list : List Waiting). waiting.OfSwitch (switching.Parts parts n) ∷ list) on) refl)
 
   -- no part is left
   pub parted_end : (before : List Waiting) (none : List Task) (s : State) → none ≡ [] → map (part_of w) (drop n parts.now) ≡ []

@@ -1,4 +1,4 @@
-use Rattle.std.proofs.Common.{◌≡◌, ◌∙◌, ◌+◌, List, drop, map, sym, ap, subst}
+use Rattle.std.proofs.Common.{◌∙◌, ◌+◌, List, drop, map, sym, ap, subst}
 use Rattle.std.specs.Option.{option_copied}
 use Rattle.k_typed.specs.declared.tree.statement.TPart.{TPart}
 use Rattle.k_running.specs.Parts.{Stands, part_of}

@@ -1,8 +1,7 @@
-use Rattle.std.proofs.Common.{◌∙◌, refl, sym, ap, subst, Err, List}
+use Rattle.std.proofs.Common.{◌∙◌, refl, sym, ap, List}
 use Rattle.k_evaluation.specs.Calls.{serves}
 use Rattle.k_listing.specs.Arounds.{program_of, within_of}
-use Rattle.k_listing.specs.Comes.{Comes}
-use Rattle.k_running.proofs.CallRows.{block_begins, block_stopped}
+use Rattle.k_running.proofs.CallRows.{block_begins}
 use Rattle.k_typed.specs.declared.tree.unit.TVariable.{TVariable}
 use Rattle.k_running.proofs.runner.Runner.begin_body.Goals as goal
 

@@ -3,7 +3,7 @@ use Rattle.k_evaluation.specs.Flows.{Doing}
 use Rattle.k_evaluation.specs.Statements.{does}
 use Rattle.k_evaluation.specs.declared.flow.Flow.TheVariants.{Broke, Continued, Normal}
 use Rattle.k_listing.specs.Arounds.{within_of}
-use Rattle.k_running.proofs.Meant.{does_Block, does_Break, does_Continue, does_Declare, does_DoWhile, does_Empty, does_Expr, does_For, does_If, does_Return, does_Switch, does_While}
+use Rattle.k_running.proofs.Meant.{does_Break, does_Continue, does_Empty}
 use Rattle.k_running.proofs.StatementRows.{break_begun, continue_begun, empty_begun}
 use Rattle.k_running.specs.Parts.{doing}
 use Rattle.k_running.specs.Resumes.{Resumes}

@@ -1,5 +1,4 @@
 use Rattle.std.proofs.Common.{sym, subst}
-use Rattle.k_evaluation.specs.declared.flow.Flow.{Flow}
 use Rattle.k_evaluation.specs.declared.operand.Operand.{Operand}
 use Rattle.k_listing.specs.Arounds.{within_of}
 use Rattle.k_running.specs.Resumes.{Resumes}
