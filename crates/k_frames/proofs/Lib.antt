@@ -1,0 +1,3 @@
+pub mod TurnRows
+pub mod FrameRows
+pub mod MainRows

@@ -1,0 +1,4 @@
+pub mod Behind
+pub mod Calling
+pub mod Starts
+pub mod Steps
