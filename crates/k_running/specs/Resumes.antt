@@ -1,5 +1,5 @@
 -- What a step of statements leads to.
-use Rattle.std.specs.Prelude.{ℕ, ◌≡◌, List, [], ◌∷◌, Option, Result, Ok, Err}
+use Rattle.std.specs.Prelude.{◌≡◌, List, [], ◌∷◌, Option, Result, Ok, Err}
 use Rattle.k_world.specs.declared.answer.Stop.{Stop}
 use Rattle.k_world.specs.declared.answer.Stop.TheVariants as stop
 use Rattle.k_world.specs.declared.value.Held.{Held}

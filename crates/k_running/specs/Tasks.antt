@@ -1,5 +1,5 @@
 -- What is still to be done of statements, as parts of a run.
-use Rattle.std.specs.Prelude.{ℕ, Bool, true, false, map, drop, Option, None}
+use Rattle.std.specs.Prelude.{Bool, true, false, map, drop, None}
 use Rattle.std.specs.Option.{option_map}
 use Rattle.k_evaluation.specs.declared.flow.Flow.TheVariants.{Normal}
 use Rattle.k_evaluation.specs.Assignments.{writes}

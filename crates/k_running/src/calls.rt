@@ -1,6 +1,6 @@
 //! A function begins: its region, its parameters, its block, and what waits behind them (C17 6.5.2.2, 6.9.1).
 ghost use Rattle.std.specs.Prelude.{◌≡◌, []};
-ghost use Rattle.k_listing.specs.Arounds.{program_of, within_of};
+ghost use Rattle.k_listing.specs.Arounds.{within_of};
 ghost use Rattle.k_running.specs.Parts.{called, called_body};
 ghost use Rattle.k_running.specs.Resumes.{Resumes};
 

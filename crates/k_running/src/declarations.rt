@@ -2,9 +2,7 @@
 ghost use Rattle.std.specs.Prelude.{◌≡◌, ◌+◌, ◌^◌, ◌<◌, [], slice_get, IfSome};
 ghost use Rattle.std.specs.Option.{option_copied};
 ghost use Rattle.k_evaluation.specs.Declarations.{elements_of as elements_meant};
-ghost use Rattle.k_evaluation.specs.Flows.{Within};
-ghost use Rattle.k_listing.specs.Arounds.{program_of, within_of};
-ghost use Rattle.k_pending.specs.Givens.{gives_done};
+ghost use Rattle.k_listing.specs.Arounds.{within_of};
 ghost use Rattle.k_running.specs.Parts.{declared, declared_all, begun_item, begun_items, begun_object, begun_register, stored};
 ghost use Rattle.k_running.specs.Resumes.{Resumes};
 ghost use Rattle.k_running.specs.Tasks.{declare_task};

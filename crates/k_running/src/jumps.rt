@@ -2,7 +2,7 @@
 ghost use Rattle.std.specs.Prelude.{◌≡◌, map, option_map};
 ghost use Rattle.k_evaluation.specs.Flows.{Within, jumps_of_all as jumps_of_all_meant};
 ghost use Rattle.k_evaluation.specs.Jumps.{is_left, jumps_of_both as jumps_of_both_meant, no_jumps as no_jumps_meant, out_of_loop as out_of_loop_meant, out_of_switch as out_of_switch_meant};
-ghost use Rattle.k_evaluation.specs.Statements.{does, jumps_or_none, part_step, does_step};
+ghost use Rattle.k_evaluation.specs.Statements.{does, jumps_or_none};
 ghost use Rattle.k_evaluation.specs.Switches.{statements_of};
 ghost use Rattle.k_running.specs.Parts.{part_jumps, part_of};
 

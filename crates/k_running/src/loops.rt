@@ -6,7 +6,7 @@ ghost use Rattle.k_evaluation.specs.Loops.{do_loop, loop_parts, resets, while_lo
 ghost use Rattle.k_evaluation.specs.States.{Goes};
 ghost use Rattle.k_evaluation.specs.Statements.{does, for_loop};
 ghost use Rattle.k_pending.specs.declared.given.Given.TheVariants as given;
-ghost use Rattle.k_listing.specs.Arounds.{program_of, within_of};
+ghost use Rattle.k_listing.specs.Arounds.{within_of};
 ghost use Rattle.k_running.specs.Parts.{bodied, doing, fuel_of, looped, parts_of, rounded, tested, turned};
 ghost use Rattle.k_running.specs.Resumes.{Resumes};
 ghost use Rattle.k_running.specs.Tasks.{first_task_of, loop_task};
@@ -22,7 +22,7 @@ use k_listing::{Around, Evaluator, body_region, flag, loop_region};
 use k_num::{Box, Place};
 use k_pending::{Given, value};
 use k_typed::{Spot, TExpr, TFirst, TStmt};
-use k_world::{Held, Stop, Value};
+use k_world::{Stop, Value};
 
 /// The turns of a loop of the source.
 fn turns_of<'a>(

@@ -1,6 +1,6 @@
 //! A task of statements is given what it waited for.
 ghost use Rattle.std.specs.Prelude.{◌≡◌, []};
-ghost use Rattle.k_listing.specs.Arounds.{program_of, within_of};
+ghost use Rattle.k_listing.specs.Arounds.{within_of};
 ghost use Rattle.k_running.specs.Parts.{finished};
 ghost use Rattle.k_running.specs.Resumes.{Resumes, resumes_one};
 

@@ -3,7 +3,7 @@ ghost use Rattle.std.specs.Prelude.{◌≡◌, ◌+◌, ◌^◌, ◌<◌, [], ma
 ghost use Rattle.std.specs.Option.{option_copied};
 ghost use Rattle.k_evaluation.specs.Flows.{Within};
 ghost use Rattle.k_evaluation.specs.Statements.{compound, declaration, does, expression, if_else, return};
-ghost use Rattle.k_listing.specs.Arounds.{program_of, within_of};
+ghost use Rattle.k_listing.specs.Arounds.{within_of};
 ghost use Rattle.k_running.specs.Parts.{doing, ordered, other, started};
 ghost use Rattle.k_running.specs.Resumes.{Resumes};
 ghost use Rattle.k_running.specs.Tasks.{statement_task};
