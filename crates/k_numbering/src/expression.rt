@@ -1,6 +1,6 @@
 //! Numbering of expressions (C17 6.5).
 ghost use Rattle.std.specs.Prelude.{◌≡◌, IfOk, OnOk};
-ghost use Rattle.k_numbering.specs.Renumbering.{NumbersExpr, NumbersExprs, NumbersOperands, NumbersOption};
+ghost use Rattle.k_numbering.specs.Renumbering.{NumbersExpr, NumbersExprs, NumbersOperands, NumbersOption, NumbersPair};
 
 use crate::counts::Counts;
 use k_num::{Box, NoMemory, Place};
@@ -46,6 +46,21 @@ pub fn boxed(expr: Box<TExpr>, alloc: Global, counts: &mut Counts) -> Result<Box
         Ok(done) => Box::new(alloc, done),
         Err(NoMemory) => Err(NoMemory),
     }
+}
+
+/// Numbers two expressions in boxes, the first one first.
+#[cycle(expressions)]
+fn pair(
+    left: Box<TExpr>,
+    right: Box<TExpr>,
+    alloc: Global,
+    counts: &mut Counts,
+) -> Result<(Box<TExpr>, Box<TExpr>), NoMemory>
+    ensures { IfOk result (λ both. NumbersPair left right both.0 both.1 counts.old counts.new) }
+{
+    let left = boxed(left, alloc, counts)?;
+    let right = boxed(right, alloc, counts)?;
+    Ok((left, right))
 }
 
 /// An expression with its numbers: its own one first, then those of its operands.
@@ -104,8 +119,7 @@ fn with_operands(
             })
         }
         TExpr::Index { node, base, index } => {
-            let base = boxed(base, alloc, counts)?;
-            let index = boxed(index, alloc, counts)?;
+            let (base, index) = pair(base, index, alloc, counts)?;
             Ok(TExpr::Index {
                 node: Node { number, ..node },
                 base,
@@ -222,8 +236,7 @@ fn with_operands(
             left,
             right,
         } => {
-            let left = boxed(left, alloc, counts)?;
-            let right = boxed(right, alloc, counts)?;
+            let (left, right) = pair(left, right, alloc, counts)?;
             Ok(TExpr::Binary {
                 node: Node { number, ..node },
                 op,
@@ -233,8 +246,7 @@ fn with_operands(
             })
         }
         TExpr::Both { node, left, right } => {
-            let left = boxed(left, alloc, counts)?;
-            let right = boxed(right, alloc, counts)?;
+            let (left, right) = pair(left, right, alloc, counts)?;
             Ok(TExpr::Both {
                 node: Node { number, ..node },
                 left,
@@ -242,8 +254,7 @@ fn with_operands(
             })
         }
         TExpr::Either { node, left, right } => {
-            let left = boxed(left, alloc, counts)?;
-            let right = boxed(right, alloc, counts)?;
+            let (left, right) = pair(left, right, alloc, counts)?;
             Ok(TExpr::Either {
                 node: Node { number, ..node },
                 left,
@@ -251,8 +262,7 @@ fn with_operands(
             })
         }
         TExpr::Forward { node, left, right } => {
-            let left = boxed(left, alloc, counts)?;
-            let right = boxed(right, alloc, counts)?;
+            let (left, right) = pair(left, right, alloc, counts)?;
             Ok(TExpr::Forward {
                 node: Node { number, ..node },
                 left,
@@ -260,8 +270,7 @@ fn with_operands(
             })
         }
         TExpr::Onto { node, left, right } => {
-            let left = boxed(left, alloc, counts)?;
-            let right = boxed(right, alloc, counts)?;
+            let (left, right) = pair(left, right, alloc, counts)?;
             Ok(TExpr::Onto {
                 node: Node { number, ..node },
                 left,
@@ -269,8 +278,7 @@ fn with_operands(
             })
         }
         TExpr::Back { node, left, right } => {
-            let left = boxed(left, alloc, counts)?;
-            let right = boxed(right, alloc, counts)?;
+            let (left, right) = pair(left, right, alloc, counts)?;
             Ok(TExpr::Back {
                 node: Node { number, ..node },
                 left,
@@ -283,8 +291,7 @@ fn with_operands(
             left,
             right,
         } => {
-            let left = boxed(left, alloc, counts)?;
-            let right = boxed(right, alloc, counts)?;
+            let (left, right) = pair(left, right, alloc, counts)?;
             Ok(TExpr::PtrCompare {
                 node: Node { number, ..node },
                 op,
@@ -293,8 +300,7 @@ fn with_operands(
             })
         }
         TExpr::PtrDistance { node, left, right } => {
-            let left = boxed(left, alloc, counts)?;
-            let right = boxed(right, alloc, counts)?;
+            let (left, right) = pair(left, right, alloc, counts)?;
             Ok(TExpr::PtrDistance {
                 node: Node { number, ..node },
                 left,
@@ -308,8 +314,7 @@ fn with_operands(
             other,
         } => {
             let test = boxed(test, alloc, counts)?;
-            let then = boxed(then, alloc, counts)?;
-            let other = boxed(other, alloc, counts)?;
+            let (then, other) = pair(then, other, alloc, counts)?;
             Ok(TExpr::Cond {
                 node: Node { number, ..node },
                 test,
@@ -318,8 +323,7 @@ fn with_operands(
             })
         }
         TExpr::Assign { node, left, right } => {
-            let left = boxed(left, alloc, counts)?;
-            let right = boxed(right, alloc, counts)?;
+            let (left, right) = pair(left, right, alloc, counts)?;
             Ok(TExpr::Assign {
                 node: Node { number, ..node },
                 left,
@@ -332,8 +336,7 @@ fn with_operands(
             left,
             right,
         } => {
-            let left = boxed(left, alloc, counts)?;
-            let right = boxed(right, alloc, counts)?;
+            let (left, right) = pair(left, right, alloc, counts)?;
             Ok(TExpr::AssignBy {
                 node: Node { number, ..node },
                 change,
@@ -342,8 +345,7 @@ fn with_operands(
             })
         }
         TExpr::Comma { node, left, right } => {
-            let left = boxed(left, alloc, counts)?;
-            let right = boxed(right, alloc, counts)?;
+            let (left, right) = pair(left, right, alloc, counts)?;
             Ok(TExpr::Comma {
                 node: Node { number, ..node },
                 left,

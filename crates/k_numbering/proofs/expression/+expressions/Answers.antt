@@ -15,47 +15,47 @@ with_operands-returns-in-Object t c = numbered_of _ _ _ _ _ _ _ _ _ c.in-Object.
 pub with_operands-returns-in-Variable : goal.with_operands-returns-in-Variable
 with_operands-returns-in-Variable t c = numbered_of _ _ _ _ _ _ _ _ _ c.in-Variable.is (numbers_Variable _ _ _ c.args.counts.now)
 
-pub with_operands-returns-in_ok-index-in-Index : goal.with_operands-returns-in_ok-index-in-Index
-with_operands-returns-in_ok-index-in-Index t c = numbered_of _ _ _ _ _ _ _ _ _ c.in-Index.is (numbers_Index _ _ _ _ _ _ _ _ (pair_numbered _ _ _ _ _ _ _ c.in_ok-base-in-Index.ensures c.in_ok-index-in-Index.ensures))
+pub with_operands-returns-in_ok-base-in-Index : goal.with_operands-returns-in_ok-base-in-Index
+with_operands-returns-in_ok-base-in-Index t c = numbered_of _ _ _ _ _ _ _ _ _ c.in-Index.is (numbers_Index _ _ _ _ _ _ _ _ c.in_ok-base-in-Index.ensures)
 
 pub with_operands-returns-in-Getchar : goal.with_operands-returns-in-Getchar
 with_operands-returns-in-Getchar t c = numbered_of _ _ _ _ _ _ _ _ _ c.in-Getchar.is (numbers_Getchar _ _ c.args.counts.now)
 
-pub with_operands-returns-in_ok-right-in-Binary : goal.with_operands-returns-in_ok-right-in-Binary
-with_operands-returns-in_ok-right-in-Binary t c = numbered_of _ _ _ _ _ _ _ _ _ c.in-Binary.is (numbers_Binary _ _ _ _ _ _ _ _ _ _ (pair_numbered _ _ _ _ _ _ _ c.in_ok-left-in-Binary.ensures c.in_ok-right-in-Binary.ensures))
+pub with_operands-returns-in_ok-left-in-Binary : goal.with_operands-returns-in_ok-left-in-Binary
+with_operands-returns-in_ok-left-in-Binary t c = numbered_of _ _ _ _ _ _ _ _ _ c.in-Binary.is (numbers_Binary _ _ _ _ _ _ _ _ _ _ c.in_ok-left-in-Binary.ensures)
 
-pub with_operands-returns-in_ok-right-in-Both : goal.with_operands-returns-in_ok-right-in-Both
-with_operands-returns-in_ok-right-in-Both t c = numbered_of _ _ _ _ _ _ _ _ _ c.in-Both.is (numbers_Both _ _ _ _ _ _ _ _ (pair_numbered _ _ _ _ _ _ _ c.in_ok-left-in-Both.ensures c.in_ok-right-in-Both.ensures))
+pub with_operands-returns-in_ok-left-in-Both : goal.with_operands-returns-in_ok-left-in-Both
+with_operands-returns-in_ok-left-in-Both t c = numbered_of _ _ _ _ _ _ _ _ _ c.in-Both.is (numbers_Both _ _ _ _ _ _ _ _ c.in_ok-left-in-Both.ensures)
 
-pub with_operands-returns-in_ok-right-in-Either : goal.with_operands-returns-in_ok-right-in-Either
-with_operands-returns-in_ok-right-in-Either t c = numbered_of _ _ _ _ _ _ _ _ _ c.in-Either.is (numbers_Either _ _ _ _ _ _ _ _ (pair_numbered _ _ _ _ _ _ _ c.in_ok-left-in-Either.ensures c.in_ok-right-in-Either.ensures))
+pub with_operands-returns-in_ok-left-in-Either : goal.with_operands-returns-in_ok-left-in-Either
+with_operands-returns-in_ok-left-in-Either t c = numbered_of _ _ _ _ _ _ _ _ _ c.in-Either.is (numbers_Either _ _ _ _ _ _ _ _ c.in_ok-left-in-Either.ensures)
 
-pub with_operands-returns-in_ok-right-in-Forward : goal.with_operands-returns-in_ok-right-in-Forward
-with_operands-returns-in_ok-right-in-Forward t c = numbered_of _ _ _ _ _ _ _ _ _ c.in-Forward.is (numbers_Forward _ _ _ _ _ _ _ _ (pair_numbered _ _ _ _ _ _ _ c.in_ok-left-in-Forward.ensures c.in_ok-right-in-Forward.ensures))
+pub with_operands-returns-in_ok-left-in-Forward : goal.with_operands-returns-in_ok-left-in-Forward
+with_operands-returns-in_ok-left-in-Forward t c = numbered_of _ _ _ _ _ _ _ _ _ c.in-Forward.is (numbers_Forward _ _ _ _ _ _ _ _ c.in_ok-left-in-Forward.ensures)
 
-pub with_operands-returns-in_ok-right-in-Onto : goal.with_operands-returns-in_ok-right-in-Onto
-with_operands-returns-in_ok-right-in-Onto t c = numbered_of _ _ _ _ _ _ _ _ _ c.in-Onto.is (numbers_Onto _ _ _ _ _ _ _ _ (pair_numbered _ _ _ _ _ _ _ c.in_ok-left-in-Onto.ensures c.in_ok-right-in-Onto.ensures))
+pub with_operands-returns-in_ok-left-in-Onto : goal.with_operands-returns-in_ok-left-in-Onto
+with_operands-returns-in_ok-left-in-Onto t c = numbered_of _ _ _ _ _ _ _ _ _ c.in-Onto.is (numbers_Onto _ _ _ _ _ _ _ _ c.in_ok-left-in-Onto.ensures)
 
-pub with_operands-returns-in_ok-right-in-Back : goal.with_operands-returns-in_ok-right-in-Back
-with_operands-returns-in_ok-right-in-Back t c = numbered_of _ _ _ _ _ _ _ _ _ c.in-Back.is (numbers_Back _ _ _ _ _ _ _ _ (pair_numbered _ _ _ _ _ _ _ c.in_ok-left-in-Back.ensures c.in_ok-right-in-Back.ensures))
+pub with_operands-returns-in_ok-left-in-Back : goal.with_operands-returns-in_ok-left-in-Back
+with_operands-returns-in_ok-left-in-Back t c = numbered_of _ _ _ _ _ _ _ _ _ c.in-Back.is (numbers_Back _ _ _ _ _ _ _ _ c.in_ok-left-in-Back.ensures)
 
-pub with_operands-returns-in_ok-right-in-PtrCompare : goal.with_operands-returns-in_ok-right-in-PtrCompare
-with_operands-returns-in_ok-right-in-PtrCompare t c = numbered_of _ _ _ _ _ _ _ _ _ c.in-PtrCompare.is (numbers_PtrCompare _ _ _ _ _ _ _ _ _ (pair_numbered _ _ _ _ _ _ _ c.in_ok-left-in-PtrCompare.ensures c.in_ok-right-in-PtrCompare.ensures))
+pub with_operands-returns-in_ok-left-in-PtrCompare : goal.with_operands-returns-in_ok-left-in-PtrCompare
+with_operands-returns-in_ok-left-in-PtrCompare t c = numbered_of _ _ _ _ _ _ _ _ _ c.in-PtrCompare.is (numbers_PtrCompare _ _ _ _ _ _ _ _ _ c.in_ok-left-in-PtrCompare.ensures)
 
-pub with_operands-returns-in_ok-right-in-PtrDistance : goal.with_operands-returns-in_ok-right-in-PtrDistance
-with_operands-returns-in_ok-right-in-PtrDistance t c = numbered_of _ _ _ _ _ _ _ _ _ c.in-PtrDistance.is (numbers_PtrDistance _ _ _ _ _ _ _ _ (pair_numbered _ _ _ _ _ _ _ c.in_ok-left-in-PtrDistance.ensures c.in_ok-right-in-PtrDistance.ensures))
+pub with_operands-returns-in_ok-left-in-PtrDistance : goal.with_operands-returns-in_ok-left-in-PtrDistance
+with_operands-returns-in_ok-left-in-PtrDistance t c = numbered_of _ _ _ _ _ _ _ _ _ c.in-PtrDistance.is (numbers_PtrDistance _ _ _ _ _ _ _ _ c.in_ok-left-in-PtrDistance.ensures)
 
-pub with_operands-returns-in_ok-right-in-Assign : goal.with_operands-returns-in_ok-right-in-Assign
-with_operands-returns-in_ok-right-in-Assign t c = numbered_of _ _ _ _ _ _ _ _ _ c.in-Assign.is (numbers_Assign _ _ _ _ _ _ _ _ (pair_numbered _ _ _ _ _ _ _ c.in_ok-left-in-Assign.ensures c.in_ok-right-in-Assign.ensures))
+pub with_operands-returns-in_ok-left-in-Assign : goal.with_operands-returns-in_ok-left-in-Assign
+with_operands-returns-in_ok-left-in-Assign t c = numbered_of _ _ _ _ _ _ _ _ _ c.in-Assign.is (numbers_Assign _ _ _ _ _ _ _ _ c.in_ok-left-in-Assign.ensures)
 
-pub with_operands-returns-in_ok-right-in-AssignBy : goal.with_operands-returns-in_ok-right-in-AssignBy
-with_operands-returns-in_ok-right-in-AssignBy t c = numbered_of _ _ _ _ _ _ _ _ _ c.in-AssignBy.is (numbers_AssignBy _ _ _ _ _ _ _ _ _ (pair_numbered _ _ _ _ _ _ _ c.in_ok-left-in-AssignBy.ensures c.in_ok-right-in-AssignBy.ensures))
+pub with_operands-returns-in_ok-left-in-AssignBy : goal.with_operands-returns-in_ok-left-in-AssignBy
+with_operands-returns-in_ok-left-in-AssignBy t c = numbered_of _ _ _ _ _ _ _ _ _ c.in-AssignBy.is (numbers_AssignBy _ _ _ _ _ _ _ _ _ c.in_ok-left-in-AssignBy.ensures)
 
-pub with_operands-returns-in_ok-right-in-Comma : goal.with_operands-returns-in_ok-right-in-Comma
-with_operands-returns-in_ok-right-in-Comma t c = numbered_of _ _ _ _ _ _ _ _ _ c.in-Comma.is (numbers_Comma _ _ _ _ _ _ _ _ (pair_numbered _ _ _ _ _ _ _ c.in_ok-left-in-Comma.ensures c.in_ok-right-in-Comma.ensures))
+pub with_operands-returns-in_ok-left-in-Comma : goal.with_operands-returns-in_ok-left-in-Comma
+with_operands-returns-in_ok-left-in-Comma t c = numbered_of _ _ _ _ _ _ _ _ _ c.in-Comma.is (numbers_Comma _ _ _ _ _ _ _ _ c.in_ok-left-in-Comma.ensures)
 
-pub with_operands-returns-in_ok-other-in-Cond : goal.with_operands-returns-in_ok-other-in-Cond
-with_operands-returns-in_ok-other-in-Cond t c = numbered_of _ _ _ _ _ _ _ _ _ c.in-Cond.is (numbers_Cond _ _ _ _ _ _ _ _ _ _ _ c.in_ok-test-in-Cond.ensures (pair_numbered _ _ _ _ _ _ _ c.in_ok-then-in-Cond.ensures c.in_ok-other-in-Cond.ensures))
+pub with_operands-returns-in_ok-then-in-Cond : goal.with_operands-returns-in_ok-then-in-Cond
+with_operands-returns-in_ok-then-in-Cond t c = numbered_of _ _ _ _ _ _ _ _ _ c.in-Cond.is (numbers_Cond _ _ _ _ _ _ _ _ _ _ _ c.in_ok-test-in-Cond.ensures c.in_ok-then-in-Cond.ensures)
 
 pub with_operands-returns-in_ok-number_exprs-in-Call : goal.with_operands-returns-in_ok-number_exprs-in-Call
 with_operands-returns-in_ok-number_exprs-in-Call t c =
@@ -80,3 +80,6 @@ number_exprs-loop-expr-preserved t c =
       unvisited_more _ _ _ _ _ c.loop-expr.invariant.0,
       list_taken _ _ _ _ _ _ _ _ _ _ _ _ _ within c.replace-taken.ensures.value c.replace.ensures.after c.loop-expr.invariant.1 c.in-Ok.ensures,
     )
+
+pub pair-returns : goal.pair-returns
+pair-returns t c = pair_numbered _ _ _ _ _ _ _ c.in_ok-left.ensures c.in_ok-right.ensures
