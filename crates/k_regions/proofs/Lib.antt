@@ -1,0 +1,15 @@
+pub mod Added
+pub mod Bare
+pub mod Counts
+pub mod Entered
+pub mod Few
+pub mod Fine
+pub mod Functions
+pub mod Listed
+pub mod Names
+pub mod Numbers
+pub mod Origins
+pub mod Rows
+pub mod Seen
+pub mod Standing
+pub mod Whole

@@ -1,0 +1,167 @@
+-- A whole run: it enters no other regions than those of its source, and where main returned, it is one instance of main.
+use Rattle.std.proofs.Common.{◌≡◌, ℕ, suc, ◌+◌, ◌<◌, List, [], ◌∷◌, ◌++◌, length, slice_get, Option, Some, refl, sym, ◌∙◌, subst, ap}
+use Rattle.std.specs.Prelude.{codes}
+use Rattle.std.proofs.lemmas.Option.{same_Some}
+use Rattle.k_optab.specs.declared.event.Event.{Event}
+use Rattle.k_optab.specs.declared.event.Event.TheVariants.{Op, Enter, Exit}
+use Rattle.k_optab.specs.declared.region.Region.{Region}
+use Rattle.k_optab.specs.Instances.{Balanced}
+use Rattle.k_tree.specs.declared.tree.unit.Unit as source
+use Rattle.k_typed.specs.declared.tree.unit.TFunc.{TFunc}
+use Rattle.k_typed.specs.declared.tree.unit.TObject.{TObject}
+use Rattle.k_typed.specs.declared.tree.unit.TString.{TString}
+use Rattle.k_typed.specs.Bare.{IsTyped}
+use Rattle.k_typed.specs.Units.{defined_by, faults}
+use Rattle.k_code.specs.declared.ending.End.TheVariants as ending
+use Rattle.k_mem.specs.declared.start.Start.TheVariants.{Zero}
+use Rattle.k_world.specs.declared.value.Held.{Held}
+use Rattle.k_world.specs.WorldLaws.{IsEarly}
+use Rattle.k_evaluation.specs.States.{Program, State, Outcome, Goes, Stops, Part, follow, ◌>>=◌, gives, exits}
+use Rattle.k_evaluation.specs.Objects.{makes_object, makes_string, fills}
+use Rattle.k_evaluation.specs.Calls.{calls, entered, function_region, runs}
+use Rattle.k_evaluation.specs.Laws.{IsReturned}
+use Rattle.k_evaluation.specs.Loops.{loop_region}
+use Rattle.k_evaluation.specs.Runs.{ended, initial, run, runs_main, starts_object, starts_objects, starts_strings, whole}
+use Rattle.k_regions.specs.declared.loops.LoopAt.{LoopAt}
+use Rattle.k_regions.specs.Laws.{AreItsRegions, EnterBelow, HasItsRegions, ReturnedRunsAreOfMain, RunsEnterTheirRegions}
+use Rattle.k_regions.specs.Regions.{function_itself, loops_of, regions_of}
+use Rattle.k_regions.proofs.Added.{EachEntered, each_both, Leaves, Stays, IsStill, then_still, gives_still, makes_object_still, makes_string_still, fills_still}
+use Rattle.k_regions.proofs.Entered.{LoopsHold, ProgramHolds, inside, main_adds}
+use Rattle.k_regions.proofs.Names.{main_named, there_before, typed_known}
+use Rattle.k_regions.proofs.Numbers.{below_length, have_numbers}
+
+-- THE START makes no event
+objects_still : (os : List TObject) → IsStill (starts_objects os)
+objects_still [] = gives_still {A = Unit {0}} tt
+objects_still (o ∷ os) =
+    then_still (starts_object o) (λ done. starts_objects os)
+    (then_still (makes_object o.place Zero o.elements) (λ home. fills home o.first) (makes_object_still o.place Zero o.elements) (λ home. fills_still home o.first))
+    (λ done. objects_still os)
+
+strings_still : (ts : List TString) → IsStill (starts_strings ts)
+strings_still [] = gives_still {A = Unit {0}} tt
+strings_still (t ∷ ts) = then_still (makes_string t.place t.bytes) (λ home. starts_strings ts) (makes_string_still t.place t.bytes) (λ home. strings_still ts)
+
+-- MAIN: one instance of its region, with others within it; or the run ends in it
+module _ (P : ℕ → Type 0) (number : ℕ) where
+  record IsInstance (events : List Event) : Type 0 where
+    within : List Event
+    whole : events ≡ Enter number ∷ (within ++ Exit ∷ [])
+    balanced : Balanced within
+
+  -- what comes of it, where no event came before
+  abbrev MainLeaves : Outcome (Option Held) → Type 0
+  MainLeaves (Goes v t) = IsInstance t.world.events × EachEntered P t.world.events
+  MainLeaves (Stops end w) = IsEarly end × EachEntered P w.events
+
+  main_leaves : (o : Outcome (Option Held)) → P number → Leaves P (Enter number ∷ []) o → MainLeaves (follow o (λ a. exits >>= λ left. gives a))
+  main_leaves (Goes v t) one h =
+      let is : t.world.events ++ Exit ∷ [] ≡ Enter number ∷ (h.0.events ++ Exit ∷ []) = ap (λ (e : List Event). e ++ Exit ∷ []) h.0.is in (
+        record { within = h.0.events; whole = is; balanced = h.1 },
+        subst (EachEntered P) (sym is) (one, each_both P h.0.events (Exit ∷ []) h.0.each tt),
+      )
+  main_leaves (Stops end w) one h = (h.0, subst (EachEntered P) (sym h.1.is) (one, h.1.each))
+
+  -- behind a start that made no event
+  still_then : {A : Type 0} (o : Outcome A) (next : A → Part (Option Held)) → Stays [] o → ((a : A) (t : State) → t.world.events ≡ [] → MainLeaves (next a t)) → MainLeaves (follow o next)
+  still_then (Goes a t) next h k = k a t h
+  still_then (Stops end w) next h k = (h.0, subst (EachEntered P) (sym h.1) tt)
+
+module _ (P : ℕ → Type 0) (program : Program) (holds : ProgramHolds P program) where
+  abbrev main : ℕ
+  main = program.unit.main
+
+  runs_leave : (f : TFunc) → slice_get program.unit.functions main ≡ Some f → (s : State) → s.world.events ≡ []
+      → MainLeaves P (function_region main f) (runs program (calls 4095 program) main f (entered f [] s))
+  unfolding runs
+  runs_leave f is s none =
+      let here : State = record (entered f [] s) { world = record (entered f [] s).world { events = s.world.events ++ Enter (function_region main f) ∷ [] } } in
+      main_leaves P (function_region main f) (inside P program (calls 4095 program) main f here) (holds main f is).0
+      (subst (λ (e : List Event). Leaves P e (inside P program (calls 4095 program) main f here)) (ap (λ (e : List Event). e ++ Enter (function_region main f) ∷ []) none)
+      ((main_adds P program holds main f is).adds here))
+
+  -- the whole run, where there is a main
+  whole_leaves : (f : TFunc) → slice_get program.unit.functions main ≡ Some f → (input : List ℕ) (budget : ℕ) → MainLeaves P (function_region main f) (whole program (initial input budget))
+  unfolding whole
+  whole_leaves f is input budget =
+      still_then P (function_region main f) (starts_objects program.unit.objects (initial input budget))
+      (λ objects. starts_strings program.unit.strings >>= λ strings. runs_main program (slice_get program.unit.functions main))
+      ((objects_still program.unit.objects).still (initial input budget))
+      (λ objects t none.
+      still_then P (function_region main f) (starts_strings program.unit.strings t) (λ strings. runs_main program (slice_get program.unit.functions main))
+      (subst (λ (e : List Event). Stays e (starts_strings program.unit.strings t)) none ((strings_still program.unit.strings).still t))
+      (λ strings u empty.
+      subst (λ (o : Option TFunc). MainLeaves P (function_region main f) (runs_main program o u)) (sym is) (runs_leave f is u empty)))
+
+-- EACH REGION of the source is below their number
+below : (count : ℕ) (events : List Event) → EachEntered (λ n. n < count) events → EnterBelow count events
+below count [] h = tt
+below count (Op class latency sources place ∷ events) h = below count events h
+below count (Enter region ∷ events) h = (h.0, below count events h.1)
+below count (Exit ∷ events) h = below count events h
+
+loops_below : (regions : List Region) (n : ℕ) (name : List ℕ) (loops : List LoopAt) → ((k : ℕ) (l : LoopAt) → slice_get loops k ≡ Some l → HasItsRegions regions n name l)
+    → LoopsHold (λ m. m < length regions) n loops
+loops_below regions n name [] each = tt
+loops_below regions n name (l ∷ loops) each = (
+  below_length regions (loop_region n l.number) _ (each 0 l refl).itself,
+  below_length regions (loop_region n l.number + 1) _ (each 0 l refl).body,
+  loops_below regions n name loops (λ k. each (suc k)),
+)
+
+program_below : (unit : source.Unit) (program : Program) → IsTyped unit program.unit → ProgramHolds (λ m. m < length (regions_of unit program.unit)) program
+program_below unit program typed n f is =
+    let regions : List Region = regions_of unit program.unit in
+    let its : AreItsRegions (defined_by unit) regions n f = have_numbers unit program.unit typed n f is in
+    (below_length regions (function_region n f) _ its.itself, loops_below regions n its.name (loops_of f) its.loops)
+
+-- THE LAWS
+-- main, and what comes of its run
+record HasRun (unit : source.Unit) (program : Program) (input : List ℕ) (budget : ℕ) : Type 0 where
+  main : TFunc
+  there : slice_get program.unit.functions program.unit.main ≡ Some main
+  leaves : MainLeaves (λ m. m < length (regions_of unit program.unit)) (function_region program.unit.main main) (whole program (initial input budget))
+
+has_run : (unit : source.Unit) (program : Program) (input : List ℕ) (budget : ℕ) → IsTyped unit program.unit → faults unit ≡ [] → HasRun unit program input budget
+has_run unit program input budget typed none =
+    let found : (f : TFunc) × (slice_get program.unit.functions program.unit.main ≡ Some f) =
+    there_before program.unit.functions (defined_by unit) program.unit.main (codes "main") (typed_known unit program.unit typed).named (main_named unit program.unit typed none) in
+    record {
+      main = found.0;
+      there = found.1;
+      leaves = whole_leaves (λ m. m < length (regions_of unit program.unit)) program (program_below unit program typed) found.0 found.1 input budget;
+    }
+
+enters_below : (count number : ℕ) (o : Outcome (Option Held)) → MainLeaves (λ m. m < count) number o → EnterBelow count (ended o).events
+enters_below count number (Goes v s) h = below count s.world.events h.1
+enters_below count number (Stops end w) h = below count w.events h.1
+
+pub enter_theirs : RunsEnterTheirRegions
+unfolding run
+enter_theirs unit program input budget typed none =
+    let it = has_run unit program input budget typed none in
+    enters_below (length (regions_of unit program.unit)) (function_region program.unit.main it.main) (whole program (initial input budget)) it.leaves
+
+instance_of : (P : ℕ → Type 0) (number : ℕ) (o : Outcome (Option Held)) → MainLeaves P number o → IsReturned (ended o).end → IsInstance P number (ended o).events
+instance_of P number (Goes v s) h returned = h.0
+instance_of P number (Stops (ending.Returned v) w) h returned = absurd h.0
+instance_of P number (Stops (ending.Trapped trap place) w) h returned = absurd returned
+instance_of P number (Stops ending.OutOfSteps w) h returned = absurd returned
+
+pub are_of_main : ReturnedRunsAreOfMain
+unfolding run
+are_of_main unit program input budget typed none returned =
+    let it = has_run unit program input budget typed none in
+    let regions : List Region = regions_of unit program.unit in
+    let its : AreItsRegions (defined_by unit) regions program.unit.main it.main = have_numbers unit program.unit typed program.unit.main it.main it.there in
+    let one = instance_of (λ m. m < length regions) (function_region program.unit.main it.main) (whole program (initial input budget)) it.leaves returned in
+    record {
+      number = function_region program.unit.main it.main;
+      inside = one.within;
+      main = function_itself its.name it.main;
+      whole = one.whole;
+      balanced = one.balanced;
+      there = its.itself;
+      kind = refl;
+      func = same_Some its.name (codes "main") (sym its.named ∙ main_named unit program.unit typed none);
+    }

@@ -1,0 +1,24 @@
+//! What holds of the regions of every source: each function's contract is a law, and its body does nothing.
+ghost use Rattle.k_regions.specs.Laws.{RegionsAreFew, RegionsComeOfTokens, RegionsHaveTheirNumbers, ReturnedRunsAreOfMain, RunsEnterTheirRegions, ThereAreNoOthers};
+
+/// Each function, loop and body of a typed source is the region of its number, and there are no others.
+pub fn regions_have_their_numbers()
+    ensures each { RegionsHaveTheirNumbers }
+    ensures all { ThereAreNoOthers }
+{}
+
+/// A source has at most twice as many regions as nodes, and each stands where a token does and has the name of one.
+pub fn regions_come_of_tokens()
+    ensures few { RegionsAreFew }
+    ensures tokens { RegionsComeOfTokens }
+{}
+
+/// A run enters no other regions than those of its source.
+pub fn runs_enter_their_regions()
+    ensures { RunsEnterTheirRegions }
+{}
+
+/// Where main returned, a run is one instance of main, with all others within it.
+pub fn runs_are_of_main()
+    ensures { ReturnedRunsAreOfMain }
+{}
