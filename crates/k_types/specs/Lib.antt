@@ -1,4 +1,3 @@
-pub mod Calls
 pub mod Defined
 pub mod Functions
 pub mod Heads

@@ -1,7 +1,6 @@
 //! The typing of functions and of whole sources: the typed tree of a source, or its first fault (C17 6.7.6.3, 6.9).
 #![tactic(auto)]
 
-mod calls;
 mod defined;
 mod entry;
 mod function;

@@ -1,12 +1,12 @@
 //! The calls of functions that neither the source nor the library defines (C17 6.9p5).
 ghost use Rattle.std.specs.Prelude.{◌≡◌, ◌||◌, is_some, map};
+ghost use Rattle.k_calls.specs.Calls.{seen};
 ghost use Rattle.k_typed.specs.Names.{library, meaning_in};
 ghost use Rattle.k_typed.specs.Units as rules;
-ghost use Rattle.k_types.specs.Calls.{seen};
 ghost use Rattle.k_types.specs.Results.{Tests, IsUndefined};
 
-use crate::calls::{Call, calls_of};
 use crate::defined::Defined;
+use k_calls::{Call, calls_of};
 use k_num::{Place, Text};
 use k_tree::Unit;
 use k_typed::TypeFault;

@@ -1,7 +1,7 @@
 use Rattle.std.proofs.Common.{◌≡◌, ◌++◌, map, drop}
 use Rattle.k_typed.specs.Called.{all_calls, expr_calls}
-use Rattle.k_types.specs.Calls.{seen}
-use Rattle.k_types.proofs.calls.expression.+expressions.Given as goal
+use Rattle.k_calls.specs.Calls.{seen}
+use Rattle.k_calls.proofs.expression.+expressions.Given as goal
 
 abbrev pub invariant-note_args-loop-arg : goal.invariant-note_args-loop-arg
 invariant-note_args-loop-arg l =

@@ -1,11 +1,11 @@
 //! The calls in statements (C17 6.8).
 ghost use Rattle.std.specs.Prelude.{◌≡◌, ◌++◌, map, OnOk};
 ghost use Rattle.k_typed.specs.Called.{all_calls, first_calls, stmt_calls};
-ghost use Rattle.k_types.specs.Calls.{part_calls, seen};
+ghost use Rattle.k_calls.specs.Calls.{part_calls, seen};
 
-use crate::calls::Call;
-use crate::calls::declaration::note_declarators;
-use crate::calls::expression::{note_boxed, note_expr};
+use crate::declaration::note_declarators;
+use crate::expression::{note_boxed, note_expr};
+use crate::source::Call;
 use k_num::{NoMemory, Seq};
 use k_tree::{First, Part, Stmt};
 

@@ -1,29 +1,24 @@
-//! The calls in a source, in text order: also those in operands of `sizeof`, which the typed tree has not (C17
-//! 6.9p5).
+//! The calls in items and in a whole source (C17 6.9).
 ghost use Rattle.std.specs.Prelude.{◌≡◌, ◌++◌, map, IfOk, OnOk};
 ghost use Rattle.k_typed.specs.Called.{calls_of_unit, item_calls, all_calls};
-ghost use Rattle.k_types.specs.Calls.{seen};
+ghost use Rattle.k_calls.specs.Calls.{seen};
 
-mod declaration;
-mod expression;
-mod statement;
-
-use crate::calls::declaration::{note_declarators, note_params};
-use crate::calls::statement::note_stmts;
+use crate::declaration::{note_declarators, note_params};
+use crate::statement::note_stmts;
 use k_num::{NoMemory, Place, Text};
 use k_tree::{Item, Unit};
 use std::alloc::Global;
 
 /// A call: the name that is called, and where it stands.
 #[derive(Clone, Copy)]
-pub(crate) struct Call<'a> {
+pub struct Call<'a> {
     pub name: &'a Text,
     pub place: Place,
 }
 
-/// The calls of a source.
+/// The calls of a source, in text order.
 #[tactic(auto, unfolding(k_typed::specs::Called::calls_of_unit))]
-pub(crate) fn calls_of<'a>(alloc: Global, unit: &'a Unit) -> Result<Vec<Call<'a>>, NoMemory>
+pub fn calls_of<'a>(alloc: Global, unit: &'a Unit) -> Result<Vec<Call<'a>>, NoMemory>
     ensures { IfOk result (λ calls. map seen calls.items ≡ calls_of_unit unit.now) }
 {
     let mut calls = Vec::new(alloc);

@@ -1,7 +1,7 @@
 use Rattle.std.proofs.Common.{◌≡◌, ◌++◌, map, drop}
 use Rattle.k_typed.specs.Called.{all_calls}
-use Rattle.k_types.specs.Calls.{param_calls, seen}
-use Rattle.k_types.proofs.calls.declaration.note_each.Given as goal
+use Rattle.k_calls.specs.Calls.{param_calls, seen}
+use Rattle.k_calls.proofs.declaration.note_each.Given as goal
 
 abbrev pub invariant-loop-param : goal.invariant-loop-param
 invariant-loop-param l =

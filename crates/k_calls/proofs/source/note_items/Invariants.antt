@@ -1,7 +1,7 @@
 use Rattle.std.proofs.Common.{◌≡◌, ◌++◌, map, drop}
 use Rattle.k_typed.specs.Called.{all_calls, item_calls}
-use Rattle.k_types.specs.Calls.{seen}
-use Rattle.k_types.proofs.calls.note_items.Given as goal
+use Rattle.k_calls.specs.Calls.{seen}
+use Rattle.k_calls.proofs.source.note_items.Given as goal
 
 abbrev pub invariant-loop-item : goal.invariant-loop-item
 invariant-loop-item l =

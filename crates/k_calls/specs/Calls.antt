@@ -3,7 +3,7 @@ use Rattle.std.specs.Prelude.{List}
 use Rattle.k_tree.specs.declared.tree.declaration.Param.{Param}
 use Rattle.k_tree.specs.declared.tree.statement.Part.{Part, fold-Part}
 use Rattle.k_typed.specs.Called.{Called, dims_calls, part_calls_step, stmt_calls_step}
-use Rattle.k_types.specs.declared.calls.Call.{Call}
+use Rattle.k_calls.specs.declared.source.Call.{Call}
 
 -- a call that was noted
 abbrev pub seen : Call → Called

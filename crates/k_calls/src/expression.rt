@@ -1,9 +1,9 @@
 //! The calls in expressions (C17 6.5.2.2).
 ghost use Rattle.std.specs.Prelude.{◌≡◌, ◌++◌, map, OnOk};
 ghost use Rattle.k_typed.specs.Called.{all_calls, expr_calls, option_calls};
-ghost use Rattle.k_types.specs.Calls.{seen};
+ghost use Rattle.k_calls.specs.Calls.{seen};
 
-use crate::calls::Call;
+use crate::source::Call;
 use k_num::{Box, NoMemory, Seq};
 use k_tree::Expr;
 

@@ -1,7 +1,7 @@
 use Rattle.std.proofs.Common.{◌≡◌, ◌++◌, map, drop}
 use Rattle.k_typed.specs.Called.{all_calls, stmt_calls}
-use Rattle.k_types.specs.Calls.{part_calls, seen}
-use Rattle.k_types.proofs.calls.statement.+statements.Given as goal
+use Rattle.k_calls.specs.Calls.{part_calls, seen}
+use Rattle.k_calls.proofs.statement.+statements.Given as goal
 
 abbrev pub invariant-note_stmts-loop-part : goal.invariant-note_stmts-loop-part
 invariant-note_stmts-loop-part l =

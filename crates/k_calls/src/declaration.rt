@@ -1,10 +1,10 @@
 //! The calls in declarations and parameters (C17 6.7).
 ghost use Rattle.std.specs.Prelude.{◌≡◌, ◌++◌, map, OnOk};
 ghost use Rattle.k_typed.specs.Called.{all_calls, declarator_calls, declarators_calls, dims_calls, init_calls, params_calls, start_calls};
-ghost use Rattle.k_types.specs.Calls.{param_calls, seen};
+ghost use Rattle.k_calls.specs.Calls.{param_calls, seen};
 
-use crate::calls::Call;
-use crate::calls::expression::{note_expr, note_option};
+use crate::expression::{note_expr, note_option};
+use crate::source::Call;
 use k_num::{NoMemory, Seq};
 use k_tree::{Declarator, Expr, Init, Param, Params};
 

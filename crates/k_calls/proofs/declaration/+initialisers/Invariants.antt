@@ -1,7 +1,7 @@
 use Rattle.std.proofs.Common.{◌≡◌, ◌++◌, map, drop}
 use Rattle.k_typed.specs.Called.{all_calls, init_calls}
-use Rattle.k_types.specs.Calls.{seen}
-use Rattle.k_types.proofs.calls.declaration.+initialisers.Given as goal
+use Rattle.k_calls.specs.Calls.{seen}
+use Rattle.k_calls.proofs.declaration.+initialisers.Given as goal
 
 abbrev pub invariant-note_inits-loop-item : goal.invariant-note_inits-loop-item
 invariant-note_inits-loop-item l =

@@ -1,7 +1,7 @@
 use Rattle.std.proofs.Common.{◌≡◌, ◌++◌, map, drop}
 use Rattle.k_typed.specs.Called.{all_calls, declarator_calls}
-use Rattle.k_types.specs.Calls.{seen}
-use Rattle.k_types.proofs.calls.declaration.note_declarators.Given as goal
+use Rattle.k_calls.specs.Calls.{seen}
+use Rattle.k_calls.proofs.declaration.note_declarators.Given as goal
 
 abbrev pub invariant-loop-declarator : goal.invariant-loop-declarator
 invariant-loop-declarator l =
