@@ -16,6 +16,7 @@ mod uses;
 
 use k_num::Seq;
 pub use marking::mark;
+pub use uses::{Group, Read, Reduction, Use};
 
 /// The marks of a source: by the number of a loop whether it is counted; by the number of an expression or
 /// statement whether it is a read whose dependence is broken, and whether it is a statement whose text holds a

@@ -2,7 +2,7 @@
 
 /// Operators that may be mixed in the reduction of a variable.
 #[derive(Clone, Copy, Debug, PartialEq, Eq)]
-pub(crate) enum Group {
+pub enum Group {
     /// `+ -`
     Sums,
     /// `*`
@@ -17,23 +17,23 @@ pub(crate) enum Group {
 
 /// A variable that is read, and the number of the node that reads it.
 #[derive(Clone, Copy, Debug, PartialEq, Eq)]
-pub(crate) struct Read {
-    pub(crate) variable: u32,
-    pub(crate) node: u32,
+pub struct Read {
+    pub variable: u32,
+    pub node: u32,
 }
 
 /// An expression statement `s op= e` or `s = s op e`: the number of the variable s, the group of the operator,
 /// and the number of the node that reads s.
 #[derive(Clone, Copy, Debug, PartialEq, Eq)]
-pub(crate) struct Reduction {
-    pub(crate) variable: u32,
-    pub(crate) group: Group,
-    pub(crate) read: u32,
+pub struct Reduction {
+    pub variable: u32,
+    pub group: Group,
+    pub read: u32,
 }
 
 /// What happens to a variable.
 #[derive(Clone, Copy, Debug, PartialEq, Eq)]
-pub(crate) enum Use {
+pub enum Use {
     /// An expression names it.
     Names(u32),
     /// An expression assigns it.
