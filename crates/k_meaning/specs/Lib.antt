@@ -1,0 +1,5 @@
+pub mod Counted
+pub mod Ended
+pub mod Frames
+pub mod Turns
+pub mod Typing
