@@ -1,3 +1,4 @@
+pub mod Adding
 pub mod Bodies
 pub mod BoundLaw
 pub mod Bounds
@@ -6,13 +7,17 @@ pub mod Counting
 pub mod Evaluated
 pub mod Executed
 pub mod Flows
+pub mod Folding
 pub mod Frames
+pub mod Given
 pub mod Induction
 pub mod Least
 pub mod OnBoth
 pub mod OneVariable
 pub mod Parts
+pub mod Reducing
 pub mod Rows
+pub mod Simple
 pub mod Stepped
 pub mod Steps
 pub mod Tested

@@ -2,7 +2,8 @@
 ghost use Rattle.k_meaning.specs.Counted.{BoundIsSame, CountedIsConverted, VariableIsCounted};
 ghost use Rattle.k_meaning.specs.Ended.{TestsAreOnBoth, TurnsAreLeast};
 ghost use Rattle.k_meaning.specs.Frames.{CallsLeave, ExpressionsLeave, StatementsLeave};
-ghost use Rattle.k_meaning.specs.Typing.{PostfixIsTyped, PrefixIsTyped};
+ghost use Rattle.k_meaning.specs.Reduced.{ReductionsCombine};
+ghost use Rattle.k_meaning.specs.Typing.{AssignmentIsTyped, PostfixIsTyped, PrefixIsTyped, ReductionIsTyped, TestIsTyped};
 
 /// What runs changes no variable of its function but those that its text assigns, reduces or declares. So neither a call
 /// nor a pointer reaches another one.
@@ -19,7 +20,7 @@ pub fn frames()
 ///
 /// What typing gives is a premise, `IsTypedFor`: the kinds in which the step and the test are made, and that the body declares no
 /// variable that the test names, since each declarator has a number of its own. It is true of each loop of a checked source;
-/// no contract says so of a whole tree yet, but `rules_of_typing` of a step by `++` or `--`.
+/// no contract says so of a whole tree yet, but `rules_of_typing` of each of its parts beside the last.
 pub fn induction()
     ensures variable { VariableIsCounted }
     ensures converted { CountedIsConverted }
@@ -28,8 +29,22 @@ pub fn induction()
     ensures turns { TurnsAreLeast }
 {}
 
-/// The trees that the rules of typing give to steps `i++`, `++i`, `i--` and `--i` are typed as the law of induction asks.
+/// A variable that a loop reduces is behind the loop what it was before, combined modulo 2^n with what the statements in the
+/// body contribute in the order in which they run, or in any other: their sum with signs, their product, or their `&`, `|`
+/// or `^` bit by bit.
+///
+/// What typing gives is a premise, `AreTyped`: the kinds in which these statements are made. It is true of a checked source; no
+/// contract says so of a whole tree yet, but `rules_of_typing` of each such statement.
+pub fn reduction()
+    ensures { ReductionsCombine }
+{}
+
+/// The trees that the rules of typing give to steps `i++`, `++i`, `i--`, `--i` and `i += e`, to tests `i op e` and to reductions
+/// `s = s op e` are typed as the laws above ask.
 pub fn rules_of_typing()
     ensures postfix { PostfixIsTyped }
     ensures prefix { PrefixIsTyped }
+    ensures assignment { AssignmentIsTyped }
+    ensures test { TestIsTyped }
+    ensures reduction { ReductionIsTyped }
 {}
