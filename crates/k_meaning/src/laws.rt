@@ -1,0 +1,50 @@
+//! What loops mean: each function's contract is a law, and its body does nothing.
+ghost use Rattle.k_meaning.specs.Counted.{BoundIsSame, CountedIsConverted, VariableIsCounted};
+ghost use Rattle.k_meaning.specs.Ended.{TestsAreOnBoth, TurnsAreLeast};
+ghost use Rattle.k_meaning.specs.Frames.{CallsLeave, ExpressionsLeave, StatementsLeave};
+ghost use Rattle.k_meaning.specs.Reduced.{ReductionsCombine};
+ghost use Rattle.k_meaning.specs.Typing.{AssignmentIsTyped, PostfixIsTyped, PrefixIsTyped, ReductionIsTyped, TestIsTyped};
+
+/// What runs changes no variable of its function but those that its text assigns, reduces or declares. So neither a call
+/// nor a pointer reaches another one.
+pub fn frames()
+    ensures expressions { ExpressionsLeave }
+    ensures statements { StatementsLeave }
+    ensures calls { CallsLeave }
+{}
+
+/// Before the k-th test of a counted loop, from 0, its variable is `x + k * step` as a number of its kind, where it was x, a
+/// number of its kind, before the loop; and the bound has the same value before each test. Each test is the comparison of these
+/// two, so the number of turns of a loop that ended is the least k for which it is false. This holds of every test that is
+/// reached, also where the loop then traps or runs out of steps.
+///
+/// What typing gives is a premise, `IsTypedFor`: the kinds in which the step and the test are made, and that the body declares no
+/// variable that the test names, since each declarator has a number of its own. It is true of each loop of a checked source;
+/// no contract says so of a whole tree yet, but `rules_of_typing` of each of its parts beside the last.
+pub fn induction()
+    ensures variable { VariableIsCounted }
+    ensures converted { CountedIsConverted }
+    ensures bound { BoundIsSame }
+    ensures test { TestsAreOnBoth }
+    ensures turns { TurnsAreLeast }
+{}
+
+/// A variable that a loop reduces is behind the loop what it was before, combined modulo 2^n with what the statements in the
+/// body contribute in the order in which they run, or in any other: their sum with signs, their product, or their `&`, `|`
+/// or `^` bit by bit.
+///
+/// What typing gives is a premise, `AreTyped`: the kinds in which these statements are made. It is true of a checked source; no
+/// contract says so of a whole tree yet, but `rules_of_typing` of each such statement.
+pub fn reduction()
+    ensures { ReductionsCombine }
+{}
+
+/// The trees that the rules of typing give to steps `i++`, `++i`, `i--`, `--i` and `i += e`, to tests `i op e` and to reductions
+/// `s = s op e` are typed as the laws above ask.
+pub fn rules_of_typing()
+    ensures postfix { PostfixIsTyped }
+    ensures prefix { PrefixIsTyped }
+    ensures assignment { AssignmentIsTyped }
+    ensures test { TestIsTyped }
+    ensures reduction { ReductionIsTyped }
+{}
