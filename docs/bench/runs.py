@@ -94,8 +94,8 @@ def least(command):
 
 
 def least_stack(command):
-    """The least stack in KiB, a multiple of 16, with which a source runs."""
-    for stack in range(32, 8193, 16):
+    """The least stack in KiB, a multiple of 32, with which a source runs."""
+    for stack in range(32, 8193, 32):
         if run(command, stack) is not None:
             return stack
     return None
