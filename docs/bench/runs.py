@@ -45,7 +45,7 @@ SPIN = "int main(void){while(1);return 0;}"
 CALLS = "int f(int n){return n+1;} int main(void){int i,s=0; for(i=0;i<%d;i++) s=f(s); return 0;}"
 COPY = "int main(void){int c; while((c=getchar())>=0) putchar(c); return 0;}"
 CASES = "int main(void){int i,s=0; for(i=0;i<%d;i++) switch(i&7){" + "".join(f"case {n}: s=s^{n}; break; " for n in range(8)) + "} return s;}"
-SKIPPED = "int main(void){int i,x=0; for(i=0;i<100000;i++) if(x) {" + "x=1;" * 10_000 + "} return 0;}"
+SKIPPED = "int main(void){int i,x=0; for(i=0;i<10000;i++) if(x) {" + "x=1;" * 10_000 + "} return 0;}"
 BLOCKS = "int main(void){int i; for(i=0;i<%d;i++){int a[2]={1}; a[1]=a[0];} return 0;}"
 
 
@@ -110,14 +110,14 @@ def main(program, folder):
         return f"{folder}/{name}"
 
     nothing = put("nothing", "")
-    bytes_ = put("bytes", "x" * 1_000_000)
+    bytes_ = put("bytes", "x" * 200_000)
     rows = [(f"product, N = {n}", put(f"product{n}.c", PRODUCT % n), nothing, WHOLE) for n in (32, 64, 128)]
     rows += [(f"spin, {count:,} operations", put("spin.c", SPIN), nothing, count) for count in (1_000_000, 10_000_000)]
-    rows += [("1,000,000 calls", put("calls.c", CALLS % 1_000_000), nothing, WHOLE)]
-    rows += [("1,000,000 switches of 8 cases", put("cases.c", CASES % 1_000_000), nothing, WHOLE)]
-    rows += [("1,000,000 blocks with an array", put("blocks.c", BLOCKS % 1_000_000), nothing, WHOLE)]
-    rows += [("100,000 turns round 10,000 statements that don't run", put("skipped.c", SKIPPED), nothing, WHOLE)]
-    rows += [("1,000,000 bytes copied", put("copy.c", COPY), bytes_, WHOLE)]
+    rows += [("200,000 calls", put("calls.c", CALLS % 200_000), nothing, WHOLE)]
+    rows += [("200,000 switches of 8 cases", put("cases.c", CASES % 200_000), nothing, WHOLE)]
+    rows += [("200,000 blocks with an array", put("blocks.c", BLOCKS % 200_000), nothing, WHOLE)]
+    rows += [("10,000 turns round 10,000 statements that don't run", put("skipped.c", SKIPPED), nothing, WHOLE)]
+    rows += [("200,000 bytes copied", put("copy.c", COPY), bytes_, WHOLE)]
     deep = [(make.__name__, put(f"{make.__name__}.c", make()), nothing, WHOLE) for make in (deep_signs, deep_blocks, deep_loops)]
     for name, source, given, budget in rows + deep:
         found, seconds, memory = least([program, source, given, str(budget)])
