@@ -1,5 +1,5 @@
 -- What a declarator comes to, by what its parts come to.
-use Rattle.std.proofs.Common.{◌≡◌, ◌⊎◌, inl, inr, ℕ, Bool, List, ◌++◌, Option, Some, None, Result, Ok, Err, refl, sym, ap, ◌∙◌, subst, append_assoc}
+use Rattle.std.proofs.Common.{◌≡◌, inl, inr, ℕ, Bool, List, ◌++◌, Option, Result, Ok, Err, refl, sym, ap, ◌∙◌, subst}
 use Rattle.k_tree.specs.declared.tree.declaration.Declarator.{Declarator}
 use Rattle.k_typed.specs.declared.fault.TypeFault.{TypeFault}
 use Rattle.k_typed.specs.declared.types.CType.{CType}
@@ -11,7 +11,7 @@ use Rattle.k_typed.specs.Made.{Made, Fine, Faulty, both}
 use Rattle.k_typed.specs.Names.{Names}
 use Rattle.k_typing.specs.Views.{Refuses}
 use Rattle.k_declaring.specs.declared.declarator.Begun.{Begun}
-use Rattle.k_declaring.specs.Objects.{Comes, GivesBeginning, GivesType, Makes}
+use Rattle.k_declaring.specs.Objects.{Comes, Makes}
 use Rattle.k_declaring.proofs.Lists.{refuses_both}
 
 -- a fault of the second of two parts, of which the first is made

@@ -1,14 +1,14 @@
 -- Declarators that are declared one after the other.
-use Rattle.std.proofs.Common.{◌≡◌, ℕ, false, ◌+◌, ◌<◌, ◌≤◌, List, [], ◌∷◌, ◌++◌, Result, Ok, Err, drop, get_or, length, refl, sym, ap, ◌∙◌, subst, append_assoc, append-nil}
+use Rattle.std.proofs.Common.{◌≡◌, ℕ, false, ◌+◌, ◌<◌, ◌≤◌, List, [], ◌∷◌, ◌++◌, Ok, drop, get_or, length, sym, ap, ◌∙◌, subst, append-nil}
 use Rattle.std.proofs.lemmas.List.{drop_all}
 use Rattle.k_tree.specs.declared.tree.declaration.Declarator.{Declarator}
 use Rattle.k_typed.specs.declared.fault.TypeFault.{TypeFault}
 use Rattle.k_typed.specs.declared.tree.declaration.TDeclarator.{TDeclarator}
 use Rattle.k_typed.specs.declared.tree.declaration.TInit.{TInit}
 use Rattle.k_typed.specs.Declarations.{Object, Saying, declarator_judged, names_behind, object_fixed, type_or_int}
-use Rattle.k_typed.specs.Made.{Made, Fine, Faulty, both, then_made}
+use Rattle.k_typed.specs.Made.{Fine, then_made}
 use Rattle.k_typed.specs.Names.{Names}
-use Rattle.k_typed.specs.Statements.{Judged, Known, Variable, declare, declare_all, judged_before, object_taken, variable_type}
+use Rattle.k_typed.specs.Statements.{Judged, Known, Variable, declare, declare_all, object_taken, variable_type}
 use Rattle.k_typing.specs.Views.{Refuses}
 use Rattle.k_declaring.specs.declared.declarator.Begun.{Begun}
 use Rattle.k_declaring.specs.Objects.{Comes}

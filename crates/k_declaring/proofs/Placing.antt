@@ -1,5 +1,5 @@
 -- File objects that are declared one after the other.
-use Rattle.std.proofs.Common.{◌≡◌, ◌⊎◌, inl, inr, ℕ, ℤ, true, ◌+◌, ◌<◌, ◌≤◌, List, [], ◌∷◌, ◌++◌, Result, Ok, Err, drop, get_or, length, refl, sym, ap, ◌∙◌, subst, append_assoc, append-nil}
+use Rattle.std.proofs.Common.{◌≡◌, inl, inr, ℕ, ℤ, true, ◌+◌, ◌<◌, ◌≤◌, List, [], ◌∷◌, ◌++◌, Ok, drop, get_or, length, refl, sym, ap, ◌∙◌, subst, append_assoc, append-nil}
 use Rattle.std.proofs.lemmas.List.{drop_all, length-append}
 use Rattle.k_tree.specs.declared.tree.declaration.Declarator.{Declarator}
 use Rattle.k_typed.specs.declared.fault.TypeFault.{TypeFault}
@@ -10,7 +10,7 @@ use Rattle.k_typed.specs.Initialisers.{first_values}
 use Rattle.k_typed.specs.Made.{Made, Fine, Faulty, both, then_made}
 use Rattle.k_typed.specs.Names.{Names}
 use Rattle.k_typed.specs.Types.{count_of, told}
-use Rattle.k_typed.specs.Units.{FileKnown, Parts, Placed, no_parts, object_part, object_placed, objects_placed, parts_of_both}
+use Rattle.k_typed.specs.Units.{FileKnown, Parts, Placed, object_part, object_placed, objects_placed, parts_of_both}
 use Rattle.k_typing.specs.Views.{Refuses}
 use Rattle.k_declaring.specs.declared.declarator.Begun.{Begun}
 use Rattle.k_declaring.specs.Results.{Places, PlacesAll}

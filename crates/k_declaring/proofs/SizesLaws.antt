@@ -1,12 +1,12 @@
 -- Dimensions that are judged one after the other.
-use Rattle.std.proofs.Common.{◌≡◌, ℕ, ◌+◌, ◌<◌, ◌≤◌, List, [], ◌∷◌, ◌++◌, Option, Result, Ok, Err, get_or, length, map, refl, sym, ap, ◌∙◌, subst, append_assoc, append-nil}
+use Rattle.std.proofs.Common.{◌≡◌, ℕ, ◌+◌, ◌<◌, ◌≤◌, List, [], ◌∷◌, ◌++◌, Option, Ok, get_or, length, map, refl, sym, ap, ◌∙◌, append_assoc, append-nil}
 use Rattle.std.specs.List.{concat}
 use Rattle.std.proofs.lemmas.List.{map-append}
 use Rattle.std.proofs.lemmas.List.Folds.{concat-append}
 use Rattle.k_tree.specs.declared.tree.expression.Expr.{Expr}
 use Rattle.k_typed.specs.declared.fault.TypeFault.{TypeFault}
-use Rattle.k_typed.specs.Dimensions.{Dimension, Sizes, dimension, dimensions, joined}
-use Rattle.k_typed.specs.Made.{Made, Fine, all_made, then_made}
+use Rattle.k_typed.specs.Dimensions.{Dimension, dimension, dimensions, joined}
+use Rattle.k_typed.specs.Made.{Fine, all_made, then_made}
 use Rattle.k_typed.specs.Names.{Names}
 use Rattle.k_typing.specs.Views.{Refuses}
 use Rattle.k_declaring.specs.declared.dimension.Size.{Size}

@@ -1,4 +1,4 @@
-use Rattle.std.proofs.Common.{◌≡◌, ◌+◌, ◌-◌, [], ap, map, subst, sym, arith}
+use Rattle.std.proofs.Common.{◌≡◌, ◌-◌, [], ap, map, subst, sym, arith}
 use Rattle.std.proofs.lemmas.List.{nil_from_length}
 use Rattle.k_typed.specs.Initialisers.{giving, items_within}
 use Rattle.k_declaring.specs.Braces.{Puts}

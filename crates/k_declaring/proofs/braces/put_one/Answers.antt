@@ -1,4 +1,4 @@
-use Rattle.std.proofs.Common.{◌≡◌, [], sym, subst, rules, arith}
+use Rattle.std.proofs.Common.{◌≡◌, [], sym, subst}
 use Rattle.std.proofs.lemmas.List.{nil_from_length}
 use Rattle.k_typed.specs.Expressions.{judge}
 use Rattle.k_typed.specs.Initialisers.{one_item, string_of}

@@ -1,4 +1,4 @@
-use Rattle.std.proofs.Common.{◌≡◌, inr, refl, sym, subst}
+use Rattle.std.proofs.Common.{inr, refl, sym, subst}
 use Rattle.k_typed.specs.declared.fault.TypeFault.TheVariants as fault
 use Rattle.k_typed.specs.Initialisers.{Items, excess, giving}
 use Rattle.k_typed.specs.Made.{then_made}

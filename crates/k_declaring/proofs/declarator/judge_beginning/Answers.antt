@@ -1,6 +1,6 @@
 use Rattle.std.proofs.Common.{◌≡◌, ◌++◌, ap, ◌∙◌, subst, append_assoc, rules, arith}
 use Rattle.k_typed.specs.Declarations.{as_meaning, entered, object_fixed, type_or_int}
-use Rattle.k_typed.specs.Initialisers.{Beginning, begun}
+use Rattle.k_typed.specs.Initialisers.{begun}
 use Rattle.k_typed.specs.Made.{Fine}
 use Rattle.k_typing.specs.Views.{Refuses}
 use Rattle.k_declaring.proofs.Declarators.{begun_refused, comes}

@@ -1,4 +1,4 @@
-use Rattle.std.proofs.Common.{◌≡◌, Some, None, ap, sym, ◌∙◌, arith, rules}
+use Rattle.std.proofs.Common.{◌≡◌, Some, None, ap, sym, ◌∙◌, arith}
 use Rattle.k_typed.specs.Dimensions.{all_sizes}
 use Rattle.k_declaring.specs.Products.{counted, starts}
 use Rattle.k_declaring.specs.Sizes.{sizes_in}

@@ -1,6 +1,4 @@
-use Rattle.std.proofs.Common.{Ok, subst}
 use Rattle.k_typed.specs.Statements.{declare_all}
-use Rattle.k_typing.specs.Views.{Refuses}
 use Rattle.k_declaring.specs.Results.{seen}
 use Rattle.k_declaring.proofs.Declaring.{declares_more, declares_all, declares_refused}
 use Rattle.k_declaring.proofs.local.declare_all.Goals as goal
