@@ -13,7 +13,7 @@ use crate::places::{class_of, kind_of, scale_of};
 use k_evaluation::{Operand, Target};
 use k_num::{Bin, Kind, Place, promote};
 use k_optab::Class;
-use k_typed::{Change, Node, TType};
+use k_typed::{Change, Node};
 use k_world::{ActRef, Stop, Value};
 
 /// A kind, or int.
