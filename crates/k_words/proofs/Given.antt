@@ -33,10 +33,10 @@ added : {A : Type 0} (f : List ℕ → Option A) (ws : List (List ℕ)) (w : Lis
     → Some x ≡ first_of f (ws ++ w ∷ [])
 added f ws w x fresh is = sym (first_of-more f ws w ∙ or_else-first (first_of f ws) (f w) fresh ∙ is)
 
-some_inner : {A : Type 0} (x y : A) → Some x ≡ Some y → x ≡ y
+pub some_inner : {A : Type 0} (x y : A) → Some x ≡ Some y → x ≡ y
 some_inner x y h = cc
 
-mapped : {A B : Type 0} (f : A → B) (o : Option A) (y : B) → option_map f o ≡ Some y → (x : A) × (o ≡ Some x) × (f x ≡ y)
+pub mapped : {A B : Type 0} (f : A → B) (o : Option A) (y : B) → option_map f o ≡ Some y → (x : A) × (o ≡ Some x) × (f x ≡ y)
 mapped f None y h = absurd (false≢true (ap is_some h))
 mapped f (Some x) y h = (x, refl, some_inner _ _ h)
 

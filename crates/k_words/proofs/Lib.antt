@@ -5,3 +5,4 @@ pub mod Given
 pub mod Numbers
 pub mod OneAnswer
 pub mod Reading
+pub mod Within

@@ -1,0 +1,26 @@
+-- The limits of the numbers that are asked for.
+use Rattle.std.specs.Prelude.{ℕ, ◌≤◌, List, Ok}
+use Rattle.k_words.specs.declared.job.Job.{Job}
+use Rattle.k_words.specs.declared.job.Job.TheVariants as job
+use Rattle.k_words.specs.Words.{IsAnswer}
+
+-- a number lies within limits
+pub record IsWithin (low high number : ℕ) : Type 0 where
+  pub at_least : low ≤ number
+  pub at_most : number ≤ high
+
+-- the operations that a run may make, and the levels that are tracked
+pub record IsRunWithin (most operations levels : ℕ) : Type 0 where
+  pub steps : IsWithin 1 most operations
+  pub depth : IsWithin 1 32 levels
+
+-- the numbers of a job lie within their limits
+abbrev pub IsJobWithin : Job → Type 0
+IsJobWithin (job.Run file steps depth latency dict save) = IsRunWithin 1000000000 steps depth
+IsJobWithin (job.Graph file steps depth latency) = IsRunWithin 200000 steps depth
+IsJobWithin (job.Show file dict) = Unit {0}
+IsJobWithin (job.Demo number loops) = IsWithin 1 2000 loops
+
+-- so do those of each job that words ask for
+abbrev pub JobsAreWithin : Type 0
+JobsAreWithin = (words : List (List ℕ)) (asked : Job) → IsAnswer words (Ok asked) → IsJobWithin asked
