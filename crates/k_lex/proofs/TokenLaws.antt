@@ -1,4 +1,5 @@
--- What is true of each token that a source gives: it is no end, its kind holds its number, and its string is no longer than its spelling.
+-- What is true of each token that a source gives: it is no end, its kind holds its number, it is no keyword where it is a name, its string is no longer
+-- than its spelling, and it stands among the places of a source.
 use Rattle.std.proofs.Common.{◌≡◌, ◌≢◌, ℕ, zero, suc, ◌+◌, ◌-◌, ◌≤◌, sum, Bool, true, false, ◌&&◌, ◌||◌, not, nat_lt, eqb, if◌then◌else◌, List, [], ◌∷◌, ◌++◌, Option, Some, None, Result, Ok, Err, length, map, take, drop, codes, rules, arith, refl, ap, ◌∙◌, subst, is_none, is_some}
 use Rattle.std.specs.Prelude.{IfOk, IfSome, IsTrue, pos, nat_le}
 use Rattle.std.proofs.lemmas.Result.{IfOk-at_ok}
@@ -29,7 +30,9 @@ use Rattle.k_lex.specs.Bytes.{is_digit, is_octal, is_hexadecimal, span, look_up,
 use Rattle.k_lex.specs.Words.{word_of}
 use Rattle.k_lex.specs.Numbers
 use Rattle.k_lex.specs.Numbers.{number_of}
-use Rattle.k_lex.specs.Pieces.{item_length}
+use Rattle.k_lex.specs.Marks.{mark_of}
+use Rattle.k_lex.specs.Pieces.{class_in_include, class_in_pragma, class_of, is_blank_piece, is_character, is_comment, is_header, is_known, is_name, is_number, is_string, item_length, longest, mark_piece, piece_by, piece_of_length}
+use Rattle.k_tree.specs.declared.tokens.mark.Mark.{Mark}
 use Rattle.k_lex.specs.Literals.{content, item_at, inside, character_of}
 use Rattle.k_lex.specs.Macros.{Macro, lexeme, find, full_at, full_or, used, replaced_by, fulls_from, fulls, replaced, is_named, mentions, body_at, stands_at, header_macros, breaks_order, changes, included, sizes}
 use Rattle.k_lex.specs.Lines
@@ -39,14 +42,14 @@ use Rattle.k_lex.specs.Tokens.{piece_in, turn, run, join_kinds, join, joined, fi
 use Rattle.k_tree.specs.Closed.{EndsOnce}
 use Rattle.k_tree.specs.Literals.{string_bytes, NumberIsHeld}
 use Rattle.k_lex.proofs.Outcomes.{Each, each_append, each_one_more, either_way, cond_ok, when_ok, bind_ok, bind_any, answered}
-use Rattle.k_lex.specs.Laws.{kinds_of, EachListEndsOnce, EachNumberIsHeld, StringsAreWithinLimit}
+use Rattle.k_lex.specs.Laws.{IsInside, IsNamed, IsRightKind, IsRightToken, kinds_of, most_place, EachListEndsOnce, EachNumberIsHeld, EachTokenIsRight, StringsAreWithinLimit}
 
 -- ---- kinds, and lists of them
 
--- the kind is not the end, and a number is held
+-- the kind is not the end, a number is held, and a name is one
 abbrev IsInner : TokenKind → Type 0
 IsInner t.End = ⊥
-IsInner (t.Name name) = Unit {0}
+IsInner (t.Name name) = IsNamed name
 IsInner (t.Word word) = Unit {0}
 IsInner (t.Number kind value) = IsTrue (is_held kind (pos value))
 IsInner (t.Char value) = Unit {0}
@@ -75,7 +78,7 @@ IsInnerLexeme x = IsSpelled x.size x.what
 
 -- a token of a source
 abbrev IsInnerToken : Token → Type 0
-IsInnerToken x = IsInner x.what
+IsInnerToken x = IsInner x.what × IsInside x.place
 
 -- the tokens of a body, or those that it is replaced by
 abbrev AreInner : List Lexeme → Type 0
@@ -198,29 +201,34 @@ content_no_longer place zero (b ∷ bs) =
 inside_no_longer : (s : List ℕ) → length (inside s) ≤ length s
 inside_no_longer s = omega (arith, length-take (length s - 2) (drop 1 s), length-drop 1 s)
 
-name_inner : (size : ℕ) (s : List ℕ) (word : Option Word) → IsSpelled size (Lines.name_token s word)
-name_inner size s None = (tt, omega arith)
-name_inner size s (Some word) = (tt, omega arith)
+-- the spelling of a piece that is a name is one
+abbrev Spells : Piece → List ℕ → Type 0
+Spells p.Name s = is_name s ≡ true
+Spells _ s = Unit {0}
+
+name_inner : (size : ℕ) (s : List ℕ) (word : Option Word) → word_of s ≡ word → is_name s ≡ true → IsSpelled size (Lines.name_token s word)
+name_inner size s None none is = (record { name = is; no_word = none }, omega arith)
+name_inner size s (Some word) some is = (tt, omega arith)
 
 number_inner : (size : ℕ) (place : Place) (number : Option (Kind × ℕ)) → IfSome number IsHeldPair → IfOk (Lines.number_token place number) (IsSpelled size)
 number_inner size place None held = tt
 number_inner size place (Some number) held = (held, omega arith)
 
-token_inner : (place : Place) (s : List ℕ) (piece : Piece) → IfOk (Lines.token_of place s piece) (IsSpelled (length s))
-token_inner place s p.Name = name_inner (length s) s (word_of s)
-token_inner place s p.Number = number_inner (length s) place (number_of s) (number_held s)
-token_inner place s p.Character = bind_any (IsSpelled (length s)) (character_of (after place 39) (inside s)) (λ c. Ok (t.Char c)) (λ c. (tt, omega arith))
-token_inner place s p.Str =
+token_inner : (place : Place) (s : List ℕ) (piece : Piece) → Spells piece s → IfOk (Lines.token_of place s piece) (IsSpelled (length s))
+token_inner place s p.Name spells = name_inner (length s) s (word_of s) refl spells
+token_inner place s p.Number spells = number_inner (length s) place (number_of s) (number_held s)
+token_inner place s p.Character spells = bind_any (IsSpelled (length s)) (character_of (after place 39) (inside s)) (λ c. Ok (t.Char c)) (λ c. (tt, omega arith))
+token_inner place s p.Str spells =
     bind_ok (IsNoLonger (inside s)) (IsSpelled (length s)) (content (after place 34) 0 (inside s)) (λ bytes. Ok (t.Str bytes)) (content_no_longer (after place 34) 0 (inside s))
     (λ bytes le. (tt, omega (arith, inside_no_longer s)))
-token_inner place s (p.Mark mark) = (tt, omega arith)
-token_inner place s p.Blank = tt
-token_inner place s p.Newline = tt
-token_inner place s p.Comment = tt
-token_inner place s p.Header = tt
-token_inner place s p.OpenComment = tt
-token_inner place s p.OpenLiteral = tt
-token_inner place s p.Unknown = tt
+token_inner place s (p.Mark mark) spells = (tt, omega arith)
+token_inner place s p.Blank spells = tt
+token_inner place s p.Newline spells = tt
+token_inner place s p.Comment spells = tt
+token_inner place s p.Header spells = tt
+token_inner place s p.OpenComment spells = tt
+token_inner place s p.OpenLiteral spells = tt
+token_inner place s p.Unknown spells = tt
 
 -- ---- the strings of tokens
 
@@ -251,9 +259,9 @@ AreWithin s = (strings s.tokens ≤ s.spelled) × (s.spelled ≤ s.limits.spelli
 abbrev HasInner : State → Type 0
 HasInner s = Each IsInnerToken s.tokens × AreInner s.body × Each HasInnerBody s.macros × AreWithin s
 
-placed_inner : (place : Place) (xs : List Lexeme) → AreInner xs → Each IsInnerToken (map (Lines.placed place) xs)
-placed_inner place [] inner = tt
-placed_inner place (x ∷ xs) inner = (inner.0.0, placed_inner place xs inner.1)
+placed_inner : (place : Place) (xs : List Lexeme) → IsInside place → AreInner xs → Each IsInnerToken (map (Lines.placed place) xs)
+placed_inner place [] inside inner = tt
+placed_inner place (x ∷ xs) inside inner = ((inner.0.0, inside), placed_inner place xs inside inner.1)
 
 within_added : (place : Place) (xs : List Lexeme) (s : State) → AreInner xs → AreWithin s → Lines.has_room s (length xs) (sizes xs) ≡ true
     → (strings (s.tokens ++ map (Lines.placed place) xs) ≤ s.spelled + sizes xs) × (s.spelled + sizes xs ≤ s.limits.spelling)
@@ -261,34 +269,34 @@ within_added place xs s inner within room =
     let fits : s.spelled + sizes xs ≤ s.limits.spelling = grind (arith, nat_tests, room) in
     (omega (arith, within.0, strings-append s.tokens (map (Lines.placed place) xs), strings_placed place xs inner), fits)
 
-add_inner : (place : Place) (xs : List Lexeme) (s : State) → AreInner xs → HasInner s → IfOk (Lines.add place xs s) HasInner
-add_inner place xs s inner read =
+add_inner : (place : Place) (xs : List Lexeme) (s : State) → IsInside place → AreInner xs → HasInner s → IfOk (Lines.add place xs s) HasInner
+add_inner place xs s inside inner read =
     let added = record s { mode = m.Middle; tokens = s.tokens ++ map (Lines.placed place) xs; spelled = s.spelled + sizes xs } in
     when_ok HasInner (Lines.has_room s (length xs) (sizes xs)) (Ok added) (refused r.TokensMany place)
     (λ room.
     let within = within_added place xs s inner read.3 room in
-    (each_append IsInnerToken s.tokens (map (Lines.placed place) xs) read.0 (placed_inner place xs inner), read.1, read.2, (within.0, within.1, read.3.2))) tt
+    (each_append IsInnerToken s.tokens (map (Lines.placed place) xs) read.0 (placed_inner place xs inside inner), read.1, read.2, (within.0, within.1, read.3.2))) tt
 
-token_in_text_inner : (place : Place) (s : List ℕ) (piece : Piece) (old : State) → HasInner old → IfOk (Lines.token_in_text place s piece old) HasInner
-token_in_text_inner place s piece old read =
+token_in_text_inner : (place : Place) (s : List ℕ) (piece : Piece) (old : State) → IsInside place → Spells piece s → HasInner old → IfOk (Lines.token_in_text place s piece old) HasInner
+token_in_text_inner place s piece old inside spells read =
     let put = λ (what : TokenKind). Lines.add place (replaced old.macros (lexeme what (length s))) old in
     cond_ok HasInner (Lines.is_literal piece && not (Lines.has_room old 1 (length s))) (refused r.TokensMany place) (Lines.token_of place s piece >>= put) tt
-    (bind_ok (IsSpelled (length s)) HasInner (Lines.token_of place s piece) put (token_inner place s piece)
-    (λ what inner. add_inner place (replaced old.macros (lexeme what (length s))) old (replaced_inner old.macros (lexeme what (length s)) read.2 inner) read))
+    (bind_ok (IsSpelled (length s)) HasInner (Lines.token_of place s piece) put (token_inner place s piece spells)
+    (λ what inner. add_inner place (replaced old.macros (lexeme what (length s))) old inside (replaced_inner old.macros (lexeme what (length s)) read.2 inner) read))
 
-in_text_inner : (place : Place) (s : List ℕ) (piece : Piece) (old : State) → HasInner old → IfOk (Lines.in_text place s piece old) HasInner
-in_text_inner place s p.Blank old read = read
-in_text_inner place s p.Comment old read = read
-in_text_inner place s p.Newline old read = read
-in_text_inner place s p.Name old read = token_in_text_inner place s p.Name old read
-in_text_inner place s p.Number old read = token_in_text_inner place s p.Number old read
-in_text_inner place s p.Character old read = token_in_text_inner place s p.Character old read
-in_text_inner place s p.Str old read = token_in_text_inner place s p.Str old read
-in_text_inner place s (p.Mark mark) old read = token_in_text_inner place s (p.Mark mark) old read
-in_text_inner place s p.Header old read = token_in_text_inner place s p.Header old read
-in_text_inner place s p.OpenComment old read = token_in_text_inner place s p.OpenComment old read
-in_text_inner place s p.OpenLiteral old read = token_in_text_inner place s p.OpenLiteral old read
-in_text_inner place s p.Unknown old read = token_in_text_inner place s p.Unknown old read
+in_text_inner : (place : Place) (s : List ℕ) (piece : Piece) (old : State) → IsInside place → Spells piece s → HasInner old → IfOk (Lines.in_text place s piece old) HasInner
+in_text_inner place s p.Blank old inside spells read = read
+in_text_inner place s p.Comment old inside spells read = read
+in_text_inner place s p.Newline old inside spells read = read
+in_text_inner place s p.Name old inside spells read = token_in_text_inner place s p.Name old inside spells read
+in_text_inner place s p.Number old inside spells read = token_in_text_inner place s p.Number old inside spells read
+in_text_inner place s p.Character old inside spells read = token_in_text_inner place s p.Character old inside spells read
+in_text_inner place s p.Str old inside spells read = token_in_text_inner place s p.Str old inside spells read
+in_text_inner place s (p.Mark mark) old inside spells read = token_in_text_inner place s (p.Mark mark) old inside spells read
+in_text_inner place s p.Header old inside spells read = token_in_text_inner place s p.Header old inside spells read
+in_text_inner place s p.OpenComment old inside spells read = token_in_text_inner place s p.OpenComment old inside spells read
+in_text_inner place s p.OpenLiteral old inside spells read = token_in_text_inner place s p.OpenLiteral old inside spells read
+in_text_inner place s p.Unknown old inside spells read = token_in_text_inner place s p.Unknown old inside spells read
 
 -- ---- directives
 
@@ -332,26 +340,26 @@ in_define_inner hash place s rest p.OpenComment old read = tt
 in_define_inner hash place s rest p.OpenLiteral old read = tt
 in_define_inner hash place s rest p.Unknown old read = tt
 
-body_token_inner : (at place : Place) (s : List ℕ) (piece : Piece) (old : State) → HasInner old → IfOk (Lines.body_token at place s piece old) HasInner
-body_token_inner at place s piece old read =
+body_token_inner : (at place : Place) (s : List ℕ) (piece : Piece) (old : State) → Spells piece s → HasInner old → IfOk (Lines.body_token at place s piece old) HasInner
+body_token_inner at place s piece old spells read =
     let grown = λ (what : TokenKind). record old { body = old.body ++ lexeme what (length s) ∷ [] } in
-    bind_ok (IsSpelled (length s)) HasInner (Lines.token_of place s piece) (λ what. if is_named old.name what then refused r.MacroOrder at else Ok (grown what)) (token_inner place s piece)
+    bind_ok (IsSpelled (length s)) HasInner (Lines.token_of place s piece) (λ what. if is_named old.name what then refused r.MacroOrder at else Ok (grown what)) (token_inner place s piece spells)
     (λ what inner. cond_ok HasInner (is_named old.name what) (refused r.MacroOrder at) (Ok (grown what)) tt
     (read.0, each_one_more IsInnerLexeme old.body (lexeme what (length s)) read.1 inner, read.2, read.3))
 
-in_body_inner : (at place : Place) (s : List ℕ) (piece : Piece) (old : State) → HasInner old → IfOk (Lines.in_body at place s piece old) HasInner
-in_body_inner at place s p.Blank old read = read
-in_body_inner at place s p.Comment old read = read
-in_body_inner at place s p.Newline old read = (read.0, tt, each_one_more HasInnerBody old.macros (old.name, old.body) read.2 read.1, read.3)
-in_body_inner at place s p.Name old read = body_token_inner at place s p.Name old read
-in_body_inner at place s p.Number old read = body_token_inner at place s p.Number old read
-in_body_inner at place s p.Character old read = body_token_inner at place s p.Character old read
-in_body_inner at place s p.Str old read = body_token_inner at place s p.Str old read
-in_body_inner at place s (p.Mark mark) old read = body_token_inner at place s (p.Mark mark) old read
-in_body_inner at place s p.Header old read = body_token_inner at place s p.Header old read
-in_body_inner at place s p.OpenComment old read = body_token_inner at place s p.OpenComment old read
-in_body_inner at place s p.OpenLiteral old read = body_token_inner at place s p.OpenLiteral old read
-in_body_inner at place s p.Unknown old read = body_token_inner at place s p.Unknown old read
+in_body_inner : (at place : Place) (s : List ℕ) (piece : Piece) (old : State) → Spells piece s → HasInner old → IfOk (Lines.in_body at place s piece old) HasInner
+in_body_inner at place s p.Blank old spells read = read
+in_body_inner at place s p.Comment old spells read = read
+in_body_inner at place s p.Newline old spells read = (read.0, tt, each_one_more HasInnerBody old.macros (old.name, old.body) read.2 read.1, read.3)
+in_body_inner at place s p.Name old spells read = body_token_inner at place s p.Name old spells read
+in_body_inner at place s p.Number old spells read = body_token_inner at place s p.Number old spells read
+in_body_inner at place s p.Character old spells read = body_token_inner at place s p.Character old spells read
+in_body_inner at place s p.Str old spells read = body_token_inner at place s p.Str old spells read
+in_body_inner at place s (p.Mark mark) old spells read = body_token_inner at place s (p.Mark mark) old spells read
+in_body_inner at place s p.Header old spells read = body_token_inner at place s p.Header old spells read
+in_body_inner at place s p.OpenComment old spells read = body_token_inner at place s p.OpenComment old spells read
+in_body_inner at place s p.OpenLiteral old spells read = body_token_inner at place s p.OpenLiteral old spells read
+in_body_inner at place s p.Unknown old spells read = body_token_inner at place s p.Unknown old spells read
 
 again_token_inner : (at : Place) (number count : ℕ) (place : Place) (s : List ℕ) (piece : Piece) (old : State) → HasInner old → IfOk (Lines.again_token at number count place s piece old) HasInner
 again_token_inner at number count place s piece old read =
@@ -429,45 +437,139 @@ in_pragma_inner place p.Header old read = read
 in_pragma_inner place p.OpenLiteral old read = read
 in_pragma_inner place p.Unknown old read = read
 
-in_start_inner : (place : Place) (s : List ℕ) (piece : Piece) (old : State) → HasInner old → IfOk (Lines.in_start place s piece old) HasInner
-in_start_inner place s piece old read =
-    cond_ok HasInner (same s (codes "#")) (Ok (Lines.in_mode (m.Hash place) old)) (Lines.in_text place s piece old) read (in_text_inner place s piece old read)
+in_start_inner : (place : Place) (s : List ℕ) (piece : Piece) (old : State) → IsInside place → Spells piece s → HasInner old → IfOk (Lines.in_start place s piece old) HasInner
+in_start_inner place s piece old inside spells read =
+    cond_ok HasInner (same s (codes "#")) (Ok (Lines.in_mode (m.Hash place) old)) (Lines.in_text place s piece old) read (in_text_inner place s piece old inside spells read)
 
 -- ---- a piece, and all of them
 
-step_inner : (mode : Mode) (place : Place) (s rest : List ℕ) (piece : Piece) (old : State) → HasInner old → IfOk (step_in mode place s rest piece old) HasInner
-step_inner m.Start place s rest piece old read = in_start_inner place s piece old read
-step_inner m.Middle place s rest piece old read = in_text_inner place s piece old read
-step_inner (m.Hash hash) place s rest piece old read = in_hash_inner hash s piece old read
-step_inner (m.Define hash) place s rest piece old read = in_define_inner hash place s rest piece old read
-step_inner (m.Body at) place s rest piece old read = in_body_inner at place s piece old read
-step_inner (m.Again a) place s rest piece old read = in_again_inner a.name a.number a.at place s piece old read
-step_inner (m.Include hash) place s rest piece old read = in_include_inner hash place s piece old read
-step_inner (m.Header d) place s rest piece old read = in_header_inner d.hash d.name d.header place piece old read
-step_inner m.Pragma place s rest piece old read = in_pragma_inner place piece old read
+step_inner : (mode : Mode) (place : Place) (s rest : List ℕ) (piece : Piece) (old : State) → IsInside place → Spells piece s → HasInner old → IfOk (step_in mode place s rest piece old) HasInner
+step_inner m.Start place s rest piece old inside spells read = in_start_inner place s piece old inside spells read
+step_inner m.Middle place s rest piece old inside spells read = in_text_inner place s piece old inside spells read
+step_inner (m.Hash hash) place s rest piece old inside spells read = in_hash_inner hash s piece old read
+step_inner (m.Define hash) place s rest piece old inside spells read = in_define_inner hash place s rest piece old read
+step_inner (m.Body at) place s rest piece old inside spells read = in_body_inner at place s piece old spells read
+step_inner (m.Again a) place s rest piece old inside spells read = in_again_inner a.name a.number a.at place s piece old read
+step_inner (m.Include hash) place s rest piece old inside spells read = in_include_inner hash place s piece old read
+step_inner (m.Header d) place s rest piece old inside spells read = in_header_inner d.hash d.name d.header place piece old read
+step_inner m.Pragma place s rest piece old inside spells read = in_pragma_inner place piece old read
+
+-- the spelling of the piece at the front, where class says what a spelling is
+by_length : (class : List ℕ → Piece) (text : List ℕ) (n : ℕ) → ((t : List ℕ) → Spells (class t) t)
+    → Spells (piece_of_length class text n).0 (take (piece_of_length class text n).1 text)
+by_length class text n each = by_comment (begins (codes "/*") text && nat_le n 1)
+  where
+    by_quote : (b : Bool) → Spells (if b then p.OpenLiteral else p.Unknown) (take 1 text)
+    by_quote true = tt
+    by_quote false = tt
+
+    by_none : (b : Bool) → let found : Piece × ℕ = if b then ((if begins (codes "'") text || begins (codes "\"") text then p.OpenLiteral else p.Unknown), 1) else (class (take n text), n)
+        in Spells found.0 (take found.1 text)
+    by_none true = by_quote (begins (codes "'") text || begins (codes "\"") text)
+    by_none false = each (take n text)
+
+    by_comment : (b : Bool) → let found : Piece × ℕ = if b then (p.OpenComment, 1) else
+        (if eqb n 0 then ((if begins (codes "'") text || begins (codes "\"") text then p.OpenLiteral else p.Unknown), 1) else (class (take n text), n))
+        in Spells found.0 (take found.1 text)
+    by_comment true = tt
+    by_comment false = by_none (eqb n 0)
+
+-- what a test lets through, and what it does not
+by_test : (b : Bool) (x y : Piece) (s : List ℕ) → (b ≡ true → Spells x s) → Spells y s → Spells (if b then x else y) s
+by_test true x y s first second = first refl
+by_test false x y s first second = second
+
+mark_spells : (mark : Option Mark) (s : List ℕ) → Spells (mark_piece mark) s
+mark_spells None s = tt
+mark_spells (Some mark) s = tt
+
+class_spells : (s : List ℕ) → Spells (class_of s) s
+class_spells s =
+    by_test (is_name s) p.Name _ s (λ is. is)
+    (by_test (is_number s) p.Number _ s (λ is. tt)
+    (by_test (is_character s) p.Character _ s (λ is. tt)
+    (by_test (is_string s) p.Str _ s (λ is. tt)
+    (by_test (is_comment s) p.Comment _ s (λ is. tt)
+    (by_test (is_blank_piece s) p.Blank _ s (λ is. tt)
+    (by_test (same s (10 ∷ [])) p.Newline _ s (λ is. tt) (mark_spells (mark_of s) s)))))))
+
+pragma_spells : (s : List ℕ) → Spells (class_in_pragma s) s
+pragma_spells s =
+    by_test (is_comment s) p.Comment _ s (λ is. tt)
+    (by_test (same s (10 ∷ [])) p.Newline _ s (λ is. tt) (by_test (eqb (length s) 1) p.Blank p.Unknown s (λ is. tt) tt))
+
+include_spells : (s : List ℕ) → Spells (class_in_include s) s
+include_spells s =
+    by_test (begins (codes "<") s) (if is_header s then p.Header else p.Unknown) (class_of s) s
+    (λ is. by_test (is_header s) p.Header p.Unknown s (λ header. tt) tt) (class_spells s)
+
+spelled_by : (class : List ℕ → Piece) (text : List ℕ) → ((t : List ℕ) → Spells (class t) t) → Spells (piece_by class text).0 (take (piece_by class text).1 text)
+unfolding piece_by
+spelled_by class text each = by_length class text (longest (λ s. is_known (class s)) text (length text)) each
+
+-- the spelling of a piece that is a name is one, in each mode
+piece_spells : (mode : Mode) (text : List ℕ) → Spells (piece_in mode text).0 (take (piece_in mode text).1 text)
+piece_spells m.Start text = spelled_by class_of text class_spells
+piece_spells m.Middle text = spelled_by class_of text class_spells
+piece_spells (m.Hash hash) text = spelled_by class_of text class_spells
+piece_spells (m.Define hash) text = spelled_by class_of text class_spells
+piece_spells (m.Body at) text = spelled_by class_of text class_spells
+piece_spells (m.Again a) text = spelled_by class_of text class_spells
+piece_spells (m.Include hash) text = spelled_by class_in_include text include_spells
+piece_spells (m.Header d) text = spelled_by class_of text class_spells
+piece_spells m.Pragma text = spelled_by class_in_pragma text pragma_spells
+
+-- so many bytes may follow a place in a source
+record HasBehind (place : Place) (n : ℕ) : Type 0 where
+  line : 1 ≤ place.line
+  lines : place.line + n ≤ most_place
+  column : 1 ≤ place.column
+  columns : place.column + n ≤ most_place
+
+inside_of : (place : Place) (n : ℕ) → HasBehind place n → IsInside place
+inside_of place n h =
+    let lines : place.line + n ≤ most_place = h.lines in
+    let columns : place.column + n ≤ most_place = h.columns in
+    record { line = h.line; last_line = omega (arith, lines); column = h.column; last_column = omega (arith, columns) }
+
+-- one byte further, whatever byte it is
+behind_after : (place : Place) (b n : ℕ) → HasBehind place (suc n) → HasBehind (after place b) n
+behind_after place b n h = by (eqb b 10)
+  where
+    by : (newline : Bool) → HasBehind (if newline then record { line = place.line + 1; column = 1 } else record { line = place.line; column = place.column + 1 }) n
+    by true =
+        let lines : place.line + suc n ≤ most_place = h.lines in
+        let columns : place.column + suc n ≤ most_place = h.columns in
+        let some : 1 ≤ place.column = h.column in
+        record { line = omega arith; lines = omega (arith, lines); column = omega arith; columns = omega (arith, columns, some) }
+    by false =
+        let lines : place.line + suc n ≤ most_place = h.lines in
+        let columns : place.column + suc n ≤ most_place = h.columns in
+        record { line = h.line; lines = omega (arith, lines); column = omega arith; columns = omega (arith, columns) }
 
 -- the state at the end, behind which the place stands
 abbrev EndsInner : State × Place → Type 0
-EndsInner end = HasInner end.0
+EndsInner end = HasInner end.0 × IsInside end.1
 
-last_line_inner : (place : Place) (old : State) → HasInner old → IfOk (Lines.step place [] [] p.Newline old >>= λ new. Ok (new, place)) EndsInner
-last_line_inner place old read =
-    bind_ok HasInner EndsInner (Lines.step place [] [] p.Newline old) (λ new. Ok (new, place)) (step_inner old.mode place [] [] p.Newline old read) (λ new inner. inner)
+last_line_inner : (place : Place) (old : State) → IsInside place → HasInner old → IfOk (Lines.step place [] [] p.Newline old >>= λ new. Ok (new, place)) EndsInner
+last_line_inner place old inside read =
+    bind_ok HasInner EndsInner (Lines.step place [] [] p.Newline old) (λ new. Ok (new, place)) (step_inner old.mode place [] [] p.Newline old inside tt read)
+    (λ new inner. (inner, inside))
 
-run_inner : (skip : ℕ) (place : Place) (old : State) (text : List ℕ) → HasInner old → IfOk (run skip place old text) EndsInner
-run_inner zero place old [] read = last_line_inner place old read
-run_inner (suc skip) place old [] read = last_line_inner place old read
-run_inner (suc skip) place old (b ∷ bs) read = run_inner skip (after place b) old bs read
-run_inner zero place old (b ∷ bs) read =
+run_inner : (skip : ℕ) (place : Place) (old : State) (text : List ℕ) → HasBehind place (length text) → HasInner old → IfOk (run skip place old text) EndsInner
+run_inner zero place old [] h read = last_line_inner place old (inside_of place 0 h) read
+run_inner (suc skip) place old [] h read = last_line_inner place old (inside_of place 0 h) read
+run_inner (suc skip) place old (b ∷ bs) h read = run_inner skip (after place b) old bs (behind_after place b (length bs) h) read
+run_inner zero place old (b ∷ bs) h read =
     let piece = piece_in old.mode (b ∷ bs) in
     bind_ok HasInner EndsInner (turn place old (b ∷ bs) piece) (λ new. run (piece.1 - 1) (after place b) new bs)
-    (step_inner old.mode place (take piece.1 (b ∷ bs)) (drop piece.1 (b ∷ bs)) piece.0 old read)
-    (λ new inner. run_inner (piece.1 - 1) (after place b) new bs inner)
+    (step_inner old.mode place (take piece.1 (b ∷ bs)) (drop piece.1 (b ∷ bs)) piece.0 old (inside_of place (length (b ∷ bs)) h) (piece_spells old.mode (b ∷ bs)) read)
+    (λ new inner. run_inner (piece.1 - 1) (after place b) new bs (behind_after place b (length bs) h) inner)
 
 -- ---- neighbouring strings, and the end
 
 join_kinds_inner : (a : Token) (ts : List Token) (b : Token) (x y : TokenKind) → IsInnerToken a → Each IsInnerToken (b ∷ ts) → Each IsInnerToken (join_kinds a ts b x y)
-join_kinds_inner a ts b (t.Str x) (t.Str y) first rest = (tt, rest.1)
+join_kinds_inner a ts b (t.Str x) (t.Str y) first rest = ((tt, first.1), rest.1)
 join_kinds_inner a ts b (t.Str x) (t.Name y) first rest = (first, rest)
 join_kinds_inner a ts b (t.Str x) (t.Word y) first rest = (first, rest)
 join_kinds_inner a ts b (t.Str x) (t.Number kind y) first rest = (first, rest)
@@ -519,33 +621,61 @@ joined_strings (a ∷ ts) = omega (arith, join_strings a (joined ts), joined_str
 
 end_once : (ts : List Token) (last : Token) → Each IsInnerToken ts → last.what ≡ t.End → EndsOnce (ts ++ last ∷ [])
 end_once [] last inner e = e
-end_once (a ∷ []) last inner e = (inner_differs a.what inner.0, e)
-end_once (a ∷ b ∷ ts) last inner e = (inner_differs a.what inner.0, end_once (b ∷ ts) last inner.1 e)
+end_once (a ∷ []) last inner e = (inner_differs a.what inner.0.0, e)
+end_once (a ∷ b ∷ ts) last inner e = (inner_differs a.what inner.0.0, end_once (b ∷ ts) last inner.1 e)
 
 each_held : (ts : List Token) (last : Token) → Each IsInnerToken ts → NumberIsHeld last.what → AllByRecursion NumberIsHeld (kinds_of (ts ++ last ∷ []))
 each_held [] last inner held = (held, tt)
-each_held (a ∷ ts) last inner held = (inner_held a.what inner.0, each_held ts last inner.1 held)
+each_held (a ∷ ts) last inner held = (inner_held a.what inner.0.0, each_held ts last inner.1 held)
 
--- the list ends once, its numbers are held, and its strings are within the limit
+-- what stands in a list is right
+right_kind : (what : TokenKind) → IsInner what → IsRightKind what
+right_kind t.End inner = absurd inner
+right_kind (t.Name name) inner = inner
+right_kind (t.Word word) inner = tt
+right_kind (t.Number kind value) inner = tt
+right_kind (t.Char value) inner = tt
+right_kind (t.Str bytes) inner = tt
+right_kind (t.Mark mark) inner = tt
+
+each_right : (ts : List Token) (last : Token) → Each IsInnerToken ts → IsRightToken last → AllByRecursion IsRightToken (ts ++ last ∷ [])
+each_right [] last inner right = (right, tt)
+each_right (a ∷ ts) last inner right = (record { inside = inner.0.1; kind = right_kind a.what inner.0.0 }, each_right ts last inner.1 right)
+
+-- the list ends once, its numbers are held, its strings are within the limit, and its tokens are right
 abbrev IsClosed : List Token → Type 0
-IsClosed list = EndsOnce list × All NumberIsHeld (kinds_of list) × (sum (map string_bytes (kinds_of list)) ≤ limits.spelling)
+IsClosed list = EndsOnce list × All NumberIsHeld (kinds_of list) × (sum (map string_bytes (kinds_of list)) ≤ limits.spelling) × All IsRightToken list
 
 closed : (end : State × Place) → EndsInner end → IsClosed (joined end.0.tokens ++ record { what = t.End; place = end.1 } ∷ [])
-closed end inner =
+closed end (inner, inside) =
     let last : Token = record { what = t.End; place = end.1 } in
     let list = joined end.0.tokens in
     let each = joined_inner end.0.tokens inner.0 in (
       end_once list last each refl,
       All-from_recursion NumberIsHeld (kinds_of (list ++ last ∷ [])) (each_held list last each tt),
       omega (arith, strings_summed (list ++ last ∷ []), strings-append list (last ∷ []), joined_strings end.0.tokens, inner.3.0, inner.3.1, inner.3.2),
+      All-from_recursion IsRightToken (list ++ last ∷ []) (each_right list last each (record { inside = inside; kind = tt })),
     )
+
+-- a source that is not too long may stand behind the first place
+not_long : (bytes : List ℕ) → nat_lt 1048576 (length bytes) ≡ false → HasBehind first_place (length bytes)
+not_long bytes fits =
+    let few : length bytes ≤ 1048576 = grind (arith, nat_tests, fits) in
+    record { line = omega arith; lines = omega (arith, few); column = omega arith; columns = omega (arith, few) }
+
+-- P of the value behind a test that has to fail
+unless_ok : {X : Type 0} (P : X → Type 0) (b : Bool) (x y : Result X Fault) → IfOk x P → (b ≡ false → IfOk y P) → IfOk (if b then x else y) P
+unless_ok P true x y first second = first
+unless_ok P false x y first second = second refl
 
 whole_closed : (bytes : List ℕ) → IfOk (tokens_within limits bytes) IsClosed
 whole_closed bytes =
     let start = nothing_read limits in
     let whole = λ (end : State × Place). joined end.0.tokens ++ record { what = t.End; place = end.1 } ∷ [] in
-    cond_ok IsClosed (nat_lt limits.source (length bytes)) (refused r.SourceLong first_place) (run 0 first_place start bytes >>= λ end. Ok (whole end)) tt
-    (bind_ok EndsInner IsClosed (run 0 first_place start bytes) (λ end. Ok (whole end)) (run_inner 0 first_place start bytes (tt, tt, tt, (omega arith, omega arith, omega arith))) closed)
+    unless_ok IsClosed (nat_lt limits.source (length bytes)) (refused r.SourceLong first_place) (run 0 first_place start bytes >>= λ end. Ok (whole end)) tt
+    (λ fits.
+    bind_ok EndsInner IsClosed (run 0 first_place start bytes) (λ end. Ok (whole end))
+    (run_inner 0 first_place start bytes (not_long bytes fits) (tt, tt, tt, (omega arith, omega arith, omega arith))) closed)
 
 list_closed : (source : List ℕ) (list : List Token) → tokens source ≡ Ok list → IsClosed list
 list_closed source list e = IfOk-at_ok IsClosed e (answered IsClosed (tokens_within limits source) (whole_closed source))
@@ -561,3 +691,7 @@ numbers_held source list e = (list_closed source list e).1
 -- the strings of what a source gives are within the limit
 pub strings_fit : StringsAreWithinLimit
 strings_fit source list e = (list_closed source list e).2
+
+-- each token of what a source gives stands in it, and each name is one
+pub tokens_right : EachTokenIsRight
+tokens_right source list e = (list_closed source list e).3

@@ -1,5 +1,5 @@
 -- Laws of the definition of tokens, in words that its modes and tables are not needed for.
-use Rattle.std.specs.Prelude.{◌≡◌, ℕ, zero, suc, ◌-◌, ◌<◌, Bool, true, false, not, ◌||◌, ◌==◌, if◌then◌else◌, ◌⊎◌, List, [], ◌∷◌, ◌++◌, Option, Some, None, Result, Ok, Err, All, map, take, length, codes}
+use Rattle.std.specs.Prelude.{◌≡◌, ℕ, zero, suc, ◌-◌, ◌<◌, ◌≤◌, Bool, true, false, not, ◌||◌, ◌==◌, if◌then◌else◌, ◌⊎◌, List, [], ◌∷◌, ◌++◌, Option, Some, None, Result, Ok, Err, All, map, take, length, codes}
 use Rattle.k_num.specs.declared.place.Place.{Place}
 use Rattle.k_tree.specs.declared.tokens.Token.{Token}
 use Rattle.k_tree.specs.declared.tokens.TokenKind.{TokenKind}
@@ -14,7 +14,8 @@ use Rattle.k_lex.specs.declared.headers.Header.{Header}
 use Rattle.k_lex.specs.declared.pieces.Piece.{Piece}
 use Rattle.k_lex.specs.declared.pieces.Piece.TheVariants as p
 use Rattle.k_lex.specs.Bytes.{same, every, after, behind}
-use Rattle.k_lex.specs.Pieces.{class_of, piece_by}
+use Rattle.k_lex.specs.Pieces.{class_of, is_name, piece_by}
+use Rattle.k_lex.specs.Words.{word_of}
 use Rattle.k_lex.specs.Macros.{header_of, header_macros}
 use Rattle.k_lex.specs.Lines.{token_of}
 use Rattle.k_lex.specs.Outcome.{◌>>=◌}
@@ -38,6 +39,36 @@ EachNumberIsHeld = (source : List ℕ) (list : List Token) → tokens source ≡
 -- C17 6.4.5: the strings of a source have together at most 4,194,304 bytes
 abbrev pub StringsAreWithinLimit : Type 0
 StringsAreWithinLimit = (source : List ℕ) (list : List Token) → tokens source ≡ Ok list → StringsFit (kinds_of list)
+
+-- the last line and the last column that a source of 1,048,576 bytes may have
+abbrev pub most_place : ℕ
+most_place = 1048577
+
+-- a place in a source
+pub record IsInside (place : Place) : Type 0 where
+  pub line : 1 ≤ place.line
+  pub last_line : place.line ≤ most_place
+  pub column : 1 ≤ place.column
+  pub last_column : place.column ≤ most_place
+
+-- C17 6.4.2.1, 6.4.1: the spelling of a name, which is no keyword
+pub record IsNamed (text : List ℕ) : Type 0 where
+  pub name : is_name text ≡ true
+  pub no_word : word_of text ≡ None
+
+-- a name is spelled as one
+abbrev pub IsRightKind : TokenKind → Type 0
+IsRightKind (t.Name name) = IsNamed name
+IsRightKind _ = Unit {0}
+
+-- a token of a source
+pub record IsRightToken (token : Token) : Type 0 where
+  pub inside : IsInside token.place
+  pub kind : IsRightKind token.what
+
+-- each token of a source stands in it, also one that a macro gives, and each name is one and no keyword
+abbrev pub EachTokenIsRight : Type 0
+EachTokenIsRight = (source : List ℕ) (list : List Token) → tokens source ≡ Ok list → All IsRightToken list
 
 -- ---- sources without directives
 

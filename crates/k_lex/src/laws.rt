@@ -1,6 +1,6 @@
 //! Laws of the definition of tokens. Each is the contract of a function that does nothing.
 ghost use Rattle.k_lex.specs.Cuts.{NothingIsLost, OnlyTheRestIsLeft};
-ghost use Rattle.k_lex.specs.Laws.{EachListEndsOnce, EachNumberIsHeld, SourceIsItsPieces, StringsAreWithinLimit, TokensComeOfText};
+ghost use Rattle.k_lex.specs.Laws.{EachListEndsOnce, EachNumberIsHeld, EachTokenIsRight, SourceIsItsPieces, StringsAreWithinLimit, TokensComeOfText};
 
 /// The pieces of a source that is accepted are the source, one behind another.
 pub fn nothing_is_lost()
@@ -20,6 +20,11 @@ pub fn each_list_ends_once()
 /// Each integer constant of an accepted source is held by its kind.
 pub fn each_number_is_held()
     ensures { EachNumberIsHeld }
+{}
+
+/// Each token of an accepted source stands in it, and each name is one and no keyword.
+pub fn each_token_is_right()
+    ensures { EachTokenIsRight }
 {}
 
 /// The strings of an accepted source have together at most 4,194,304 bytes.
