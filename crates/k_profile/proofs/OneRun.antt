@@ -38,7 +38,7 @@ same_nodes ops (i ∷ list) (m ∷ a) (n ∷ b) is also =
     λ k. first k ∷ rest k
 
 -- events have one tree
-one_tree : (ran : Ran) (a b : List Node) → IsTree ran.depth ran.events a → IsTree ran.depth ran.events b → a ≡ b
+pub one_tree : (ran : Ran) (a b : List Node) → IsTree ran.depth ran.events a → IsTree ran.depth ran.events b → a ≡ b
 one_tree ran a b is also = same_nodes (operations ran.events) (tracked ran.depth ran.events) a b is also
 
 module _ (ran : Ran) (nodes : List Node) (with_dict : Bool) (is_whole : IsWhole ran) (tree : IsTree ran.depth ran.events nodes)

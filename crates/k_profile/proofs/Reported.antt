@@ -49,7 +49,7 @@ module _ (saved : Saved) (is : IsSaved saved) where
       (subst (λ t. AreUnder saved.regions 0 0 (alone t) contexts) same are.2) few
 
   -- contexts have one plan, or none
-  one_plan : (contexts : List Context) (one other : Option Advice) → AreContexts saved.regions (nodes_of_profile saved) contexts
+  pub one_plan : (contexts : List Context) (one other : Option Advice) → AreContexts saved.regions (nodes_of_profile saved) contexts
       → IsPlanned contexts one → IsPlanned contexts other → one ≡ other
   one_plan contexts None None are p q = refl
   one_plan contexts None (Some b) are p q = absurd (omega (arith, p, q.0))
