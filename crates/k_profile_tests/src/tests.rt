@@ -1,4 +1,5 @@
 //! Worked examples, one file for what is tested.
+mod dictionaries;
 mod fractions;
 mod graphs;
 mod plans;
