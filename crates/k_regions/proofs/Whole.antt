@@ -1,7 +1,11 @@
 -- A whole run: it enters no other regions than those of its source, and where main returned, it is one instance of main.
-use Rattle.std.proofs.Common.{◌≡◌, ℕ, suc, ◌+◌, ◌<◌, List, [], ◌∷◌, ◌++◌, length, slice_get, Option, Some, refl, sym, ◌∙◌, subst, ap}
+use Rattle.std.proofs.Common.{◌≡◌, ℕ, suc, ℤ, pos, ◌+◌, ◌<◌, FitsSigned, w32, IsTrue, arith, List, [], ◌∷◌, ◌++◌, length, slice_get, Option, Some, None, refl, sym, ◌∙◌, subst, ap}
 use Rattle.std.specs.Prelude.{codes}
+use Rattle.std.proofs.lemmas.Int.{ints}
 use Rattle.std.proofs.lemmas.Option.{same_Some}
+use Rattle.k_num.specs.declared.numbers.Kind.TheVariants.{I32}
+use Rattle.k_num.specs.Kind.{converted, is_held}
+use Rattle.k_num.proofs.KindLaws.{held_converted}
 use Rattle.k_optab.specs.declared.event.Event.{Event}
 use Rattle.k_optab.specs.declared.event.Event.TheVariants.{Op, Enter, Exit}
 use Rattle.k_optab.specs.declared.region.Region.{Region}
@@ -12,18 +16,21 @@ use Rattle.k_typed.specs.declared.tree.unit.TObject.{TObject}
 use Rattle.k_typed.specs.declared.tree.unit.TString.{TString}
 use Rattle.k_typed.specs.Bare.{IsTyped}
 use Rattle.k_typed.specs.Units.{defined_by, faults}
+use Rattle.k_code.specs.declared.ending.End.{End}
 use Rattle.k_code.specs.declared.ending.End.TheVariants as ending
 use Rattle.k_mem.specs.declared.start.Start.TheVariants.{Zero}
 use Rattle.k_world.specs.declared.value.Held.{Held}
+use Rattle.k_world.specs.declared.value.Value.{Value}
+use Rattle.k_world.specs.declared.value.Value.TheVariants as value
 use Rattle.k_world.specs.WorldLaws.{IsEarly}
 use Rattle.k_evaluation.specs.States.{Program, State, Outcome, Goes, Stops, Part, follow, ◌>>=◌, gives, exits}
 use Rattle.k_evaluation.specs.Objects.{makes_object, makes_string, fills}
 use Rattle.k_evaluation.specs.Calls.{calls, entered, function_region, runs}
 use Rattle.k_evaluation.specs.Laws.{IsReturned}
 use Rattle.k_evaluation.specs.Loops.{loop_region}
-use Rattle.k_evaluation.specs.Runs.{ended, initial, run, runs_main, starts_object, starts_objects, starts_strings, whole}
+use Rattle.k_evaluation.specs.Runs.{ended, exit_of, initial, int_of, run, runs_main, starts_object, starts_objects, starts_strings, whole}
 use Rattle.k_regions.specs.declared.loops.LoopAt.{LoopAt}
-use Rattle.k_regions.specs.Laws.{AreItsRegions, EnterBelow, HasItsRegions, ReturnedRunsAreOfMain, RunsEnterTheirRegions}
+use Rattle.k_regions.specs.Laws.{AreItsRegions, EnterBelow, HasItsRegions, ReturnedRunsAreOfMain, ReturnedRunsGiveInts, RunsEnterTheirRegions}
 use Rattle.k_regions.specs.Regions.{function_itself, loops_of, regions_of}
 use Rattle.k_regions.proofs.Added.{EachEntered, each_both, Leaves, Stays, IsStill, then_still, gives_still, makes_object_still, makes_string_still, fills_still}
 use Rattle.k_regions.proofs.Entered.{LoopsHold, ProgramHolds, inside, main_adds}
@@ -165,3 +172,34 @@ are_of_main unit program input budget typed none returned =
       kind = refl;
       func = same_Some its.name (codes "main") (sym its.named ∙ main_named unit program.unit typed none);
     }
+
+-- the number that was returned, or something in its place
+returned_in : End → ℤ
+returned_in (ending.Returned v) = v
+returned_in (ending.Trapped trap place) = pos 0
+returned_in ending.OutOfSteps = pos 0
+
+-- a number that main gives is an int
+int_fits : (z : ℤ) → IsTrue (is_held I32 z) → FitsSigned w32 z
+int_fits z h = grind (arith, ints)
+
+int_given : (v : Value) → FitsSigned w32 (int_of v)
+int_given (value.Number z) = int_fits (converted I32 z) (held_converted I32 z)
+int_given (value.Pointer p) = grind (arith, ints)
+
+exit_given : (v : Option Held) → FitsSigned w32 (exit_of v)
+exit_given None = grind (arith, ints)
+exit_given (Some held) = int_given held.value
+
+exit_fits : (P : ℕ → Type 0) (number : ℕ) (o : Outcome (Option Held)) (exit : ℤ) → MainLeaves P number o → (ended o).end ≡ ending.Returned exit → FitsSigned w32 exit
+unfolding returned_in
+exit_fits P number (Goes v s) exit h is = subst (FitsSigned w32) (ap returned_in is) (exit_given v)
+exit_fits P number (Stops (ending.Returned v) w) exit h is = absurd h.0
+exit_fits P number (Stops (ending.Trapped trap place) w) exit h is = absurd (subst IsReturned (sym is) tt)
+exit_fits P number (Stops ending.OutOfSteps w) exit h is = absurd (subst IsReturned (sym is) tt)
+
+pub return_ints : ReturnedRunsGiveInts
+unfolding run
+return_ints unit program input budget exit typed none is =
+    let it = has_run unit program input budget typed none in
+    exit_fits (λ m. m < length (regions_of unit program.unit)) (function_region program.unit.main it.main) (whole program (initial input budget)) exit it.leaves is
