@@ -2,6 +2,7 @@ pub mod Added
 pub mod Bare
 pub mod Counts
 pub mod Entered
+pub mod Entries
 pub mod Few
 pub mod Fine
 pub mod Functions

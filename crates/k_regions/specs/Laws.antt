@@ -111,6 +111,22 @@ ReturnedRunsAreOfMain =
     → faults unit ≡ []
     → (let it = run program input budget in IsReturned it.end → IsOfMain (regions_of unit program.unit) it.events)
 
+-- how many times regions are entered among these events
+abbrev pub entries : List Event → ℕ
+entries [] = 0
+entries (Op class latency sources place ∷ events) = entries events
+entries (Enter region ∷ events) = 1 + entries events
+entries (Exit ∷ events) = entries events
+
+-- a call and a test are operations, and only a `do` whose body leaves at once enters regions without one: so a run enters regions at most as
+-- often as its source has regions, for each operation that it may make, and once more so often
+abbrev pub RunsEnterFew : Type 0
+RunsEnterFew =
+    (unit : source.Unit) (program : Program) (input : List ℕ) (budget : ℕ)
+    → IsTyped unit program.unit
+    → faults unit ≡ []
+    → entries (run program input budget).events ≤ length (regions_of unit program.unit) * (budget + 1)
+
 -- what main returned is an int
 abbrev pub ReturnedRunsGiveInts : Type 0
 ReturnedRunsGiveInts =

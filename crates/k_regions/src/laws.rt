@@ -1,5 +1,5 @@
 //! What holds of the regions of every source: each function's contract is a law, and its body does nothing.
-ghost use Rattle.k_regions.specs.Laws.{RegionsAreFew, RegionsComeOfTokens, RegionsHaveTheirNumbers, ReturnedRunsAreOfMain, ReturnedRunsGiveInts, RunsEnterTheirRegions, ThereAreNoOthers};
+ghost use Rattle.k_regions.specs.Laws.{RegionsAreFew, RegionsComeOfTokens, RegionsHaveTheirNumbers, ReturnedRunsAreOfMain, ReturnedRunsGiveInts, RunsEnterFew, RunsEnterTheirRegions, ThereAreNoOthers};
 ghost use Rattle.k_regions.specs.Saving.{RegionsCanBeSaved};
 
 /// Each function, loop and body of a typed source is the region of its number, and there are no others.
@@ -27,6 +27,11 @@ pub fn runs_are_of_main()
 /// The regions of a source without faults are those of a profile that can be saved.
 pub fn regions_can_be_saved()
     ensures { RegionsCanBeSaved }
+{}
+
+/// A run enters regions at most as often as its source has regions, for each operation that it may make and once more.
+pub fn runs_enter_few()
+    ensures { RunsEnterFew }
 {}
 
 /// What main returned is an int.
