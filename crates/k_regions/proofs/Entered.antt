@@ -1,6 +1,7 @@
 -- The events of what a function does: a call enters the region of the function that is called, a loop its own and that of its body, and nothing else
--- enters one.
-use Rattle.std.proofs.Common.{ℕ, zero, suc, ◌+◌, ℤ, pos, List, [], ◌∷◌, ◌++◌, map, Option, Some, None, Bool, true, false, nat_eq, if◌then◌else◌, ◌≡◌, refl, sym, subst, slice_get}
+-- enters one. The operation of a call pays for its region and a first turn of each of its loops, and each test for the turn behind it.
+use Rattle.std.proofs.Common.{ℕ, zero, suc, ◌+◌, ◌*◌, ◌≤◌, arith, length, ℤ, pos, List, [], ◌∷◌, ◌++◌, map, Option, Some, None, Bool, true, false, nat_eq, if◌then◌else◌, ◌≡◌, refl, sym, subst, slice_get}
+use Rattle.std.proofs.lemmas.List.{length-append}
 use Rattle.k_num.specs.declared.place.Place.{Place}
 use Rattle.k_num.specs.declared.numbers.Kind.{Kind}
 use Rattle.k_num.specs.declared.numbers.Bin.TheVariants as bin
@@ -17,9 +18,9 @@ use Rattle.k_typed.specs.declared.tree.expression.TExpr.{TExpr}
 use Rattle.k_typed.specs.declared.tree.statement.Spot.{Spot}
 use Rattle.k_typed.specs.declared.tree.statement.TFirst.{TFirst}
 use Rattle.k_typed.specs.declared.tree.statement.TFirst.TheVariants as first
-use Rattle.k_typed.specs.declared.tree.statement.TPart.{TPart, fold-TPart, fold-roll-TPart, map-TPart}
+use Rattle.k_typed.specs.declared.tree.statement.TPart.{TPart, fold-TPart, fold-roll-TPart, map-TPart, roll-TPart}
 use Rattle.k_typed.specs.declared.tree.statement.TPart.TheOpen.{TPart-F, TStmt-F}
-use Rattle.k_typed.specs.declared.tree.statement.TStmt.{TStmt, fold-roll-TStmt, ind-TStmt, map-TStmt}
+use Rattle.k_typed.specs.declared.tree.statement.TStmt.{TStmt, fold-roll-TStmt, ind-TStmt, map-TStmt, roll-TStmt}
 use Rattle.k_typed.specs.declared.tree.unit.TFunc.{TFunc}
 use Rattle.k_typed.specs.declared.tree.unit.TVariable.{TVariable}
 use Rattle.k_mem.specs.declared.start.Start.TheVariants.{Unset}
@@ -32,7 +33,7 @@ use Rattle.k_evaluation.specs.declared.operand.Target.{Target}
 use Rattle.k_evaluation.specs.declared.operand.Target.TheVariants.{InRegister, InMemory}
 use Rattle.k_evaluation.specs.declared.flow.Flow.{Flow}
 use Rattle.k_evaluation.specs.declared.flow.Flow.TheVariants.{Normal, Broke, Continued, Returned}
-use Rattle.k_evaluation.specs.States.{Program, State, Outcome, Goes, Stops, Part, follow, ◌>>=◌, gives, traps, read, sets, control, settles}
+use Rattle.k_evaluation.specs.States.{Program, State, Outcome, Goes, Stops, Part, follow, ◌>>=◌, gives, traps, read, sets, control, settles, region}
 use Rattle.k_evaluation.specs.Objects.{makes_object, fills, block}
 use Rattle.k_evaluation.specs.Jumps.{is_left}
 use Rattle.k_evaluation.specs.Meanings.{tests, holds}
@@ -49,166 +50,187 @@ use Rattle.k_optab.specs.Instances.{Balanced}
 use Rattle.k_regions.specs.declared.loops.LoopAt.{LoopAt}
 use Rattle.k_regions.specs.Regions.{Found, find, find_part, loops_of, loops_of_all}
 use Rattle.k_regions.specs.Regions as regions
-use Rattle.k_regions.proofs.Added.{Added, none_added, Leaves, Adds, leaves_from, then_adds, gives_adds, traps_adds, sets_adds, control_adds, settles_adds, settled_adds, region_adds, block_adds, makes_object_adds, fills_adds, makes_adds, computes_adds}
-use Rattle.k_regions.proofs.Rows.{MeaningAdds, CallsAdd, tests_adds, writes_adds, eval_adds}
+use Rattle.k_regions.proofs.Added.{Policy, Added, AddsUp, all_free, on_credit, pays, to_spare, spared, spent_behind, none_added, weaker, Leaves, Spends, Adds, leaves_from, then_spends, then_adds, more_spends, credited, between_spends, gives_adds, traps_adds, sets_adds, control_adds, settles_adds, settled_spends, region_spends, block_spends, makes_object_adds, fills_adds, makes_spends, makes_adds, computes_adds}
+use Rattle.k_regions.proofs.Rows.{MeaningAdds, CallsAdd, writes_adds, eval_adds}
 
-module _ (P : ℕ → Type 0) where
-  -- STATEMENTS
-  abbrev DoingAdds : Doing → Type 0
-  DoingAdds s = Adds P s.does
+module _ (P : Policy) where
+  -- STATEMENTS: so many regions may be entered on credit
+  abbrev DoingAdds : ℕ → Doing → Type 0
+  DoingAdds w s = Spends P w 0 s.does
 
-  abbrev AllAdd : List Doing → Type 0
-  AllAdd [] = Unit {0}
-  AllAdd (s ∷ ss) = DoingAdds s × AllAdd ss
+  abbrev PartAdds : ℕ → PartDoing → Type 0
+  PartAdds w (ACase place z) = Unit {0}
+  PartAdds w ADefault = Unit {0}
+  PartAdds w (AStatement s) = DoingAdds w s
 
-  abbrev PartAdds : PartDoing → Type 0
-  PartAdds (ACase place z) = Unit {0}
-  PartAdds ADefault = Unit {0}
-  PartAdds (AStatement s) = DoingAdds s
+  -- by several together
+  abbrev Together : {A : Type 0} → (ℕ → A → Type 0) → ℕ → List A → Type 0
+  Together Q w [] = Unit {0}
+  Together Q w (x ∷ xs) = (c : ℕ) × (d : ℕ) × (c + d ≤ w) × Q c x × Together Q d xs
 
-  abbrev PartsAdd : List PartDoing → Type 0
-  PartsAdd [] = Unit {0}
-  PartsAdd (p ∷ ps) = PartAdds p × PartsAdd ps
+  abbrev AllAdd : ℕ → List Doing → Type 0
+  AllAdd w ss = Together DoingAdds w ss
 
-  unless_left_adds : (next : Part Flow) → Adds P next → (flow : Flow) → Adds P (unless_left next flow)
-  unless_left_adds next h Normal = h
-  unless_left_adds next h Broke = gives_adds P Broke
-  unless_left_adds next h Continued = gives_adds P Continued
-  unless_left_adds next h (Returned v) = gives_adds P (Returned v)
+  abbrev PartsAdd : ℕ → List PartDoing → Type 0
+  PartsAdd w parts = Together PartAdds w parts
 
-  in_order_adds : (ss : List Doing) → AllAdd ss → Adds P (in_order ss)
-  in_order_adds [] h = gives_adds P Normal
-  in_order_adds (s ∷ ss) h = then_adds P s.does (unless_left (in_order ss)) h.0 (unless_left_adds (in_order ss) (in_order_adds ss h.1))
+  more_adds : (v w : ℕ) (ss : List Doing) → v ≤ w → AllAdd v ss → AllAdd w ss
+  more_adds v w [] le h = tt
+  more_adds v w (s ∷ ss) le (c, d, both, one, rest) = (c, d, omega (arith, both, le), one, rest)
 
-  -- LOOPS
-  record LoopAdds (l : LoopParts) : Type 0 where
-    test : Adds P l.test
+  unless_left_adds : (w : ℕ) (next : Part Flow) → Spends P w 0 next → (flow : Flow) → Spends P w 0 (unless_left next flow)
+  unless_left_adds w next h Normal = h
+  unless_left_adds w next h Broke = credited P w (gives Broke) (gives_adds P Broke)
+  unless_left_adds w next h Continued = credited P w (gives Continued) (gives_adds P Continued)
+  unless_left_adds w next h (Returned v) = credited P w (gives (Returned v)) (gives_adds P (Returned v))
+
+  in_order_adds : (w : ℕ) (ss : List Doing) → AllAdd w ss → Spends P w 0 (in_order ss)
+  in_order_adds w [] h = credited P w (gives Normal) (gives_adds P Normal)
+  in_order_adds w (s ∷ ss) (c, d, both, one, rest) =
+      then_spends P (on_credit c d w both) s.does (unless_left (in_order ss)) one (unless_left_adds d (in_order ss) (in_order_adds d ss rest))
+
+  -- LOOPS: the test pays for the turn behind it, so one turn is on credit
+  record LoopAdds (w : ℕ) (l : LoopParts) : Type 0 where
+    test : Spends P 0 P.price l.test
     step : Adds P l.step
-    body : Adds P l.body
+    body : Spends P w 0 l.body
+    payable : w ≤ P.price
 
-  module _ (l : LoopParts) (h : LoopAdds l) (before : Option ℕ) where
-    starts_adds : {A : Type 0} (part : Part A) → Adds P part → Adds P (starts l before part)
-    starts_adds part k = then_adds P (resets l.counted before) (λ ready. part) (settles_adds P _ before) (λ ready. k)
+  module _ (w : ℕ) (l : LoopParts) (h : LoopAdds w l) (before : Option ℕ) where
+    starts_adds : {A : Type 0} {c b : ℕ} (up : AddsUp 0 0 c b c b) (part : Part A) → Spends P c b part → Spends P c b (starts l before part)
+    starts_adds up part k = then_spends P up (resets l.counted before) (λ ready. part) (settles_adds P _ before) (λ ready. k)
 
     step_or_end_adds : (next : Part Flow) → Adds P next → (t : Turn) → Adds P (step_or_end l before next t)
-    step_or_end_adds next k Again = then_adds P (starts l before l.step) (λ done. next) (starts_adds l.step h.step) (λ done. k)
+    step_or_end_adds next k Again = then_adds P (starts l before l.step) (λ done. next) (starts_adds all_free l.step h.step) (λ done. k)
     step_or_end_adds next k (Ends flow) = gives_adds P flow
 
-    turn_adds : (next : Part Flow) → Adds P next → (last : Option ℕ) → Adds P (turn l before next last)
+    turn_adds : (next : Part Flow) → Adds P next → (last : Option ℕ) → Spends P w 0 (turn l before next last)
     turn_adds next k last =
-        then_adds P (starts l before l.body) (behind_body l before next last) (starts_adds l.body h.body)
+        then_spends P (on_credit w 0 w (omega arith)) (starts l before l.body) (behind_body l before next last) (starts_adds (on_credit 0 w w (omega arith)) l.body h.body)
         (λ flow. then_adds P (settles (stays_behind_body l.jumps) last) (λ done. step_or_end l before next (turn_of flow)) (settles_adds P (stays_behind_body l.jumps) last)
         (λ done. step_or_end_adds next k (turn_of flow)))
 
-    turn_if_adds : (next : Part Flow) → Adds P next → (test : Held) → Adds P (turn_if l before next test)
+    turn_if_adds : (next : Part Flow) → Adds P next → (test : Held) → Spends P P.price 0 (turn_if l before next test)
     turn_if_adds next k test = by (holds test)
       where
-        by : (b : Bool) → Adds P (if b then turn l before next test.source else gives Normal)
-        by true = turn_adds next k test.source
-        by false = gives_adds P Normal
+        by : (b : Bool) → Spends P P.price 0 (if b then turn l before next test.source else gives Normal)
+        by true = more_spends P w P.price (turn l before next test.source) h.payable (turn_adds next k test.source)
+        by false = credited P P.price (gives Normal) (gives_adds P Normal)
 
     turns_adds : (n : ℕ) → Adds P (turns n l before)
     unfolding turns
     turns_adds zero = record { adds = λ s. (tt, none_added P s.world.events s.world.events refl) }
     turns_adds (suc n) = record {
-      adds = (then_adds P (starts l before l.test) (turn_if l before (turns n l before)) (starts_adds l.test h.test) (turn_if_adds (turns n l before) (turns_adds n))).adds;
+      adds = (then_spends P (pays P.price) (starts l before l.test) (turn_if l before (turns n l before)) (starts_adds (to_spare P.price) l.test h.test)
+          (turn_if_adds (turns n l before) (turns_adds n))).adds;
     }
 
     all_turns_adds : Adds P (all_turns l before)
     all_turns_adds = record { adds = λ s. (turns_adds (s.world.left + 1)).adds s }
 
-    begins_adds : (tested : Bool) → Adds P (begins l tested before)
-    begins_adds true = all_turns_adds
+    begins_adds : (tested : Bool) → Spends P w 0 (begins l tested before)
+    begins_adds true = credited P w (all_turns l before) all_turns_adds
     begins_adds false = turn_adds (all_turns l before) all_turns_adds before
 
-  loop_adds : (l : LoopParts) (number : ℕ) (tested : Bool) → P number → LoopAdds l → Adds P (loop l number tested)
-  loop_adds l number tested one h =
-      then_adds P control (λ before. inside_loop l number tested before >>= λ flow. settles (stays_behind_loop l.counted l.jumps) before >>= λ done. gives flow) (control_adds P)
-      (λ before. then_adds P (inside_loop l number tested before) (λ flow. settles (stays_behind_loop l.counted l.jumps) before >>= λ done. gives flow)
-      (region_adds P number (begins l tested before) one (begins_adds l h before tested))
-      (λ flow. then_adds P (settles (stays_behind_loop l.counted l.jumps) before) (λ done. gives flow) (settles_adds P (stays_behind_loop l.counted l.jumps) before)
-      (λ done. gives_adds P flow)))
+  loop_adds : (w : ℕ) (l : LoopParts) (number : ℕ) (tested : Bool) → P.Allows number → LoopAdds w l → Spends P (1 + w) 0 (loop l number tested)
+  loop_adds w l number tested one h =
+      between_spends P (1 + w) control (inside_loop l number tested) (λ before flow. settles (stays_behind_loop l.counted l.jumps) before) (control_adds P)
+      (λ before. region_spends P number w 0 (begins l tested before) one (begins_adds w l h before tested))
+      (λ before flow. settles_adds P (stays_behind_loop l.counted l.jumps) before)
 
-  -- SWITCHES: what is chosen adds such events
-  abbrev ChoiceLeaves : List Event → Outcome (List Doing) → Type 0
-  ChoiceLeaves u (Goes chosen t) = AllAdd chosen × Leaves P u (Goes chosen t)
-  ChoiceLeaves u (Stops end w) = Leaves {A = List Doing} P u (Stops end w)
+  -- SWITCHES: what is chosen may enter so many regions on credit
+  abbrev ChoiceLeaves : ℕ → List Event → Outcome (List Doing) → Type 0
+  ChoiceLeaves w u (Goes chosen t) = AllAdd w chosen × Leaves P 0 0 u (Goes chosen t)
+  ChoiceLeaves w u (Stops end x) = Leaves {A = List Doing} P 0 0 u (Stops end x)
 
-  record ChoiceAdds (part : Part (List Doing)) : Type 0 where
-    adds : (s : State) → ChoiceLeaves s.world.events (part s)
+  record ChoiceAdds (w : ℕ) (part : Part (List Doing)) : Type 0 where
+    adds : (s : State) → ChoiceLeaves w s.world.events (part s)
 
-  choice_from : (u v : List Event) (o : Outcome (List Doing)) → (h : Added P u v) → Balanced h.events → ChoiceLeaves v o → ChoiceLeaves u o
-  choice_from u v (Goes chosen t) h b k = (k.0, leaves_from P u v (Goes chosen t) h b k.1)
-  choice_from u v (Stops end w) h b k = leaves_from P {A = List Doing} u v (Stops end w) h b k
+  choice_from : (w : ℕ) (u v : List Event) (o : Outcome (List Doing)) → (h : Added P 0 0 u v) → Balanced h.events → ChoiceLeaves w v o → ChoiceLeaves w u o
+  choice_from w u v (Goes chosen t) h b k = (k.0, leaves_from P all_free u v (Goes chosen t) h b k.1)
+  choice_from w u v (Stops end x) h b k = leaves_from P {A = List Doing} all_free u v (Stops end x) h b k
 
-  choice_follow : (u : List Event) (o : Outcome Held) (next : Held → Part (List Doing)) → Leaves P u o → ((a : Held) → ChoiceAdds (next a)) → ChoiceLeaves u (follow o next)
-  choice_follow u (Goes a t) next h k = choice_from u t.world.events (next a t) h.0 h.1 ((k a).adds t)
-  choice_follow u (Stops end w) next h k = h
+  choice_follow : (w : ℕ) (u : List Event) (o : Outcome Held) (next : Held → Part (List Doing)) → Leaves P 0 0 u o → ((a : Held) → ChoiceAdds w (next a)) → ChoiceLeaves w u (follow o next)
+  choice_follow w u (Goes a t) next h k = choice_from w u t.world.events (next a t) h.0 h.1 ((k a).adds t)
+  choice_follow w u (Stops end x) next h k = h
 
-  statements_adds : (parts : List PartDoing) → PartsAdd parts → AllAdd (statements_of parts)
-  statements_adds [] h = tt
-  statements_adds (ACase place z ∷ parts) h = statements_adds parts h.1
-  statements_adds (ADefault ∷ parts) h = statements_adds parts h.1
-  statements_adds (AStatement s ∷ parts) h = (h.0, statements_adds parts h.1)
+  statements_adds : (w : ℕ) (parts : List PartDoing) → PartsAdd w parts → AllAdd w (statements_of parts)
+  statements_adds w [] h = tt
+  statements_adds w (ACase place z ∷ parts) (c, d, both, one, rest) = more_adds d w (statements_of parts) (omega (arith, both)) (statements_adds d parts rest)
+  statements_adds w (ADefault ∷ parts) (c, d, both, one, rest) = more_adds d w (statements_of parts) (omega (arith, both)) (statements_adds d parts rest)
+  statements_adds w (AStatement s ∷ parts) (c, d, both, one, rest) = (c, d, both, one, statements_adds d parts rest)
 
-  default_adds : (parts : List PartDoing) → PartsAdd parts → AllAdd (behind_default parts)
-  default_adds [] h = tt
-  default_adds (ACase place z ∷ parts) h = default_adds parts h.1
-  default_adds (ADefault ∷ parts) h = statements_adds parts h.1
-  default_adds (AStatement s ∷ parts) h = default_adds parts h.1
+  default_adds : (w : ℕ) (parts : List PartDoing) → PartsAdd w parts → AllAdd w (behind_default parts)
+  default_adds w [] h = tt
+  default_adds w (ACase place z ∷ parts) (c, d, both, one, rest) = more_adds d w (behind_default parts) (omega (arith, both)) (default_adds d parts rest)
+  default_adds w (ADefault ∷ parts) (c, d, both, one, rest) = more_adds d w (statements_of parts) (omega (arith, both)) (statements_adds d parts rest)
+  default_adds w (AStatement s ∷ parts) (c, d, both, one, rest) = more_adds d w (behind_default parts) (omega (arith, both)) (default_adds d parts rest)
 
   selects_adds : (program : Program) (kind : Kind) (place : Place) (z : ℤ) (on : Operand) → Adds P (selects program kind place z on)
   selects_adds program kind place z on =
       then_adds P _ _ (computes_adds P program class.Simple place (act.Binary bin.Eq kind) (on ∷ Constant (value.Number z) ∷ []))
       (λ same. makes_adds P program class.Select place act.Test (same ∷ []))
 
-  gives_choice : (chosen : List Doing) → AllAdd chosen → ChoiceAdds (gives chosen)
-  gives_choice chosen h = record { adds = λ s. (h, (gives_adds P chosen).adds s) }
+  gives_choice : (w : ℕ) (chosen : List Doing) → AllAdd w chosen → ChoiceAdds w (gives chosen)
+  gives_choice w chosen h = record { adds = λ s. (h, (gives_adds P chosen).adds s) }
 
-  choose_by : (program : Program) (kind : Kind) (on : Operand) (default : List Doing) (parts : List PartDoing) (b : Bool) → AllAdd (statements_of parts)
-      → ChoiceAdds (chooses program kind on default parts) → ChoiceAdds (if b then gives (statements_of parts) else chooses program kind on default parts)
-  choose_by program kind on default parts true h k = gives_choice (statements_of parts) h
-  choose_by program kind on default parts false h k = k
+  choose_by : (w : ℕ) (program : Program) (kind : Kind) (on : Operand) (default : List Doing) (parts : List PartDoing) (b : Bool) → AllAdd w (statements_of parts)
+      → ChoiceAdds w (chooses program kind on default parts) → ChoiceAdds w (if b then gives (statements_of parts) else chooses program kind on default parts)
+  choose_by w program kind on default parts true h k = gives_choice w (statements_of parts) h
+  choose_by w program kind on default parts false h k = k
 
-  chooses_adds : (program : Program) (kind : Kind) (on : Operand) (default : List Doing) (parts : List PartDoing) → AllAdd default → PartsAdd parts
-      → ChoiceAdds (chooses program kind on default parts)
-  chooses_adds program kind on default [] h k = gives_choice default h
-  chooses_adds program kind on default (ACase place z ∷ parts) h k = record {
+  -- these parts may enter no more than all of them
+  chooses_adds : (v w : ℕ) (program : Program) (kind : Kind) (on : Operand) (default : List Doing) (parts : List PartDoing) → v ≤ w → AllAdd w default → PartsAdd v parts
+      → ChoiceAdds w (chooses program kind on default parts)
+  chooses_adds v w program kind on default [] le h k = gives_choice w default h
+  chooses_adds v w program kind on default (ACase place z ∷ parts) le h (c, d, both, one, rest) = record {
     adds =
-        λ s. choice_follow s.world.events (selects program kind place z on s)
+        λ s. choice_follow w s.world.events (selects program kind place z on s)
         (λ select. if holds select then gives (statements_of parts) else chooses program kind on default parts)
         ((selects_adds program kind place z on).adds s)
-        (λ select. choose_by program kind on default parts (holds select) (statements_adds parts k.1) (chooses_adds program kind on default parts h k.1));
+        (λ select. choose_by w program kind on default parts (holds select) (more_adds d w (statements_of parts) (omega (arith, both, le)) (statements_adds d parts rest))
+        (chooses_adds d w program kind on default parts (omega (arith, both, le)) h rest));
   }
-  chooses_adds program kind on default (ADefault ∷ parts) h k = chooses_adds program kind on default parts h k.1
-  chooses_adds program kind on default (AStatement s ∷ parts) h k = chooses_adds program kind on default parts h k.1
+  chooses_adds v w program kind on default (ADefault ∷ parts) le h (c, d, both, one, rest) = chooses_adds d w program kind on default parts (omega (arith, both, le)) h rest
+  chooses_adds v w program kind on default (AStatement s ∷ parts) le h (c, d, both, one, rest) = chooses_adds d w program kind on default parts (omega (arith, both, le)) h rest
 
-  runs_chosen_adds : (chosen : List Doing) → AllAdd chosen → Adds P (runs_chosen chosen)
-  runs_chosen_adds chosen h = then_adds P (in_order chosen) (λ flow. gives (behind_switch flow)) (in_order_adds chosen h) (λ flow. gives_adds P (behind_switch flow))
+  runs_chosen_adds : (w : ℕ) (chosen : List Doing) → AllAdd w chosen → Spends P w 0 (runs_chosen chosen)
+  runs_chosen_adds w chosen h =
+      then_spends P (on_credit w 0 w (omega arith)) (in_order chosen) (λ flow. gives (behind_switch flow)) (in_order_adds w chosen h) (λ flow. gives_adds P (behind_switch flow))
 
-  choice_runs : (u : List Event) (o : Outcome (List Doing)) → ChoiceLeaves u o → Leaves P u (follow o runs_chosen)
-  choice_runs u (Goes chosen t) h = leaves_from P u t.world.events (runs_chosen chosen t) h.1.0 h.1.1 ((runs_chosen_adds chosen h.0).adds t)
-  choice_runs u (Stops end w) h = h
+  choice_runs : (w : ℕ) (u : List Event) (o : Outcome (List Doing)) → ChoiceLeaves w u o → Leaves P w 0 u (follow o runs_chosen)
+  choice_runs w u (Goes chosen t) h = leaves_from P (on_credit 0 w w (omega arith)) u t.world.events (runs_chosen chosen t) h.1.0 h.1.1 ((runs_chosen_adds w chosen h.0).adds t)
+  choice_runs w u (Stops end x) h = (h.0, weaker P 0 0 w 0 u x.events (omega arith) h.1)
 
-  switches_adds : (program : Program) (kind : Kind) (parts : List PartDoing) (on : Operand) → PartsAdd parts → Adds P (switches program kind parts on)
-  switches_adds program kind parts on h = record {
+  switches_adds : (w : ℕ) (program : Program) (kind : Kind) (parts : List PartDoing) (on : Operand) → PartsAdd w parts → Spends P w 0 (switches program kind parts on)
+  switches_adds w program kind parts on h = record {
     adds =
-        λ s. choice_runs s.world.events (chooses program kind on (behind_default parts) parts s)
-        ((chooses_adds program kind on (behind_default parts) parts (default_adds parts h) h).adds s);
+        λ s. choice_runs w s.world.events (chooses program kind on (behind_default parts) parts s)
+        ((chooses_adds w w program kind on (behind_default parts) parts (omega arith) (default_adds w parts h) h).adds s);
   }
 
-  -- the regions of these loops of the function of this number are such, and those of their bodies
+  -- the regions of these loops of the function of this number may be entered, and those of their bodies, and an operation pays for them all
   abbrev pub LoopsHold : ℕ → List LoopAt → Type 0
   LoopsHold n [] = Unit {0}
-  LoopsHold n (l ∷ loops) = P (loop_region n l.number) × P (loop_region n l.number + 1) × LoopsHold n loops
+  LoopsHold n (l ∷ loops) = P.Allows (loop_region n l.number) × P.Allows (loop_region n l.number + 1) × (2 + 2 * length loops ≤ P.price) × LoopsHold n loops
+
+  -- so many regions are entered on credit where each of these loops begins
+  abbrev spent : List LoopAt → ℕ
+  spent loops = 2 * length loops
+
+  spent_both : (xs ys : List LoopAt) → spent xs + spent ys ≤ spent (xs ++ ys)
+  spent_both xs ys = let both : length (xs ++ ys) ≡ length xs + length ys = length-append xs ys in omega (arith, both)
 
   loops_first : (n : ℕ) (xs ys : List LoopAt) → LoopsHold n (xs ++ ys) → LoopsHold n xs
   loops_first n [] ys h = tt
-  loops_first n (l ∷ xs) ys h = (h.0, h.1, loops_first n xs ys h.2)
+  loops_first n (l ∷ xs) ys h =
+      let pays : 2 + spent (xs ++ ys) ≤ P.price = h.2 in
+      let both : spent xs + spent ys ≤ spent (xs ++ ys) = spent_both xs ys in
+      (h.0, h.1, omega (arith, pays, both), loops_first n xs ys h.3)
 
   loops_second : (n : ℕ) (xs ys : List LoopAt) → LoopsHold n (xs ++ ys) → LoopsHold n ys
   loops_second n [] ys h = h
-  loops_second n (l ∷ xs) ys h = loops_second n xs ys h.2
+  loops_second n (l ∷ xs) ys h = loops_second n xs ys h.3
 
   module _ (program : Program) (function : ℕ) (vs : List TVariable) (calls : Calls) (calls_adds : CallsAdd P calls) where
     abbrev here : Within
@@ -220,8 +242,10 @@ module _ (P : ℕ → Type 0) where
     drops_adds : (e : TExpr) → Adds P (drops here e)
     drops_adds e = then_adds P ((means here e).value false) (λ a. gives {A = Unit {0}} tt) ((means_adds e).value false) (λ a. gives_adds P {A = Unit {0}} tt)
 
-    tests_at_adds : (place : Place) (e : TExpr) → Adds P (tests_at here place e)
-    tests_at_adds place e = then_adds P ((means here e).value true) (tests program place) ((means_adds e).value true) (tests_adds P program place)
+    -- a test pays for what follows
+    tests_at_adds : (place : Place) (e : TExpr) → Spends P 0 P.price (tests_at here place e)
+    tests_at_adds place e =
+        then_spends P (to_spare P.price) ((means here e).value true) (tests program place) ((means_adds e).value true) (λ a. makes_spends P program class.Test place act.Test (a ∷ []))
 
     goes_on_adds : (part : Part (Unit {0})) → Adds P part → Adds P (goes_on part)
     goes_on_adds part h = then_adds P part (λ done. gives Normal) h (λ done. gives_adds P Normal)
@@ -274,68 +298,71 @@ module _ (P : ℕ → Type 0) where
     starts_with_adds (first.Declare list) = declares_all_adds list
 
     -- LOOPS OF THE SOURCE
-    test_adds : (place : Place) (test : Option TExpr) → Adds P (test_or_one here place test)
-    test_adds place None = tests_adds P program place (Constant (value.Number (pos 1)))
+    test_adds : (place : Place) (test : Option TExpr) → Spends P 0 P.price (test_or_one here place test)
+    test_adds place None = makes_spends P program class.Test place act.Test (Constant (value.Number (pos 1)) ∷ [])
     test_adds place (Some e) = tests_at_adds place e
 
     step_adds : (step : Option TExpr) → Adds P (step_or_none here step)
     step_adds None = gives_adds P {A = Unit {0}} tt
     step_adds (Some e) = drops_adds e
 
-    module _ (number : ℕ) (itself : P (loop_region function number)) (its_body : P (loop_region function number + 1)) where
-      source_loop_adds : (spot : Spot) (test step : Option TExpr) (d : Doing) (tested : Bool) → DoingAdds d → Adds P (source_loop here spot number test step d tested)
+    module _ (number w : ℕ) (itself : P.Allows (loop_region function number)) (its_body : P.Allows (loop_region function number + 1)) (payable : 2 + w ≤ P.price) where
+      source_loop_adds : (spot : Spot) (test step : Option TExpr) (d : Doing) (tested : Bool) → DoingAdds w d → Spends P (2 + w) 0 (source_loop here spot number test step d tested)
       source_loop_adds spot test step d tested c =
-          loop_adds (loop_parts here spot.place number test step d) (loop_region function number) tested itself
-          (record { test = test_adds spot.place test; step = step_adds step; body = region_adds P (loop_region function number + 1) d.does its_body c })
+          more_spends P (1 + (1 + w)) (2 + w) (source_loop here spot number test step d tested) (omega arith)
+          (loop_adds (1 + w) (loop_parts here spot.place number test step d) (loop_region function number) tested itself
+          (record { test = test_adds spot.place test; step = step_adds step; body = region_spends P (loop_region function number + 1) w 0 d.does its_body c; payable = omega (arith, payable) }))
 
-      while_adds : (spot : Spot) (test : TExpr) (d : Doing) → DoingAdds d → DoingAdds (while_loop here spot number test d)
+      while_adds : (spot : Spot) (test : TExpr) (d : Doing) → DoingAdds w d → DoingAdds (2 + w) (while_loop here spot number test d)
       unfolding while_loop
       while_adds spot test d c = source_loop_adds spot (Some test) None d true c
 
-      do_adds : (spot : Spot) (d : Doing) (test : TExpr) → DoingAdds d → DoingAdds (do_loop here spot number d test)
+      do_adds : (spot : Spot) (d : Doing) (test : TExpr) → DoingAdds w d → DoingAdds (2 + w) (do_loop here spot number d test)
       unfolding do_loop
       do_adds spot d test c = source_loop_adds spot (Some test) None d false c
 
-      for_adds : (spot : Spot) (start : TFirst) (test step : Option TExpr) (d : Doing) → DoingAdds d → DoingAdds (for_loop here spot number start test step d)
+      for_adds : (spot : Spot) (start : TFirst) (test step : Option TExpr) (d : Doing) → DoingAdds w d → DoingAdds (2 + w) (for_loop here spot number start test step d)
       unfolding for_loop
       for_adds spot start test step d c =
-          block_adds P (starts_with here start >>= λ done. source_loop here spot number test step d true)
-          (then_adds P (starts_with here start) (λ done. source_loop here spot number test step d true) (starts_with_adds start) (λ done. source_loop_adds spot test step d true c))
+          block_spends P (2 + w) (starts_with here start >>= λ done. source_loop here spot number test step d true)
+          (then_spends P (on_credit 0 (2 + w) (2 + w) (omega arith)) (starts_with here start) (λ done. source_loop here spot number test step d true) (starts_with_adds start)
+          (λ done. source_loop_adds spot test step d true c))
 
     -- THE OTHERS
-    expression_adds : (e : TExpr) → DoingAdds (expression here e)
+    expression_adds : (e : TExpr) → DoingAdds 0 (expression here e)
     unfolding expression
     expression_adds e = goes_on_adds (drops here e) (drops_adds e)
 
-    empty_adds : DoingAdds empty
+    empty_adds : DoingAdds 0 empty
     unfolding empty
     empty_adds = gives_adds P Normal
 
-    compound_adds : (parts : List Doing) → AllAdd parts → DoingAdds (compound parts)
+    compound_adds : (w : ℕ) (parts : List Doing) → AllAdd w parts → DoingAdds w (compound parts)
     unfolding compound
-    compound_adds parts h = block_adds P (in_order parts) (in_order_adds parts h)
+    compound_adds w parts h = block_spends P w (in_order parts) (in_order_adds w parts h)
 
-    if_adds : (spot : Spot) (test : TExpr) (a : Doing) (b : Option Doing) → DoingAdds a → Adds P (does_or_none b) → DoingAdds (if_else here spot test a b)
+    if_adds : (w : ℕ) (spot : Spot) (test : TExpr) (a : Doing) (b : Option Doing) → DoingAdds w a → Spends P w 0 (does_or_none b) → DoingAdds w (if_else here spot test a b)
     unfolding if_else
-    if_adds spot test a b one two =
-        settled_adds P (is_left (if_jumps a b)) (tests_at here spot.place test >>= chosen_arm a.does (does_or_none b))
-        (then_adds P (tests_at here spot.place test) (chosen_arm a.does (does_or_none b)) (tests_at_adds spot.place test) (λ t. by (holds t)))
+    if_adds w spot test a b one two =
+        settled_spends P w (is_left (if_jumps a b)) (tests_at here spot.place test >>= chosen_arm a.does (does_or_none b))
+        (then_spends P (spent_behind w P.price) (tests_at here spot.place test) (chosen_arm a.does (does_or_none b)) (tests_at_adds spot.place test) (λ t. by (holds t)))
       where
-        by : (chosen : Bool) → Adds P (if chosen then a.does else does_or_none b)
+        by : (chosen : Bool) → Spends P w 0 (if chosen then a.does else does_or_none b)
         by true = one
         by false = two
 
-    switch_adds : (kind : Kind) (on : TExpr) (parts : List PartDoing) → PartsAdd parts → DoingAdds (switch here kind on parts)
+    switch_adds : (w : ℕ) (kind : Kind) (on : TExpr) (parts : List PartDoing) → PartsAdd w parts → DoingAdds w (switch here kind on parts)
     unfolding switch
-    switch_adds kind on parts k =
-        settled_adds P (is_left (switch_jumps parts)) ((means here on).value (has_case parts) >>= switches program kind parts)
-        (then_adds P ((means here on).value (has_case parts)) (switches program kind parts) ((means_adds on).value (has_case parts)) (λ a. switches_adds program kind parts a k))
+    switch_adds w kind on parts k =
+        settled_spends P w (is_left (switch_jumps parts)) ((means here on).value (has_case parts) >>= switches program kind parts)
+        (then_spends P (on_credit 0 w w (omega arith)) ((means here on).value (has_case parts)) (switches program kind parts) ((means_adds on).value (has_case parts))
+        (λ a. switches_adds w program kind parts a k))
 
-    break_adds : DoingAdds break
+    break_adds : DoingAdds 0 break
     unfolding break
     break_adds = gives_adds P Broke
 
-    continue_adds : DoingAdds continue
+    continue_adds : DoingAdds 0 continue
     unfolding continue
     continue_adds = gives_adds P Continued
 
@@ -345,11 +372,11 @@ module _ (P : ℕ → Type 0) where
         then_adds P ((means here e).value true) (returns_moved program place) ((means_adds e).value true)
         (λ a. then_adds P _ _ (makes_adds P program class.Move place act.Move (a ∷ [])) (λ held. gives_adds P (Returned (Some held))))
 
-    return_adds : (spot : Spot) (e : Option TExpr) → DoingAdds (return here spot e)
+    return_adds : (spot : Spot) (e : Option TExpr) → DoingAdds 0 (return here spot e)
     unfolding return
     return_adds spot e = returned_adds spot.place e
 
-    declaration_adds : (list : List TDeclarator) → DoingAdds (declaration here list)
+    declaration_adds : (list : List TDeclarator) → DoingAdds 0 (declaration here list)
     unfolding declaration
     declaration_adds list = goes_on_adds (declares_all here list) (declares_all_adds list)
 
@@ -358,10 +385,10 @@ module _ (P : ℕ → Type 0) where
     part_does = fold-TPart PartDoing Doing part_step (does_step here)
 
     abbrev OfPart : TPart → Type 0
-    OfPart p = LoopsHold function (find_part p).loops → PartAdds (part_does p)
+    OfPart p = LoopsHold function (find_part p).loops → PartAdds (spent (find_part p).loops) (part_does p)
 
     abbrev OfStmt : TStmt → Type 0
-    OfStmt s = LoopsHold function (find s).loops → DoingAdds (does here s)
+    OfStmt s = LoopsHold function (find s).loops → DoingAdds (spent (find s).loops) (does here s)
 
     abbrev Stmts : Type 0
     Stmts = List ((s : TStmt) × OfStmt s)
@@ -369,63 +396,95 @@ module _ (P : ℕ → Type 0) where
     abbrev Parts : Type 0
     Parts = List ((p : TPart) × OfPart p)
 
-    all_do : (items : Stmts) → LoopsHold function (loops_of_all (map find (map (λ (x : (s : TStmt) × OfStmt s). x.0) items)))
-        → AllAdd (map (does here) (map (λ (x : (s : TStmt) × OfStmt s). x.0) items))
+    all_do : (items : Stmts) → (let loops : List LoopAt = loops_of_all (map find (map (λ (x : (s : TStmt) × OfStmt s). x.0) items)) in
+        LoopsHold function loops → AllAdd (spent loops) (map (does here) (map (λ (x : (s : TStmt) × OfStmt s). x.0) items)))
     all_do [] h = tt
     all_do (x ∷ items) h =
+        let own : List LoopAt = (find x.0).loops in
         let rest : List LoopAt = loops_of_all (map find (map (λ (x : (s : TStmt) × OfStmt s). x.0) items)) in
-        (x.1 (loops_first function (find x.0).loops rest h), all_do items (loops_second function (find x.0).loops rest h))
+        (spent own, spent rest, spent_both own rest, x.1 (loops_first function own rest h), all_do items (loops_second function own rest h))
 
-    parts_do : (items : Parts) → LoopsHold function (loops_of_all (map find_part (map (λ (x : (p : TPart) × OfPart p). x.0) items)))
-        → PartsAdd (map part_does (map (λ (x : (p : TPart) × OfPart p). x.0) items))
+    parts_do : (items : Parts) → (let loops : List LoopAt = loops_of_all (map find_part (map (λ (x : (p : TPart) × OfPart p). x.0) items)) in
+        LoopsHold function loops → PartsAdd (spent loops) (map part_does (map (λ (x : (p : TPart) × OfPart p). x.0) items)))
     parts_do [] h = tt
     parts_do (x ∷ items) h =
+        let own : List LoopAt = (find_part x.0).loops in
         let rest : List LoopAt = loops_of_all (map find_part (map (λ (x : (p : TPart) × OfPart p). x.0) items)) in
-        (x.1 (loops_first function (find_part x.0).loops rest h), parts_do items (loops_second function (find_part x.0).loops rest h))
+        (spent own, spent rest, spent_both own rest, x.1 (loops_first function own rest h), parts_do items (loops_second function own rest h))
 
     -- the same of the layers of a tree
     abbrev PartLayer : TPart-F TPart TStmt → Type 0
     PartLayer z =
-        LoopsHold function (regions.part_step (map-TPart TPart TStmt Found Found find_part find z)).loops → PartAdds (part_step (map-TPart TPart TStmt PartDoing Doing part_does (does here) z))
+        let loops : List LoopAt = (regions.part_step (map-TPart TPart TStmt Found Found find_part find z)).loops in
+        LoopsHold function loops → PartAdds (spent loops) (part_step (map-TPart TPart TStmt PartDoing Doing part_does (does here) z))
 
     abbrev StmtLayer : TStmt-F TPart TStmt → Type 0
     StmtLayer z =
-        LoopsHold function (regions.stmt_step (map-TStmt TPart TStmt Found Found find_part find z)).loops → DoingAdds (does_step here (map-TStmt TPart TStmt PartDoing Doing part_does (does here) z))
+        let loops : List LoopAt = (regions.stmt_step (map-TStmt TPart TStmt Found Found find_part find z)).loops in
+        LoopsHold function loops → DoingAdds (spent loops) (does_step here (map-TStmt TPart TStmt PartDoing Doing part_does (does here) z))
 
     part_by : (y : TPart-F ((p : TPart) × OfPart p) ((s : TStmt) × OfStmt s)) → PartLayer (map-TPart _ _ TPart TStmt (λ (x : (p : TPart) × OfPart p). x.0) (λ (x : (s : TStmt) × OfStmt s). x.0) y)
     part_by (TPart-F.Case place z) h = tt
     part_by (TPart-F.Default place) h = tt
     part_by (TPart-F.Does place s) h = s.1 h
 
+    -- an arm may enter as many as both
+    first_adds : (xs ys : List LoopAt) (d : Doing) → DoingAdds (spent xs) d → DoingAdds (spent (xs ++ ys)) d
+    first_adds xs ys d h = let both : spent xs + spent ys ≤ spent (xs ++ ys) = spent_both xs ys in more_spends P (spent xs) (spent (xs ++ ys)) d.does (omega (arith, both)) h
+
+    second_adds : (xs ys : List LoopAt) (d : Doing) → DoingAdds (spent ys) d → DoingAdds (spent (xs ++ ys)) d
+    second_adds xs ys d h = let both : spent xs + spent ys ≤ spent (xs ++ ys) = spent_both xs ys in more_spends P (spent ys) (spent (xs ++ ys)) d.does (omega (arith, both)) h
+
+    -- a loop and those in its body
+    looped_adds : (loops : List LoopAt) (d : Doing) → DoingAdds (2 + spent loops) d → DoingAdds (2 * suc (length loops)) d
+    looped_adds loops d h = more_spends P (2 + spent loops) (2 * suc (length loops)) d.does (omega arith) h
+
     stmt_by : (y : TStmt-F ((p : TPart) × OfPart p) ((s : TStmt) × OfStmt s)) → StmtLayer (map-TStmt _ _ TPart TStmt (λ (x : (p : TPart) × OfPart p). x.0) (λ (x : (s : TStmt) × OfStmt s). x.0) y)
     stmt_by (TStmt-F.Expr spot e) h = expression_adds e
     stmt_by (TStmt-F.Empty spot) h = empty_adds
-    stmt_by (TStmt-F.Block spot parts) h = compound_adds (map (does here) (map (λ (x : (s : TStmt) × OfStmt s). x.0) parts)) (all_do parts h)
-    stmt_by (TStmt-F.If spot test a None) h = if_adds spot test (does here a.0) None (a.1 (loops_first function (find a.0).loops [] h)) (gives_adds P Normal)
+    stmt_by (TStmt-F.Block spot parts) h = compound_adds _ (map (does here) (map (λ (x : (s : TStmt) × OfStmt s). x.0) parts)) (all_do parts h)
+    stmt_by (TStmt-F.If spot test a None) h =
+        let loops : List LoopAt = (find a.0).loops in
+        if_adds (spent (loops ++ [])) spot test (does here a.0) None (first_adds loops [] (does here a.0) (a.1 (loops_first function loops [] h)))
+        (credited P (spent (loops ++ [])) (gives Normal) (gives_adds P Normal))
     stmt_by (TStmt-F.If spot test a (Some b)) h =
-        if_adds spot test (does here a.0) (Some (does here b.0)) (a.1 (loops_first function (find a.0).loops (find b.0).loops h))
-        (b.1 (loops_second function (find a.0).loops (find b.0).loops h))
-    stmt_by (TStmt-F.While spot number test a) h = while_adds number h.0 h.1 spot test (does here a.0) (a.1 h.2)
-    stmt_by (TStmt-F.DoWhile spot number a test) h = do_adds number h.0 h.1 spot (does here a.0) test (a.1 h.2)
-    stmt_by (TStmt-F.For spot number start test step a) h = for_adds number h.0 h.1 spot start test step (does here a.0) (a.1 h.2)
-    stmt_by (TStmt-F.Switch spot kind on parts) h = switch_adds kind on (map part_does (map (λ (x : (p : TPart) × OfPart p). x.0) parts)) (parts_do parts h)
+        let first : List LoopAt = (find a.0).loops in
+        let second : List LoopAt = (find b.0).loops in
+        if_adds (spent (first ++ second)) spot test (does here a.0) (Some (does here b.0)) (first_adds first second (does here a.0) (a.1 (loops_first function first second h)))
+        (second_adds first second (does here b.0) (b.1 (loops_second function first second h)))
+    stmt_by (TStmt-F.While spot number test a) h =
+        let loops : List LoopAt = (find a.0).loops in
+        looped_adds loops (while_loop here spot number test (does here a.0)) (while_adds number (spent loops) h.0 h.1 h.2 spot test (does here a.0) (a.1 h.3))
+    stmt_by (TStmt-F.DoWhile spot number a test) h =
+        let loops : List LoopAt = (find a.0).loops in
+        looped_adds loops (do_loop here spot number (does here a.0) test) (do_adds number (spent loops) h.0 h.1 h.2 spot (does here a.0) test (a.1 h.3))
+    stmt_by (TStmt-F.For spot number start test step a) h =
+        let loops : List LoopAt = (find a.0).loops in
+        looped_adds loops (for_loop here spot number start test step (does here a.0)) (for_adds number (spent loops) h.0 h.1 h.2 spot start test step (does here a.0) (a.1 h.3))
+    stmt_by (TStmt-F.Switch spot kind on parts) h = switch_adds _ kind on (map part_does (map (λ (x : (p : TPart) × OfPart p). x.0) parts)) (parts_do parts h)
     stmt_by (TStmt-F.Break spot) h = break_adds
     stmt_by (TStmt-F.Continue spot) h = continue_adds
     stmt_by (TStmt-F.Return spot e) h = return_adds spot e
     stmt_by (TStmt-F.Declare spot list) h = declaration_adds list
 
-    does_adds : (s : TStmt) → LoopsHold function (find s).loops → DoingAdds (does here s)
+    does_adds : (s : TStmt) → LoopsHold function (find s).loops → DoingAdds (spent (find s).loops) (does here s)
     does_adds =
         ind-TStmt OfPart OfStmt
-        (λ x y is h. subst PartAdds (sym (fold-roll-TPart PartDoing Doing part_step (does_step here) x))
-        (subst PartLayer is (part_by y) (subst (λ (f : Found). LoopsHold function f.loops) (fold-roll-TPart Found Found regions.part_step regions.stmt_step x) h)))
-        (λ x y is h. subst DoingAdds (sym (fold-roll-TStmt PartDoing Doing part_step (does_step here) x))
-        (subst StmtLayer is (stmt_by y) (subst (λ (f : Found). LoopsHold function f.loops) (fold-roll-TStmt Found Found regions.part_step regions.stmt_step x) h)))
+        (λ x y is.
+        subst (λ (p : PartDoing). LoopsHold function (find_part (roll-TPart x)).loops → PartAdds (spent (find_part (roll-TPart x)).loops) p) (sym (fold-roll-TPart PartDoing Doing part_step (does_step here) x))
+        (subst (λ (f : Found). LoopsHold function f.loops → PartAdds (spent f.loops) (part_step (map-TPart TPart TStmt PartDoing Doing part_does (does here) x)))
+        (sym (fold-roll-TPart Found Found regions.part_step regions.stmt_step x)) (subst PartLayer is (part_by y))))
+        (λ x y is.
+        subst (λ (d : Doing). LoopsHold function (find (roll-TStmt x)).loops → DoingAdds (spent (find (roll-TStmt x)).loops) d) (sym (fold-roll-TStmt PartDoing Doing part_step (does_step here) x))
+        (subst (λ (f : Found). LoopsHold function f.loops → DoingAdds (spent f.loops) (does_step here (map-TStmt TPart TStmt PartDoing Doing part_does (does here) x)))
+        (sym (fold-roll-TStmt Found Found regions.part_step regions.stmt_step x)) (subst StmtLayer is (stmt_by y))))
 
-    all_statements : (list : List TStmt) → LoopsHold function (loops_of_all (map find list)) → AllAdd (map (does here) list)
+    all_statements : (list : List TStmt) → LoopsHold function (loops_of_all (map find list)) → AllAdd (spent (loops_of_all (map find list))) (map (does here) list)
     all_statements [] h = tt
     all_statements (s ∷ list) h =
-        (does_adds s (loops_first function (find s).loops (loops_of_all (map find list)) h), all_statements list (loops_second function (find s).loops (loops_of_all (map find list)) h))
+        let own : List LoopAt = (find s).loops in
+        let rest : List LoopAt = loops_of_all (map find list) in
+        (spent own, spent rest, spent_both own rest, does_adds s (loops_first function own rest h), all_statements list (loops_second function own rest h))
 
   -- CALLS
   module _ (program : Program) where
@@ -460,39 +519,43 @@ module _ (P : ℕ → Type 0) where
     abbrev pub inside : Calls → ℕ → TFunc → Part (Option Held)
     inside inner number f = block (body program inner number f >>= result_of program number f)
 
-    inside_adds : (inner : Calls) (number : ℕ) (f : TFunc) → CallsAdd P inner → LoopsHold number (loops_of f) → Adds P (inside inner number f)
+    inside_adds : (inner : Calls) (number : ℕ) (f : TFunc) → CallsAdd P inner → LoopsHold number (loops_of f) → Spends P (spent (loops_of f)) 0 (inside inner number f)
     inside_adds inner number f c h =
-        block_adds P (body program inner number f >>= result_of program number f)
-        (then_adds P (body program inner number f) (result_of program number f)
-        (then_adds P (serves program 0 f.params f.variables) (λ served. in_order (map (does (within program inner number f)) f.body)) (serves_adds 0 f.params f.variables)
-        (λ served. in_order_adds (map (does (within program inner number f)) f.body) (all_statements program number f.variables inner c f.body h)))
+        let w : ℕ = spent (loops_of f) in
+        let does_all : Part Flow = in_order (map (does (within program inner number f)) f.body) in
+        block_spends P w (body program inner number f >>= result_of program number f)
+        (then_spends P (on_credit w 0 w (omega arith)) (body program inner number f) (result_of program number f)
+        (then_spends P (on_credit 0 w w (omega arith)) (serves program 0 f.params f.variables) (λ served. does_all) (serves_adds 0 f.params f.variables)
+        (λ served. in_order_adds w (map (does (within program inner number f)) f.body) (all_statements program number f.variables inner c f.body h)))
         (result_adds number f))
 
-    -- the regions of the function of this number are such: its own, those of its loops and those of their bodies
+    -- the regions of the function of this number may be entered: its own, those of its loops and those of their bodies; and an operation pays for them all
     abbrev pub FunctionHolds : ℕ → TFunc → Type 0
-    FunctionHolds number f = P (function_region number f) × LoopsHold number (loops_of f)
+    FunctionHolds number f = P.Allows (function_region number f) × LoopsHold number (loops_of f) × (1 + 2 * length (loops_of f) ≤ P.price)
 
-    runs_adds : (inner : Calls) (number : ℕ) (f : TFunc) → CallsAdd P inner → FunctionHolds number f → Adds P (runs program inner number f)
+    runs_adds : (inner : Calls) (number : ℕ) (f : TFunc) → CallsAdd P inner → FunctionHolds number f → Spends P P.price 0 (runs program inner number f)
     unfolding runs
-    runs_adds inner number f c h = region_adds P (function_region number f) (inside inner number f) h.0 (inside_adds inner number f c h.1)
+    runs_adds inner number f c h =
+        more_spends P (1 + spent (loops_of f)) P.price (region (function_region number f) (inside inner number f)) h.2
+        (region_spends P (function_region number f) (spent (loops_of f)) 0 (inside inner number f) h.0 (inside_adds inner number f c h.1))
 
-    back_adds : (u : List Event) (s : State) (o : Outcome (Option Held)) → Leaves P u o → Leaves P u (back_to s o)
+    back_adds : (u : List Event) (s : State) (o : Outcome (Option Held)) → Leaves P P.price 0 u o → Leaves P P.price 0 u (back_to s o)
     back_adds u s (Goes v t) h = h
     back_adds u s (Stops end w) h = h
 
     enters_adds : (inner : Calls) (number : ℕ) (place : Place) (f : TFunc) (args : List (Option Held)) → CallsAdd P inner → FunctionHolds number f
-        → Adds P (enters_function program inner number place f args)
+        → Spends P P.price 0 (enters_function program inner number place f args)
     enters_adds inner number place f args c h = record { adds = λ s. by s (is_too_large f s.world) }
       where
-        by : (s : State) (b : Bool) → Leaves P s.world.events (if b then traps StackOverflow place s else back_to s (runs program inner number f (entered f args s)))
-        by s true = (traps_adds P {A = Operand} StackOverflow place).adds s
+        by : (s : State) (b : Bool) → Leaves P P.price 0 s.world.events (if b then traps StackOverflow place s else back_to s (runs program inner number f (entered f args s)))
+        by s true = (credited P P.price (traps StackOverflow place) (traps_adds P {A = Operand} StackOverflow place)).adds s
         by s false = back_adds s.world.events s (runs program inner number f (entered f args s)) ((runs_adds inner number f c h).adds (entered f args s))
 
     abbrev HoldsIfThere : ℕ → Option TFunc → Type 0
     HoldsIfThere number None = Unit {0}
     HoldsIfThere number (Some f) = FunctionHolds number f
 
-    -- so are those of all functions
+    -- so it is with all functions
     abbrev pub ProgramHolds : Type 0
     ProgramHolds = (number : ℕ) (f : TFunc) → slice_get program.unit.functions number ≡ Some f → FunctionHolds number f
 
@@ -504,22 +567,25 @@ module _ (P : ℕ → Type 0) where
         by (Some f) is = h number f is
 
     enters_number_adds : (inner : Calls) (number : ℕ) (place : Place) (f : Option TFunc) (args : List (Option Held)) → CallsAdd P inner → HoldsIfThere number f
-        → Adds P (enters_number program inner number place f args)
-    enters_number_adds inner number place None args c h = gives_adds P _
+        → Spends P P.price 0 (enters_number program inner number place f args)
+    enters_number_adds inner number place None args c h = credited P P.price _ (gives_adds P _)
     enters_number_adds inner number place (Some f) args c h = enters_adds inner number place f args c h
 
-    operation_adds : (place : Place) (args : List Operand) → Adds P (calls_operation program place args)
+    -- the operation of a call pays for what the call enters
+    operation_adds : (place : Place) (args : List Operand) → Spends P 0 P.price (calls_operation program place args)
     operation_adds place args = record {
-      adds = λ s. (then_adds P _ _ (makes_adds P program class.Call place act.Call args) (λ done. gives_adds P (map (λ a. (read s a).slot) args))).adds s;
+      adds = λ s. (then_spends P (spared P.price) _ _ (makes_spends P program class.Call place act.Call args) (λ done. gives_adds P (map (λ a. (read s a).slot) args))).adds s;
     }
 
     calls_adds : ProgramHolds → (n : ℕ) → CallsAdd P (calls n program)
     unfolding calls
-    calls_adds h zero number place args = then_adds P (calls_operation program place args) (λ given. traps StackOverflow place) (operation_adds place args) (λ given. traps_adds P StackOverflow place)
+    calls_adds h zero number place args =
+        then_spends P (pays P.price) (calls_operation program place args) (λ given. traps StackOverflow place) (operation_adds place args)
+        (λ given. credited P P.price (traps StackOverflow place) (traps_adds P StackOverflow place))
     calls_adds h (suc n) number place args =
-        then_adds P (calls_operation program place args) (enters_number program (calls n program) number place (slice_get program.unit.functions number)) (operation_adds place args)
+        then_spends P (pays P.price) (calls_operation program place args) (enters_number program (calls n program) number place (slice_get program.unit.functions number)) (operation_adds place args)
         (λ given. enters_number_adds (calls n program) number place (slice_get program.unit.functions number) given (calls_adds h n) (there h number))
 
     -- what main does in its region adds such events
-    pub main_adds : ProgramHolds → (number : ℕ) (f : TFunc) → slice_get program.unit.functions number ≡ Some f → Adds P (inside (calls 4095 program) number f)
+    pub main_adds : ProgramHolds → (number : ℕ) (f : TFunc) → slice_get program.unit.functions number ≡ Some f → Spends P (2 * length (loops_of f)) 0 (inside (calls 4095 program) number f)
     main_adds h number f is = inside_adds (calls 4095 program) number f (calls_adds h 4095) (h number f is).1

@@ -2,6 +2,7 @@ pub mod Added
 pub mod Bare
 pub mod Counts
 pub mod Entered
+pub mod Entries
 pub mod Few
 pub mod Fine
 pub mod Functions
@@ -9,6 +10,7 @@ pub mod Listed
 pub mod Names
 pub mod Numbers
 pub mod Origins
+pub mod Paired
 pub mod Rows
 pub mod Seen
 pub mod Standing

@@ -1,10 +1,13 @@
 -- Each function and each loop has the region of its number.
-use Rattle.std.proofs.Common.{◌≡◌, ℕ, zero, suc, ◌+◌, ◌*◌, ◌<◌, List, [], ◌∷◌, ◌++◌, map, length, slice_get, Some, refl, sym, ◌∙◌, subst, ap, arith}
+use Rattle.std.proofs.Common.{◌≡◌, ℕ, zero, suc, ◌+◌, ◌*◌, ◌≤◌, ◌<◌, List, [], ◌∷◌, ◌++◌, map, length, slice_get, Some, refl, sym, ◌∙◌, subst, ap, arith}
 use Rattle.std.proofs.lemmas.List.{length-append, length-map}
 use Rattle.std.proofs.lemmas.Option.{none-some, same_Some}
 use Rattle.k_optab.specs.declared.region.Region.{Region}
+use Rattle.k_tree.specs.declared.tree.unit.Unit as source
 use Rattle.k_typed.specs.declared.tree.unit.TFunc.{TFunc}
+use Rattle.k_typed.specs.declared.tree.unit.TUnit.{TUnit}
 use Rattle.k_typed.specs.Numbered.{LoopsBefore, function_numbers, functions_numbers, numbers_from}
+use Rattle.k_typed.specs.Bare.{IsTyped}
 use Rattle.k_typed.specs.Units.{defined_by}
 use Rattle.k_evaluation.specs.Calls.{function_region}
 use Rattle.k_evaluation.specs.Loops.{loop_region}
@@ -198,3 +201,23 @@ unfolding regions_of
 no_others unit typed h =
     let known = typed_known unit typed h in
     in_length typed.functions (defined_by unit) known.named ∙ ap (λ (n : ℕ). length typed.functions + 2 * n) (sym known.numbered.5)
+
+-- the region of a function and those of its loops are no more than all
+first_length : (g : TFunc) (name : List ℕ) (rest : List Region) → length (regions_of_loops name (loops_of g) ++ rest) ≡ 2 * length (loops_of g) + length rest
+first_length g name rest = length-append (regions_of_loops name (loops_of g)) rest ∙ ap (λ (m : ℕ). m + length rest) (loops_length name (loops_of g))
+
+fits_in : (fs : List TFunc) (names : List (List ℕ)) (n : ℕ) (f : TFunc) → length fs ≡ length names → slice_get fs n ≡ Some f → 1 + 2 * length (loops_of f) ≤ length (regions_in fs names)
+fits_in [] names n f same is = absurd (none-some f is)
+fits_in (g ∷ fs) [] n f same is = absurd (omega (arith, same))
+fits_in (g ∷ fs) (name ∷ names) zero f same is =
+    let all : length (regions_of_loops name (loops_of g) ++ regions_in fs names) ≡ 2 * length (loops_of g) + length (regions_in fs names) = first_length g name (regions_in fs names) in
+    subst (λ (h : TFunc). 1 + 2 * length (loops_of h) ≤ length (regions_in (g ∷ fs) (name ∷ names))) (same_Some g f is) (omega (arith, all))
+fits_in (g ∷ fs) (name ∷ names) (suc n) f same is =
+    let all : length (regions_of_loops name (loops_of g) ++ regions_in fs names) ≡ 2 * length (loops_of g) + length (regions_in fs names) = first_length g name (regions_in fs names) in
+    let rest : 1 + 2 * length (loops_of f) ≤ length (regions_in fs names) = fits_in fs names n f (let e : length fs ≡ length names = omega (arith, same) in e) is in
+    omega (arith, all, rest)
+
+pub function_fits : (unit : source.Unit) (typed : TUnit) → IsTyped unit typed → (n : ℕ) (f : TFunc) → slice_get typed.functions n ≡ Some f
+    → 1 + 2 * length (loops_of f) ≤ length (regions_of unit typed)
+unfolding regions_of
+function_fits unit typed h n f is = fits_in typed.functions (defined_by unit) n f (typed_known unit typed h).named is

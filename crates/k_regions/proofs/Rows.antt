@@ -31,9 +31,9 @@ use Rattle.k_evaluation.specs.Assignments.{assign, assign_by, pre, post, writes,
 use Rattle.k_evaluation.specs.Library.{getchar, putchar, puts, printf, chunk_of}
 use Rattle.k_evaluation.specs.Expressions.{Calls, call, eval_step, eval}
 use Rattle.k_typed.specs.declared.tree.expression.Piece.{Piece}
-use Rattle.k_regions.proofs.Added.{Adds, then_adds, gives_adds, sets_adds, settled_adds, makes_adds, computes_adds, still_adds}
+use Rattle.k_regions.proofs.Added.{Policy, Adds, then_adds, gives_adds, sets_adds, settled_adds, makes_adds, computes_adds, still_adds}
 
-module _ (P : ℕ → Type 0) where
+module _ (P : Policy) where
   -- an expression adds such events, as a value and as a place
   pub record MeaningAdds (e : Meaning) : Type 0 where
     pub value : (used : Bool) → Adds P (e.value used)
@@ -85,7 +85,7 @@ module _ (P : ℕ → Type 0) where
       place = h;
     }
 
-    pub tests_adds : (place : Place) (a : Operand) → Adds P (tests program place a)
+    tests_adds : (place : Place) (a : Operand) → Adds P (tests program place a)
     tests_adds place a = makes_adds P program class.Test place act.Test (a ∷ [])
 
     -- PLACES

@@ -1,7 +1,12 @@
--- A whole run: it enters no other regions than those of its source, and where main returned, it is one instance of main.
-use Rattle.std.proofs.Common.{◌≡◌, ℕ, suc, ◌+◌, ◌<◌, List, [], ◌∷◌, ◌++◌, length, slice_get, Option, Some, refl, sym, ◌∙◌, subst, ap}
+-- A whole run: it enters no other regions than those of its source, so often as its operations pay for; and where main returned, it is one instance
+-- of main.
+use Rattle.std.proofs.Common.{◌≡◌, ℕ, suc, ℤ, pos, ◌+◌, ◌*◌, ◌<◌, ◌≤◌, FitsSigned, w32, IsTrue, arith, List, [], ◌∷◌, ◌++◌, length, slice_get, Option, Some, None, refl, sym, ◌∙◌, subst, ap}
 use Rattle.std.specs.Prelude.{codes}
+use Rattle.std.proofs.lemmas.Int.{ints}
 use Rattle.std.proofs.lemmas.Option.{same_Some}
+use Rattle.k_num.specs.declared.numbers.Kind.TheVariants.{I32}
+use Rattle.k_num.specs.Kind.{converted, is_held}
+use Rattle.k_num.proofs.KindLaws.{held_converted}
 use Rattle.k_optab.specs.declared.event.Event.{Event}
 use Rattle.k_optab.specs.declared.event.Event.TheVariants.{Op, Enter, Exit}
 use Rattle.k_optab.specs.declared.region.Region.{Region}
@@ -12,23 +17,26 @@ use Rattle.k_typed.specs.declared.tree.unit.TObject.{TObject}
 use Rattle.k_typed.specs.declared.tree.unit.TString.{TString}
 use Rattle.k_typed.specs.Bare.{IsTyped}
 use Rattle.k_typed.specs.Units.{defined_by, faults}
+use Rattle.k_code.specs.declared.ending.End.{End}
 use Rattle.k_code.specs.declared.ending.End.TheVariants as ending
 use Rattle.k_mem.specs.declared.start.Start.TheVariants.{Zero}
 use Rattle.k_world.specs.declared.value.Held.{Held}
+use Rattle.k_world.specs.declared.value.Value.{Value}
+use Rattle.k_world.specs.declared.value.Value.TheVariants as value
 use Rattle.k_world.specs.WorldLaws.{IsEarly}
 use Rattle.k_evaluation.specs.States.{Program, State, Outcome, Goes, Stops, Part, follow, ◌>>=◌, gives, exits}
 use Rattle.k_evaluation.specs.Objects.{makes_object, makes_string, fills}
 use Rattle.k_evaluation.specs.Calls.{calls, entered, function_region, runs}
 use Rattle.k_evaluation.specs.Laws.{IsReturned}
 use Rattle.k_evaluation.specs.Loops.{loop_region}
-use Rattle.k_evaluation.specs.Runs.{ended, initial, run, runs_main, starts_object, starts_objects, starts_strings, whole}
+use Rattle.k_evaluation.specs.Runs.{ended, exit_of, initial, int_of, run, runs_main, starts_object, starts_objects, starts_strings, whole}
 use Rattle.k_regions.specs.declared.loops.LoopAt.{LoopAt}
-use Rattle.k_regions.specs.Laws.{AreItsRegions, EnterBelow, HasItsRegions, ReturnedRunsAreOfMain, RunsEnterTheirRegions}
+use Rattle.k_regions.specs.Laws.{AreItsRegions, EnterBelow, entries, HasItsRegions, ReturnedRunsAreOfMain, ReturnedRunsGiveInts, RunsEnterTheirRegions}
 use Rattle.k_regions.specs.Regions.{function_itself, loops_of, regions_of}
-use Rattle.k_regions.proofs.Added.{EachEntered, each_both, Leaves, Stays, IsStill, then_still, gives_still, makes_object_still, makes_string_still, fills_still}
+use Rattle.k_regions.proofs.Added.{Policy, ArePaid, made_of, region_paid, EachEntered, each_both, Leaves, Stays, IsStill, then_still, gives_still, makes_object_still, makes_string_still, fills_still}
 use Rattle.k_regions.proofs.Entered.{LoopsHold, ProgramHolds, inside, main_adds}
 use Rattle.k_regions.proofs.Names.{main_named, there_before, typed_known}
-use Rattle.k_regions.proofs.Numbers.{below_length, have_numbers}
+use Rattle.k_regions.proofs.Numbers.{below_length, function_fits, have_numbers}
 
 -- THE START makes no event
 objects_still : (os : List TObject) → IsStill (starts_objects os)
@@ -43,31 +51,50 @@ strings_still [] = gives_still {A = Unit {0}} tt
 strings_still (t ∷ ts) = then_still (makes_string t.place t.bytes) (λ home. starts_strings ts) (makes_string_still t.place t.bytes) (λ home. strings_still ts)
 
 -- MAIN: one instance of its region, with others within it; or the run ends in it
-module _ (P : ℕ → Type 0) (number : ℕ) where
-  record IsInstance (events : List Event) : Type 0 where
-    within : List Event
-    whole : events ≡ Enter number ∷ (within ++ Exit ∷ [])
-    balanced : Balanced within
+module _ (P : Policy) (number : ℕ) where
+  pub record IsInstance (events : List Event) : Type 0 where
+    pub within : List Event
+    pub whole : events ≡ Enter number ∷ (within ++ Exit ∷ [])
+    pub balanced : Balanced within
+
+  -- its entries are allowed, and paid for but for those that one operation more would pay for
+  pub record AreAllowed (events : List Event) : Type 0 where
+    pub each : EachEntered P.Allows events
+    pub paid : ArePaid P P.price 0 events
 
   -- what comes of it, where no event came before
   abbrev MainLeaves : Outcome (Option Held) → Type 0
-  MainLeaves (Goes v t) = IsInstance t.world.events × EachEntered P t.world.events
-  MainLeaves (Stops end w) = IsEarly end × EachEntered P w.events
+  MainLeaves (Goes v t) = IsInstance t.world.events × AreAllowed t.world.events
+  MainLeaves (Stops end w) = IsEarly end × AreAllowed w.events
 
-  main_leaves : (o : Outcome (Option Held)) → P number → Leaves P (Enter number ∷ []) o → MainLeaves (follow o (λ a. exits >>= λ left. gives a))
-  main_leaves (Goes v t) one h =
+  instance_allowed : (w : ℕ) (events : List Event) → P.Allows number → 1 + w ≤ P.price → EachEntered P.Allows events → ArePaid P w 0 events
+      → AreAllowed (Enter number ∷ (events ++ Exit ∷ []))
+  instance_allowed w events one le each h =
+      let paid : entries (Enter number ∷ (events ++ Exit ∷ [])) + 0 ≤ (1 + w) + P.price * made_of (Enter number ∷ (events ++ Exit ∷ [])) = region_paid P number w 0 events h in
+      record { each = (one, each_both P.Allows events (Exit ∷ []) each tt); paid = omega (arith, paid, le) }
+
+  open_allowed : (w : ℕ) (events : List Event) → P.Allows number → 1 + w ≤ P.price → EachEntered P.Allows events → ArePaid P w 0 events → AreAllowed (Enter number ∷ events)
+  open_allowed w events one le each h =
+      let paid : entries events + 0 ≤ w + P.price * made_of events = h in
+      record { each = (one, each); paid = omega (arith, paid, le) }
+
+  main_leaves : (w : ℕ) (o : Outcome (Option Held)) → P.Allows number → 1 + w ≤ P.price → Leaves P w 0 (Enter number ∷ []) o → MainLeaves (follow o (λ a. exits >>= λ left. gives a))
+  main_leaves w (Goes v t) one le h =
       let is : t.world.events ++ Exit ∷ [] ≡ Enter number ∷ (h.0.events ++ Exit ∷ []) = ap (λ (e : List Event). e ++ Exit ∷ []) h.0.is in (
         record { within = h.0.events; whole = is; balanced = h.1 },
-        subst (EachEntered P) (sym is) (one, each_both P h.0.events (Exit ∷ []) h.0.each tt),
+        subst AreAllowed (sym is) (instance_allowed w h.0.events one le h.0.each h.0.paid),
       )
-  main_leaves (Stops end w) one h = (h.0, subst (EachEntered P) (sym h.1.is) (one, h.1.each))
+  main_leaves w (Stops end x) one le h = (h.0, subst AreAllowed (sym h.1.is) (open_allowed w h.1.events one le h.1.each h.1.paid))
+
+  none_allowed : AreAllowed []
+  none_allowed = record { each = tt; paid = omega arith }
 
   -- behind a start that made no event
   still_then : {A : Type 0} (o : Outcome A) (next : A → Part (Option Held)) → Stays [] o → ((a : A) (t : State) → t.world.events ≡ [] → MainLeaves (next a t)) → MainLeaves (follow o next)
   still_then (Goes a t) next h k = k a t h
-  still_then (Stops end w) next h k = (h.0, subst (EachEntered P) (sym h.1) tt)
+  still_then (Stops end w) next h k = (h.0, subst AreAllowed (sym h.1) none_allowed)
 
-module _ (P : ℕ → Type 0) (program : Program) (holds : ProgramHolds P program) where
+module _ (P : Policy) (program : Program) (holds : ProgramHolds P program) where
   abbrev main : ℕ
   main = program.unit.main
 
@@ -76,9 +103,9 @@ module _ (P : ℕ → Type 0) (program : Program) (holds : ProgramHolds P progra
   unfolding runs
   runs_leave f is s none =
       let here : State = record (entered f [] s) { world = record (entered f [] s).world { events = s.world.events ++ Enter (function_region main f) ∷ [] } } in
-      main_leaves P (function_region main f) (inside P program (calls 4095 program) main f here) (holds main f is).0
-      (subst (λ (e : List Event). Leaves P e (inside P program (calls 4095 program) main f here)) (ap (λ (e : List Event). e ++ Enter (function_region main f) ∷ []) none)
-      ((main_adds P program holds main f is).adds here))
+      main_leaves P (function_region main f) (2 * length (loops_of f)) (inside P program (calls 4095 program) main f here) (holds main f is).0 (holds main f is).2
+      (subst (λ (e : List Event). Leaves P (2 * length (loops_of f)) 0 e (inside P program (calls 4095 program) main f here))
+      (ap (λ (e : List Event). e ++ Enter (function_region main f) ∷ []) none) ((main_adds P program holds main f is).adds here))
 
   -- the whole run, where there is a main
   whole_leaves : (f : TFunc) → slice_get program.unit.functions main ≡ Some f → (input : List ℕ) (budget : ℕ) → MainLeaves P (function_region main f) (whole program (initial input budget))
@@ -100,49 +127,56 @@ below count (Op class latency sources place ∷ events) h = below count events h
 below count (Enter region ∷ events) h = (h.0, below count events h.1)
 below count (Exit ∷ events) h = below count events h
 
-loops_below : (regions : List Region) (n : ℕ) (name : List ℕ) (loops : List LoopAt) → ((k : ℕ) (l : LoopAt) → slice_get loops k ≡ Some l → HasItsRegions regions n name l)
-    → LoopsHold (λ m. m < length regions) n loops
-loops_below regions n name [] each = tt
-loops_below regions n name (l ∷ loops) each = (
+-- the regions that are entered are these, and an operation pays for so many entries
+abbrev pub theirs : List Region → Policy
+theirs regions = record { Allows = λ n. n < length regions; price = length regions }
+
+loops_below : (regions : List Region) (n : ℕ) (name : List ℕ) (loops : List LoopAt) → 2 * length loops ≤ length regions
+    → ((k : ℕ) (l : LoopAt) → slice_get loops k ≡ Some l → HasItsRegions regions n name l) → LoopsHold (theirs regions) n loops
+loops_below regions n name [] few each = tt
+loops_below regions n name (l ∷ loops) few each = (
   below_length regions (loop_region n l.number) _ (each 0 l refl).itself,
   below_length regions (loop_region n l.number + 1) _ (each 0 l refl).body,
-  loops_below regions n name loops (λ k. each (suc k)),
+  omega (arith, few),
+  loops_below regions n name loops (omega (arith, few)) (λ k. each (suc k)),
 )
 
-program_below : (unit : source.Unit) (program : Program) → IsTyped unit program.unit → ProgramHolds (λ m. m < length (regions_of unit program.unit)) program
+program_below : (unit : source.Unit) (program : Program) → IsTyped unit program.unit → ProgramHolds (theirs (regions_of unit program.unit)) program
 program_below unit program typed n f is =
     let regions : List Region = regions_of unit program.unit in
     let its : AreItsRegions (defined_by unit) regions n f = have_numbers unit program.unit typed n f is in
-    (below_length regions (function_region n f) _ its.itself, loops_below regions n its.name (loops_of f) its.loops)
+    let few : 1 + 2 * length (loops_of f) ≤ length regions = function_fits unit program.unit typed n f is in
+    (below_length regions (function_region n f) _ its.itself, loops_below regions n its.name (loops_of f) (omega (arith, few)) its.loops, few)
 
 -- THE LAWS
 -- main, and what comes of its run
-record HasRun (unit : source.Unit) (program : Program) (input : List ℕ) (budget : ℕ) : Type 0 where
-  main : TFunc
-  there : slice_get program.unit.functions program.unit.main ≡ Some main
-  leaves : MainLeaves (λ m. m < length (regions_of unit program.unit)) (function_region program.unit.main main) (whole program (initial input budget))
+pub record HasRun (unit : source.Unit) (program : Program) (input : List ℕ) (budget : ℕ) : Type 0 where
+  pub main : TFunc
+  pub there : slice_get program.unit.functions program.unit.main ≡ Some main
+  pub leaves : MainLeaves (theirs (regions_of unit program.unit)) (function_region program.unit.main main) (whole program (initial input budget))
 
-has_run : (unit : source.Unit) (program : Program) (input : List ℕ) (budget : ℕ) → IsTyped unit program.unit → faults unit ≡ [] → HasRun unit program input budget
+pub has_run : (unit : source.Unit) (program : Program) (input : List ℕ) (budget : ℕ) → IsTyped unit program.unit → faults unit ≡ [] → HasRun unit program input budget
 has_run unit program input budget typed none =
     let found : (f : TFunc) × (slice_get program.unit.functions program.unit.main ≡ Some f) =
     there_before program.unit.functions (defined_by unit) program.unit.main (codes "main") (typed_known unit program.unit typed).named (main_named unit program.unit typed none) in
     record {
       main = found.0;
       there = found.1;
-      leaves = whole_leaves (λ m. m < length (regions_of unit program.unit)) program (program_below unit program typed) found.0 found.1 input budget;
+      leaves = whole_leaves (theirs (regions_of unit program.unit)) program (program_below unit program typed) found.0 found.1 input budget;
     }
 
-enters_below : (count number : ℕ) (o : Outcome (Option Held)) → MainLeaves (λ m. m < count) number o → EnterBelow count (ended o).events
-enters_below count number (Goes v s) h = below count s.world.events h.1
-enters_below count number (Stops end w) h = below count w.events h.1
+pub ended_allowed : (P : Policy) (number : ℕ) (o : Outcome (Option Held)) → MainLeaves P number o → AreAllowed P number (ended o).events
+ended_allowed P number (Goes v s) h = h.1
+ended_allowed P number (Stops end w) h = h.1
 
 pub enter_theirs : RunsEnterTheirRegions
 unfolding run
 enter_theirs unit program input budget typed none =
     let it = has_run unit program input budget typed none in
-    enters_below (length (regions_of unit program.unit)) (function_region program.unit.main it.main) (whole program (initial input budget)) it.leaves
+    below (length (regions_of unit program.unit)) (ended (whole program (initial input budget))).events
+    (ended_allowed (theirs (regions_of unit program.unit)) (function_region program.unit.main it.main) (whole program (initial input budget)) it.leaves).each
 
-instance_of : (P : ℕ → Type 0) (number : ℕ) (o : Outcome (Option Held)) → MainLeaves P number o → IsReturned (ended o).end → IsInstance P number (ended o).events
+instance_of : (P : Policy) (number : ℕ) (o : Outcome (Option Held)) → MainLeaves P number o → IsReturned (ended o).end → IsInstance P number (ended o).events
 instance_of P number (Goes v s) h returned = h.0
 instance_of P number (Stops (ending.Returned v) w) h returned = absurd h.0
 instance_of P number (Stops (ending.Trapped trap place) w) h returned = absurd returned
@@ -154,7 +188,7 @@ are_of_main unit program input budget typed none returned =
     let it = has_run unit program input budget typed none in
     let regions : List Region = regions_of unit program.unit in
     let its : AreItsRegions (defined_by unit) regions program.unit.main it.main = have_numbers unit program.unit typed program.unit.main it.main it.there in
-    let one = instance_of (λ m. m < length regions) (function_region program.unit.main it.main) (whole program (initial input budget)) it.leaves returned in
+    let one = instance_of (theirs regions) (function_region program.unit.main it.main) (whole program (initial input budget)) it.leaves returned in
     record {
       number = function_region program.unit.main it.main;
       inside = one.within;
@@ -165,3 +199,34 @@ are_of_main unit program input budget typed none returned =
       kind = refl;
       func = same_Some its.name (codes "main") (sym its.named ∙ main_named unit program.unit typed none);
     }
+
+-- the number that was returned, or something in its place
+returned_in : End → ℤ
+returned_in (ending.Returned v) = v
+returned_in (ending.Trapped trap place) = pos 0
+returned_in ending.OutOfSteps = pos 0
+
+-- a number that main gives is an int
+int_fits : (z : ℤ) → IsTrue (is_held I32 z) → FitsSigned w32 z
+int_fits z h = grind (arith, ints)
+
+int_given : (v : Value) → FitsSigned w32 (int_of v)
+int_given (value.Number z) = int_fits (converted I32 z) (held_converted I32 z)
+int_given (value.Pointer p) = grind (arith, ints)
+
+exit_given : (v : Option Held) → FitsSigned w32 (exit_of v)
+exit_given None = grind (arith, ints)
+exit_given (Some held) = int_given held.value
+
+exit_fits : (P : Policy) (number : ℕ) (o : Outcome (Option Held)) (exit : ℤ) → MainLeaves P number o → (ended o).end ≡ ending.Returned exit → FitsSigned w32 exit
+unfolding returned_in
+exit_fits P number (Goes v s) exit h is = subst (FitsSigned w32) (ap returned_in is) (exit_given v)
+exit_fits P number (Stops (ending.Returned v) w) exit h is = absurd h.0
+exit_fits P number (Stops (ending.Trapped trap place) w) exit h is = absurd (subst IsReturned (sym is) tt)
+exit_fits P number (Stops ending.OutOfSteps w) exit h is = absurd (subst IsReturned (sym is) tt)
+
+pub return_ints : ReturnedRunsGiveInts
+unfolding run
+return_ints unit program input budget exit typed none is =
+    let it = has_run unit program input budget typed none in
+    exit_fits (theirs (regions_of unit program.unit)) (function_region program.unit.main it.main) (whole program (initial input budget)) exit it.leaves is

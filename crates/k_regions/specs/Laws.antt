@@ -1,11 +1,13 @@
 -- What holds of the regions of every source, and of those that its runs enter.
-use Rattle.std.specs.Prelude.{ℕ, ◌≡◌, ◌+◌, ◌*◌, ◌<◌, ◌≤◌, List, [], ◌∷◌, ◌++◌, length, slice_get, map, Some, codes}
+use Rattle.std.specs.Prelude.{ℕ, ℤ, ◌≡◌, ◌+◌, ◌*◌, ◌<◌, ◌≤◌, List, [], ◌∷◌, ◌++◌, length, slice_get, map, Some, FitsSigned, codes}
+use Rattle.std.specs.Int.{w32}
 use Rattle.k_num.specs.declared.place.Place.{Place}
 use Rattle.k_optab.specs.declared.event.Event.{Event}
 use Rattle.k_optab.specs.declared.event.Event.TheVariants.{Op, Enter, Exit}
 use Rattle.k_optab.specs.declared.region.Region.{Region}
 use Rattle.k_optab.specs.declared.region.RegionKind.TheVariants.{Func}
 use Rattle.k_optab.specs.Instances.{Balanced}
+use Rattle.k_code.specs.declared.ending.End.TheVariants.{Returned}
 use Rattle.k_tree.specs.declared.tokens.Token.{Token}
 use Rattle.k_tree.specs.declared.tokens.TokenKind.{TokenKind}
 use Rattle.k_tree.specs.declared.tokens.TokenKind.TheVariants as token
@@ -108,3 +110,28 @@ ReturnedRunsAreOfMain =
     → IsTyped unit program.unit
     → faults unit ≡ []
     → (let it = run program input budget in IsReturned it.end → IsOfMain (regions_of unit program.unit) it.events)
+
+-- how many times regions are entered among these events
+abbrev pub entries : List Event → ℕ
+entries [] = 0
+entries (Op class latency sources place ∷ events) = entries events
+entries (Enter region ∷ events) = 1 + entries events
+entries (Exit ∷ events) = entries events
+
+-- a call and a test are operations, and only a `do` whose body leaves at once enters regions without one: so a run enters regions at most as
+-- often as its source has regions, for each operation that it may make, and once more so often
+abbrev pub RunsEnterFew : Type 0
+RunsEnterFew =
+    (unit : source.Unit) (program : Program) (input : List ℕ) (budget : ℕ)
+    → IsTyped unit program.unit
+    → faults unit ≡ []
+    → entries (run program input budget).events ≤ length (regions_of unit program.unit) * (budget + 1)
+
+-- what main returned is an int
+abbrev pub ReturnedRunsGiveInts : Type 0
+ReturnedRunsGiveInts =
+    (unit : source.Unit) (program : Program) (input : List ℕ) (budget : ℕ) (exit : ℤ)
+    → IsTyped unit program.unit
+    → faults unit ≡ []
+    → (run program input budget).end ≡ Returned exit
+    → FitsSigned w32 exit

@@ -1,5 +1,6 @@
 //! What holds of the regions of every source: each function's contract is a law, and its body does nothing.
-ghost use Rattle.k_regions.specs.Laws.{RegionsAreFew, RegionsComeOfTokens, RegionsHaveTheirNumbers, ReturnedRunsAreOfMain, RunsEnterTheirRegions, ThereAreNoOthers};
+ghost use Rattle.k_regions.specs.Laws.{RegionsAreFew, RegionsComeOfTokens, RegionsHaveTheirNumbers, ReturnedRunsAreOfMain, ReturnedRunsGiveInts, RunsEnterFew, RunsEnterTheirRegions, ThereAreNoOthers};
+ghost use Rattle.k_regions.specs.Saving.{RegionsCanBeSaved};
 
 /// Each function, loop and body of a typed source is the region of its number, and there are no others.
 pub fn regions_have_their_numbers()
@@ -21,4 +22,19 @@ pub fn runs_enter_their_regions()
 /// Where main returned, a run is one instance of main, with all others within it.
 pub fn runs_are_of_main()
     ensures { ReturnedRunsAreOfMain }
+{}
+
+/// The regions of a source without faults are those of a profile that can be saved.
+pub fn regions_can_be_saved()
+    ensures { RegionsCanBeSaved }
+{}
+
+/// A run enters regions at most as often as its source has regions, for each operation that it may make and once more.
+pub fn runs_enter_few()
+    ensures { RunsEnterFew }
+{}
+
+/// What main returned is an int.
+pub fn runs_return_ints()
+    ensures { ReturnedRunsGiveInts }
 {}
