@@ -160,7 +160,7 @@ others_none p as_ bs cs ds once there =
     (omega (arith, once, there, first, second, third), omega (arith, once, there, first, second, third))
 
 -- THE STEP assigns its variable
-read_there : (b : Bool) (e : TExpr) (i : Read) → read_if b e ≡ Some i → variable_of e ≡ Some i
+pub read_there : (b : Bool) (e : TExpr) (i : Read) → read_if b e ≡ Some i → variable_of e ≡ Some i
 read_there true e i is = is
 read_there false e i is = absurd cc
 

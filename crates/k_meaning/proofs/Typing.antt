@@ -75,7 +75,7 @@ promoted_not_narrower U32 = omega arith
 promoted_not_narrower I64 = omega arith
 promoted_not_narrower U64 = omega arith
 
-change_not_narrower : (op : Bin) (j k : Kind) → width j ≤ width (change_kind op j k)
+pub change_not_narrower : (op : Bin) (j k : Kind) → width j ≤ width (change_kind op j k)
 change_not_narrower Shl j k = promoted_not_narrower j
 change_not_narrower Shr j k = promoted_not_narrower j
 change_not_narrower _ j k = common_not_narrower j k

@@ -82,7 +82,7 @@ abbrev pub expressions_in : TStmt → List TExpr
 expressions_in = fold-TStmt (List TExpr) (List TExpr) part_expressions expressions_step
 
 -- TYPING: each of these that reduces this variable assigns to it as to one of this kind, as the rules of typing give it. It is a premise of
--- the law: no contract says it of a checked tree yet
+-- the law, which `k_meant` shows of each source that has a typed tree
 abbrev pub AreTyped : Kind → ℕ → List TExpr → Type 0
 AreTyped kind n [] = Unit {0}
 AreTyped kind n (e ∷ es) = (IsSome (reducing_step n (out-TExpr e)) → IsTypedAssignment kind (out-TExpr e)) × AreTyped kind n es
