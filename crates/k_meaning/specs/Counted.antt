@@ -1,7 +1,7 @@
 -- INDUCTION: what the variable of a counted loop holds, and its bound.
 use Rattle.std.specs.Prelude.{ℕ, zero, suc, nat_eq, true, false, IsTrue, ◌≤◌, ◌≡◌, ℤ, pos, neg_ℤ, ◌+ℤ◌, ◌*ℤ◌, List, [], ◌∷◌, Option, Some, None}
 use Rattle.k_num.specs.declared.numbers.Bin.{Bin}
-use Rattle.k_num.specs.declared.numbers.Bin.TheVariants.{Add, Sub}
+use Rattle.k_num.specs.declared.numbers.Bin.TheVariants.{Sub}
 use Rattle.k_num.specs.declared.numbers.Kind.{Kind}
 use Rattle.k_num.specs.Kind.{width, is_held, converted}
 use Rattle.k_typed.specs.declared.types.TType.TheVariants as ttype

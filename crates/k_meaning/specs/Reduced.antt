@@ -8,7 +8,6 @@ use Rattle.k_num.specs.declared.numbers.Kind.{Kind}
 use Rattle.k_num.specs.Combining.{combined}
 use Rattle.k_num.specs.Kind.{width}
 use Rattle.k_typed.specs.declared.types.TType.TheVariants as ttype
-use Rattle.k_typed.specs.declared.tree.expression.Change.TheVariants as change
 use Rattle.k_typed.specs.declared.tree.expression.TExpr.{TExpr, out-TExpr}
 use Rattle.k_typed.specs.declared.tree.expression.TExpr.TheOpen.{TExpr-F}
 use Rattle.k_typed.specs.declared.tree.statement.TStmt.{TStmt, fold-TStmt}
