@@ -1,8 +1,6 @@
 -- REDUCTION: statements combine a variable that they reduce with what they contribute, and so does a loop.
-use Rattle.std.proofs.Common.{◌≡◌, ℕ, zero, suc, ℤ, List, [], ◌∷◌, ◌++◌, map, Option, Some, None, Bool, true, false, ◌&&◌, nat_eq, refl, sym, ◌∙◌, ap, subst}
+use Rattle.std.proofs.Common.{◌≡◌, ℕ, ℤ, List, [], ◌∷◌, ◌++◌, map, Option, Some, None, Bool, true, false, ◌&&◌, nat_eq, refl, sym, ◌∙◌, ap, subst}
 use Rattle.std.specs.List.{list_all, fold}
-use Rattle.std.specs.List.Sorted.{IsPermutation}
-use Rattle.k_num.specs.declared.place.Place.{Place}
 use Rattle.k_num.specs.declared.numbers.Bin.{Bin}
 use Rattle.k_num.specs.declared.numbers.Kind.{Kind}
 use Rattle.k_num.specs.Combining.{combined, is_commutative}
@@ -19,21 +17,19 @@ use Rattle.k_typed.specs.declared.tree.statement.TFirst.TheVariants as first
 use Rattle.k_typed.specs.declared.tree.statement.TPart.{TPart, fold-TPart, fold-roll-TPart, map-TPart, roll-TPart}
 use Rattle.k_typed.specs.declared.tree.statement.TPart.TheOpen.{TPart-F, TStmt-F}
 use Rattle.k_typed.specs.declared.tree.statement.TStmt.{TStmt, fold-roll-TStmt, ind-TStmt, map-TStmt, roll-TStmt}
-use Rattle.k_typed.specs.declared.tree.unit.TFunc.{TFunc}
 use Rattle.k_typed.specs.declared.tree.unit.TVariable.{TVariable}
 use Rattle.k_marks.specs.declared.uses.Group.{Group}
 use Rattle.k_marks.specs.declared.uses.Group.TheVariants.{Sums, Products, Ands, Ors, Xors}
 use Rattle.k_marks.specs.declared.uses.Use.{Use}
 use Rattle.k_marks.specs.declared.uses.Use.TheVariants.{Names, Assigns, Declares, Reduces}
-use Rattle.k_marks.specs.Uses.{uses_of, option_uses, all_uses, item_uses, init_uses, declarator_uses, declared_uses, first_uses, first_declares}
+use Rattle.k_marks.specs.Uses.{uses_of, option_uses, all_uses, item_uses, init_uses, declared_uses, first_uses, first_declares}
 use Rattle.k_marks.specs.Contents.{Inside, inside, part_inside, inside_step, part_step, row}
 use Rattle.k_marks.specs.Loops.{Loop, fits, loop_uses, is_reduced}
 use Rattle.k_marks.specs.Loops as marks
 use Rattle.k_evaluation.specs.Jumps.{is_left}
-use Rattle.k_evaluation.specs.declared.operand.Operand.{Operand}
 use Rattle.k_evaluation.specs.declared.flow.Flow.{Flow}
 use Rattle.k_evaluation.specs.declared.flow.Flow.TheVariants.{Normal}
-use Rattle.k_evaluation.specs.States.{Program, State, Outcome, Goes, Part, ◌>>=◌, gives}
+use Rattle.k_evaluation.specs.States.{State, Outcome, Goes, Part, ◌>>=◌, gives}
 use Rattle.k_evaluation.specs.Flows.{Doing, Within, means, drops, tests_at, in_order}
 use Rattle.k_evaluation.specs.Loops.{source_loop, while_loop, do_loop}
 use Rattle.k_evaluation.specs.Declarations.{starts_with}
@@ -43,16 +39,16 @@ use Rattle.k_evaluation.specs.Statements as statements
 use Rattle.k_evaluation.specs.Statements.{does_step, does, expression, empty, compound, does_or_none, chosen_arm, if_jumps, if_else, for_loop, break, continue, return, declaration}
 use Rattle.k_evaluation.specs.Calls.{within, calls}
 use Rattle.k_meaning.specs.Frames.{IsSpared}
-use Rattle.k_meaning.specs.Turns.{For, marked, HoldsNumber}
-use Rattle.k_meaning.specs.Contributions.{Adds, none, after, contributed, reducing_step, Giving, adds_in_order, adds_if_there, adds_by, adds_loop, PartGiving, GivesCase, GivesDefault, GivesStatement, part_doing, given_default, adds_chosen, adds_step, giving_step, part_giving, giving}
-use Rattle.k_meaning.specs.Reduced.{combining, joined, if_listed, expressions_step, part_expressions, expressions_in, AreTyped, ReductionsCombine}
-use Rattle.k_meaning.proofs.Parts.{Keeps, Any, gives_kept}
+use Rattle.k_meaning.specs.Turns.{marked, HoldsNumber}
+use Rattle.k_meaning.specs.Contributions.{Adds, after, contributed, reducing_step, Giving, adds_in_order, adds_if_there, adds_by, adds_loop, PartGiving, part_doing, given_default, adds_chosen, giving_step, part_giving, giving}
+use Rattle.k_meaning.specs.Reduced.{combining, joined, expressions_step, part_expressions, expressions_in, AreTyped, ReductionsCombine}
+use Rattle.k_meaning.proofs.Parts.{gives_kept}
 use Rattle.k_meaning.proofs.Rows.{CallsKeep}
 use Rattle.k_meaning.proofs.Executed.{value_keeps, tests_at_keep, selects_keep, starts_with_keeps, test_keeps, step_keeps, empty_keeps, break_keeps, continue_keeps, return_keeps, declaration_keeps}
 use Rattle.k_meaning.proofs.Bodies.{calls_keep}
 use Rattle.k_meaning.proofs.Conditions.{IsPlain, plain, both_true, not_true, register_of}
 use Rattle.k_meaning.proofs.Steps.{Reaches}
-use Rattle.k_meaning.proofs.Folding.{with_all, Folds, quiet, folds_behind, folds_before, folds_settled, folds_block, FoldsGiving, AllFold, in_order_folds, arm_folds, source_loop_folds, PartFolds, PartsFold, default_folds, chooses_folds}
+use Rattle.k_meaning.proofs.Folding.{Folds, quiet, folds_behind, folds_before, folds_settled, folds_block, FoldsGiving, AllFold, in_order_folds, arm_folds, source_loop_folds, PartFolds, PartsFold, default_folds, chooses_folds}
 use Rattle.k_meaning.proofs.Given.{statement_folds}
 
 all_front : {A : Type 0} (p : A → Bool) (xs ys : List A) → list_all p (xs ++ ys) ≡ true → list_all p xs ≡ true

@@ -18,9 +18,9 @@ use Rattle.k_marks.specs.declared.uses.Use.{Use}
 use Rattle.k_marks.specs.declared.uses.Use.TheVariants.{Names}
 use Rattle.k_marks.specs.Uses.{Used, used, uses_of, assigns, option_uses, first_uses}
 use Rattle.k_marks.specs.Reductions.{group_of, change_group, variable_of, read_of, read_again, reduction, reduced_uses, assigned_step, unconverted, action_step, action_uses}
-use Rattle.k_marks.specs.Contents.{Inside, inside, part_inside, inside_step, part_step, row, both}
+use Rattle.k_marks.specs.Contents.{Inside, inside, part_inside, inside_step, part_step, row}
 use Rattle.k_evaluation.specs.declared.operand.Operand.{Operand}
-use Rattle.k_evaluation.specs.States.{Program, State, Outcome, Goes, Stops, Part, ◌>>=◌, gives, traps, read, makes}
+use Rattle.k_evaluation.specs.States.{Program, State, Outcome, Goes, Stops, gives, traps, read, makes}
 use Rattle.k_evaluation.specs.Expressions.{Calls}
 use Rattle.k_evaluation.specs.Meanings.{nothing}
 use Rattle.k_evaluation.specs.Flows.{Doing, Within}

@@ -1,14 +1,11 @@
 -- INDUCTION: the bound of a counted loop, by its conditions and the frame.
-use Rattle.std.proofs.Common.{◌≡◌, ℕ, zero, suc, ◌+◌, List, [], ◌∷◌, ◌++◌, Option, Some, None, Bool, true, false, ◌&&◌, ◌||◌, not, refl, sym, ◌∙◌, ap, subst, slice_get}
+use Rattle.std.proofs.Common.{◌≡◌, ℕ, zero, suc, ◌+◌, List, [], ◌∷◌, ◌++◌, Option, Some, None, Bool, true, false, ◌&&◌, ◌||◌, not, refl, sym, ◌∙◌, ap, subst}
 use Rattle.std.specs.List.{list_any}
-use Rattle.k_num.specs.declared.numbers.Bin.{Bin}
 use Rattle.k_typed.specs.declared.tree.expression.TExpr.{TExpr, out-TExpr}
 use Rattle.k_typed.specs.declared.tree.expression.TExpr.TheOpen.{TExpr-F}
-use Rattle.k_typed.specs.declared.tree.unit.TVariable.{TVariable}
 use Rattle.k_world.specs.declared.value.Held.{Held}
 use Rattle.k_world.specs.declared.value.Value.{Value}
 use Rattle.k_world.specs.Operands.{value_in}
-use Rattle.k_marks.specs.declared.uses.Read.{Read}
 use Rattle.k_marks.specs.declared.uses.Use.{Use}
 use Rattle.k_marks.specs.Uses.{Used, uses_of, option_uses, first_declares}
 use Rattle.k_marks.specs.Contents.{inside}
@@ -17,14 +14,14 @@ use Rattle.k_marks.specs.Loops.{Loop, assigns_it, is_assigned, loop_uses, stays,
 use Rattle.k_marks.specs.Loops as marks
 use Rattle.k_evaluation.specs.declared.flow.Flow.{Flow}
 use Rattle.k_evaluation.specs.declared.flow.Flow.TheVariants.{Continued}
-use Rattle.k_evaluation.specs.States.{State, Outcome, Goes, Part, gives, held_in, held_by}
+use Rattle.k_evaluation.specs.States.{State, gives, held_in}
 use Rattle.k_evaluation.specs.Flows.{Within, means}
 use Rattle.k_evaluation.specs.Places.{is_register}
 use Rattle.k_evaluation.specs.Loops.{LoopParts, loop_region}
 use Rattle.k_evaluation.specs.Statements.{does}
 use Rattle.k_evaluation.specs.Calls.{within, calls}
 use Rattle.k_meaning.specs.Frames.{IsSpared}
-use Rattle.k_meaning.specs.Turns.{For, marked, parts_of, tested_turn, IsBeforeTest}
+use Rattle.k_meaning.specs.Turns.{For, marked, parts_of, IsBeforeTest}
 use Rattle.k_meaning.specs.Counted.{IsNotDeclared, EachNamed, HasValue, BoundIsSame}
 use Rattle.k_meaning.proofs.Parts.{Kept, Keeps, Any, gives_kept, region_kept}
 use Rattle.k_meaning.proofs.Rows.{CallsKeep}

@@ -1,17 +1,14 @@
 -- THE BOUND of a counted loop has the same value at every test.
-use Rattle.std.proofs.Common.{◌≡◌, ℕ, zero, suc, List, [], ◌∷◌, ◌++◌, map, Option, Some, None, Bool, true, false, ◌&&◌, not, refl, sym, ◌∙◌, ap, subst, slice_get}
-use Rattle.std.specs.List.{list_any}
-use Rattle.k_num.specs.declared.numbers.Kind.{Kind}
-use Rattle.k_typed.specs.declared.tree.expression.TExpr.{TExpr, fold-roll-TExpr, ind-TExpr, map-TExpr, out-TExpr, roll-TExpr}
+use Rattle.std.proofs.Common.{◌≡◌, ℕ, List, [], ◌∷◌, ◌++◌, Option, Some, Bool, true, ◌&&◌, sym, ◌∙◌, ap, subst, slice_get}
+use Rattle.k_typed.specs.declared.tree.expression.TExpr.{TExpr, fold-roll-TExpr, ind-TExpr, map-TExpr, roll-TExpr}
 use Rattle.k_typed.specs.declared.tree.expression.TExpr.TheOpen.{TExpr-F}
 use Rattle.k_typed.specs.declared.tree.unit.TVariable.{TVariable}
 use Rattle.k_world.specs.declared.value.Held.{Held}
 use Rattle.k_world.specs.declared.value.Value.{Value}
 use Rattle.k_world.specs.Operands.{value_in}
-use Rattle.k_marks.specs.declared.uses.Read.{Read}
 use Rattle.k_marks.specs.declared.uses.Use.{Use}
 use Rattle.k_marks.specs.declared.uses.Use.TheVariants.{Names, Assigns, Declares, Reduces}
-use Rattle.k_marks.specs.Uses.{Used, used, uses_step, uses_of, option_uses}
+use Rattle.k_marks.specs.Uses.{Used, used, uses_step, uses_of}
 use Rattle.k_marks.specs.Loops.{fixed_step, is_fixed}
 use Rattle.k_evaluation.specs.declared.operand.Operand.{Operand}
 use Rattle.k_evaluation.specs.States.{Program, State, Outcome, Goes, held_by, read}

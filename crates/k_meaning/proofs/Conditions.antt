@@ -1,12 +1,10 @@
 -- What the conditions of a counted loop say, one by one.
-use Rattle.std.proofs.Common.{◌≡◌, ℕ, zero, suc, ◌+◌, ◌≤◌, List, [], ◌∷◌, ◌++◌, map, Option, Some, None, Bool, true, false, ◌&&◌, ◌||◌, not, nat_eq, if◌then◌else◌, refl, sym, ◌∙◌, ap, subst, slice_get, arith}
+use Rattle.std.proofs.Common.{◌≡◌, ℕ, ◌+◌, ◌≤◌, List, [], ◌∷◌, ◌++◌, map, Option, Some, None, Bool, true, false, ◌&&◌, ◌||◌, not, nat_eq, refl, sym, ◌∙◌, ap, subst, slice_get, arith}
 use Rattle.std.specs.Prelude.{cond, count_by}
 use Rattle.std.specs.List.{list_any, sum_by}
 use Rattle.std.proofs.lemmas.Bool.{eqb-true, eqb-false}
 use Rattle.std.proofs.lemmas.List.Sums.{sum_by-append, sum_by-cons}
-use Rattle.k_typed.specs.declared.types.TType.{TType}
-use Rattle.k_typed.specs.declared.types.TType.TheVariants as ttype
-use Rattle.k_typed.specs.declared.tree.expression.TExpr.{TExpr, fold-roll-TExpr, ind-TExpr, map-TExpr, out-TExpr, roll-TExpr}
+use Rattle.k_typed.specs.declared.tree.expression.TExpr.{TExpr, fold-roll-TExpr, ind-TExpr, map-TExpr, out-TExpr}
 use Rattle.k_typed.specs.declared.tree.expression.TExpr.TheOpen.{TExpr-F}
 use Rattle.k_typed.specs.declared.tree.unit.TVariable.{TVariable}
 use Rattle.k_marks.specs.declared.uses.Read.{Read}
@@ -14,10 +12,10 @@ use Rattle.k_marks.specs.declared.uses.Use.{Use}
 use Rattle.k_marks.specs.declared.uses.Use.TheVariants.{Names, Assigns, Declares, Reduces}
 use Rattle.k_marks.specs.Uses.{Used, used, uses_step, uses_of, in_order, assigns, option_uses, first_declares}
 use Rattle.k_marks.specs.Reductions.{variable_of, read_of}
-use Rattle.k_marks.specs.Loops.{Loop, loop_uses, is_number, is_register_there, is_register, assigns_it, is_assigned, adds, is_nonzero, read_if, counter_step, counter_of, counter, tests, reads, expr_if, bound_step, bound_in, steps_alone, stays, has_bound, bound_of, runs_through, counts, is_counted}
+use Rattle.k_marks.specs.Loops.{Loop, loop_uses, is_number, is_register_there, is_register, assigns_it, adds, is_nonzero, read_if, counter_step, counter_of, counter, tests, reads, expr_if, bound_step, steps_alone, has_bound, bound_of, runs_through, counts, is_counted}
 use Rattle.k_evaluation.specs.Places.{has_register}
 use Rattle.k_evaluation.specs.Places as places
-use Rattle.k_meaning.specs.Frames.{changes, IsSpared}
+use Rattle.k_meaning.specs.Frames.{IsSpared}
 use Rattle.k_meaning.specs.Counted.{IsNotDeclared, EachNamed}
 use Rattle.k_meaning.proofs.OneVariable.{uses_at, used_is, IsRead, variable_is, IsNamed, read_is}
 
@@ -160,7 +158,7 @@ others_none p as_ bs cs ds once there =
     (omega (arith, once, there, first, second, third), omega (arith, once, there, first, second, third))
 
 -- THE STEP assigns its variable
-read_there : (b : Bool) (e : TExpr) (i : Read) → read_if b e ≡ Some i → variable_of e ≡ Some i
+pub read_there : (b : Bool) (e : TExpr) (i : Read) → read_if b e ≡ Some i → variable_of e ≡ Some i
 read_there true e i is = is
 read_there false e i is = absurd cc
 

@@ -1,24 +1,20 @@
 -- INDUCTION: the variable of a counted loop before each test.
-use Rattle.std.proofs.Common.{◌≡◌, ℕ, zero, suc, ◌+◌, ◌*◌, ◌≤◌, ℤ, pos, ◌+ℤ◌, ◌*ℤ◌, List, [], ◌∷◌, ◌++◌, Option, Some, None, Bool, true, false, ◌&&◌, ◌||◌, not, nat_eq, if◌then◌else◌, refl, sym, ◌∙◌, ap, subst, slice_get, arith}
-use Rattle.std.specs.Prelude.{◌^◌, count_by}
-use Rattle.std.specs.List.{list_any}
-use Rattle.std.proofs.lemmas.Int.{ints}
-use borrow.Author.Differences.{up, down, same_in, same_out, sum_is_lem, product_is}
+use Rattle.std.proofs.Common.{◌≡◌, ℕ, zero, suc, ℤ, pos, ◌+ℤ◌, ◌*ℤ◌, Option, Bool, true, false, not, if◌then◌else◌, refl, sym, ◌∙◌, ap, subst, arith}
+use Rattle.std.specs.Prelude.{◌^◌}
+use borrow.Author.Differences.{same_in, sum_is_lem, product_is}
 use Rattle.k_num.specs.declared.numbers.Bin.TheVariants.{Add}
 use Rattle.k_num.specs.declared.numbers.Kind.{Kind}
 use Rattle.k_num.specs.Combining.{combined}
 use Rattle.k_num.specs.Kind.{width, converted}
 use Rattle.k_num.proofs.Combining.{combined_alike}
 use Rattle.k_num.proofs.KindLaws.{same_self, same_converted, converted_held}
-use Rattle.k_typed.specs.declared.tree.expression.TExpr.{TExpr, out-TExpr}
-use Rattle.k_typed.specs.declared.tree.unit.TFunc.{TFunc}
 use Rattle.k_world.specs.declared.value.Held.{Held}
 use Rattle.k_world.specs.Operands.{value_in}
 use Rattle.k_evaluation.specs.declared.flow.Flow.{Flow}
 use Rattle.k_evaluation.specs.declared.flow.Flow.TheVariants.{Normal, Broke, Continued, Returned}
-use Rattle.k_evaluation.specs.States.{Program, State, Outcome, Goes, Stops, Part, follow, ◌>>=◌, gives, settles}
+use Rattle.k_evaluation.specs.States.{State, Outcome, Goes, Stops, Part, follow, ◌>>=◌, gives, settles}
 use Rattle.k_evaluation.specs.Meanings.{holds}
-use Rattle.k_evaluation.specs.Loops.{LoopParts, Turn, Again, Ends, turn_of, resets, starts, stays_behind_body, step_or_end, behind_body, turn, turn_if}
+use Rattle.k_evaluation.specs.Loops.{LoopParts, turn_of, resets, starts, stays_behind_body, step_or_end, behind_body, turn, turn_if}
 use Rattle.k_meaning.specs.Turns.{HoldsNumber, tested_turn, IsBeforeTest}
 use Rattle.k_meaning.specs.Counted.{counted, CountedIsConverted}
 use Rattle.k_meaning.proofs.Parts.{Kept, Keeps, Any, thus, settles_kept}

@@ -1,15 +1,15 @@
 -- Expressions keep each variable that their text does not change, where calls do.
-use Rattle.std.proofs.Common.{◌≡◌, ℕ, List, [], ◌∷◌, ◌++◌, map, Option, Some, None, false, sym, subst}
+use Rattle.std.proofs.Common.{ℕ, List, [], ◌∷◌, ◌++◌, map, Option, Some, None, sym, subst}
 use Rattle.k_typed.specs.declared.tree.expression.TExpr.{TExpr, fold-roll-TExpr, ind-TExpr, map-TExpr, roll-TExpr}
 use Rattle.k_typed.specs.declared.tree.expression.TExpr.TheOpen.{TExpr-F}
 use Rattle.k_typed.specs.declared.tree.unit.TVariable.{TVariable}
 use Rattle.k_marks.specs.declared.uses.Use.{Use}
-use Rattle.k_marks.specs.Uses.{Used, used, uses_step, uses_of, in_order, assigns}
+use Rattle.k_marks.specs.Uses.{Used, used, uses_step, in_order, assigns}
 use Rattle.k_evaluation.specs.States.{Program}
 use Rattle.k_evaluation.specs.Meanings.{Meaning}
 use Rattle.k_evaluation.specs.Expressions.{Calls, eval_step, eval}
 use Rattle.k_meaning.specs.Frames.{IsSpared}
-use Rattle.k_meaning.proofs.Rows.{ValueKeeps, MeaningKeeps, AllKeep, CallsKeep, IsOther, number_keeps, string_keeps, object_keeps, variable_keeps, index_keeps, call_keeps, getchar_keeps, putchar_keeps, puts_keeps, printf_keeps, post_keeps, pre_keeps, address_keeps, deref_keeps, plus_keeps, unary_keeps, convert_keeps, cast_keeps, binary_keeps, both_keeps, either_keeps, forward_keeps, onto_keeps, back_keeps, compare_keeps, distance_keeps, cond_keeps, assign_keeps, assign_by_keeps, comma_keeps}
+use Rattle.k_meaning.proofs.Rows.{MeaningKeeps, AllKeep, CallsKeep, IsOther, number_keeps, string_keeps, object_keeps, variable_keeps, index_keeps, call_keeps, getchar_keeps, putchar_keeps, puts_keeps, printf_keeps, post_keeps, pre_keeps, address_keeps, deref_keeps, plus_keeps, unary_keeps, convert_keeps, cast_keeps, binary_keeps, both_keeps, either_keeps, forward_keeps, onto_keeps, back_keeps, compare_keeps, distance_keeps, cond_keeps, assign_keeps, assign_by_keeps, comma_keeps}
 
 -- what is spared by two texts is spared by each
 pub front : (n : ℕ) (xs ys : List Use) → IsSpared n (xs ++ ys) → IsSpared n xs

@@ -1,5 +1,5 @@
 -- Statements keep a variable, where their parts do.
-use Rattle.std.proofs.Common.{◌≡◌, ℕ, zero, suc, ◌+◌, ℤ, pos, List, [], ◌∷◌, ◌++◌, map, Option, Some, None, Bool, true, false, not, nat_eq, if◌then◌else◌, refl, slice_get}
+use Rattle.std.proofs.Common.{◌≡◌, ℕ, zero, suc, ◌+◌, ℤ, pos, List, [], ◌∷◌, map, Option, Some, None, Bool, true, false, not, nat_eq, if◌then◌else◌, refl, slice_get}
 use Rattle.k_num.specs.declared.place.Place.{Place}
 use Rattle.k_num.specs.declared.numbers.Kind.{Kind}
 use Rattle.k_num.specs.declared.numbers.Bin.TheVariants as bin
@@ -17,19 +17,18 @@ use Rattle.k_mem.specs.declared.start.Start.TheVariants.{Unset}
 use Rattle.k_world.specs.declared.act.Act.TheVariants as act
 use Rattle.k_world.specs.declared.value.Held.{Held}
 use Rattle.k_world.specs.declared.value.Value.TheVariants as value
-use Rattle.k_marks.specs.Uses.{used, uses_of, all_uses, item_uses, init_uses, declarator_uses, declared_uses, first_uses, option_uses}
+use Rattle.k_marks.specs.Uses.{uses_of, all_uses, item_uses, init_uses, declarator_uses, declared_uses, first_uses, option_uses}
 use Rattle.k_evaluation.specs.Jumps.{is_left}
 use Rattle.k_evaluation.specs.declared.operand.Operand.{Operand}
-use Rattle.k_evaluation.specs.declared.operand.Operand.TheVariants.{Constant, Holding}
+use Rattle.k_evaluation.specs.declared.operand.Operand.TheVariants.{Constant}
 use Rattle.k_evaluation.specs.declared.operand.Target.{Target}
 use Rattle.k_evaluation.specs.declared.operand.Target.TheVariants.{InRegister, InMemory}
 use Rattle.k_evaluation.specs.declared.flow.Flow.{Flow}
 use Rattle.k_evaluation.specs.declared.flow.Flow.TheVariants.{Normal, Broke, Continued, Returned}
-use Rattle.k_evaluation.specs.States.{Program, Part, ◌>>=◌, gives, makes, computes, sets, control, settles, enters}
+use Rattle.k_evaluation.specs.States.{Program, Part, ◌>>=◌, gives, makes, computes, sets, control, settles}
 use Rattle.k_evaluation.specs.Objects.{makes_object, fills}
 use Rattle.k_evaluation.specs.Meanings.{tests, holds}
 use Rattle.k_evaluation.specs.Assignments.{writes}
-use Rattle.k_evaluation.specs.Expressions.{Calls}
 use Rattle.k_evaluation.specs.Flows.{Doing, Within, means, drops, tests_at, goes_on, unless_left, in_order}
 use Rattle.k_evaluation.specs.Loops.{LoopParts, Turn, Again, Ends, turn_of, resets, starts, stays_behind_body, stays_behind_loop, step_or_end, behind_body, turn, turn_if, turns, all_turns, begins, inside_loop, loop, loop_region, test_or_one, step_or_none, loop_parts, source_loop, while_loop, do_loop}
 use Rattle.k_evaluation.specs.Declarations.{initialises, begins_register, values_from, element_of, stores, stores_item, stores_items, begins_object, begins_variable, declares_by, elements_of, declares, declares_all, starts_with}

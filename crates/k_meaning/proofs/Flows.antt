@@ -1,5 +1,5 @@
 -- A statement ends by a jump only where its text holds one.
-use Rattle.std.proofs.Common.{◌≡◌, ℕ, zero, suc, ◌+◌, ℤ, List, [], ◌∷◌, ◌++◌, map, Option, Some, None, Bool, true, false, ◌||◌, not, if◌then◌else◌, refl, sym, ◌∙◌, ap, subst}
+use Rattle.std.proofs.Common.{◌≡◌, ℕ, zero, suc, ◌+◌, List, [], ◌∷◌, map, Option, Some, None, Bool, true, false, ◌||◌, not, if◌then◌else◌, refl, sym, ap, subst}
 use Rattle.k_num.specs.declared.numbers.Kind.{Kind}
 use Rattle.k_typed.specs.declared.tree.declaration.TDeclarator.{TDeclarator}
 use Rattle.k_typed.specs.declared.tree.expression.TExpr.{TExpr}
@@ -19,8 +19,8 @@ use Rattle.k_evaluation.specs.declared.flow.Flow.TheVariants.{Normal, Broke, Con
 use Rattle.k_evaluation.specs.States.{State, Outcome, Goes, Stops, Part, follow, ◌>>=◌, gives, makes, enters, exits, region, control, settles, settled}
 use Rattle.k_evaluation.specs.Objects.{live, keeps, block}
 use Rattle.k_evaluation.specs.Meanings.{holds}
-use Rattle.k_evaluation.specs.Flows.{Doing, Within, means, drops, tests_at, goes_on, unless_left, in_order}
-use Rattle.k_evaluation.specs.Loops.{LoopParts, Turn, Again, Ends, turn_of, starts, stays_behind_body, stays_behind_loop, step_or_end, behind_body, turn, turn_if, turns, all_turns, begins, inside_loop, loop, loop_region, loop_parts, source_loop, while_loop, do_loop}
+use Rattle.k_evaluation.specs.Flows.{Doing, Within, means, drops, tests_at, unless_left, in_order}
+use Rattle.k_evaluation.specs.Loops.{LoopParts, turn_of, starts, stays_behind_body, stays_behind_loop, step_or_end, behind_body, turn, turn_if, turns, all_turns, begins, inside_loop, loop, loop_region, loop_parts, source_loop, while_loop, do_loop}
 use Rattle.k_evaluation.specs.Declarations.{starts_with, declares_all}
 use Rattle.k_evaluation.specs.Switches.{PartDoing, ACase, ADefault, AStatement, statements_of, behind_default, has_case, selects, chooses, behind_switch, runs_chosen, switches, switch_jumps, switch}
 use Rattle.k_evaluation.specs.Statements.{does_step, does, expression, empty, compound, does_or_none, chosen_arm, if_jumps, if_else, for_loop, break, continue, returns_moved, returned, return, declaration}

@@ -1,5 +1,5 @@
 -- What parts make of a variable that holds a number: it is combined with what they contribute.
-use Rattle.std.proofs.Common.{◌≡◌, ℕ, zero, suc, ◌+◌, ℤ, List, [], ◌∷◌, ◌++◌, map, Option, Some, None, Bool, true, false, not, if◌then◌else◌, refl, sym, ◌∙◌, ap, subst}
+use Rattle.std.proofs.Common.{◌≡◌, ℕ, zero, suc, ◌+◌, ℤ, List, [], ◌∷◌, ◌++◌, map, Option, Bool, true, false, not, if◌then◌else◌, refl, sym, ◌∙◌, ap, subst}
 use Rattle.std.specs.List.{fold}
 use Rattle.std.proofs.lemmas.List.Sums.{fold-append}
 use Rattle.k_num.specs.declared.numbers.Bin.{Bin}
@@ -13,12 +13,12 @@ use Rattle.k_world.specs.Operands.{value_in}
 use Rattle.k_evaluation.specs.declared.operand.Operand.{Operand}
 use Rattle.k_evaluation.specs.declared.flow.Flow.{Flow}
 use Rattle.k_evaluation.specs.declared.flow.Flow.TheVariants.{Normal, Broke, Continued, Returned}
-use Rattle.k_evaluation.specs.States.{Program, State, Outcome, Goes, Stops, Part, follow, ◌>>=◌, gives, held_in, enters, exits, region, control, settles, settled}
+use Rattle.k_evaluation.specs.States.{Program, State, Outcome, Goes, Stops, Part, follow, ◌>>=◌, gives, held_in, enters, exits, region, settles, settled}
 use Rattle.k_evaluation.specs.Objects.{live, keeps, block}
 use Rattle.k_evaluation.specs.Meanings.{holds}
 use Rattle.k_evaluation.specs.Flows.{Doing, Within, unless_left, in_order}
-use Rattle.k_evaluation.specs.Loops.{LoopParts, Turn, Again, Ends, turn_of, resets, starts, stays_behind_body, stays_behind_loop, step_or_end, behind_body, turn, turn_if, turns, all_turns, begins, inside_loop, loop, loop_region, loop_parts, source_loop}
-use Rattle.k_evaluation.specs.Switches.{PartDoing, ACase, ADefault, AStatement, statements_of, behind_default, chooses, behind_switch, runs_chosen, switches, selects}
+use Rattle.k_evaluation.specs.Loops.{LoopParts, Turn, Again, Ends, turn_of, resets, starts, stays_behind_body, stays_behind_loop, step_or_end, behind_body, turn, turn_if, turns, all_turns, begins, inside_loop, loop_region, loop_parts, source_loop}
+use Rattle.k_evaluation.specs.Switches.{PartDoing, statements_of, behind_default, chooses, behind_switch, runs_chosen, selects}
 use Rattle.k_meaning.specs.Turns.{HoldsNumber}
 use Rattle.k_meaning.specs.Contributions.{Adds, none, after, Giving, unless_jumped, adds_in_order, adds_by, unless_ended, adds_turn, adds_turns, adds_all_turns, adds_begins, adds_loop, PartGiving, GivesCase, GivesDefault, GivesStatement, part_doing, given_statements, given_default, adds_chosen}
 use Rattle.k_meaning.proofs.Parts.{Kept, Keeps, Any, thus, gives_kept, settles_kept}

@@ -1,6 +1,4 @@
 -- What runs leaves each variable that its text does not change.
-use Rattle.std.proofs.Common.{ℕ}
-use Rattle.k_marks.specs.Uses.{uses_of}
 use Rattle.k_evaluation.specs.Expressions.{eval}
 use Rattle.k_evaluation.specs.Statements.{does}
 use Rattle.k_evaluation.specs.Calls.{within, calls}

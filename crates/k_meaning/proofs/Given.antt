@@ -1,13 +1,11 @@
 -- Statements combine a variable that they reduce with what they contribute.
-use Rattle.std.proofs.Common.{◌≡◌, ℕ, zero, suc, ◌≤◌, ℤ, List, [], ◌∷◌, ◌++◌, map, Option, Some, None, Bool, true, false, ◌&&◌, ◌||◌, not, nat_eq, if◌then◌else◌, refl, sym, ◌∙◌, ap, subst, arith}
-use Rattle.std.specs.List.{list_all, fold}
+use Rattle.std.proofs.Common.{◌≡◌, ℕ, ◌≤◌, ℤ, List, [], ◌∷◌, ◌++◌, Option, Some, None, Bool, true, false, ◌&&◌, ◌||◌, not, nat_eq, if◌then◌else◌, refl, sym, ◌∙◌, ap, subst, arith}
+use Rattle.std.specs.List.{list_all}
 use Rattle.std.specs.Prelude.{IsSome}
 use Rattle.std.proofs.lemmas.Bool.{eqb-true, eqb-false}
 use Rattle.k_num.specs.declared.numbers.Bin.{Bin}
 use Rattle.k_num.specs.declared.numbers.Kind.{Kind}
-use Rattle.k_num.specs.Combining.{combined}
 use Rattle.k_num.specs.Kind.{width}
-use Rattle.k_typed.specs.declared.types.TType.TheVariants as ttype
 use Rattle.k_typed.specs.declared.tree.expression.Change.TheVariants as change
 use Rattle.k_typed.specs.declared.tree.expression.Node.{Node}
 use Rattle.k_typed.specs.declared.tree.expression.TExpr.{TExpr, out-TExpr}
@@ -17,13 +15,11 @@ use Rattle.k_marks.specs.declared.uses.Read.{Read}
 use Rattle.k_marks.specs.declared.uses.Use.{Use}
 use Rattle.k_marks.specs.declared.uses.Use.TheVariants.{Names, Assigns, Declares, Reduces}
 use Rattle.k_marks.specs.Uses.{Used, used, uses_of, assigns}
-use Rattle.k_marks.specs.Reductions.{group_of, variable_step, variable_of, read_step, read_of, read_again, reduction, reduced_uses, assigned_step, unconverted_step, action_step, action_uses}
+use Rattle.k_marks.specs.Reductions.{group_of, variable_of, read_step, read_of, read_again, reduction, reduced_uses, assigned_step, unconverted_step, action_step, action_uses}
 use Rattle.k_marks.specs.Loops.{fits, same_group, reads}
-use Rattle.k_world.specs.Operands.{value_in}
 use Rattle.k_evaluation.specs.declared.operand.Operand.{Operand}
-use Rattle.k_evaluation.specs.declared.operand.Operand.TheVariants.{Register}
 use Rattle.k_evaluation.specs.declared.operand.Target.TheVariants.{InRegister}
-use Rattle.k_evaluation.specs.States.{State, Outcome, Goes, follow, read}
+use Rattle.k_evaluation.specs.States.{State, Outcome, Goes, follow}
 use Rattle.k_evaluation.specs.Meanings.{Meaning}
 use Rattle.k_evaluation.specs.Places as places
 use Rattle.k_evaluation.specs.Operators.{binary, convert, converts}

@@ -1,10 +1,9 @@
 -- INDUCTION, by the conditions of a counted loop, the frame and its step.
-use Rattle.std.proofs.Common.{◌≡◌, ℕ, ◌+◌, ℤ, pos, ◌+ℤ◌, ◌*ℤ◌, List, Option, Some, None, Bool, true, false, refl, sym, ◌∙◌, ap, subst}
+use Rattle.std.proofs.Common.{◌≡◌, ℕ, ◌+◌, ℤ, Option, Some, None, true, false}
 use Rattle.k_num.specs.declared.numbers.Bin.TheVariants.{Add}
 use Rattle.k_num.specs.declared.numbers.Kind.{Kind}
 use Rattle.k_num.specs.Combining.{combined}
-use Rattle.k_typed.specs.declared.tree.expression.TExpr.{TExpr, out-TExpr}
-use Rattle.k_typed.specs.declared.tree.unit.TVariable.{TVariable}
+use Rattle.k_typed.specs.declared.tree.expression.TExpr.{TExpr}
 use Rattle.k_marks.specs.declared.uses.Read.{Read}
 use Rattle.k_marks.specs.Uses.{option_uses}
 use Rattle.k_marks.specs.Contents.{inside}
@@ -18,7 +17,7 @@ use Rattle.k_evaluation.specs.Statements.{does}
 use Rattle.k_evaluation.specs.Calls.{within, calls}
 use Rattle.k_meaning.specs.Frames.{IsSpared}
 use Rattle.k_meaning.specs.Turns.{For, marked, parts_of, HoldsNumber}
-use Rattle.k_meaning.specs.Counted.{step_of, IsTypedStep, IsTypedFor, IsNotDeclared, VariableIsCounted}
+use Rattle.k_meaning.specs.Counted.{step_of, IsTypedStep, IsNotDeclared, VariableIsCounted}
 use Rattle.k_meaning.proofs.Parts.{Keeps, Any, region_kept}
 use Rattle.k_meaning.proofs.Rows.{CallsKeep}
 use Rattle.k_meaning.proofs.Executed.{test_keeps}

@@ -1,5 +1,5 @@
 -- INDUCTION: the number of turns of a counted loop that ended.
-use Rattle.std.proofs.Common.{◌≡◌, ℕ, zero, suc, ◌+◌, ◌<◌, ℤ, List, Option, Some, None, Bool, true, false, ◌&&◌, not, refl, sym, ◌∙◌, ap, subst}
+use Rattle.std.proofs.Common.{◌≡◌, ℕ, zero, ◌+◌, ◌<◌, ℤ, Option, Some, None, Bool, true, false, not, refl, sym, ◌∙◌, ap, subst}
 use Rattle.k_num.specs.declared.numbers.Kind.{Kind}
 use Rattle.k_optab.specs.declared.event.Event.TheVariants as event
 use Rattle.k_typed.specs.declared.tree.expression.TExpr.{TExpr}
@@ -12,8 +12,8 @@ use Rattle.k_marks.specs.declared.uses.Read.{Read}
 use Rattle.k_marks.specs.Contents.{inside}
 use Rattle.k_marks.specs.Loops.{counter, bound_of, is_counted}
 use Rattle.k_evaluation.specs.declared.flow.Flow.{Flow}
-use Rattle.k_evaluation.specs.declared.flow.Flow.TheVariants.{Normal, Broke, Continued, Returned}
-use Rattle.k_evaluation.specs.States.{Program, State, Outcome, Goes, Stops, Part, follow, ◌>>=◌, gives, settles, exits, with_event}
+use Rattle.k_evaluation.specs.declared.flow.Flow.TheVariants.{Normal, Continued}
+use Rattle.k_evaluation.specs.States.{Program, State, Outcome, Goes, Stops, follow, ◌>>=◌, gives, settles, exits, with_event}
 use Rattle.k_evaluation.specs.Flows.{Within}
 use Rattle.k_evaluation.specs.Meanings.{holds}
 use Rattle.k_evaluation.specs.Loops.{LoopParts, starts, all_turns, loop, loop_region, stays_behind_loop}
@@ -21,10 +21,10 @@ use Rattle.k_evaluation.specs.Statements.{does}
 use Rattle.k_evaluation.specs.Calls.{within, calls}
 use Rattle.k_meaning.specs.Turns.{For, marked, parts_of, tested_turn, IsBeforeTest, HoldsNumber}
 use Rattle.k_meaning.specs.Counted.{step_of, IsOfKind, IsTypedFor, HasValue, counted}
-use Rattle.k_meaning.specs.Ended.{compared, at_loop, EndedAfter, TurnsAreLeast}
+use Rattle.k_meaning.specs.Ended.{compared, at_loop, TurnsAreLeast}
 use Rattle.k_meaning.proofs.Conditions.{Counts, counted_counts, both_true, not_true}
 use Rattle.k_meaning.proofs.Flows.{MayJump, jumps_in, IsAllowed, Gives, region_gives, does_gives}
-use Rattle.k_meaning.proofs.Tested.{At, at_goes}
+use Rattle.k_meaning.proofs.Tested.{at_goes}
 use Rattle.k_meaning.proofs.Turning.{IsEnd, Ended, turns_end, passed, first_made, IsSo, WasTested, was_tested}
 use Rattle.k_meaning.proofs.Induction.{variable_is_counted}
 use Rattle.k_meaning.proofs.BoundLaw.{bound_is_same}

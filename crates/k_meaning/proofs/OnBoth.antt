@@ -1,5 +1,5 @@
 -- INDUCTION: each test of a counted loop is one on its variable and its bound.
-use Rattle.std.proofs.Common.{◌≡◌, ℕ, ℤ, pos, List, [], ◌∷◌, Option, Some, None, Result, Ok, Bool, true, false, ◌&&◌, not, if◌then◌else◌, refl, sym, ◌∙◌, ap, subst, slice_get}
+use Rattle.std.proofs.Common.{◌≡◌, ℕ, ℤ, List, [], ◌∷◌, Option, Some, None, Ok, Bool, true, false, ◌&&◌, not, refl, sym, ◌∙◌, ap, subst}
 use Rattle.k_num.specs.declared.place.Place.{Place}
 use Rattle.k_num.specs.declared.numbers.Bin.{Bin}
 use Rattle.k_num.specs.declared.numbers.Kind.{Kind}
@@ -12,7 +12,6 @@ use Rattle.k_typed.specs.declared.tree.unit.TVariable.{TVariable}
 use Rattle.k_world.specs.declared.value.Held.{Held}
 use Rattle.k_world.specs.declared.value.Value.TheVariants.{Number}
 use Rattle.k_world.specs.Operands.{value_in}
-use Rattle.k_marks.specs.declared.uses.Read.{Read}
 use Rattle.k_marks.specs.declared.uses.Use.{Use}
 use Rattle.k_marks.specs.declared.uses.Use.TheVariants.{Names, Assigns, Declares, Reduces}
 use Rattle.k_marks.specs.Uses.{uses_of}
@@ -20,7 +19,7 @@ use Rattle.k_marks.specs.Reductions.{read_of}
 use Rattle.k_marks.specs.Loops.{Loop, stays, is_assigned, is_fixed, tests, reads, expr_if, bound_step, bound_of, has_bound}
 use Rattle.k_marks.specs.Loops as marks
 use Rattle.k_evaluation.specs.declared.operand.Operand.{Operand}
-use Rattle.k_evaluation.specs.States.{Program, State, Outcome, Goes, Stops, Part, follow, ◌>>=◌, gives, held_by, held_in, read, settles}
+use Rattle.k_evaluation.specs.States.{State, Outcome, Goes, Stops, Part, ◌>>=◌, read, settles}
 use Rattle.k_evaluation.specs.Flows.{Within, means}
 use Rattle.k_evaluation.specs.Meanings.{Meaning, holds, behind_one}
 use Rattle.k_evaluation.specs.Meanings as meanings
@@ -28,13 +27,12 @@ use Rattle.k_evaluation.specs.Operators.{binary, binary_on}
 use Rattle.k_evaluation.specs.Loops.{starts, test_or_one}
 use Rattle.k_evaluation.specs.Places.{is_register}
 use Rattle.k_evaluation.specs.Calls.{within, calls}
-use Rattle.k_meaning.specs.Turns.{For, marked, parts_of, HoldsNumber}
+use Rattle.k_meaning.specs.Turns.{marked, parts_of, HoldsNumber}
 use Rattle.k_meaning.specs.Counted.{IsTypedTestAt, IsTypedTest, EachNamed, HasValue}
 use Rattle.k_meaning.specs.Ended.{is_met, compared_at, compared, TestsAreOnBoth}
-use Rattle.k_meaning.proofs.Values.{value_by, read_value}
-use Rattle.k_meaning.proofs.Stepped.{meaning, meaning_at, meaning_is}
+use Rattle.k_meaning.proofs.Values.{value_by}
+use Rattle.k_meaning.proofs.Stepped.{meaning_at, meaning_is}
 use Rattle.k_meaning.proofs.Conditions.{Counts, counted_counts, both_true, register_of}
-use Rattle.k_meaning.proofs.Twice.{TwoAt, SameOperand}
 use Rattle.k_meaning.proofs.Bounds.{fixed_same, two_values}
 use Rattle.k_meaning.proofs.Tested.{At, follow_at, at_goes, computed_is, left_computes, compares_number, tests_number}
 

@@ -1,5 +1,5 @@
 -- What the parts that a run is made of leave of a variable.
-use Rattle.std.proofs.Common.{◌≡◌, ℕ, zero, suc, ℤ, List, [], ◌∷◌, ◌++◌, map, Option, Some, None, Bool, true, false, nat_eq, refl, ◌∙◌, ap, subst, slice_get, slice_set}
+use Rattle.std.proofs.Common.{◌≡◌, ℕ, zero, suc, ℤ, List, [], ◌∷◌, map, Option, Some, None, Bool, true, false, nat_eq, refl, ◌∙◌, ap, subst, slice_get, slice_set}
 use Rattle.std.proofs.lemmas.Bool.{eqb-false}
 use Rattle.k_num.specs.declared.place.Place.{Place}
 use Rattle.k_optab.specs.declared.class.Class.{Class}
@@ -13,7 +13,7 @@ use Rattle.k_world.specs.Worlds.{World}
 use Rattle.k_world.specs.Changes.{object_made}
 use Rattle.k_evaluation.specs.declared.operand.Operand.{Operand}
 use Rattle.k_evaluation.specs.declared.operand.Operand.TheVariants.{Holding}
-use Rattle.k_evaluation.specs.States.{Program, State, Outcome, Goes, Stops, Part, follow, ◌>>=◌, gives, traps, held_by, held_in, read, made, makes, computes, sets, enters, exits, region, control, controls, settles, settled}
+use Rattle.k_evaluation.specs.States.{Program, State, Outcome, Goes, Stops, Part, follow, ◌>>=◌, gives, traps, held_by, held_in, read, made, makes, computes, sets, enters, exits, region, control, settles, settled}
 use Rattle.k_evaluation.specs.Objects.{made_object, makes_object, fills, live, keeps, block}
 use Rattle.k_meaning.specs.Frames.{Leaves}
 

@@ -1,29 +1,24 @@
 -- A statement that reduces a variable combines it with the value of its other operand.
-use Rattle.std.proofs.Common.{◌≡◌, ℕ, ◌≤◌, ℤ, pos, List, [], ◌∷◌, ◌++◌, map, Option, Some, None, Result, Ok, Err, Bool, true, false, ◌&&◌, nat_eq, if◌then◌else◌, refl, sym, ◌∙◌, ap, subst, slice_get}
+use Rattle.std.proofs.Common.{◌≡◌, ℕ, ◌≤◌, ℤ, List, [], ◌∷◌, map, Option, Some, None, Ok, Bool, true, false, if◌then◌else◌, refl, sym, ◌∙◌, ap, subst}
 use Rattle.std.specs.List.{fold}
 use Rattle.k_num.specs.declared.numbers.Bin.{Bin}
 use Rattle.k_num.specs.declared.numbers.Bin.TheVariants.{Add, Sub, Mul, And, Or, Xor}
 use Rattle.k_num.specs.declared.numbers.Kind.{Kind}
 use Rattle.k_num.specs.declared.place.Place.{Place}
-use Rattle.k_num.specs.Arithmetic.{value}
 use Rattle.k_num.specs.Combining.{combined, is_modular}
 use Rattle.k_num.specs.Kind.{width, converted}
 use Rattle.k_num.proofs.Combining.{difference_is_sum}
-use Rattle.k_optab.specs.declared.class.Class.{Class}
 use Rattle.k_optab.specs.declared.class.Class.TheVariants as class
-use Rattle.k_code.specs.declared.ending.Trap.{Trap}
-use Rattle.k_typed.specs.declared.types.TType.{TType}
 use Rattle.k_typed.specs.declared.types.TType.TheVariants as ttype
 use Rattle.k_typed.specs.declared.tree.expression.Change.TheVariants as change
 use Rattle.k_typed.specs.declared.tree.expression.Node.{Node}
 use Rattle.k_typed.specs.Types.{same_kind}
-use Rattle.k_world.specs.declared.act.Act.{Act}
 use Rattle.k_world.specs.declared.act.Act.TheVariants as act
 use Rattle.k_world.specs.declared.value.Held.{Held}
 use Rattle.k_world.specs.declared.value.Value.{Value}
 use Rattle.k_world.specs.declared.value.Value.TheVariants.{Number, Pointer}
 use Rattle.k_world.specs.Acts.{Given, work}
-use Rattle.k_world.specs.Operands.{values_of, value_before, value_in}
+use Rattle.k_world.specs.Operands.{values_of, value_in}
 use Rattle.k_world.specs.Worlds.{World}
 use Rattle.k_marks.specs.declared.uses.Group.{Group}
 use Rattle.k_marks.specs.declared.uses.Group.TheVariants.{Sums, Products, Ands, Ors, Xors}
@@ -33,16 +28,16 @@ use Rattle.k_evaluation.specs.declared.operand.Operand.{Operand}
 use Rattle.k_evaluation.specs.declared.operand.Operand.TheVariants.{Holding, Register}
 use Rattle.k_evaluation.specs.declared.operand.Target.{Target}
 use Rattle.k_evaluation.specs.declared.operand.Target.TheVariants.{InRegister}
-use Rattle.k_evaluation.specs.States.{Program, State, Outcome, Goes, Stops, Part, follow, ◌>>=◌, gives, held_by, held_in, read, makes, computes}
+use Rattle.k_evaluation.specs.States.{Program, State, Outcome, Goes, Stops, Part, follow, ◌>>=◌, gives, read, makes}
 use Rattle.k_evaluation.specs.Meanings.{Meaning, kind_of}
 use Rattle.k_evaluation.specs.Operators.{converts, binary_on, class_of}
 use Rattle.k_evaluation.specs.Assignments.{assign_by, writes, behind_changed, changes_old, converts_between, converts_side, converts_back, side_kind, combined as combines}
 use Rattle.k_meaning.specs.Turns.{HoldsNumber}
 use Rattle.k_meaning.specs.Counted.{signed}
-use Rattle.k_meaning.specs.Contributions.{Adds, after, number_by}
+use Rattle.k_meaning.specs.Contributions.{after, number_by}
 use Rattle.k_meaning.specs.Reduced.{combining}
 use Rattle.k_meaning.proofs.Parts.{Kept, Keeps, Any}
-use Rattle.k_meaning.proofs.Values.{value_by, read_value, before_value, value_before_is, MakesValue, makes_value, Computes, ComputesAt, side_number}
+use Rattle.k_meaning.proofs.Values.{value_by, read_value, before_value, value_before_is, MakesValue, makes_value, ComputesAt, side_number}
 use Rattle.k_meaning.proofs.Steps.{Reaches, changes_reach}
 
 -- THE OPERATORS OF A GROUP combine as one of them does, with the number as it is signed

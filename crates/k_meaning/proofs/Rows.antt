@@ -1,5 +1,5 @@
 -- What each row of the table of expressions leaves of a variable, where its operands leave it.
-use Rattle.std.proofs.Common.{◌≡◌, ℕ, ℤ, List, [], ◌∷◌, ◌++◌, map, Option, Some, None, Bool, true, false, nat_eq, if◌then◌else◌, refl, subst}
+use Rattle.std.proofs.Common.{◌≡◌, ℕ, ℤ, List, [], ◌∷◌, map, Option, Some, None, Bool, true, false, nat_eq, if◌then◌else◌, refl, subst}
 use Rattle.k_num.specs.declared.place.Place.{Place}
 use Rattle.k_num.specs.declared.numbers.Bin.{Bin}
 use Rattle.k_num.specs.declared.numbers.Bin.TheVariants as bin
@@ -30,7 +30,7 @@ use Rattle.k_evaluation.specs.Operators.{plus, unary, convert, cast, binary, com
 use Rattle.k_evaluation.specs.Assignments.{assign, assign_by, pre, post, writes, behind_place, old_value, converts_between, converts_side, converts_back, side_kind, combined, changed, changes, changes_old, behind_changed, one, after_old, after_place}
 use Rattle.k_evaluation.specs.Library.{getchar, putchar, puts, printf, outputs, puts_byte, chunk_of}
 use Rattle.k_evaluation.specs.Expressions.{Calls, call}
-use Rattle.k_meaning.proofs.Parts.{Keeps, Any, binds, thus, kept_follow, gives_kept, makes_kept, computes_kept, sets_kept, settled_kept}
+use Rattle.k_meaning.proofs.Parts.{Keeps, Any, binds, thus, gives_kept, makes_kept, computes_kept, sets_kept, settled_kept}
 
 -- a place that is a register is this variable
 abbrev pub IsAt : Option ℕ → Target → Type 0

@@ -1,15 +1,14 @@
 -- `s = s op e` combines s with the value of e.
-use Rattle.std.proofs.Common.{◌≡◌, ℕ, ◌≤◌, ℤ, pos, List, [], ◌∷◌, ◌++◌, map, Option, Some, None, Result, Ok, Err, Bool, true, false, ◌&&◌, nat_eq, refl, sym, ◌∙◌, ap, subst, slice_get}
+use Rattle.std.proofs.Common.{◌≡◌, ℕ, ◌≤◌, ℤ, List, [], ◌∷◌, map, Option, Some, None, Ok, Bool, true, false, refl, sym, ◌∙◌, ap, subst, slice_get}
 use Rattle.std.specs.List.{fold}
 use Rattle.k_num.specs.declared.numbers.Bin.{Bin}
 use Rattle.k_num.specs.declared.numbers.Kind.{Kind}
 use Rattle.k_num.specs.declared.place.Place.{Place}
 use Rattle.k_num.specs.Arithmetic.{value}
-use Rattle.k_num.specs.Combining.{combined, is_modular}
+use Rattle.k_num.specs.Combining.{combined}
 use Rattle.k_num.specs.Kind.{width, converted}
 use Rattle.k_num.proofs.KindLaws.{converted-converted}
 use Rattle.k_optab.specs.declared.class.Class.TheVariants as class
-use Rattle.k_typed.specs.declared.types.TType.{TType}
 use Rattle.k_typed.specs.declared.types.TType.TheVariants as ttype
 use Rattle.k_typed.specs.declared.tree.expression.Node.{Node}
 use Rattle.k_world.specs.declared.act.Act.TheVariants as act
@@ -24,19 +23,19 @@ use Rattle.k_evaluation.specs.declared.operand.Operand.{Operand}
 use Rattle.k_evaluation.specs.declared.operand.Operand.TheVariants.{Holding, Register}
 use Rattle.k_evaluation.specs.declared.operand.Target.{Target}
 use Rattle.k_evaluation.specs.declared.operand.Target.TheVariants.{InRegister}
-use Rattle.k_evaluation.specs.States.{Program, State, Outcome, Goes, Stops, Part, follow, ◌>>=◌, gives, held_by, held_in, read, makes}
-use Rattle.k_evaluation.specs.Meanings.{Meaning, behind_one, kind_of}
+use Rattle.k_evaluation.specs.States.{Program, State, Outcome, Goes, Stops, follow, gives, held_by, read, makes}
+use Rattle.k_evaluation.specs.Meanings.{Meaning, behind_one}
 use Rattle.k_evaluation.specs.Operators.{binary, binary_on, convert, converts}
 use Rattle.k_evaluation.specs.Assignments.{assign, behind_place, writes}
 use Rattle.k_meaning.specs.Turns.{HoldsNumber}
 use Rattle.k_meaning.specs.Counted.{signed}
-use Rattle.k_meaning.specs.Contributions.{Adds, after, number_by}
+use Rattle.k_meaning.specs.Contributions.{after, number_by}
 use Rattle.k_meaning.specs.Reduced.{combining}
 use Rattle.k_meaning.proofs.Parts.{Kept, Keeps, Any}
 use Rattle.k_meaning.proofs.Values.{value_by, read_value, MakesValue, makes_value, ComputesAt, binary_number, converted_value, converts_number, modular_right, value_kept, value_combined}
 use Rattle.k_meaning.proofs.Steps.{Reaches, writes_reach}
 use Rattle.k_meaning.proofs.Tested.{convert_value}
-use Rattle.k_meaning.proofs.Reducing.{combined_signed, group_modular, Never, NoNumber, never_reaches, binary_never}
+use Rattle.k_meaning.proofs.Reducing.{combined_signed, group_modular, Never, NoNumber, binary_never}
 
 -- s as an operand: wherever s holds x, it is a number that is x in the kind of the operation
 abbrev pub IsSide : ℕ → ℤ → Kind → Operand → Type 0

@@ -1,6 +1,5 @@
 -- The step of a counted loop adds its number to the loop's variable.
-use Rattle.std.proofs.Common.{◌≡◌, ℕ, ◌≤◌, ℤ, pos, neg_ℤ, List, Option, Some, None, Bool, true, false, ◌&&◌, not, refl, sym, ◌∙◌, ap, subst, slice_get}
-use Rattle.std.specs.Ordering.{int_eq}
+use Rattle.std.proofs.Common.{◌≡◌, ℕ, ◌≤◌, ℤ, pos, neg_ℤ, List, Option, Some, None, Bool, true, false, ◌&&◌, refl, sym, ◌∙◌, ap, subst}
 use Rattle.k_num.specs.declared.numbers.Bin.{Bin}
 use Rattle.k_num.specs.declared.numbers.Bin.TheVariants.{Add, Sub}
 use Rattle.k_num.specs.declared.numbers.Kind.{Kind}
@@ -22,14 +21,13 @@ use Rattle.k_evaluation.specs.declared.operand.Operand.{Operand}
 use Rattle.k_evaluation.specs.declared.operand.Operand.TheVariants.{Constant}
 use Rattle.k_evaluation.specs.declared.operand.Target.{Target}
 use Rattle.k_evaluation.specs.declared.operand.Target.TheVariants.{InRegister}
-use Rattle.k_evaluation.specs.States.{Program, State, Outcome, Goes, Stops, Part, follow, ◌>>=◌, gives}
+use Rattle.k_evaluation.specs.States.{Program, State, Outcome, Goes, follow}
 use Rattle.k_evaluation.specs.Meanings.{Meaning, kind_of}
 use Rattle.k_evaluation.specs.Places.{is_register, is_broken, variable, variable_place, number}
 use Rattle.k_evaluation.specs.Assignments.{assign_by, pre, post, one, after_place, behind_changed, changes_old}
 use Rattle.k_evaluation.specs.Expressions.{Calls, eval_step, eval}
-use Rattle.k_evaluation.specs.Flows.{Within, means, drops}
 use Rattle.k_meaning.specs.Turns.{HoldsNumber}
-use Rattle.k_meaning.specs.Counted.{signed, added_by, number_step, step_at, IsTypedChange, IsTypedStepAt}
+use Rattle.k_meaning.specs.Counted.{added_by, number_step, step_at, IsTypedChange, IsTypedStepAt}
 use Rattle.k_meaning.proofs.Conditions.{both_true}
 use Rattle.k_meaning.proofs.Steps.{Reaches, changes_reach}
 

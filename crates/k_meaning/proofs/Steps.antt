@@ -1,5 +1,5 @@
 -- What a change of a variable in a register comes to.
-use Rattle.std.proofs.Common.{◌≡◌, ℕ, zero, suc, ◌≤◌, ℤ, pos, List, [], ◌∷◌, map, Option, Some, None, Result, Ok, Err, Bool, true, false, refl, sym, ◌∙◌, ap, subst, slice_get, slice_set}
+use Rattle.std.proofs.Common.{◌≡◌, ℕ, zero, suc, ◌≤◌, ℤ, List, [], ◌∷◌, map, Option, Some, Ok, Bool, true, false, refl, sym, ◌∙◌, ap, subst, slice_get, slice_set}
 use Rattle.k_num.specs.declared.place.Place.{Place}
 use Rattle.k_num.specs.declared.numbers.Bin.{Bin}
 use Rattle.k_num.specs.declared.numbers.Kind.{Kind}
@@ -20,11 +20,11 @@ use Rattle.k_world.specs.Worlds.{World}
 use Rattle.k_evaluation.specs.declared.operand.Operand.{Operand}
 use Rattle.k_evaluation.specs.declared.operand.Operand.TheVariants.{Register}
 use Rattle.k_evaluation.specs.declared.operand.Target.TheVariants.{InRegister}
-use Rattle.k_evaluation.specs.States.{Program, State, Outcome, Goes, Stops, Part, follow, ◌>>=◌, gives, held_by, held_in, read, makes, sets}
+use Rattle.k_evaluation.specs.States.{Program, State, Outcome, Goes, Stops, follow, ◌>>=◌, gives, held_by, held_in, read, makes, sets}
 use Rattle.k_evaluation.specs.Meanings.{kind_of}
-use Rattle.k_evaluation.specs.Assignments.{writes, combined as combines, changed, changes, changes_old, old_value}
+use Rattle.k_evaluation.specs.Assignments.{writes, combined as combines, changes_old}
 use Rattle.k_meaning.specs.Turns.{HoldsNumber}
-use Rattle.k_meaning.proofs.Values.{value_by, read_value, one_value_is, in_ok, MakesValue, makes_value, ComputesAt, Computes, combines_number}
+use Rattle.k_meaning.proofs.Values.{value_by, one_value_is, in_ok, MakesValue, makes_value, ComputesAt, combines_number}
 
 -- WHERE A PART GOES ON, the variable holds this number
 abbrev pub Reaches : {A : Type 0} → ℕ → ℤ → Outcome A → Type 0

@@ -1,11 +1,10 @@
 -- INDUCTION: what the test of a counted loop finds.
-use Rattle.std.proofs.Common.{◌≡◌, ℕ, ℤ, pos, List, [], ◌∷◌, map, Option, Some, None, Result, Ok, Err, Bool, true, false, ◌&&◌, not, nat_eq, if◌then◌else◌, refl, sym, ◌∙◌, ap, subst, slice_get}
+use Rattle.std.proofs.Common.{◌≡◌, ℕ, ℤ, List, [], ◌∷◌, map, Option, Some, None, Ok, Bool, true, false, not, nat_eq, refl, sym, ◌∙◌, ap, subst, slice_get}
 use Rattle.std.proofs.lemmas.Bool.{eqb-true}
 use Rattle.k_num.specs.declared.place.Place.{Place}
 use Rattle.k_num.specs.declared.numbers.Bin.{Bin}
 use Rattle.k_num.specs.declared.numbers.Bin.TheVariants.{Shl, Shr}
 use Rattle.k_num.specs.declared.numbers.Kind.{Kind}
-use Rattle.k_num.specs.declared.numbers.NumTrap.{NumTrap}
 use Rattle.k_num.specs.Arithmetic.{value, truth, is_zero}
 use Rattle.k_num.specs.Kind.{converted}
 use Rattle.k_num.proofs.KindLaws.{converted-converted}
@@ -27,16 +26,15 @@ use Rattle.k_marks.specs.Reductions.{variable_step, variable_of, read_step, read
 use Rattle.k_marks.specs.Loops.{tests, reads}
 use Rattle.k_evaluation.specs.declared.operand.Operand.{Operand}
 use Rattle.k_evaluation.specs.declared.operand.Operand.TheVariants.{Holding, Register}
-use Rattle.k_evaluation.specs.States.{Program, State, Outcome, Goes, Stops, Part, follow, ◌>>=◌, gives, held_by, read, makes}
+use Rattle.k_evaluation.specs.States.{Program, State, Outcome, Goes, Stops, Part, follow, gives, held_by, read, makes}
 use Rattle.k_evaluation.specs.Meanings.{Meaning, kind_of, value_at, holds, behind_one}
 use Rattle.k_evaluation.specs.Meanings as meanings
 use Rattle.k_evaluation.specs.Places.{variable, variable_place, is_register, is_broken}
-use Rattle.k_evaluation.specs.Operators.{convert, converts, binary, binary_on, class_of}
+use Rattle.k_evaluation.specs.Operators.{convert, converts, binary_on, class_of}
 use Rattle.k_evaluation.specs.Expressions.{Calls}
 use Rattle.k_meaning.specs.Counted.{IsTypedSide}
-use Rattle.k_meaning.specs.Ended.{is_met}
-use Rattle.k_meaning.proofs.Values.{value_by, read_value, read_front, MakesValue, makes_value, in_ok, one_value_is, ComputesAt, Computes, computes_behind, computes_so, converts_number, binary_works}
-use Rattle.k_meaning.proofs.Stepped.{in_some, meaning, meaning_at, meaning_is}
+use Rattle.k_meaning.proofs.Values.{value_by, read_front, MakesValue, makes_value, in_ok, one_value_is, ComputesAt, Computes, computes_so, converts_number, binary_works}
+use Rattle.k_meaning.proofs.Stepped.{meaning, meaning_at, meaning_is}
 
 -- what holds where a part goes on
 abbrev pub At : {A : Type 0} → (A → State → Type 0) → Outcome A → Type 0

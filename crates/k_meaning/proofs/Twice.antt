@@ -1,5 +1,5 @@
 -- Two runs of a part, where the variables hold the same values: what comes of both.
-use Rattle.std.proofs.Common.{◌≡◌, ℕ, ℤ, List, [], ◌∷◌, ◌++◌, map, Option, Some, None, Result, Ok, Bool, true, false, if◌then◌else◌, refl, sym, ◌∙◌, ap, subst, slice_get}
+use Rattle.std.proofs.Common.{◌≡◌, ℕ, ℤ, List, [], ◌∷◌, map, Option, Some, None, Bool, true, false, if◌then◌else◌, refl, sym, ◌∙◌, ap, subst, slice_get}
 use Rattle.k_num.specs.declared.place.Place.{Place}
 use Rattle.k_num.specs.declared.numbers.Bin.{Bin}
 use Rattle.k_num.specs.declared.numbers.Bin.TheVariants as bin
@@ -18,15 +18,13 @@ use Rattle.k_world.specs.declared.value.Held.{Held}
 use Rattle.k_world.specs.declared.value.Value.{Value}
 use Rattle.k_world.specs.declared.value.Value.TheVariants.{Number}
 use Rattle.k_world.specs.Acts.{Given, work}
-use Rattle.k_world.specs.Operands.{values_of, value_before, value_in}
+use Rattle.k_world.specs.Operands.{values_of, value_in}
 use Rattle.k_world.specs.Worlds.{World}
 use Rattle.k_evaluation.specs.declared.operand.Operand.{Operand}
-use Rattle.k_evaluation.specs.declared.operand.Operand.TheVariants.{Constant, Holding, Register}
-use Rattle.k_evaluation.specs.declared.operand.Target.{Target}
-use Rattle.k_evaluation.specs.declared.operand.Target.TheVariants.{InRegister}
+use Rattle.k_evaluation.specs.declared.operand.Operand.TheVariants.{Constant, Holding}
 use Rattle.k_evaluation.specs.States.{Program, State, Outcome, Goes, Stops, Part, follow, ◌>>=◌, gives, held_by, read, makes, computes, control, controls, settled}
-use Rattle.k_evaluation.specs.Meanings.{Meaning, nothing, on_one, behind_one, tests, holds, is_true, kind_of, value_at}
-use Rattle.k_evaluation.specs.Places.{number, variable, variable_place, is_register, is_broken}
+use Rattle.k_evaluation.specs.Meanings.{Meaning, nothing, behind_one, tests, holds, is_true, kind_of, value_at}
+use Rattle.k_evaluation.specs.Places.{number, variable, variable_place, is_register}
 use Rattle.k_evaluation.specs.Operators.{plus, unary, convert, cast, binary, both, either, cond, comma, unary_on, converts, cast_to, class_of, binary_on, truth_on, truth_of, behind_test, same_truth, kind_or_int, logical, moves, arm, arm_by}
 use Rattle.k_meaning.proofs.Values.{value_by, read_value, before_value, value_before_is, MakesValue, makes_value, in_ok}
 

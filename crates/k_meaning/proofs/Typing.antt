@@ -23,11 +23,11 @@ use Rattle.k_typed.specs.declared.tree.expression.TExpr.TheVariants as typed
 use Rattle.k_typed.specs.Conversions.{Typed, at, node_of, in_kind, number_in_kind, number_in, conversion, passed, passed_number}
 use Rattle.k_typed.specs.Made.{Made, Fine, Faulty}
 use Rattle.k_typed.specs.Operands.{value, written, step_operator, step_change, stepped, post_rule, pre_rule}
-use Rattle.k_typed.specs.Operators.{Operand, taken_in, number_and_pointer, Nothing, ANumber, APointer, operand, compares, on_numbers, common_of, operated, operated_by, binary_rule, assigned, set_rule, change_kind, right_kind, changed, changed_by, assign_by, assign_rule}
+use Rattle.k_typed.specs.Operators.{Operand, taken_in, number_and_pointer, Nothing, ANumber, APointer, operand, compares, on_numbers, common_of, operated, operated_by, binary_rule, assigned, set_rule, change_kind, right_kind, changed_by, assign_by, assign_rule}
 use Rattle.k_typed.specs.Types.{told, decayed, same_kind, number_kind, pointer_to}
 use Rattle.k_marks.specs.declared.uses.Group.{Group}
 use Rattle.k_marks.specs.Reductions.{group_of}
-use Rattle.k_meaning.specs.Counted.{IsTypedChange, IsTypedStepAt, IsTypedSide, IsTypedTestAt}
+use Rattle.k_meaning.specs.Counted.{IsTypedStepAt, IsTypedSide, IsTypedTestAt}
 use Rattle.k_meaning.specs.Reduced.{IsTypedOperation, IsTypedRight, IsTypedAssignment}
 use Rattle.k_meaning.specs.Typing.{PostfixIsTyped, PrefixIsTyped, AssignmentIsTyped, TestIsTyped, ReductionIsTyped}
 use Rattle.k_meaning.proofs.Values.{one_kind}
@@ -75,7 +75,7 @@ promoted_not_narrower U32 = omega arith
 promoted_not_narrower I64 = omega arith
 promoted_not_narrower U64 = omega arith
 
-change_not_narrower : (op : Bin) (j k : Kind) → width j ≤ width (change_kind op j k)
+pub change_not_narrower : (op : Bin) (j k : Kind) → width j ≤ width (change_kind op j k)
 change_not_narrower Shl j k = promoted_not_narrower j
 change_not_narrower Shr j k = promoted_not_narrower j
 change_not_narrower _ j k = common_not_narrower j k

@@ -1,12 +1,12 @@
 -- What operations give: the value of their act on what their operands hold; and what a change of a number in a register comes to.
-use Rattle.std.proofs.Common.{◌≡◌, ℕ, zero, suc, ◌≤◌, ℤ, pos, List, [], ◌∷◌, map, Option, Some, None, Result, Ok, Err, IfOk, Bool, true, false, nat_eq, IsTrue, if◌then◌else◌, refl, sym, ◌∙◌, ap, subst, slice_get, slice_set, arith}
+use Rattle.std.proofs.Common.{◌≡◌, ℕ, ◌≤◌, ℤ, List, [], ◌∷◌, map, Option, Some, None, Result, Ok, Err, IfOk, Bool, true, false, nat_eq, IsTrue, if◌then◌else◌, refl, sym, ◌∙◌, ap, subst, slice_get}
 use Rattle.k_num.specs.declared.place.Place.{Place}
 use Rattle.k_num.specs.declared.numbers.Bin.{Bin}
-use Rattle.k_num.specs.declared.numbers.Bin.TheVariants.{Add, Sub, Mul, Div, Rem, And, Or, Xor, Shl, Shr, Lt, Le, Gt, Ge, Eq, Ne, LogAnd, LogOr}
+use Rattle.k_num.specs.declared.numbers.Bin.TheVariants.{Add, Sub, Mul, And, Or, Xor, Shl, Shr}
 use Rattle.k_num.specs.declared.numbers.Kind.{Kind}
 use Rattle.k_num.specs.declared.numbers.Kind.TheVariants.{I8, U8, I16, U16, I32, U32, I64, U64}
 use Rattle.k_num.specs.declared.numbers.NumTrap.{NumTrap}
-use Rattle.k_num.specs.Arithmetic.{value, exact}
+use Rattle.k_num.specs.Arithmetic.{value}
 use Rattle.k_num.specs.Combining.{combined, is_modular}
 use Rattle.k_num.specs.Kind.{width, is_held, converted}
 use Rattle.k_num.specs.ArithmeticLaws.{gives_number}
@@ -15,7 +15,6 @@ use Rattle.k_num.proofs.Combining.{assigned_is_combined}
 use Rattle.k_num.proofs.KindLaws.{held_converted, converted_held, converted-converted}
 use Rattle.k_optab.specs.declared.class.Class.{Class}
 use Rattle.k_optab.specs.declared.class.Class.TheVariants as class
-use Rattle.k_code.specs.declared.ending.Trap.{Trap}
 use Rattle.k_code.specs.declared.ending.End.TheVariants.{Trapped, OutOfSteps}
 use Rattle.k_code.specs.declared.ending.Trap.TheVariants.{Uninit}
 use Rattle.k_code.specs.Traps.{trap_of}
@@ -25,7 +24,7 @@ use Rattle.k_world.specs.declared.act.Act.TheVariants as act
 use Rattle.k_world.specs.declared.value.Held.{Held}
 use Rattle.k_world.specs.declared.value.Read.{Read}
 use Rattle.k_world.specs.declared.value.Value.{Value}
-use Rattle.k_world.specs.declared.value.Value.TheVariants.{Number, Pointer}
+use Rattle.k_world.specs.declared.value.Value.TheVariants.{Number}
 use Rattle.k_world.specs.Acts.{Given, work, right_kind, then_given}
 use Rattle.k_world.specs.Operands.{are_set, values_of, value_before, value_in}
 use Rattle.k_world.specs.Operations.{Made, Gives, Ends, operation, acted}
@@ -33,7 +32,7 @@ use Rattle.k_world.specs.Worlds.{World}
 use Rattle.k_optab.specs.Latencies.{latency}
 use Rattle.k_evaluation.specs.declared.operand.Operand.{Operand}
 use Rattle.k_evaluation.specs.declared.operand.Operand.TheVariants.{Constant, Holding, Register}
-use Rattle.k_evaluation.specs.States.{Program, State, Outcome, Goes, Stops, Part, follow, ◌>>=◌, gives, held_by, held_in, read, made, makes, computes, sets}
+use Rattle.k_evaluation.specs.States.{Program, State, Outcome, Goes, Stops, Part, follow, ◌>>=◌, gives, held_by, read, made, makes, computes}
 use Rattle.k_evaluation.specs.Operators.{converts, binary_on, class_of}
 use Rattle.k_evaluation.specs.Assignments.{converts_between, converts_side, converts_back, side_kind, combined as combines}
 

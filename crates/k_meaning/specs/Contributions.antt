@@ -1,7 +1,7 @@
 -- WHAT A STATEMENT CONTRIBUTES to a variable that it reduces, when it begins in a state: the values of the other operands of the
 -- statements `s op= e` and `s = s op e` that run in it, in their order; of `-` the negated ones. Each construct hands its state on as
 -- *Evaluation* does.
-use Rattle.std.specs.Prelude.{ℕ, zero, suc, ◌+◌, nat_eq, Bool, true, false, ◌&&◌, if◌then◌else◌, ℤ, List, [], ◌∷◌, ◌++◌, map, Option, Some, None}
+use Rattle.std.specs.Prelude.{ℕ, zero, suc, ◌+◌, Bool, true, false, ◌&&◌, if◌then◌else◌, ℤ, List, [], ◌∷◌, ◌++◌, map, Option, Some, None}
 use Rattle.k_num.specs.declared.numbers.Bin.{Bin}
 use Rattle.k_num.specs.declared.numbers.Kind.{Kind}
 use Rattle.k_num.specs.declared.place.Place.{Place}
@@ -10,10 +10,8 @@ use Rattle.k_typed.specs.declared.tree.expression.Change.TheVariants as change
 use Rattle.k_typed.specs.declared.tree.expression.TExpr.{TExpr, out-TExpr}
 use Rattle.k_typed.specs.declared.tree.expression.TExpr.TheOpen.{TExpr-F}
 use Rattle.k_typed.specs.declared.tree.statement.Spot.{Spot}
-use Rattle.k_typed.specs.declared.tree.statement.TFirst.{TFirst}
 use Rattle.k_typed.specs.declared.tree.statement.TStmt.{TStmt, fold-TStmt, map-TStmt}
 use Rattle.k_typed.specs.declared.tree.statement.TPart.TheOpen.{TPart-F, TStmt-F}
-use Rattle.k_marks.specs.declared.uses.Read.{Read}
 use Rattle.k_marks.specs.declared.uses.Group.{Group}
 use Rattle.k_marks.specs.Reductions.{group_of, variable_of, read_of, unconverted}
 use Rattle.k_marks.specs.Loops.{reads}
@@ -24,7 +22,7 @@ use Rattle.k_world.specs.Operands.{value_in}
 use Rattle.k_evaluation.specs.declared.operand.Operand.{Operand}
 use Rattle.k_evaluation.specs.declared.flow.Flow.{Flow}
 use Rattle.k_evaluation.specs.declared.flow.Flow.TheVariants.{Normal, Broke, Continued, Returned}
-use Rattle.k_evaluation.specs.States.{Program, State, Outcome, Goes, Stops, Part, read, gives, enters, control}
+use Rattle.k_evaluation.specs.States.{Program, State, Outcome, Goes, Stops, read, gives, enters}
 use Rattle.k_evaluation.specs.Meanings.{holds}
 use Rattle.k_evaluation.specs.Flows.{Doing, Within, means, tests_at}
 use Rattle.k_evaluation.specs.Loops.{LoopParts, starts, turn, loop_region, loop_parts}

@@ -1,7 +1,7 @@
 -- INDUCTION: what the variable of a counted loop holds, and its bound.
 use Rattle.std.specs.Prelude.{ℕ, zero, suc, nat_eq, true, false, IsTrue, ◌≤◌, ◌≡◌, ℤ, pos, neg_ℤ, ◌+ℤ◌, ◌*ℤ◌, List, [], ◌∷◌, Option, Some, None}
 use Rattle.k_num.specs.declared.numbers.Bin.{Bin}
-use Rattle.k_num.specs.declared.numbers.Bin.TheVariants.{Add, Sub}
+use Rattle.k_num.specs.declared.numbers.Bin.TheVariants.{Sub}
 use Rattle.k_num.specs.declared.numbers.Kind.{Kind}
 use Rattle.k_num.specs.Kind.{width, is_held, converted}
 use Rattle.k_typed.specs.declared.types.TType.TheVariants as ttype
@@ -110,7 +110,7 @@ EachNamed P (Declares m ∷ us) = EachNamed P us
 EachNamed P (Reduces r ∷ us) = EachNamed P us
 
 -- what typing says of a loop with a variable of this kind: of its step and of its test; and the body declares no variable that the test names, since these
--- are declared outside of it (C17 6.2.1p4), and each declarator has a number of its own. It is a premise: no contract says it of a checked tree yet
+-- are declared outside of it (C17 6.2.1p4), and each declarator has a number of its own. It is a premise, which `k_meant` shows of each source that has a typed tree
 pub record IsTypedFor (kind : Kind) (l : For) : Type 0 where
   pub step : IsTypedStep kind l.step
   pub test : IsTypedTest l.test

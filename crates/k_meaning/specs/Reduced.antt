@@ -8,7 +8,6 @@ use Rattle.k_num.specs.declared.numbers.Kind.{Kind}
 use Rattle.k_num.specs.Combining.{combined}
 use Rattle.k_num.specs.Kind.{width}
 use Rattle.k_typed.specs.declared.types.TType.TheVariants as ttype
-use Rattle.k_typed.specs.declared.tree.expression.Change.TheVariants as change
 use Rattle.k_typed.specs.declared.tree.expression.TExpr.{TExpr, out-TExpr}
 use Rattle.k_typed.specs.declared.tree.expression.TExpr.TheOpen.{TExpr-F}
 use Rattle.k_typed.specs.declared.tree.statement.TStmt.{TStmt, fold-TStmt}
@@ -82,7 +81,7 @@ abbrev pub expressions_in : TStmt → List TExpr
 expressions_in = fold-TStmt (List TExpr) (List TExpr) part_expressions expressions_step
 
 -- TYPING: each of these that reduces this variable assigns to it as to one of this kind, as the rules of typing give it. It is a premise of
--- the law: no contract says it of a checked tree yet
+-- the law, which `k_meant` shows of each source that has a typed tree
 abbrev pub AreTyped : Kind → ℕ → List TExpr → Type 0
 AreTyped kind n [] = Unit {0}
 AreTyped kind n (e ∷ es) = (IsSome (reducing_step n (out-TExpr e)) → IsTypedAssignment kind (out-TExpr e)) × AreTyped kind n es

@@ -19,8 +19,8 @@ pub fn frames()
 /// reached, also where the loop then traps or runs out of steps.
 ///
 /// What typing gives is a premise, `IsTypedFor`: the kinds in which the step and the test are made, and that the body declares no
-/// variable that the test names, since each declarator has a number of its own. It is true of each loop of a checked source;
-/// no contract says so of a whole tree yet, but `rules_of_typing` of each of its parts beside the last.
+/// variable that the test names, since each declarator has a number of its own. `k_meant::laws::loops` says so of each loop of a
+/// source that has a typed tree, and `rules_of_typing` of each of its parts beside the last.
 pub fn induction()
     ensures variable { VariableIsCounted }
     ensures converted { CountedIsConverted }
@@ -33,8 +33,8 @@ pub fn induction()
 /// body contribute in the order in which they run, or in any other: their sum with signs, their product, or their `&`, `|`
 /// or `^` bit by bit.
 ///
-/// What typing gives is a premise, `AreTyped`: the kinds in which these statements are made. It is true of a checked source; no
-/// contract says so of a whole tree yet, but `rules_of_typing` of each such statement.
+/// What typing gives is a premise, `AreTyped`: the kinds in which these statements are made. `k_meant::laws::loops` says so of each
+/// loop of a source that has a typed tree, and `rules_of_typing` of each such statement.
 pub fn reduction()
     ensures { ReductionsCombine }
 {}

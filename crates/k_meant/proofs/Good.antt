@@ -16,6 +16,7 @@ use Rattle.k_marks.specs.Loops.{adds, is_nonzero, read_if, counter, counter_step
 use Rattle.k_meaning.specs.Contributions.{Reducing, reducing_by, compound_by, reducing_step}
 use Rattle.k_meaning.specs.Counted.{IsTypedChange, IsTypedStepAt, IsTypedStep, IsTypedSide, IsTypedTestAt, IsTypedTest}
 use Rattle.k_meaning.specs.Reduced.{IsTypedRight, IsTypedAssignment, AreTyped}
+use Rattle.k_meaning.proofs.Conditions.{read_there}
 use Rattle.k_meaning.proofs.OneVariable.{IsRead, variable_is}
 
 -- what a change says of the variable that it changes, if it is one: it is typed for each kind that the variable has
@@ -54,10 +55,6 @@ good_test K None h = tt
 good_test K (Some e) h = test_at K (out-TExpr e) h
 
 -- STEPS
-read_there : (b : Bool) (e : TExpr) (i : Read) → read_if b e ≡ Some i → variable_of e ≡ Some i
-read_there true e i is = is
-read_there false e i is = absurd cc
-
 itself_is : (e : TExpr) (i : Read) → variable_of e ≡ Some i → (used e).itself ≡ Some i.variable
 itself_is e i is = ap (λ (u : Used). u.itself) (subst (λ (r : Option Read). IsRead r (used e)) is (variable_is e))
 

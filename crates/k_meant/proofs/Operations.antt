@@ -1,11 +1,11 @@
 -- What the rules of operators with two or three operands make is meant as their operands are.
-use Rattle.std.proofs.Common.{◌≡◌, ℕ, ◌<◌, ◌≤◌, ℤ, ◌++◌, Option, Some, None, Bool, true, false, ◌&&◌, if◌then◌else◌, refl, sym, ◌∙◌, ap, subst, arith}
+use Rattle.std.proofs.Common.{◌≡◌, ℕ, ◌<◌, ◌≤◌, ℤ, ◌++◌, Option, Some, None, Bool, true, false, ◌&&◌, if◌then◌else◌, refl, sym, ◌∙◌, ap, subst}
 use Rattle.std.specs.Prelude.{IsSome}
 use Rattle.std.proofs.lemmas.Option.{same_Some}
 use Rattle.k_num.specs.declared.numbers.Bin.{Bin}
 use Rattle.k_num.specs.declared.numbers.Bin.TheVariants.{Add, Sub, Mul, And, Or, Xor, Shl, Shr, LogAnd, LogOr}
 use Rattle.k_num.specs.declared.numbers.Kind.{Kind}
-use Rattle.k_num.specs.declared.numbers.Kind.TheVariants.{I8, U8, I16, U16, I32, U32, I64, U64}
+use Rattle.k_num.specs.declared.numbers.Kind.TheVariants.{I32, I64}
 use Rattle.k_num.specs.declared.place.Place.{Place}
 use Rattle.k_num.specs.Kind.{width, converted, promoted, common_kind}
 use Rattle.k_num.proofs.CommonKinds.{common_not_narrower}
@@ -34,6 +34,7 @@ use Rattle.k_marks.specs.Loops.{reads}
 use Rattle.k_meaning.specs.Contributions.{Reducing, reducing_by, simple_by}
 use Rattle.k_meaning.specs.Counted.{IsTypedChange}
 use Rattle.k_meaning.specs.Reduced.{IsTypedOperation, IsTypedRight}
+use Rattle.k_meaning.proofs.Typing.{change_not_narrower}
 use Rattle.k_meaning.proofs.Values.{one_kind}
 use Rattle.k_regions.proofs.Fine.{IfFine}
 use Rattle.k_meant.proofs.Good.{GoodAt}
@@ -75,22 +76,6 @@ result_is And group common is = refl
 result_is Or group common is = refl
 result_is Xor group common is = refl
 result_is _ group common is = absurd cc
-
--- compound assignments are made in a kind that is no narrower
-promoted_not_narrower : (kind : Kind) → width kind ≤ width (promoted kind)
-promoted_not_narrower I8 = omega arith
-promoted_not_narrower U8 = omega arith
-promoted_not_narrower I16 = omega arith
-promoted_not_narrower U16 = omega arith
-promoted_not_narrower I32 = omega arith
-promoted_not_narrower U32 = omega arith
-promoted_not_narrower I64 = omega arith
-promoted_not_narrower U64 = omega arith
-
-change_not_narrower : (op : Bin) (j k : Kind) → width j ≤ width (change_kind op j k)
-change_not_narrower Shl j k = promoted_not_narrower j
-change_not_narrower Shr j k = promoted_not_narrower j
-change_not_narrower _ j k = common_not_narrower j k
 
 module _ (K : ℕ → Kind → Type 0) (count : ℕ) where
   abbrev pub M : Typed → Type 0
