@@ -1,5 +1,6 @@
 -- Parts that are begun, and what waits behind them as tasks.
-use Rattle.std.proofs.Common.{◌≡◌, ◌∙◌, List, ◌∷◌, Option, Result, Ok, Err, refl, sym, ap, subst}
+use Rattle.std.proofs.Common.{◌≡◌, ◌∙◌, Bool, List, ◌∷◌, Option, Result, Ok, Err, refl, sym, ap, subst}
+use Rattle.k_typed.specs.declared.tree.expression.TExpr.{TExpr}
 use Rattle.k_world.specs.declared.answer.Stop.{Stop}
 use Rattle.k_world.specs.declared.answer.Stop.TheVariants as stop
 use Rattle.k_world.specs.declared.value.Held.{Held}
@@ -13,7 +14,7 @@ use Rattle.k_pending.specs.declared.given.Given.TheVariants as given
 use Rattle.k_pending.specs.declared.plan.Plan.TheVariants as plan
 use Rattle.k_pending.specs.declared.task.Task.{Task}
 use Rattle.k_pending.specs.Givens.{gives_list, gives_operand, gives_target, list_in, operand_in, start, target_in}
-use Rattle.k_pending.specs.Leads.{Leads, performs}
+use Rattle.k_pending.specs.Leads.{Leads, performs, placed, valued}
 use Rattle.k_pending.specs.Plans.{planned}
 use Rattle.k_pending.specs.Tasks.{works}
 
@@ -69,6 +70,10 @@ done w (Ok g) o before s come = λ behind. ap (λ (o : Outcome Given). follow o 
 done w (Err (stop.Ended end)) o before s come = come
 done w (Err stop.Memory) o before s come = tt
 
+-- A part was done at once, by what it is.
+pub done_as : (w : Within) (r : Result Given Stop) (o part : Outcome Given) (before : List Task) (s : State) → part ≡ o → Comes r o s → Leads w r part before before s
+done_as w r o part before s is come = as_part w r o part before before s is (done w r o before s come)
+
 -- one task behind a part
 pub behind_task : (w : Within) (o : Outcome Given) (t : Task) (before : List Task) (behind : Given → Part (Option Held))
     → follow (follow o (works w t)) (performs w behind before) ≡ follow o (performs w behind (t ∷ before))
@@ -82,13 +87,6 @@ waits_two w s a b before after is =
     subst (λ (after : List Task). Leads w (Ok start) (planned w (plan.Two a b) s) before after s) (sym is)
     (λ behind. behind_task w (works w a start s) b before behind)
 
--- Three tasks were put on the stack.
-pub waits_three : (w : Within) (s : State) (a b c : Task) (before after : List Task) → after ≡ a ∷ b ∷ c ∷ before
-    → Leads w (Ok start) (planned w (plan.Three a b c) s) before after s
-waits_three w s a b c before after is =
-    subst (λ (after : List Task). Leads w (Ok start) (planned w (plan.Three a b c) s) before after s) (sym is)
-    (λ behind. behind_task w (follow (works w a start s) (works w b)) c before behind ∙ behind_task w (works w a start s) b (c ∷ before) behind)
-
 -- A part was begun behind a task.
 pub pushed : (w : Within) (r : Result Given Stop) (o part : Outcome Given) (t : Task) (before waited after : List Task) (s : State)
     → part ≡ follow o (works w t) → waited ≡ t ∷ before → Leads w r o waited after s → Leads w r part before after s
@@ -98,3 +96,19 @@ pushed w (Ok g) o part t before waited after s is on led = λ behind.
     ∙ (ap (λ (tasks : List Task). follow o (performs w behind tasks)) (sym on) ∙ led behind))
 pushed w (Err (stop.Ended end)) o part t before waited after s is on led = is ∙ ap (λ (o : Outcome Given). follow o (works w t)) led
 pushed w (Err stop.Memory) o part t before waited after s is on led = tt
+
+-- The value of an expression was begun behind a task, by the equations of its box and of the stack.
+pub begun_behind : (w : Within) (r : Result Given Stop) (e first : TExpr) (used : Bool) (t : Task) (before waited after : List Task) (s s' : State)
+    → first ≡ e → waited ≡ t ∷ before → Leads w r (valued w first used s) waited after s'
+    → Leads w r (follow (valued w e used s) (works w t)) before after s'
+begun_behind w r e first used t before waited after s s' is on led =
+    pushed w r (valued w first used s) (follow (valued w e used s) (works w t)) t before waited after s'
+    (ap (λ (x : TExpr). follow (valued w x used s) (works w t)) (sym is)) on led
+
+-- The place of an expression was begun behind a task, by the equations of its box and of the stack.
+pub place_behind : (w : Within) (r : Result Given Stop) (e first : TExpr) (t : Task) (before waited after : List Task) (s s' : State)
+    → first ≡ e → waited ≡ t ∷ before → Leads w r (placed w first s) waited after s'
+    → Leads w r (follow (placed w e s) (works w t)) before after s'
+place_behind w r e first t before waited after s s' is on led =
+    pushed w r (placed w first s) (follow (placed w e s) (works w t)) t before waited after s'
+    (ap (λ (x : TExpr). follow (placed w x s) (works w t)) (sym is)) on led

@@ -110,6 +110,21 @@ module _ (w : Within) (s : State) where
       ∙ (restores (follow ((means w a).value true s) tested) c
       ∙ ap (λ (o : Outcome Given). follow o (λ (g : Given). settles false c >>= λ (done : Unit {0}). gives g)) (on_operand ((means w a).value true s) tested))))
 
+  -- the value itself, where it takes no task
+  pub value_Number : (e : TExpr) (node : Node) (z : ℤ) → e ≡ typed.Number node z → (means w e).value true s ≡ Goes (Constant (held.Number z)) s
+  unfolding number
+  value_Number e node z is = ap (λ (m : Meaning). m.value true s) (ap (means w) is ∙ typed_Number Meaning (step_of w) node z)
+
+  pub value_Object : (e : TExpr) (node : Node) (n : ℕ) → e ≡ typed.Object node n
+      → (means w e).value true s ≡ value_at w.program node true (InMemory (address_of n)) s
+  unfolding object
+  value_Object e node n is = ap (λ (m : Meaning). m.value true s) (ap (means w) is ∙ typed_Object Meaning (step_of w) node n)
+
+  pub value_Variable : (e : TExpr) (node : Node) (n : ℕ) → e ≡ typed.Variable node n
+      → (means w e).value true s ≡ follow (variable_place w.program node n (is_register w.vars n) s) (value_at w.program node true)
+  unfolding variable
+  value_Variable e node n is = ap (λ (m : Meaning). m.value true s) (ap (means w) is ∙ typed_Variable Meaning (step_of w) node n)
+
   pub row_Number : (e : TExpr) (node : Node) (z : ℤ) (used : Bool) → e ≡ typed.Number node z
       → valued w e used s ≡ Goes (given.Operand (Constant (held.Number z))) s
   unfolding number

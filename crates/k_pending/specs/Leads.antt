@@ -1,5 +1,5 @@
 -- What a step of a run leads to.
-use Rattle.std.specs.Prelude.{ℕ, ◌≡◌, Bool, List, [], ◌∷◌, map, drop, Option, Result, Ok, Err}
+use Rattle.std.specs.Prelude.{ℕ, ◌≡◌, Bool, true, false, List, [], ◌∷◌, map, drop, Option, Result, Ok, Err}
 use Rattle.k_typed.specs.declared.tree.expression.Node.{Node}
 use Rattle.k_typed.specs.declared.tree.expression.TExpr.{TExpr}
 use Rattle.k_world.specs.declared.value.Held.{Held}
@@ -10,9 +10,11 @@ use Rattle.k_evaluation.specs.Meanings.{in_turn}
 use Rattle.k_evaluation.specs.Operators.{arm}
 use Rattle.k_evaluation.specs.States.{State, Outcome, Stops, Part, follow, ◌>>=◌}
 use Rattle.k_pending.specs.declared.given.Given.{Given}
+use Rattle.k_pending.specs.declared.task.BranchTask.{BranchTask}
+use Rattle.k_pending.specs.declared.task.BranchTask.TheVariants as branch
 use Rattle.k_pending.specs.declared.task.Task.{Task}
 use Rattle.k_pending.specs.Givens.{gives_operand, gives_target, gives_list}
-use Rattle.k_pending.specs.Tasks.{works}
+use Rattle.k_pending.specs.Tasks.{branch_task, works}
 
 -- The rest of a call: the tasks that wait, topmost first, and then what comes behind the call.
 abbrev pub performs : Within → (Given → Part (Option Held)) → List Task → Given → Part (Option Held)
@@ -42,3 +44,7 @@ listed w es from s = (in_turn (map (means w) (drop from es)) >>= gives_list) s
 -- the place that an expression designates
 abbrev pub placed : Within → TExpr → State → Outcome Given
 placed w e s = ((means w e).place >>= gives_target) s
+
+-- a condition, what depends on it, and the control source as before
+abbrev pub tested : Within → TExpr → BranchTask → State → Outcome Given
+tested w e t s = follow (follow (valued w e true s) (branch_task w t)) (branch_task w (branch.Settle false s.world.control))

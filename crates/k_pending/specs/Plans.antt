@@ -1,4 +1,4 @@
--- How an expression is begun, as a part of a run.
+-- What is answered at once, and how a place is begun, as parts of a run.
 use Rattle.std.specs.Prelude.{[]}
 use Rattle.k_optab.specs.declared.class.Class.TheVariants as class
 use Rattle.k_world.specs.declared.act.Act.TheVariants as act
@@ -32,9 +32,7 @@ answers w (leaf.ObjectPlace n) = gives_target (InMemory (address_of n))
 answers w (leaf.VariablePlace node n) = variable_place w.program node n (is_register w.vars n) >>= gives_target
 answers w leaf.Nowhere = gives_target (InMemory nothing)
 
--- what is begun: what is answered at once, or tasks one behind the other
+-- how a place is begun: what is answered at once, or two tasks one behind the other
 abbrev pub planned : Within → Plan → Part Given
 planned w (plan.Alone l) = answers w l
-planned w (plan.One a) = works w a start
 planned w (plan.Two a b) = works w a start >>= works w b
-planned w (plan.Three a b c) = (works w a start >>= works w b) >>= works w c

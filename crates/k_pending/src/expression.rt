@@ -1,23 +1,36 @@
-//! Expressions are begun: what waits for their operands is put on the stack of tasks (C17 6.5).
-ghost use Rattle.std.specs.Prelude.{◌≡◌};
-ghost use Rattle.k_evaluation.specs.Flows.{Within};
-ghost use Rattle.k_evaluation.specs.States.{State};
-ghost use Rattle.k_listing.specs.Arounds.{within_of};
+//! Expressions are begun: what waits for an operand is put on the stack of tasks, and the operand is begun in turn (C17 6.5).
+//! So this recurses along first operands, as deep as an expression is nested.
+ghost use Rattle.std.specs.Prelude.{◌≡◌, true};
+ghost use Rattle.k_evaluation.specs.Flows.{Within, means};
+ghost use Rattle.k_evaluation.specs.declared.operand.Target.TheVariants.{InMemory};
+ghost use Rattle.k_evaluation.specs.Meanings.{value_at as value_meant};
+ghost use Rattle.k_evaluation.specs.Operators.{cast_to};
+ghost use Rattle.k_evaluation.specs.Places.{address_of as address_meant, is_register, variable_place as variable_meant};
+ghost use Rattle.k_evaluation.specs.States.{State, follow};
+ghost use Rattle.k_listing.specs.Arounds.{program_of, within_of};
 ghost use Rattle.k_listing.specs.Comes.{Comes};
-ghost use Rattle.k_pending.specs.Leads.{Leads, placed, valued};
+ghost use Rattle.k_pending.specs.Givens.{gives_operand};
+ghost use Rattle.k_pending.specs.Leads.{Leads, placed, tested as tested_meant, valued};
 ghost use Rattle.k_pending.specs.Plans.{answers, planned};
+ghost use Rattle.k_pending.specs.Tasks.{assignment_task, value_task, works};
 ghost use Rattle.k_pending.specs.declared.plan.Plan.TheVariants.{Two};
+ghost use Rattle.k_pending.specs.declared.task.ValueTask.TheVariants.{Address};
 
 use crate::given::{Given, give};
-use crate::plan::{Leaf, Plan, plan_place, plan_value};
-use crate::task::Task;
+use crate::plan::{Leaf, Plan, distance, moving, node_of, plan_place};
+use crate::task::{AssignTask, BranchTask, CallTask, Task, ValueTask};
 use crate::text::put_text;
 use k_evaluation::{Flow, Operand, Target};
-use k_listing::{Around, Evaluator, Stack, address_of, string_address};
-use k_typed::TExpr;
-use k_world::{Stop, Value};
+use k_listing::{
+    Around, Evaluator, Making, Stack, address_of, class_of, kind_of, scale_of, string_address,
+};
+use k_num::Box;
+use k_optab::Class;
+use k_typed::{Node, TExpr, TType};
+use k_world::{ActRef, Stop, Value};
 
 /// The value of an expression is begun, which is used or not.
+#[cycle(expressions)]
 pub fn value<'a>(
     e: &'a TExpr,
     used: bool,
@@ -27,8 +40,339 @@ pub fn value<'a>(
 ) -> Result<Given, Stop>
     ensures { Leads (within_of around.now) result (valued (within_of around.now) e.now used state.old) tasks.old tasks.new state.new }
 {
-    let plan = plan_value(e, used, state.control());
-    begin(state, around, tasks, plan)
+    match e {
+        TExpr::Number { value, .. } => answer(state, around, Leaf::Number(*value)),
+        TExpr::Str { string, .. } => answer(state, around, Leaf::Str(*string)),
+        TExpr::Object { node, object } => {
+            answer(state, around, Leaf::Object(*node, used, *object))
+        }
+        TExpr::Variable { node, variable } => {
+            answer(state, around, Leaf::Variable(*node, used, *variable))
+        }
+        TExpr::Index { node, base, index } => two_behind(
+            base,
+            Task::OfValue(ValueTask::Index(node.place, scale_of(node_of(base.get()).of), index)),
+            Task::OfValue(ValueTask::Read(*node, used)),
+            state,
+            around,
+            tasks,
+        ),
+        TExpr::Call {
+            node,
+            function,
+            args,
+        } => wait(
+            tasks,
+            Task::OfCall(CallTask::Arguments(args, 0)),
+            Task::Call(*function, node.place),
+        ),
+        TExpr::Getchar { node } => answer(state, around, Leaf::Getchar(node.place)),
+        TExpr::Putchar { node, of } => {
+            value_first(
+                of,
+                true,
+                Task::OfCall(CallTask::Put(node.place)),
+                state,
+                around,
+                tasks,
+            )
+        }
+        TExpr::Puts { node, of } => answer(state, around, Leaf::Puts(node.place, of)),
+        TExpr::Printf { node, format, args } => wait(
+            tasks,
+            Task::OfCall(CallTask::Arguments(args, 0)),
+            Task::OfCall(CallTask::Print(node.place, format)),
+        ),
+        TExpr::Post { node, change, of } => {
+            place_first(
+                of,
+                AssignTask::Post(*node, *change, used),
+                state,
+                around,
+                tasks,
+            )
+        }
+        TExpr::Pre { node, change, of } => {
+            place_first(of, AssignTask::Pre(*node, *change), state, around, tasks)
+        }
+        TExpr::Address { of, .. } => address(of, state, around, tasks),
+        TExpr::Deref { node, of } => two_behind(
+            of,
+            Task::OfValue(ValueTask::Pointed),
+            Task::OfValue(ValueTask::Read(*node, used)),
+            state,
+            around,
+            tasks,
+        ),
+        TExpr::Plus { of, .. } => value(of.get(), used, state, around, tasks),
+        TExpr::Unary { node, op, kind, of } => value_first(
+            of,
+            true,
+            Task::OfValue(ValueTask::One(Making {
+                class: Class::Simple,
+                place: node.place,
+                act: ActRef::Unary(*op, *kind),
+            })),
+            state,
+            around,
+            tasks,
+        ),
+        TExpr::Convert { node, of } => value_first(
+            of,
+            true,
+            Task::OfValue(ValueTask::Convert(node.place, kind_of(node.of))),
+            state,
+            around,
+            tasks,
+        ),
+        TExpr::Cast { node, of } => cast(of, *node, used, state, around, tasks),
+        TExpr::Binary {
+            node,
+            op,
+            kind,
+            left,
+            right,
+        } => value_first(
+            left,
+            true,
+            Task::OfValue(ValueTask::Second(
+                Making {
+                    class: class_of(*op),
+                    place: node.place,
+                    act: ActRef::Binary(*op, *kind),
+                },
+                false,
+                right,
+            )),
+            state,
+            around,
+            tasks,
+        ),
+        TExpr::Both { node, left, right } => {
+            test_first(
+                left,
+                BranchTask::Logic(*node, false, right),
+                state,
+                around,
+                tasks,
+            )
+        }
+        TExpr::Either { node, left, right } => {
+            test_first(
+                left,
+                BranchTask::Logic(*node, true, right),
+                state,
+                around,
+                tasks,
+            )
+        }
+        TExpr::Forward { node, left, right } => value_first(
+            left,
+            true,
+            Task::OfValue(ValueTask::Second(moving(*node, false), false, right)),
+            state,
+            around,
+            tasks,
+        ),
+        TExpr::Onto { node, left, right } => value_first(
+            left,
+            true,
+            Task::OfValue(ValueTask::Second(moving(*node, false), true, right)),
+            state,
+            around,
+            tasks,
+        ),
+        TExpr::Back { node, left, right } => value_first(
+            left,
+            true,
+            Task::OfValue(ValueTask::Second(moving(*node, true), false, right)),
+            state,
+            around,
+            tasks,
+        ),
+        TExpr::PtrCompare {
+            node,
+            op,
+            left,
+            right,
+        } => value_first(
+            left,
+            true,
+            Task::OfValue(ValueTask::Second(
+                Making {
+                    class: Class::Simple,
+                    place: node.place,
+                    act: ActRef::PtrCompare(*op),
+                },
+                false,
+                right,
+            )),
+            state,
+            around,
+            tasks,
+        ),
+        TExpr::PtrDistance { node, left, right } => value_first(
+            left,
+            true,
+            Task::OfValue(ValueTask::Second(distance(*node, left), false, right)),
+            state,
+            around,
+            tasks,
+        ),
+        TExpr::Cond {
+            node,
+            test,
+            then,
+            other,
+        } => test_first(
+            test,
+            BranchTask::Choose(*node, then, other),
+            state,
+            around,
+            tasks,
+        ),
+        TExpr::Assign { node, left, right } => {
+            place_first(
+                left,
+                AssignTask::Assign(node.place, right),
+                state,
+                around,
+                tasks,
+            )
+        }
+        TExpr::AssignBy {
+            node,
+            change,
+            left,
+            right,
+        } => place_first(
+            left,
+            AssignTask::AssignBy(*node, *change, right),
+            state,
+            around,
+            tasks,
+        ),
+        TExpr::Comma { left, right, .. } => {
+            let task = Task::OfValue(ValueTask::Value(right, used));
+            value_first(left, false, task, state, around, tasks)
+        }
+    }
+}
+
+/// The value of an expression is begun, which is used or not, and a task waits for it.
+#[cycle(expressions)]
+pub fn value_first<'a>(
+    e: &'a Box<TExpr>,
+    used: bool,
+    task: Task<'a>,
+    state: &mut Evaluator<'a>,
+    around: &Around<'a>,
+    tasks: &mut Stack<Task<'a>>,
+) -> Result<Given, Stop>
+    ensures { Leads (within_of around.now) result (follow (valued (within_of around.now) e.now used state.old) (works (within_of around.now) task.entry)) tasks.old tasks.new state.new }
+{
+    tasks.push(task)?;
+    value(e.get(), used, state, around, tasks)
+}
+
+/// The value of an expression is begun, and two tasks wait for it, one behind the other.
+#[cycle(expressions)]
+fn two_behind<'a>(
+    e: &'a Box<TExpr>,
+    first: Task<'a>,
+    second: Task<'a>,
+    state: &mut Evaluator<'a>,
+    around: &Around<'a>,
+    tasks: &mut Stack<Task<'a>>,
+) -> Result<Given, Stop>
+    ensures { Leads (within_of around.now) result (follow (follow (valued (within_of around.now) e.now true state.old) (works (within_of around.now) first.entry)) (works (within_of around.now) second.entry)) tasks.old tasks.new state.new }
+{
+    tasks.push(second)?;
+    value_first(e, true, first, state, around, tasks)
+}
+
+/// A condition is begun: what depends on it waits for it, and behind that the control source as it is now.
+#[cycle(expressions)]
+fn test_first<'a>(
+    e: &'a Box<TExpr>,
+    task: BranchTask<'a>,
+    state: &mut Evaluator<'a>,
+    around: &Around<'a>,
+    tasks: &mut Stack<Task<'a>>,
+) -> Result<Given, Stop>
+    ensures { Leads (within_of around.now) result (tested_meant (within_of around.now) e.now task.entry state.old) tasks.old tasks.new state.new }
+{
+    let control = state.control();
+    two_behind(
+        e,
+        Task::OfBranch(task),
+        Task::OfBranch(BranchTask::Settle(false, control)),
+        state,
+        around,
+        tasks,
+    )
+}
+
+/// A cast, by the type that it names.
+#[cycle(expressions)]
+fn cast<'a>(
+    e: &'a Box<TExpr>,
+    node: Node,
+    used: bool,
+    state: &mut Evaluator<'a>,
+    around: &Around<'a>,
+    tasks: &mut Stack<Task<'a>>,
+) -> Result<Given, Stop>
+    ensures { Leads (within_of around.now) result (follow (cast_to (program_of around.now) node.place node.of (means (within_of around.now) e.now) used state.old) gives_operand) tasks.old tasks.new state.new }
+{
+    match node.of {
+        TType::Void => {
+            value_first(
+                e,
+                false,
+                Task::OfValue(ValueTask::Unused),
+                state,
+                around,
+                tasks,
+            )
+        }
+        TType::Number(kind) => value_first(
+            e,
+            true,
+            Task::OfValue(ValueTask::Convert(node.place, Some(kind))),
+            state,
+            around,
+            tasks,
+        ),
+        TType::Pointer(_) => value(e.get(), used, state, around, tasks),
+    }
+}
+
+/// A place is begun, and a task of an assignment waits for it.
+fn place_first<'a>(
+    e: &'a Box<TExpr>,
+    task: AssignTask<'a>,
+    state: &mut Evaluator<'a>,
+    around: &Around<'a>,
+    tasks: &mut Stack<Task<'a>>,
+) -> Result<Given, Stop>
+    ensures { Leads (within_of around.now) result (follow (placed (within_of around.now) e.now state.old) (assignment_task (within_of around.now) task.entry)) tasks.old tasks.new state.new }
+{
+    tasks.push(Task::OfAssignment(task))?;
+    place(e.get(), state, around, tasks)
+}
+
+/// A place is begun, whose address is the value.
+fn address<'a>(
+    e: &'a Box<TExpr>,
+    state: &mut Evaluator<'a>,
+    around: &Around<'a>,
+    tasks: &mut Stack<Task<'a>>,
+) -> Result<Given, Stop>
+    ensures { Leads (within_of around.now) result (follow (placed (within_of around.now) e.now state.old) (value_task (within_of around.now) Address)) tasks.old tasks.new state.new }
+{
+    tasks.push(Task::OfValue(ValueTask::Address))?;
+    place(e.get(), state, around, tasks)
 }
 
 /// The place that an expression designates is begun.
@@ -54,26 +398,12 @@ fn begin<'a>(
 {
     match plan {
         Plan::Alone(leaf) => answer(state, around, leaf),
-        Plan::One(first) => {
-            tasks.push(first)?;
-            Ok(Given::Flow(Flow::Normal))
-        }
         Plan::Two(first, second) => wait(tasks, first, second),
-        Plan::Three(first, second, third) => {
-            tasks.push(third)?;
-            tasks.push(second)?;
-            tasks.push(first)?;
-            Ok(Given::Flow(Flow::Normal))
-        }
     }
 }
 
 /// A task waits behind another.
-pub fn wait<'a>(
-    tasks: &mut Stack<Task<'a>>,
-    first: Task<'a>,
-    second: Task<'a>,
-) -> Result<Given, Stop>
+fn wait<'a>(tasks: &mut Stack<Task<'a>>, first: Task<'a>, second: Task<'a>) -> Result<Given, Stop>
     ensures { (w : Within) (s : State) → Leads w result (planned w (Two first.entry second.entry) s) tasks.old tasks.new s }
 {
     tasks.push(second)?;
@@ -88,13 +418,9 @@ fn answer<'a>(state: &mut Evaluator<'a>, around: &Around<'a>, leaf: Leaf<'a>) ->
     match leaf {
         Leaf::Number(number) => Ok(Given::Operand(Operand::Constant(Value::Number(number)))),
         Leaf::Str(string) => Ok(Given::Operand(string_address(around, string)?)),
-        Leaf::Object(node, used, object) => {
-            let target = Target::InMemory(address_of(u64::from(object)));
-            give(state.value_at(around, node, used, target))
-        }
+        Leaf::Object(node, used, object) => give(object_value(state, around, node, used, object)),
         Leaf::Variable(node, used, variable) => {
-            let target = state.variable_place(around, node, variable);
-            give(state.value_at(around, node, used, target))
+            give(variable_value(state, around, node, used, variable))
         }
         Leaf::Getchar(place) => give(state.read_input(around, place)),
         Leaf::Puts(place, e) => give(put_text(state, around, place, e.get())),
@@ -106,4 +432,32 @@ fn answer<'a>(state: &mut Evaluator<'a>, around: &Around<'a>, leaf: Leaf<'a>) ->
         }
         Leaf::Nowhere => Ok(Given::Target(Target::InMemory(Operand::Constant(Value::Number(0))))),
     }
+}
+
+/// The value of a file object, if it is used.
+pub fn object_value<'a>(
+    state: &mut Evaluator<'a>,
+    around: &Around<'a>,
+    node: Node,
+    used: bool,
+    object: u32,
+) -> Result<Operand, Stop>
+    ensures { Comes result (value_meant (program_of around.now) node used (InMemory (address_meant object)) state.old) state.new }
+{
+    let target = Target::InMemory(address_of(u64::from(object)));
+    state.value_at(around, node, used, target)
+}
+
+/// The value of a variable, if it is used.
+pub fn variable_value<'a>(
+    state: &mut Evaluator<'a>,
+    around: &Around<'a>,
+    node: Node,
+    used: bool,
+    variable: u32,
+) -> Result<Operand, Stop>
+    ensures { Comes result (follow (variable_meant (program_of around.now) node variable (is_register around.now.variables.now variable) state.old) (value_meant (program_of around.now) node used)) state.new }
+{
+    let target = state.variable_place(around, node, variable);
+    state.value_at(around, node, used, target)
 }

@@ -3,6 +3,7 @@
 //! this one.
 #![tactic(auto)]
 
+mod early;
 mod expression;
 mod given;
 mod plan;

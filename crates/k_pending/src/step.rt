@@ -1,19 +1,19 @@
 //! What follows when a task of an expression is given what it waited for (C17 6.5).
 ghost use Rattle.std.specs.Prelude.{◌≡◌, ◌+◌, ◌^◌, ◌<◌, slice_get, IfSome};
 ghost use Rattle.std.specs.Option.{option_copied};
-ghost use Rattle.k_evaluation.specs.Flows.{Within};
 ghost use Rattle.k_evaluation.specs.Meanings.{holds as holds_meant};
 ghost use Rattle.k_listing.specs.Comes.{Comes};
 ghost use Rattle.k_listing.specs.Arounds.{program_of, within_of};
 ghost use Rattle.k_pending.specs.Leads.{Leads, armed, listed};
 ghost use Rattle.k_evaluation.specs.Operators.{same_truth as same_meant};
 ghost use Rattle.k_evaluation.specs.Places.{address_at as address_meant};
-ghost use Rattle.k_evaluation.specs.States.{State};
 ghost use Rattle.k_pending.specs.Tasks.{assignment_task, branch_task, call_task, made_on_one, made_on_two, value_task};
 ghost use Rattle.k_pending.specs.declared.given.Given.TheVariants as given;
 ghost use Rattle.k_pending.specs.declared.task.BranchTask.TheVariants as branch;
+ghost use Rattle.k_pending.specs.declared.task.ValueTask.TheVariants as valuing;
 
-use crate::expression::{place, value, wait};
+use crate::early::{Early, at_once};
+use crate::expression::{place, value, value_first};
 use crate::given::{Given, give, give_place};
 use crate::plan::node_of;
 use crate::task::{AssignTask, BranchTask, CallTask, Task, ValueTask};
@@ -76,22 +76,14 @@ pub fn step_value<'a>(
         ValueTask::One(making) => { give(compute_one(state, around, making, given.into_operand())) }
         ValueTask::Second(making, swapped, e) => {
             let a = given.into_operand();
-            wait(
-                tasks,
-                Task::OfValue(ValueTask::Value(e, true)),
-                Task::OfValue(ValueTask::Both(making, swapped, a)),
-            )
+            second(state, around, tasks, making, swapped, a, e)
         }
         ValueTask::Both(making, swapped, a) => {
             give(make_both(state, around, making, swapped, a, given.into_operand()))
         }
         ValueTask::Index(place, scale, e) => {
             let a = given.into_operand();
-            wait(
-                tasks,
-                Task::OfValue(ValueTask::Value(e, true)),
-                Task::OfValue(ValueTask::Element(place, scale, a)),
-            )
+            index(state, around, tasks, place, scale, a, e)
         }
         ValueTask::Element(place, scale, pointer) => {
             give_place(state.offset(around, place, false, scale, pointer, given.into_operand()))
@@ -105,6 +97,58 @@ pub fn step_value<'a>(
         ValueTask::Convert(place, kind) => {
             give(state.convert(around, place, kind, given.into_operand()))
         }
+    }
+}
+
+/// The second operand of an operation, which was begun on this one: where it takes no task, the operation is made at once.
+fn second<'a>(
+    state: &mut Evaluator<'a>,
+    around: &Around<'a>,
+    tasks: &mut Stack<Task<'a>>,
+    making: Making,
+    swapped: bool,
+    a: Operand,
+    e: &'a Box<TExpr>,
+) -> Result<Given, Stop>
+    ensures { Leads (within_of around.now) result (value_task (within_of around.now) (valuing.Second making swapped e.entry) (given.Operand a) state.old) tasks.old tasks.new state.new }
+{
+    match at_once(e.get(), state, around) {
+        Early::Waits => value_first(
+            e,
+            true,
+            Task::OfValue(ValueTask::Both(making, swapped, a)),
+            state,
+            around,
+            tasks,
+        ),
+        Early::Found(b) => give(make_both(state, around, making, swapped, a, b)),
+        Early::Stopped(stop) => Err(stop),
+    }
+}
+
+/// The index behind this base: where it takes no task, the element is found at once.
+fn index<'a>(
+    state: &mut Evaluator<'a>,
+    around: &Around<'a>,
+    tasks: &mut Stack<Task<'a>>,
+    place: Place,
+    scale: u32,
+    a: Operand,
+    e: &'a Box<TExpr>,
+) -> Result<Given, Stop>
+    ensures { Leads (within_of around.now) result (value_task (within_of around.now) (valuing.Index place scale e.entry) (given.Operand a) state.old) tasks.old tasks.new state.new }
+{
+    match at_once(e.get(), state, around) {
+        Early::Waits => value_first(
+            e,
+            true,
+            Task::OfValue(ValueTask::Element(place, scale, a)),
+            state,
+            around,
+            tasks,
+        ),
+        Early::Found(b) => give_place(state.offset(around, place, false, scale, a, b)),
+        Early::Stopped(stop) => Err(stop),
     }
 }
 
@@ -204,10 +248,13 @@ fn decide<'a>(
         act: ActRef::Binary(Bin::Ne, kind),
     };
     let zero = Operand::Constant(Value::Number(0));
-    wait(
-        tasks,
-        Task::OfValue(ValueTask::Value(e, true)),
+    value_first(
+        e,
+        true,
         Task::OfValue(ValueTask::Both(making, true, zero)),
+        state,
+        around,
+        tasks,
     )
 }
 
@@ -225,21 +272,30 @@ fn choose<'a>(
 {
     let test = state.test(around, node.place, a)?;
     if holds(test) {
-        arm(tasks, node, first)
+        arm(state, around, tasks, node, first)
     } else {
-        arm(tasks, node, second)
+        arm(state, around, tasks, node, second)
     }
 }
 
 /// An arm of `?:`.
-fn arm<'a>(tasks: &mut Stack<Task<'a>>, node: Node, e: &'a Box<TExpr>) -> Result<Given, Stop>
-    ensures { (w : Within) (s : State) → Leads w result (armed w node e.now s) tasks.old tasks.new s }
+fn arm<'a>(
+    state: &mut Evaluator<'a>,
+    around: &Around<'a>,
+    tasks: &mut Stack<Task<'a>>,
+    node: Node,
+    e: &'a Box<TExpr>,
+) -> Result<Given, Stop>
+    ensures { Leads (within_of around.now) result (armed (within_of around.now) node e.now state.old) tasks.old tasks.new state.new }
 {
     match node.of {
-        TType::Void => wait(
-            tasks,
-            Task::OfValue(ValueTask::Value(e, false)),
+        TType::Void => value_first(
+            e,
+            false,
             Task::OfValue(ValueTask::Unused),
+            state,
+            around,
+            tasks,
         ),
         TType::Number(_) | TType::Pointer(_) => {
             let making = Making {
@@ -247,10 +303,13 @@ fn arm<'a>(tasks: &mut Stack<Task<'a>>, node: Node, e: &'a Box<TExpr>) -> Result
                 place: node.place,
                 act: ActRef::Move,
             };
-            wait(
-                tasks,
-                Task::OfValue(ValueTask::Value(e, true)),
+            value_first(
+                e,
+                true,
                 Task::OfValue(ValueTask::One(making)),
+                state,
+                around,
+                tasks,
             )
         }
     }
@@ -269,10 +328,13 @@ pub fn step_assignment<'a>(
     match task {
         AssignTask::Assign(place, e) => {
             let target = given.into_target();
-            wait(
-                tasks,
-                Task::OfValue(ValueTask::Value(e, true)),
+            value_first(
+                e,
+                true,
                 Task::OfAssignment(AssignTask::Write(place, target)),
+                state,
+                around,
+                tasks,
             )
         }
         AssignTask::Write(place, target) => {
@@ -281,10 +343,13 @@ pub fn step_assignment<'a>(
         AssignTask::AssignBy(node, change, e) => {
             let target = given.into_target();
             let kind = kind_of(node_of(e.get()).of);
-            wait(
-                tasks,
-                Task::OfValue(ValueTask::Value(e, true)),
+            value_first(
+                e,
+                true,
                 Task::OfAssignment(AssignTask::Change(node, change, kind, target)),
+                state,
+                around,
+                tasks,
             )
         }
         AssignTask::Change(node, change, kind, target) => {

@@ -1,3 +1,4 @@
+use Rattle.k_listing.specs.Arounds.{within_of}
 use Rattle.k_pending.specs.Leads.{armed}
 use Rattle.k_pending.proofs.Begun.{as_part}
 use Rattle.k_pending.proofs.StepRows.{armed_moved, armed_void}
@@ -5,10 +6,14 @@ use Rattle.k_pending.proofs.step.arm.Goals as goal
 
 pub returns-in-Void : goal.returns-in-Void
 returns-in-Void c =
-    λ w s. as_part w c.wait.result _ (armed w c.args.node c.args.e.now s) c.args.tasks.now c.wait.new.tasks s
-    (armed_void w s s c.args.node c.args.e.now c.in-Void.is) (c.wait.ensures w s)
+    let w = within_of c.args.around.now in
+    let s = c.args.state.now in
+    as_part w c.value_first.result _ (armed w c.args.node c.args.e.now s) c.args.tasks.now c.value_first.new.tasks c.value_first.new.state
+    (armed_void w s s c.args.node c.args.e.now c.in-Void.is) c.value_first.ensures
 
 pub returns-in-Number : goal.returns-in-Number
 returns-in-Number c =
-    λ w s. as_part w c.wait-in-Number.result _ (armed w c.args.node c.args.e.now s) c.args.tasks.now c.wait-in-Number.new.tasks s
-    (armed_moved w s s c.args.node c.args.e.now c.in-Number.is) (c.wait-in-Number.ensures w s)
+    let w = within_of c.args.around.now in
+    let s = c.args.state.now in
+    as_part w c.value_first-in-Number.result _ (armed w c.args.node c.args.e.now s) c.args.tasks.now c.value_first-in-Number.new.tasks c.value_first-in-Number.new.state
+    (armed_moved w s s c.args.node c.args.e.now c.in-Number.is) c.value_first-in-Number.ensures

@@ -17,9 +17,9 @@ returns-then-holds c =
     let u = c.test.new.self in
     let node = c.args.node in
     let part = follow (follow (tests w.program node.place c.args.a s) (arm_by w.program node (means w c.args.first.now) (means w c.args.second.now))) gives_operand in
-    as_part w c.arm.result (armed w node c.args.first.now u) part c.args.tasks.now c.arm.new.tasks u
+    as_part w c.arm.result (armed w node c.args.first.now u) part c.args.tasks.now c.arm.new.tasks c.arm.new.state
     (chosen w s u node c.args.a c.args.first.now c.args.second.now c.in_ok-test.test true c.in_ok-test.ensures (sym c.holds.ensures ∙ c.if-holds.true))
-    (c.arm.ensures w u)
+    c.arm.ensures
 
 pub returns-else-holds : goal.returns-else-holds
 returns-else-holds c =
@@ -28,6 +28,6 @@ returns-else-holds c =
     let u = c.test.new.self in
     let node = c.args.node in
     let part = follow (follow (tests w.program node.place c.args.a s) (arm_by w.program node (means w c.args.first.now) (means w c.args.second.now))) gives_operand in
-    as_part w c.arm-else-holds.result (armed w node c.args.second.now u) part c.args.tasks.now c.arm-else-holds.new.tasks u
+    as_part w c.arm-else-holds.result (armed w node c.args.second.now u) part c.args.tasks.now c.arm-else-holds.new.tasks c.arm-else-holds.new.state
     (chosen w s u node c.args.a c.args.first.now c.args.second.now c.in_ok-test.test false c.in_ok-test.ensures (sym c.holds.ensures ∙ c.if-holds.false))
-    (c.arm-else-holds.ensures w u)
+    c.arm-else-holds.ensures

@@ -24,6 +24,6 @@ returns c =
     c.kind_or_int-kind.ensures
     ∙ (ap kind_or_int c.kind_of.ensures
     ∙ (ap (λ (n : Node). kind_or_int (kind_of n.of)) (c.node_of.ensures w) ∙ ap (λ (x : TExpr). kind_or_int (kind_of (means w x).node.of)) c.get.ensures)) in
-    as_part w c.wait.result _ part c.args.tasks.now c.wait.new.tasks u
+    as_part w c.value_first.result _ part c.args.tasks.now c.value_first.new.tasks c.value_first.new.state
     (undecided w s u node c.args.decides c.args.a e c.in_ok-test.test c.kind_or_int-kind.result c.in_ok-test.ensures runs kind_is)
-    (c.wait.ensures w u)
+    c.value_first.ensures

@@ -19,10 +19,10 @@ pub returns-in-Assign : goal.returns-in-Assign
 returns-in-Assign c =
     let w = within_of c.args.around.now in
     let s = c.args.state.now in
-    as_part w c.wait.result _ (assignment_task w c.args.task c.args.given s) c.args.tasks.now c.wait.new.tasks s
+    as_part w c.value_first.result _ (assignment_task w c.args.task c.args.given s) c.args.tasks.now c.value_first.new.tasks c.value_first.new.state
     (ap (λ (t : AssignTask). assignment_task w t c.args.given s) c.in-Assign.is
     ∙ keeps w s c.in-Assign.e.now (writes w.program c.in-Assign.place) (target_in c.args.given) c.into_target-target.result c.into_target-target.ensures)
-    (c.wait.ensures w s)
+    c.value_first.ensures
 
 pub returns-in-AssignBy : goal.returns-in-AssignBy
 returns-in-AssignBy c =
@@ -34,8 +34,8 @@ returns-in-AssignBy c =
     let kind_is =
     c.kind_of-kind.ensures
     ∙ (ap (λ (n : Node). kind_of n.of) (c.node_of.ensures w) ∙ ap (λ (x : TExpr). kind_of (means w x).node.of) c.get.ensures) in
-    as_part w c.wait-in-AssignBy.result _ (assignment_task w c.args.task c.args.given s) c.args.tasks.now c.wait-in-AssignBy.new.tasks s
+    as_part w c.value_first-in-AssignBy.result _ (assignment_task w c.args.task c.args.given s) c.args.tasks.now c.value_first-in-AssignBy.new.tasks c.value_first-in-AssignBy.new.state
     (ap (λ (t : AssignTask). assignment_task w t c.args.given s) c.in-AssignBy.is
     ∙ (keeps w s e (changes (kind_of (means w e).node.of)) (target_in c.args.given) target c.into_target-target-in-AssignBy.ensures
     ∙ ap (λ (k : Option Kind). follow (valued w e true s) (from_operand (changes k target))) (sym kind_is)))
-    (c.wait-in-AssignBy.ensures w s)
+    c.value_first-in-AssignBy.ensures
