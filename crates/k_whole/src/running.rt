@@ -1,0 +1,71 @@
+//! A program that is ready to run, and its run.
+ghost use Rattle.std.specs.Prelude.{◌≡◌, IfOk};
+ghost use Rattle.k_marks.specs.Marking.{marks_of};
+ghost use Rattle.k_whole.specs.Answers.{listing_of};
+ghost use Rattle.k_whole.specs.Parts.{CanRun, running_of};
+ghost use Rattle.k_whole.specs.Phases.{MakesReady};
+ghost use Rattle.k_whole.specs.Steps.{run_of};
+
+use crate::failure::Failure;
+use crate::input::input_of;
+use crate::program::{Program, read_program};
+use k_edge::{Files, Source};
+use k_frames::plain;
+use k_num::{NoMemory, Seq, Text};
+use k_plain::Listing;
+use std::alloc::Global;
+
+/// A program with its input, of whose operations at most so many are made.
+#[derive(Drop)]
+pub struct Ready {
+    pub program: Program,
+    pub input: Seq<u8>,
+    pub steps: u64,
+}
+
+/// The program of a file, ready to run: the program is read, and then the input.
+pub(crate) fn make_ready<F: Files, S: Source>(
+    alloc: Global,
+    files: &mut F,
+    input: &mut S,
+    file: Text,
+    latency: Option<Text>,
+    steps: u64,
+) -> Result<Ready, Failure>
+    ensures ready { MakesReady result file latency steps
+        (record { files = F.seen files.old; input = S.seen input.old }) (record { files = F.seen files.new; input = S.seen input.new }) }
+    ensures can_run { IfOk result (λ r. CanRun r.program) }
+    ensures steps { IfOk result (λ r. r.steps ≡ steps) }
+{
+    let program = read_program(alloc, files, file, latency)?;
+    let input = input_of(alloc, &program.typed, input)?;
+    Ok(Ready {
+        program,
+        input: Seq::from_vec(input),
+        steps,
+    })
+}
+
+/// The run of a program: its events, its output and its end.
+pub(crate) fn listing(alloc: Global, ready: &Ready) -> Result<Listing, NoMemory>
+    requires { ready.now.program.marks ≡ marks_of ready.now.program.typed }
+    ensures { IfOk result (λ listing. listing ≡ listing_of (run_of (running_of ready.now))) }
+{
+    let k_listing::Listing {
+        events,
+        output,
+        end,
+    } = plain(
+        alloc,
+        &ready.program.typed,
+        &ready.program.marks,
+        &ready.program.latencies,
+        ready.input.as_slice(),
+        ready.steps,
+    )?;
+    Ok(Listing {
+        events,
+        output,
+        end,
+    })
+}
