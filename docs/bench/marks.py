@@ -4,7 +4,7 @@
     (cd crates/k_run_bench && rt run)
     python3 docs/bench/marks.py crates/kremlin/out/kremlin crates/k_run_bench/out/k_run_bench /tmp/marks
 
-The sources are written into the folder. The first program refuses each of them behind its check; the second goes on to its marks and to
+The sources are written into the folder. The first program is given each with an unknown name behind it, so that it refuses it at the end of its check; the second goes on to its marks and to
 a run without operations. For each: the processor time in seconds of both (the least of five), their difference, which is the
 marking with what begins and ends a run, and the largest memory of the second.
 """
@@ -74,11 +74,13 @@ def main():
     open(nothing, "w").close()
     for make in SOURCES:
         name = f"{folder}/{make.__name__}.c"
-        with open(name, "w") as file:
-            file.write(make())
-        checked, refusal, _ = run([kremlin, "run", name])
+        refused = f"{folder}/{make.__name__}-refused.c"
+        for path, behind in (name, ""), (refused, "int last=unknown;\n"):
+            with open(path, "w") as file:
+                file.write(make() + behind)
+        checked, refusal, _ = run([kremlin, "run", refused])
         marked, end, memory = run([bench, name, nothing, "0"])
-        if "NotBuilt" not in refusal or "OutOfSteps" not in end:
+        if "Unknown" not in refusal or "OutOfSteps" not in end:
             sys.exit(f"{name}: {refusal} {end}")
         print("|", " | ".join([make.__name__, f"{checked:.3f}", f"{marked:.3f}", f"{marked - checked:.3f}", f"{memory:.0f} MB"]), "|")
 

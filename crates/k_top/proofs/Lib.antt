@@ -1,9 +1,0 @@
-mod Growing
-mod ReportLemmas
-mod EndingLemmas
-mod OneRow
-mod Alone
-mod RunLemmas
-mod Unique
-mod TopLemmas
-mod ClauseLemmas

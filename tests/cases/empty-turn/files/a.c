@@ -1,0 +1,1 @@
+int main(void){do break; while(1); return 0;}

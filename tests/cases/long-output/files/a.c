@@ -1,0 +1,1 @@
+int main(void){int i; for(i=0;i<70000;i++) putchar('x'); return 0;}

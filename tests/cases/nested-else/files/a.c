@@ -1,0 +1,1 @@
+int main(void){int a=1,b=0,x=0; if(a) if(b) x=1; else x=2; return x;}

@@ -1,0 +1,1 @@
+int main(void){return 4294967295u+1u==0;}

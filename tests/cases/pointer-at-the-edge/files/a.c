@@ -1,0 +1,1 @@
+int main(void){int a[4]; int *p; p=&a[4]; return *p;}

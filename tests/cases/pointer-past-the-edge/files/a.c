@@ -1,0 +1,1 @@
+int main(void){int a[4]; int *p; p=&a[4]; p=p+1; return 0;}

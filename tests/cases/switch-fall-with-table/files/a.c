@@ -1,0 +1,1 @@
+int main(void){int x=2,y=0; switch(x){case 1: y=5; break; case 2: y=7; case 3: y=y+1; break; default: y=9;} return y;}

@@ -1,0 +1,1 @@
+int main(void){int i,s; s=0; for(i=0;i<4;i++) switch(i&1){case 1: s+=i; break;} return s;}

@@ -1,0 +1,1 @@
+int f(int k){int t[2]; if(k==0) t[0]=5; return t[0];} int main(void){int x; x=f(0); x=x+f(1); return x;}
