@@ -128,4 +128,5 @@ def main(program, folder):
         print(f"{name}: {least_stack([program, source, given, str(budget)])} KiB of stack", flush=True)
 
 
-main(*sys.argv[1:])
+if __name__ == "__main__":
+    main(*sys.argv[1:])

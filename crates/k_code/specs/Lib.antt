@@ -1,3 +1,1 @@
 pub mod Traps
-pub mod World
-pub mod WorldLaws

@@ -1,9 +1,8 @@
-//! What evaluation and flat code share: how a run can end, what a value holds, and how an operation is made.
+//! How a run can end, and what a run leaves: its listing.
 #![tactic(auto)]
 
 mod ending;
-mod held;
-pub mod laws;
+mod listing;
 
 pub use ending::{End, Trap, name, trap_of};
-pub use held::Held;
+pub use listing::Listing;

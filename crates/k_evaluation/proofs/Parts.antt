@@ -11,7 +11,7 @@ use Rattle.k_optab.specs.Instances.{nothing}
 use Rattle.k_optab.specs.Latencies.{latency}
 use Rattle.k_code.specs.declared.ending.End.TheVariants as ending
 use Rattle.k_code.specs.declared.ending.Trap.{Trap}
-use Rattle.k_code.proofs.Sound.{operations-append}
+use Rattle.k_optab.proofs.Trees.{operations-append}
 use Rattle.k_mem.specs.declared.fault.MemTrap.{MemTrap}
 use Rattle.k_mem.specs.declared.pointer.Pointer.{Pointer}
 use Rattle.k_mem.specs.declared.start.Start.{Start}

@@ -4,7 +4,7 @@ use Rattle.k_code.specs.declared.ending.End.{End}
 use Rattle.k_world.specs.declared.answer.Stop.{Stop}
 use Rattle.k_world.specs.declared.answer.Stop.TheVariants as stop
 use Rattle.k_world.specs.Worlds.{World}
-use Rattle.k_listing.specs.declared.listing.Listing.{Listing}
+use Rattle.k_code.specs.declared.listing.Listing.{Listing}
 use Rattle.k_evaluation.specs.States.{State, Outcome, Goes, Stops}
 
 -- The call came to this outcome and left this state, unless it found no memory.

@@ -12,10 +12,9 @@ ghost use Rattle.k_listing.specs.Comes.{listed};
 ghost use Rattle.k_listing.specs.Arounds.{program_of};
 
 use crate::around::Around;
-use crate::listing::Listing;
 use crate::making::Making;
 use crate::stack::Stack;
-use k_code::End;
+use k_code::{End, Listing};
 use k_evaluation::{Operand, Target};
 use k_num::{NoMemory, Place, Seq};
 use k_optab::{Class, Event, of};

@@ -1,3 +1,4 @@
+pub mod Entered
 pub mod Events
 pub mod Graph
 pub mod GraphLaws

@@ -1,7 +1,4 @@
-pub mod Ints
-pub mod Names
-pub mod Runs
-pub mod Slots
-pub mod Statements
-pub mod Expressions
-pub mod Kept
+pub mod TurnRows
+pub mod FrameRows
+pub mod MainRows
+pub mod FitRows

@@ -1,16 +1,10 @@
-//! The listing interpreter: the run of a source as its events, its output and its end. Its definitions, *Evaluation* and
-//! *Run*, say what a program means.
+//! The listing interpreter: calls as frames on a stack, and the whole run of a source.
 #![tactic(auto)]
 
-mod evaluator;
-mod expression;
-mod flow;
-pub mod laws;
-mod listing;
-mod operand;
-mod statement;
-mod stop;
-mod variables;
-mod work;
+mod call;
+mod frame;
+mod machine;
+mod program;
 
-pub use listing::{Listing, plain};
+pub use k_code::Listing;
+pub use program::plain;

@@ -7,6 +7,7 @@ use Rattle.k_optab.specs.declared.closed.Closed.{Closed}
 use Rattle.k_optab.specs.declared.event.Event.{Event}
 use Rattle.k_optab.specs.declared.event.Event.TheVariants.{Op, Enter, Exit}
 use Rattle.k_optab.specs.declared.node.Node.{Node}
+use Rattle.k_optab.specs.Entered.{EnterBelow}
 use Rattle.k_optab.specs.Events.{Operation, operations, total_latency}
 use Rattle.k_optab.specs.Graph.{work}
 use Rattle.k_optab.specs.Instances.{Balanced, nothing, operation, instance, closed_from, instance_of, tracked, until_exit}
@@ -16,7 +17,6 @@ use Rattle.k_optab.proofs.Matching.{balanced_to_exit}
 use Rattle.k_optab.proofs.Trees.{operations-append}
 use Rattle.k_dict.specs.Trees.{Forest, Label, Tree, alone, bare, grown, height, list_of, node_at, nodes_of}
 use Rattle.k_dict.proofs.Lists.{label_at}
-use Rattle.k_profile.specs.RunReport.{EnterBelow}
 
 -- each instance of a forest is of one of so many regions, and has at most so much work
 abbrev pub AreWithin : ℕ → ℕ → Forest → Type 0

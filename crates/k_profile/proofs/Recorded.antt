@@ -31,7 +31,8 @@ use Rattle.k_selfpar.proofs.Profile.{label_is}
 use Rattle.k_selfpar.proofs.Siblings.{contexts_forget_order, rows_forget_order}
 use Rattle.k_report.specs.Report.{large_text, report_text}
 use Rattle.k_profile.specs.Report.{IsReport, IsReportOf, asked, nodes_of_profile}
-use Rattle.k_profile.specs.RunReport.{EnterBelow, IsProfileOf, IsRunReport, IsWhole, Ran, large, ops_of, whole}
+use Rattle.k_optab.specs.Entered.{EnterBelow}
+use Rattle.k_profile.specs.RunReport.{IsProfileOf, IsRunReport, IsWhole, Ran, large, ops_of, whole}
 use Rattle.k_profile.proofs.Children.{HaveBounds, tree_has_bounds}
 use Rattle.k_profile.proofs.Grown.{AreWithin, IsGrown, enter_split, grown_of}
 use Rattle.k_profile.proofs.Rules.{are_profile, name_regions}

@@ -1,13 +1,11 @@
 -- *Report of a run*: what `run` writes behind the program's output where main returned, and what it saves.
-use Rattle.std.specs.Prelude.{ℕ, ℤ, ◌≡◌, ◌<◌, ◌≤◌, ◌^◌, Bool, List, [], ◌∷◌, ◌++◌, length, Option, Some, None, FitsSigned, codes, slice_get}
+use Rattle.std.specs.Prelude.{ℕ, ℤ, ◌≡◌, ◌≤◌, ◌^◌, Bool, List, length, Option, Some, None, FitsSigned}
 use Rattle.std.specs.Int.{w32}
 use Rattle.k_optab.specs.declared.event.Event.{Event}
-use Rattle.k_optab.specs.declared.event.Event.TheVariants.{Op, Enter, Exit}
 use Rattle.k_optab.specs.declared.node.Node.{Node}
 use Rattle.k_optab.specs.declared.region.Region.{Region}
-use Rattle.k_optab.specs.declared.region.RegionKind.TheVariants.{Func}
+use Rattle.k_optab.specs.Entered.{EnterBelow, IsOfMain}
 use Rattle.k_optab.specs.Events.{SourcesAreEarlier, operations, total_latency}
-use Rattle.k_optab.specs.Instances.{Balanced}
 use Rattle.k_optab.specs.Tree.{IsTree}
 use Rattle.k_dict.specs.Dictionary.{IsDictionary, refusal}
 use Rattle.k_dict.specs.declared.dict.Which.{Which}
@@ -27,24 +25,6 @@ pub record Ran : Type 0 where
 -- how many operations it made
 abbrev pub ops_of : Ran → ℕ
 ops_of ran = length (operations ran.events)
-
--- each region that is entered is one of so many
-abbrev pub EnterBelow : ℕ → List Event → Type 0
-EnterBelow count [] = Unit {0}
-EnterBelow count (Op class latency sources place ∷ events) = EnterBelow count events
-EnterBelow count (Enter region ∷ events) = (region < count) × EnterBelow count events
-EnterBelow count (Exit ∷ events) = EnterBelow count events
-
--- the events are one instance of the function main, with all others within it
-pub record IsOfMain (regions : List Region) (events : List Event) : Type 0 where
-  pub number : ℕ
-  pub inside : List Event
-  pub main : Region
-  pub whole : events ≡ Enter number ∷ (inside ++ Exit ∷ [])
-  pub balanced : Balanced inside
-  pub there : slice_get regions number ≡ Some main
-  pub kind : main.kind ≡ Func
-  pub func : main.func ≡ codes "main"
 
 -- a run of which a report can be made, as it is where main returns: its operations are few and take not too long, its events are
 -- one instance of main, and instances are tracked to a depth of 1 to 32

@@ -31,7 +31,8 @@ use Rattle.k_evaluation.specs.Laws.{IsReturned}
 use Rattle.k_evaluation.specs.Loops.{loop_region}
 use Rattle.k_evaluation.specs.Runs.{ended, exit_of, initial, int_of, run, runs_main, starts_object, starts_objects, starts_strings, whole}
 use Rattle.k_regions.specs.declared.loops.LoopAt.{LoopAt}
-use Rattle.k_regions.specs.Laws.{AreItsRegions, EnterBelow, entries, HasItsRegions, ReturnedRunsAreOfMain, ReturnedRunsGiveInts, RunsEnterTheirRegions}
+use Rattle.k_optab.specs.Entered.{EnterBelow}
+use Rattle.k_regions.specs.Laws.{AreItsRegions, entries, HasItsRegions, ReturnedRunsAreOfMain, ReturnedRunsGiveInts, RunsEnterTheirRegions}
 use Rattle.k_regions.specs.Regions.{function_itself, loops_of, regions_of}
 use Rattle.k_regions.proofs.Added.{Policy, ArePaid, made_of, region_paid, EachEntered, each_both, Leaves, Stays, IsStill, then_still, gives_still, makes_object_still, makes_string_still, fills_still}
 use Rattle.k_regions.proofs.Entered.{LoopsHold, ProgramHolds, inside, main_adds}

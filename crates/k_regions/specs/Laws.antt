@@ -1,12 +1,12 @@
 -- What holds of the regions of every source, and of those that its runs enter.
-use Rattle.std.specs.Prelude.{ℕ, ℤ, ◌≡◌, ◌+◌, ◌*◌, ◌<◌, ◌≤◌, List, [], ◌∷◌, ◌++◌, length, slice_get, map, Some, FitsSigned, codes}
+use Rattle.std.specs.Prelude.{ℕ, ℤ, ◌≡◌, ◌+◌, ◌*◌, ◌≤◌, List, [], ◌∷◌, length, slice_get, map, Some, FitsSigned}
 use Rattle.std.specs.Int.{w32}
 use Rattle.k_num.specs.declared.place.Place.{Place}
 use Rattle.k_optab.specs.declared.event.Event.{Event}
 use Rattle.k_optab.specs.declared.event.Event.TheVariants.{Op, Enter, Exit}
 use Rattle.k_optab.specs.declared.region.Region.{Region}
 use Rattle.k_optab.specs.declared.region.RegionKind.TheVariants.{Func}
-use Rattle.k_optab.specs.Instances.{Balanced}
+use Rattle.k_optab.specs.Entered.{EnterBelow, IsOfMain}
 use Rattle.k_code.specs.declared.ending.End.TheVariants.{Returned}
 use Rattle.k_tree.specs.declared.tokens.Token.{Token}
 use Rattle.k_tree.specs.declared.tokens.TokenKind.{TokenKind}
@@ -76,24 +76,6 @@ RegionsComeOfTokens =
     → Placed unit tokens
     → IsTyped unit typed
     → (n : ℕ) (r : Region) → slice_get (regions_of unit typed) n ≡ Some r → ComesOfTokens tokens r
-
--- each region that is entered is one of so many
-abbrev pub EnterBelow : ℕ → List Event → Type 0
-EnterBelow count [] = Unit {0}
-EnterBelow count (Op class latency sources place ∷ events) = EnterBelow count events
-EnterBelow count (Enter region ∷ events) = (region < count) × EnterBelow count events
-EnterBelow count (Exit ∷ events) = EnterBelow count events
-
--- the events are one instance of the function main, with all others within it
-pub record IsOfMain (regions : List Region) (events : List Event) : Type 0 where
-  pub number : ℕ
-  pub inside : List Event
-  pub main : Region
-  pub whole : events ≡ Enter number ∷ (inside ++ Exit ∷ [])
-  pub balanced : Balanced inside
-  pub there : slice_get regions number ≡ Some main
-  pub kind : main.kind ≡ Func
-  pub func : main.func ≡ codes "main"
 
 -- a run of a source without faults enters no other regions than those of its source
 abbrev pub RunsEnterTheirRegions : Type 0

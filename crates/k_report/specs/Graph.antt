@@ -16,7 +16,7 @@ use Rattle.k_code.specs.declared.ending.End.{End}
 use Rattle.k_code.specs.declared.ending.End.TheVariants.{Returned, Trapped, OutOfSteps}
 use Rattle.k_code.specs.declared.ending.Trap.{Trap}
 use Rattle.k_code.specs.Traps.{trap_name}
-use Rattle.k_plain.specs.declared.listing.Listing.{Listing}
+use Rattle.k_code.specs.declared.listing.Listing.{Listing}
 use Rattle.k_report.specs.Names.{named_line, place_text}
 
 -- a source behind a space, with a mark where the dependence is broken

@@ -2,7 +2,7 @@
 use Rattle.std.specs.Prelude.{ℕ, ◌≡◌, List, All, length}
 use Rattle.k_optab.specs.Events.{operations}
 use Rattle.k_graph.specs.declared.tree.Instance.{Instance}
-use Rattle.k_plain.specs.declared.listing.Listing.{Listing}
+use Rattle.k_code.specs.declared.listing.Listing.{Listing}
 use Rattle.k_report.specs.Graph.{IsGraphText, IsWithin}
 
 -- a run and its tree have one listing

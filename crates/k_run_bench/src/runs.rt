@@ -4,13 +4,12 @@ ghost use Rattle.k_tree.specs.Closed.{EndsOnce};
 ghost use Rattle.k_tree.specs.Count.{unit_count};
 
 use k_code::End;
-use k_frames::plain;
 use k_lex::lex;
-use k_listing::Listing;
 use k_marks::mark;
 use k_num::Seq;
 use k_optab::{Event, standard};
 use k_parse::parse;
+use k_plain::{Listing, plain};
 use k_tree::{Token, Unit};
 use k_typed::TUnit;
 use k_types::check;

@@ -8,3 +8,4 @@ pub mod LoopRows
 pub mod SwitchRows
 pub mod DeclareRows
 pub mod CallRows
+pub mod FitLaws

@@ -1,3 +1,4 @@
+pub mod Noted
 pub mod Parts
 pub mod Tasks
 pub mod Resumes

@@ -4,11 +4,11 @@ use Rattle.std.specs.Option.{option_map}
 use Rattle.k_evaluation.specs.declared.flow.Flow.TheVariants.{Normal}
 use Rattle.k_evaluation.specs.Assignments.{writes}
 use Rattle.k_evaluation.specs.Declarations.{element_of}
-use Rattle.k_evaluation.specs.Flows.{Within, in_order, unless_left}
+use Rattle.k_evaluation.specs.Flows.{in_order, unless_left}
 use Rattle.k_evaluation.specs.Loops.{behind_body, stays_behind_loop, turn_if, turns}
 use Rattle.k_evaluation.specs.Meanings.{tests}
 use Rattle.k_evaluation.specs.Objects.{keeps}
-use Rattle.k_evaluation.specs.Statements.{chosen_arm, does, does_or_none, returns_moved}
+use Rattle.k_evaluation.specs.Statements.{chosen_arm, does_or_none, returns_moved}
 use Rattle.k_evaluation.specs.States.{Part, ◌>>=◌, gives, exits, settles}
 use Rattle.k_evaluation.specs.Switches.{behind_switch, statements_of}
 use Rattle.k_pending.specs.declared.given.Given.{Given}
@@ -24,16 +24,17 @@ use Rattle.k_running.specs.declared.task.SwitchTask.TheVariants as switching
 use Rattle.k_running.specs.declared.task.DeclareTask.{DeclareTask}
 use Rattle.k_running.specs.declared.task.DeclareTask.TheVariants as declare
 use Rattle.k_running.specs.declared.task.Turns.{Turns}
-use Rattle.k_running.specs.Parts.{begun_items, bodied, cases, chosen_default, declared_all, doing, looped, part_of, parts_of, stored, turned, turns_by}
+use Rattle.k_running.specs.Noted.{Tabled, noted, part_of}
+use Rattle.k_running.specs.Parts.{begun_items, bodied, cases, chosen_default, declared_all, doing, looped, parts_of, stored, turned, turns_by}
 
 -- what is still to be done of statements
-abbrev pub statement_task : Within → StatementTask → Given → Part Given
+abbrev pub statement_task : Tabled → StatementTask → Given → Part Given
 statement_task w statement.Done g = gives_flow Normal
-statement_task w (statement.Do s) g = doing (does w s.now)
-statement_task w (statement.InOrder ss n) g = unless_left (in_order (map (does w) (drop n ss.now))) (flow_in g) >>= gives_flow
+statement_task w (statement.Do s) g = doing (noted w s.now)
+statement_task w (statement.InOrder ss n) g = unless_left (in_order (map (noted w) (drop n ss.now))) (flow_in g) >>= gives_flow
 statement_task w (statement.Choose place first second) g =
-    (tests w.program place (operand_in g) >>= chosen_arm (does w first.now).does (does_or_none (option_map (does w) second.now))) >>= gives_flow
-statement_task w (statement.Return place) g = returns_moved w.program place (operand_in g) >>= gives_flow
+    (tests w.within.program place (operand_in g) >>= chosen_arm (noted w first.now).does (does_or_none (option_map (noted w) second.now))) >>= gives_flow
+statement_task w (statement.Return place) g = returns_moved w.within.program place (operand_in g) >>= gives_flow
 
 -- what is still to be done where a part is left
 abbrev pub scope_task : ScopeTask → Given → Part Given
@@ -42,11 +43,11 @@ scope_task scope.Exit g = exits >>= λ left. gives g
 scope_task (scope.Settle stays c) g = settles stays c >>= λ done. gives g
 
 -- what is still to be done of a loop
-abbrev pub loop_task : Within → LoopTask → Given → Part Given
+abbrev pub loop_task : Tabled → LoopTask → Given → Part Given
 loop_task w (turning.Loop t) g = looped w t true
 loop_task w (turning.Turn t n) g = turned w t n
 loop_task w (turning.Test t n) g =
-    (tests w.program t.place (operand_in g) >>= turn_if (parts_of w t) t.before (turns n (parts_of w t) t.before)) >>= gives_flow
+    (tests w.within.program t.place (operand_in g) >>= turn_if (parts_of w t) t.before (turns n (parts_of w t) t.before)) >>= gives_flow
 loop_task w (turning.Body t n last) g = bodied w t n last
 loop_task w (turning.Behind t n last) g =
     (exits >>= λ left. behind_body (parts_of w t) t.before (turns_by n (parts_of w t) t.before) last (flow_in g)) >>= gives_flow
@@ -59,7 +60,7 @@ first_task_of t true = turning.Turn t None
 first_task_of t false = turning.Body t None t.before
 
 -- what is still to be done of a switch
-abbrev pub switch_task : Within → SwitchTask → Given → Part Given
+abbrev pub switch_task : Tabled → SwitchTask → Given → Part Given
 switch_task w (switching.On kind parts) g = cases w kind parts.now 0 (operand_in g)
 switch_task w (switching.Cases kind parts n on) g = cases w kind parts.now n on
 switch_task w (switching.Default parts n) g = chosen_default w parts.now n
@@ -67,8 +68,8 @@ switch_task w (switching.Parts parts n) g = unless_left (in_order (statements_of
 switch_task w switching.Ended g = gives_flow (behind_switch (flow_in g))
 
 -- what is still to be done of a declaration
-abbrev pub declare_task : Within → DeclareTask → Given → Part Given
+abbrev pub declare_task : Tabled → DeclareTask → Given → Part Given
 declare_task w (declare.All ds n) g = declared_all w ds.now n
-declare_task w (declare.Begin place target) g = (writes w.program place target (operand_in g) >>= λ v. gives tt) >>= gives_done
+declare_task w (declare.Begin place target) g = (writes w.within.program place target (operand_in g) >>= λ v. gives tt) >>= gives_done
 declare_task w (declare.Items home items n) g = begun_items w home items.now n
 declare_task w (declare.Store place home n) g = stored w place (element_of home n) (operand_in g)

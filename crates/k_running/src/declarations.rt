@@ -2,7 +2,7 @@
 ghost use Rattle.std.specs.Prelude.{◌≡◌, ◌+◌, ◌^◌, ◌<◌, [], slice_get, IfSome};
 ghost use Rattle.std.specs.Option.{option_copied};
 ghost use Rattle.k_evaluation.specs.Declarations.{elements_of as elements_meant};
-ghost use Rattle.k_listing.specs.Arounds.{within_of};
+ghost use Rattle.k_running.specs.Noted.{tabled_of};
 ghost use Rattle.k_running.specs.Parts.{declared, declared_all, begun_item, begun_items, begun_object, begun_register, stored};
 ghost use Rattle.k_running.specs.Resumes.{Resumes};
 ghost use Rattle.k_running.specs.Tasks.{declare_task};
@@ -10,9 +10,10 @@ ghost use Rattle.k_pending.specs.declared.given.Given.TheVariants as given;
 ghost use Rattle.k_running.specs.declared.task.DeclareTask.TheVariants as declare;
 
 use crate::runner::Runner;
+use crate::setting::Setting;
 use crate::task::{DeclareTask, Waiting};
 use k_evaluation::{Flow, Operand, Target};
-use k_listing::{Around, element_of};
+use k_listing::element_of;
 use k_mem::Start;
 use k_num::{Place, Seq};
 use k_pending::{Given, value};
@@ -49,30 +50,30 @@ impl<'a> Runner<'a> {
     /// A task of a declaration is given this.
     pub fn step_declaration(
         &mut self,
-        around: &Around<'a>,
+        setting: &Setting<'a>,
         task: DeclareTask<'a>,
         given: Given,
     ) -> Result<Given, Stop>
         requires { self.old.tasks ≡ [] }
-        ensures { Resumes (within_of around.now) result (declare_task (within_of around.now) task.entry given self.old.evaluator) self.old.rest self.new.tasks self.new.rest self.new.evaluator }
+        ensures { Resumes (tabled_of setting.now) result (declare_task (tabled_of setting.now) task.entry given self.old.evaluator) self.old.rest self.new.tasks self.new.rest self.new.evaluator }
     {
         match task {
             DeclareTask::All(list, from) => {
                 drop(given);
-                self.declare_all(around, list, from)
+                self.declare_all(setting, list, from)
             }
             DeclareTask::Begin(place, target) => self.begin_variable(
-                around,
+                setting,
                 place,
                 target,
                 given.into_operand(),
             ),
             DeclareTask::Items(home, items, from) => {
                 drop(given);
-                self.items(around, home, items, from)
+                self.items(setting, home, items, from)
             }
             DeclareTask::Store(place, home, element) => self.store(
-                around,
+                setting,
                 place,
                 element_of(home, element),
                 given.into_operand(),
@@ -83,41 +84,41 @@ impl<'a> Runner<'a> {
     /// The declarators from this one on.
     fn declare_all(
         &mut self,
-        around: &Around<'a>,
+        setting: &Setting<'a>,
         list: &'a Seq<TDeclarator>,
         from: usize,
     ) -> Result<Given, Stop>
         requires { self.old.tasks ≡ [] }
-        ensures { Resumes (within_of around.now) result (declared_all (within_of around.now) list.now from self.old.evaluator) self.old.rest self.new.tasks self.new.rest self.new.evaluator }
+        ensures { Resumes (tabled_of setting.now) result (declared_all (tabled_of setting.now) list.now from self.old.evaluator) self.old.rest self.new.tasks self.new.rest self.new.evaluator }
     {
         match declarator_at(list, from) {
             None => Ok(Given::Flow(Flow::Normal)),
             Some(d) => {
                 self.rest
                     .push(Waiting::OfDeclaration(DeclareTask::All(list, from + 1)))?;
-                self.declare(around, d)
+                self.declare(setting, d)
             }
         }
     }
 
     /// A declarator is begun.
-    fn declare(&mut self, around: &Around<'a>, d: &'a TDeclarator) -> Result<Given, Stop>
+    fn declare(&mut self, setting: &Setting<'a>, d: &'a TDeclarator) -> Result<Given, Stop>
         requires { self.old.tasks ≡ [] }
-        ensures { Resumes (within_of around.now) result (declared (within_of around.now) d.now self.old.evaluator) self.old.rest self.new.tasks self.new.rest self.new.evaluator }
+        ensures { Resumes (tabled_of setting.now) result (declared (tabled_of setting.now) d.now self.old.evaluator) self.old.rest self.new.tasks self.new.rest self.new.evaluator }
     {
-        let elements = elements_of(around.variables, d.variable);
+        let elements = elements_of(setting.around.variables, d.variable);
         if elements == 0 {
-            return self.begin_register(around, d);
+            return self.begin_register(setting, d);
         }
         let home = self.evaluator.make_object(d.place, Start::Unset, elements)?;
         self.evaluator.set_variable(d.variable, Some(home));
-        self.begin_object(around, d, home)
+        self.begin_object(setting, d, home)
     }
 
     /// A register begins.
-    fn begin_register(&mut self, around: &Around<'a>, d: &'a TDeclarator) -> Result<Given, Stop>
+    fn begin_register(&mut self, setting: &Setting<'a>, d: &'a TDeclarator) -> Result<Given, Stop>
         requires { self.old.tasks ≡ [] }
-        ensures { Resumes (within_of around.now) result (begun_register (within_of around.now) d.now self.old.evaluator) self.old.rest self.new.tasks self.new.rest self.new.evaluator }
+        ensures { Resumes (tabled_of setting.now) result (begun_register (tabled_of setting.now) d.now self.old.evaluator) self.old.rest self.new.tasks self.new.rest self.new.evaluator }
     {
         match &d.init {
             TInit::Nothing => {
@@ -127,7 +128,13 @@ impl<'a> Runner<'a> {
             TInit::Value(e) => {
                 let target = Target::InRegister(d.variable, false);
                 self.rest.push(Waiting::OfDeclaration(DeclareTask::Begin(d.place, target)))?;
-                value(e, true, &mut self.evaluator, around, &mut self.tasks)
+                value(
+                    e,
+                    true,
+                    &mut self.evaluator,
+                    &setting.around,
+                    &mut self.tasks,
+                )
             }
             TInit::Elements(_) => Ok(Given::Flow(Flow::Normal)),
         }
@@ -136,19 +143,25 @@ impl<'a> Runner<'a> {
     /// An object begins.
     fn begin_object(
         &mut self,
-        around: &Around<'a>,
+        setting: &Setting<'a>,
         d: &'a TDeclarator,
         home: Held,
     ) -> Result<Given, Stop>
         requires { self.old.tasks ≡ [] }
-        ensures { Resumes (within_of around.now) result (begun_object (within_of around.now) d.now home self.old.evaluator) self.old.rest self.new.tasks self.new.rest self.new.evaluator }
+        ensures { Resumes (tabled_of setting.now) result (begun_object (tabled_of setting.now) d.now home self.old.evaluator) self.old.rest self.new.tasks self.new.rest self.new.evaluator }
     {
         match &d.init {
             TInit::Nothing => Ok(Given::Flow(Flow::Normal)),
             TInit::Value(e) => {
                 let target = Target::InMemory(Operand::Constant(home.value));
                 self.rest.push(Waiting::OfDeclaration(DeclareTask::Begin(d.place, target)))?;
-                value(e, true, &mut self.evaluator, around, &mut self.tasks)
+                value(
+                    e,
+                    true,
+                    &mut self.evaluator,
+                    &setting.around,
+                    &mut self.tasks,
+                )
             }
             TInit::Elements(items) => {
                 self.evaluator.fill_items(home, items)?;
@@ -162,42 +175,42 @@ impl<'a> Runner<'a> {
     /// What was computed is written to a variable that begins.
     fn begin_variable(
         &mut self,
-        around: &Around<'a>,
+        setting: &Setting<'a>,
         place: Place,
         target: Target,
         a: Operand,
     ) -> Result<Given, Stop>
         requires { self.old.tasks ≡ [] }
-        ensures { Resumes (within_of around.now) result (declare_task (within_of around.now) (declare.Begin place target) (given.Operand a) self.old.evaluator) self.old.rest self.new.tasks self.new.rest self.new.evaluator }
+        ensures { Resumes (tabled_of setting.now) result (declare_task (tabled_of setting.now) (declare.Begin place target) (given.Operand a) self.old.evaluator) self.old.rest self.new.tasks self.new.rest self.new.evaluator }
     {
-        self.evaluator.write(around, place, target, a)?;
+        self.evaluator.write(&setting.around, place, target, a)?;
         Ok(Given::Flow(Flow::Normal))
     }
 
     /// The items from this one on.
     fn items(
         &mut self,
-        around: &Around<'a>,
+        setting: &Setting<'a>,
         home: Held,
         items: &'a Seq<TItem>,
         from: usize,
     ) -> Result<Given, Stop>
         requires { self.old.tasks ≡ [] }
-        ensures { Resumes (within_of around.now) result (begun_items (within_of around.now) home items.now from self.old.evaluator) self.old.rest self.new.tasks self.new.rest self.new.evaluator }
+        ensures { Resumes (tabled_of setting.now) result (begun_items (tabled_of setting.now) home items.now from self.old.evaluator) self.old.rest self.new.tasks self.new.rest self.new.evaluator }
     {
         match item_at(items, from) {
             None => Ok(Given::Flow(Flow::Normal)),
             Some(item) => {
                 self.rest.push(Waiting::OfDeclaration(DeclareTask::Items(home, items, from + 1)))?;
-                self.item(around, home, item)
+                self.item(setting, home, item)
             }
         }
     }
 
     /// An item is begun. A string was set before.
-    fn item(&mut self, around: &Around<'a>, home: Held, item: &'a TItem) -> Result<Given, Stop>
+    fn item(&mut self, setting: &Setting<'a>, home: Held, item: &'a TItem) -> Result<Given, Stop>
         requires { self.old.tasks ≡ [] }
-        ensures { Resumes (within_of around.now) result (begun_item (within_of around.now) home item.now self.old.evaluator) self.old.rest self.new.tasks self.new.rest self.new.evaluator }
+        ensures { Resumes (tabled_of setting.now) result (begun_item (tabled_of setting.now) home item.now self.old.evaluator) self.old.rest self.new.tasks self.new.rest self.new.evaluator }
     {
         match item {
             TItem::Bytes { .. } => Ok(Given::Flow(Flow::Normal)),
@@ -207,7 +220,13 @@ impl<'a> Runner<'a> {
                 value: e,
             } => {
                 self.rest.push(Waiting::OfDeclaration(DeclareTask::Store(*place, home, *element)))?;
-                value(e, true, &mut self.evaluator, around, &mut self.tasks)
+                value(
+                    e,
+                    true,
+                    &mut self.evaluator,
+                    &setting.around,
+                    &mut self.tasks,
+                )
             }
         }
     }
@@ -215,15 +234,15 @@ impl<'a> Runner<'a> {
     /// What was computed is stored at an address.
     fn store(
         &mut self,
-        around: &Around<'a>,
+        setting: &Setting<'a>,
         place: Place,
         address: Operand,
         a: Operand,
     ) -> Result<Given, Stop>
         requires { self.old.tasks ≡ [] }
-        ensures { Resumes (within_of around.now) result (stored (within_of around.now) place address a self.old.evaluator) self.old.rest self.new.tasks self.new.rest self.new.evaluator }
+        ensures { Resumes (tabled_of setting.now) result (stored (tabled_of setting.now) place address a self.old.evaluator) self.old.rest self.new.tasks self.new.rest self.new.evaluator }
     {
-        self.evaluator.store(around, place, address, a)?;
+        self.evaluator.store(&setting.around, place, address, a)?;
         Ok(Given::Flow(Flow::Normal))
     }
 }

@@ -9,9 +9,13 @@ mod loops;
 mod resume;
 mod runner;
 mod scope;
+mod setting;
 mod statement;
 mod switches;
+mod table;
 mod task;
 
 pub use runner::Runner;
+pub use setting::Setting;
+pub use table::table_of;
 pub use task::{DeclareTask, LoopTask, ScopeTask, StatementTask, SwitchTask, Turns, Waiting};

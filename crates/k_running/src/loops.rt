@@ -1,49 +1,50 @@
 //! Loops, turn by turn (C17 6.8.5).
 ghost use Rattle.std.specs.Prelude.{◌≡◌, ◌+◌, ◌-◌, ◌<◌, []};
 ghost use Rattle.std.specs.Option.{option_copied};
-ghost use Rattle.k_evaluation.specs.Flows.{Within};
 ghost use Rattle.k_evaluation.specs.Loops.{do_loop, loop_parts, resets, while_loop};
 ghost use Rattle.k_evaluation.specs.States.{Goes};
-ghost use Rattle.k_evaluation.specs.Statements.{does, for_loop};
+ghost use Rattle.k_evaluation.specs.Statements.{for_loop};
 ghost use Rattle.k_pending.specs.declared.given.Given.TheVariants as given;
 ghost use Rattle.k_listing.specs.Arounds.{within_of};
+ghost use Rattle.k_running.specs.Noted.{Tabled, noted_body, tabled_of};
 ghost use Rattle.k_running.specs.Parts.{bodied, doing, fuel_of, looped, parts_of, rounded, tested, turned};
 ghost use Rattle.k_running.specs.Resumes.{Resumes};
 ghost use Rattle.k_running.specs.Tasks.{first_task_of, loop_task};
 ghost use Rattle.k_running.specs.declared.task.LoopTask.TheVariants as turning;
 
-use crate::jumps::jumps_of;
+use crate::jumps::jumps_of_body;
 use crate::runner::Runner;
 use crate::scope::holds;
+use crate::setting::Setting;
 use crate::task::{LoopTask, ScopeTask, StatementTask, Turns, Waiting};
 use k_code::End;
 use k_evaluation::{Flow, Operand};
-use k_listing::{Around, Evaluator, body_region, flag, loop_region};
-use k_num::{Box, Place};
+use k_listing::{Evaluator, body_region, flag, loop_region};
+use k_num::Box;
 use k_pending::{Given, value};
 use k_typed::{Spot, TExpr, TFirst, TStmt};
 use k_world::{Stop, Value};
 
 /// The turns of a loop of the source.
 fn turns_of<'a>(
-    around: &Around<'a>,
-    place: Place,
+    setting: &Setting<'a>,
+    spot: Spot,
     number: u32,
     test: Option<&'a Box<TExpr>>,
     step: Option<&'a Box<TExpr>>,
     body: &'a Box<TStmt>,
 ) -> Turns<'a>
-    ensures parts { parts_of (within_of around.now) result ≡ loop_parts (within_of around.now) place number (option_copied test.entry) (option_copied step.entry) (does (within_of around.now) body.now) }
+    ensures parts { parts_of (tabled_of setting.now) result ≡ loop_parts (within_of setting.now.around) spot.place number (option_copied test.entry) (option_copied step.entry) (noted_body (tabled_of setting.now) spot.number body.now) }
     ensures number { result.number ≡ number }
 {
     Turns {
-        place,
+        place: spot.place,
         number,
         test,
         step,
         body,
-        counted: flag(around.marks.counted.as_slice(), number),
-        jumps: jumps_of(body.get()),
+        counted: flag(setting.around.marks.counted.as_slice(), number),
+        jumps: jumps_of_body(body, spot, setting.jumps),
         before: None,
     }
 }
@@ -87,39 +88,39 @@ impl<'a> Runner<'a> {
     /// `while`
     pub fn begin_while(
         &mut self,
-        around: &Around<'a>,
+        setting: &Setting<'a>,
         spot: Spot,
         number: u32,
         test: &'a Box<TExpr>,
         body: &'a Box<TStmt>,
     ) -> Result<Given, Stop>
         requires { self.old.tasks ≡ [] }
-        ensures { Resumes (within_of around.now) result (doing (while_loop (within_of around.now) spot number test.now (does (within_of around.now) body.now)) self.old.evaluator) self.old.rest self.new.tasks self.new.rest self.new.evaluator }
+        ensures { Resumes (tabled_of setting.now) result (doing (while_loop (within_of setting.now.around) spot number test.now (noted_body (tabled_of setting.now) spot.number body.now)) self.old.evaluator) self.old.rest self.new.tasks self.new.rest self.new.evaluator }
     {
-        let turns = turns_of(around, spot.place, number, Some(test), None, body);
-        self.begin_loop(around, turns, true)
+        let turns = turns_of(setting, spot, number, Some(test), None, body);
+        self.begin_loop(setting, turns, true)
     }
 
     /// `do`
     pub fn begin_do(
         &mut self,
-        around: &Around<'a>,
+        setting: &Setting<'a>,
         spot: Spot,
         number: u32,
         body: &'a Box<TStmt>,
         test: &'a Box<TExpr>,
     ) -> Result<Given, Stop>
         requires { self.old.tasks ≡ [] }
-        ensures { Resumes (within_of around.now) result (doing (do_loop (within_of around.now) spot number (does (within_of around.now) body.now) test.now) self.old.evaluator) self.old.rest self.new.tasks self.new.rest self.new.evaluator }
+        ensures { Resumes (tabled_of setting.now) result (doing (do_loop (within_of setting.now.around) spot number (noted_body (tabled_of setting.now) spot.number body.now) test.now) self.old.evaluator) self.old.rest self.new.tasks self.new.rest self.new.evaluator }
     {
-        let turns = turns_of(around, spot.place, number, Some(test), None, body);
-        self.begin_loop(around, turns, false)
+        let turns = turns_of(setting, spot, number, Some(test), None, body);
+        self.begin_loop(setting, turns, false)
     }
 
     /// `for`
     pub fn begin_for(
         &mut self,
-        around: &Around<'a>,
+        setting: &Setting<'a>,
         spot: Spot,
         number: u32,
         first: &'a TFirst,
@@ -128,28 +129,28 @@ impl<'a> Runner<'a> {
         body: &'a Box<TStmt>,
     ) -> Result<Given, Stop>
         requires { self.old.tasks ≡ [] }
-        ensures { Resumes (within_of around.now) result (doing (for_loop (within_of around.now) spot number first.now test.now step.now (does (within_of around.now) body.now)) self.old.evaluator) self.old.rest self.new.tasks self.new.rest self.new.evaluator }
+        ensures { Resumes (tabled_of setting.now) result (doing (for_loop (within_of setting.now.around) spot number first.now test.now step.now (noted_body (tabled_of setting.now) spot.number body.now)) self.old.evaluator) self.old.rest self.new.tasks self.new.rest self.new.evaluator }
     {
-        let turns = turns_of(around, spot.place, number, lent(test), lent(step), body);
+        let turns = turns_of(setting, spot, number, lent(test), lent(step), body);
         let live = self.evaluator.live();
         self.rest.push(Waiting::OfScope(ScopeTask::Keep(live)))?;
         self.rest.push(Waiting::OfLoop(LoopTask::Loop(turns)))?;
-        self.first(around, first)
+        self.first(setting, first)
     }
 
     /// A loop is begun, with a test or with its body.
     pub fn begin_loop(
         &mut self,
-        around: &Around<'a>,
+        setting: &Setting<'a>,
         turns: Turns<'a>,
         tested: bool,
     ) -> Result<Given, Stop>
         requires { self.old.tasks ≡ [] }
-        ensures { Resumes (within_of around.now) result (looped (within_of around.now) turns.entry tested self.old.evaluator) self.old.rest self.new.tasks self.new.rest self.new.evaluator }
+        ensures { Resumes (tabled_of setting.now) result (looped (tabled_of setting.now) turns.entry tested self.old.evaluator) self.old.rest self.new.tasks self.new.rest self.new.evaluator }
     {
         let before = self.evaluator.control();
         let turns = Turns { before, ..turns };
-        let region = loop_region(around.function, turns.number)?;
+        let region = loop_region(setting.around.function, turns.number)?;
         self.evaluator.enter(region)?;
         self.rest.push(Waiting::OfLoop(LoopTask::Leave(turns)))?;
         self.rest.push(Waiting::OfLoop(first_task(turns, tested)))?;
@@ -159,47 +160,58 @@ impl<'a> Runner<'a> {
     /// The turns from a test on.
     fn turn(
         &mut self,
-        around: &Around<'a>,
+        setting: &Setting<'a>,
         turns: Turns<'a>,
         count: Option<u128>,
     ) -> Result<Given, Stop>
         requires { self.old.tasks ≡ [] }
-        ensures { Resumes (within_of around.now) result (turned (within_of around.now) turns.entry count self.old.evaluator) self.old.rest self.new.tasks self.new.rest self.new.evaluator }
+        ensures { Resumes (tabled_of setting.now) result (turned (tabled_of setting.now) turns.entry count self.old.evaluator) self.old.rest self.new.tasks self.new.rest self.new.evaluator }
     {
         let count = fuel(self.evaluator.left(), count);
         if count == 0 {
             return Err(Stop::Ended(End::OutOfSteps));
         }
-        self.tested(around, turns, count)
+        self.tested(setting, turns, count)
     }
 
     /// The test of a turn, where one may still be made.
-    fn tested(&mut self, around: &Around<'a>, turns: Turns<'a>, count: u128) -> Result<Given, Stop>
+    fn tested(
+        &mut self,
+        setting: &Setting<'a>,
+        turns: Turns<'a>,
+        count: u128,
+    ) -> Result<Given, Stop>
         requires none { self.old.tasks ≡ [] }
         requires some { 0 < count }
-        ensures { Resumes (within_of around.now) result (tested (within_of around.now) turns.entry (count - 1) self.old.evaluator) self.old.rest self.new.tasks self.new.rest self.new.evaluator }
+        ensures { Resumes (tabled_of setting.now) result (tested (tabled_of setting.now) turns.entry (count - 1) self.old.evaluator) self.old.rest self.new.tasks self.new.rest self.new.evaluator }
     {
         reset(&mut self.evaluator, &turns);
         self.rest
             .push(Waiting::OfLoop(LoopTask::Test(turns, count - 1)))?;
         match turns.test {
             None => Ok(Given::Operand(Operand::Constant(Value::Number(1)))),
-            Some(e) => value(e.get(), true, &mut self.evaluator, around, &mut self.tasks),
+            Some(e) => value(
+                e.get(),
+                true,
+                &mut self.evaluator,
+                &setting.around,
+                &mut self.tasks,
+            ),
         }
     }
 
     /// A turn behind its condition.
     fn behind_test(
         &mut self,
-        around: &Around<'a>,
+        setting: &Setting<'a>,
         turns: Turns<'a>,
         count: u128,
         a: Operand,
     ) -> Result<Given, Stop>
         requires { self.old.tasks ≡ [] }
-        ensures { Resumes (within_of around.now) result (loop_task (within_of around.now) (turning.Test turns.entry count) (given.Operand a) self.old.evaluator) self.old.rest self.new.tasks self.new.rest self.new.evaluator }
+        ensures { Resumes (tabled_of setting.now) result (loop_task (tabled_of setting.now) (turning.Test turns.entry count) (given.Operand a) self.old.evaluator) self.old.rest self.new.tasks self.new.rest self.new.evaluator }
     {
-        let test = self.evaluator.test(around, turns.place, a)?;
+        let test = self.evaluator.test(&setting.around, turns.place, a)?;
         if holds(test) {
             self.rest.push(Waiting::OfLoop(LoopTask::Body(turns, Some(count), test.source)))?;
             return Ok(Given::Flow(Flow::Normal));
@@ -210,16 +222,16 @@ impl<'a> Runner<'a> {
     /// A turn from its body on.
     fn body(
         &mut self,
-        around: &Around<'a>,
+        setting: &Setting<'a>,
         turns: Turns<'a>,
         count: Option<u128>,
         last: Option<u64>,
     ) -> Result<Given, Stop>
         requires { self.old.tasks ≡ [] }
-        ensures { Resumes (within_of around.now) result (bodied (within_of around.now) turns.entry count last self.old.evaluator) self.old.rest self.new.tasks self.new.rest self.new.evaluator }
+        ensures { Resumes (tabled_of setting.now) result (bodied (tabled_of setting.now) turns.entry count last self.old.evaluator) self.old.rest self.new.tasks self.new.rest self.new.evaluator }
     {
         reset(&mut self.evaluator, &turns);
-        let region = body_region(around.function, turns.number)?;
+        let region = body_region(setting.around.function, turns.number)?;
         self.evaluator.enter(region)?;
         self.rest
             .push(Waiting::OfLoop(LoopTask::Behind(turns, count, last)))?;
@@ -231,21 +243,21 @@ impl<'a> Runner<'a> {
     /// A turn behind its body, which ended so.
     fn behind(
         &mut self,
-        around: &Around<'a>,
+        setting: &Setting<'a>,
         turns: Turns<'a>,
         count: Option<u128>,
         last: Option<u64>,
         flow: Flow,
     ) -> Result<Given, Stop>
         requires { self.old.tasks ≡ [] }
-        ensures { Resumes (within_of around.now) result (loop_task (within_of around.now) (turning.Behind turns.entry count last) (given.Flow flow) self.old.evaluator) self.old.rest self.new.tasks self.new.rest self.new.evaluator }
+        ensures { Resumes (tabled_of setting.now) result (loop_task (tabled_of setting.now) (turning.Behind turns.entry count last) (given.Flow flow) self.old.evaluator) self.old.rest self.new.tasks self.new.rest self.new.evaluator }
     {
         self.evaluator.exit()?;
         self.evaluator
             .settle(turns.jumps.breaks || turns.jumps.returns, last);
         match flow {
-            Flow::Normal => self.round(around, turns, count),
-            Flow::Continued => self.round(around, turns, count),
+            Flow::Normal => self.round(setting, turns, count),
+            Flow::Continued => self.round(setting, turns, count),
             Flow::Broke => Ok(Given::Flow(Flow::Normal)),
             Flow::Returned(held) => Ok(Given::Flow(Flow::Returned(held))),
         }
@@ -254,26 +266,32 @@ impl<'a> Runner<'a> {
     /// The step, and then the next turn.
     fn round(
         &mut self,
-        around: &Around<'a>,
+        setting: &Setting<'a>,
         turns: Turns<'a>,
         count: Option<u128>,
     ) -> Result<Given, Stop>
         requires { self.old.tasks ≡ [] }
-        ensures { Resumes (within_of around.now) result (rounded (within_of around.now) turns.entry count self.old.evaluator) self.old.rest self.new.tasks self.new.rest self.new.evaluator }
+        ensures { Resumes (tabled_of setting.now) result (rounded (tabled_of setting.now) turns.entry count self.old.evaluator) self.old.rest self.new.tasks self.new.rest self.new.evaluator }
     {
         reset(&mut self.evaluator, &turns);
         self.rest
             .push(Waiting::OfLoop(LoopTask::Turn(turns, count)))?;
         match turns.step {
             None => Ok(Given::Flow(Flow::Normal)),
-            Some(e) => value(e.get(), false, &mut self.evaluator, around, &mut self.tasks),
+            Some(e) => value(
+                e.get(),
+                false,
+                &mut self.evaluator,
+                &setting.around,
+                &mut self.tasks,
+            ),
         }
     }
 
     /// The loop is left.
     fn leave(&mut self, turns: Turns<'a>, flow: Flow) -> Result<Given, Stop>
         requires { self.old.tasks ≡ [] }
-        ensures { (w : Within) → Resumes w result (loop_task w (turning.Leave turns.entry) (given.Flow flow) self.old.evaluator) self.old.rest self.new.tasks self.new.rest self.new.evaluator }
+        ensures { (w : Tabled) → Resumes w result (loop_task w (turning.Leave turns.entry) (given.Flow flow) self.old.evaluator) self.old.rest self.new.tasks self.new.rest self.new.evaluator }
     {
         self.evaluator.exit()?;
         self.evaluator
@@ -284,34 +302,34 @@ impl<'a> Runner<'a> {
     /// A task of a loop is given this.
     pub fn step_loop(
         &mut self,
-        around: &Around<'a>,
+        setting: &Setting<'a>,
         task: LoopTask<'a>,
         given: Given,
     ) -> Result<Given, Stop>
         requires { self.old.tasks ≡ [] }
-        ensures { Resumes (within_of around.now) result (loop_task (within_of around.now) task.entry given self.old.evaluator) self.old.rest self.new.tasks self.new.rest self.new.evaluator }
+        ensures { Resumes (tabled_of setting.now) result (loop_task (tabled_of setting.now) task.entry given self.old.evaluator) self.old.rest self.new.tasks self.new.rest self.new.evaluator }
     {
         match task {
             LoopTask::Loop(turns) => {
                 drop(given);
-                self.begin_loop(around, turns, true)
+                self.begin_loop(setting, turns, true)
             }
             LoopTask::Turn(turns, count) => {
                 drop(given);
-                self.turn(around, turns, count)
+                self.turn(setting, turns, count)
             }
             LoopTask::Test(turns, count) => self.behind_test(
-                around,
+                setting,
                 turns,
                 count,
                 given.into_operand(),
             ),
             LoopTask::Body(turns, count, last) => {
                 drop(given);
-                self.body(around, turns, count, last)
+                self.body(setting, turns, count, last)
             }
             LoopTask::Behind(turns, count, last) => self.behind(
-                around,
+                setting,
                 turns,
                 count,
                 last,

@@ -7,7 +7,7 @@ ghost use Rattle.k_running.specs.Parts.{ends_call, passed};
 ghost use Rattle.k_running.specs.Tasks.{scope_task};
 ghost use Rattle.k_running.specs.Resumes.{Resumes};
 ghost use Rattle.k_listing.specs.Arounds.{program_of};
-ghost use Rattle.k_evaluation.specs.Flows.{Within};
+ghost use Rattle.k_running.specs.Noted.{Tabled};
 ghost use Rattle.k_listing.specs.Comes.{Comes};
 
 use crate::runner::Runner;
@@ -34,7 +34,7 @@ impl<'a> Runner<'a> {
     /// A task where a part is left is given this.
     pub fn step_scope(&mut self, task: ScopeTask, given: Given) -> Result<Given, Stop>
         requires { self.old.tasks ≡ [] }
-        ensures { (w : Within) → Resumes w result (scope_task task given self.old.evaluator) self.old.rest self.new.tasks self.new.rest self.new.evaluator }
+        ensures { (w : Tabled) → Resumes w result (scope_task task given self.old.evaluator) self.old.rest self.new.tasks self.new.rest self.new.evaluator }
     {
         match task {
             ScopeTask::Keep(count) => {

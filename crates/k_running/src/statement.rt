@@ -1,21 +1,21 @@
 //! How statements are begun, and what follows their parts (C17 6.8).
 ghost use Rattle.std.specs.Prelude.{◌≡◌, ◌+◌, ◌^◌, ◌<◌, [], map, option_map, slice_get, IfSome};
 ghost use Rattle.std.specs.Option.{option_copied};
-ghost use Rattle.k_evaluation.specs.Flows.{Within};
-ghost use Rattle.k_evaluation.specs.Statements.{compound, declaration, does, expression, if_else, return};
+ghost use Rattle.k_evaluation.specs.Statements.{compound, declaration, expression, return};
 ghost use Rattle.k_listing.specs.Arounds.{within_of};
+ghost use Rattle.k_running.specs.Noted.{Tabled, if_by, noted, noted_arms, tabled_of};
 ghost use Rattle.k_running.specs.Parts.{doing, ordered, other, started};
 ghost use Rattle.k_running.specs.Resumes.{Resumes};
 ghost use Rattle.k_running.specs.Tasks.{statement_task};
 ghost use Rattle.k_pending.specs.declared.given.Given.TheVariants as given;
 ghost use Rattle.k_running.specs.declared.task.StatementTask.TheVariants as statement;
 
-use crate::jumps::{any, jumps_of, jumps_of_both, jumps_of_else};
+use crate::jumps::{any, jumps_of_arms};
 use crate::runner::Runner;
 use crate::scope::holds;
+use crate::setting::Setting;
 use crate::task::{DeclareTask, ScopeTask, StatementTask, Waiting};
 use k_evaluation::{Flow, Operand};
-use k_listing::Around;
 use k_num::{Box, Place, Seq};
 use k_pending::{Given, value};
 use k_typed::{Spot, TDeclarator, TExpr, TFirst, TStmt};
@@ -23,12 +23,12 @@ use k_world::Stop;
 
 impl<'a> Runner<'a> {
     /// A statement is begun.
-    pub fn statement(&mut self, around: &Around<'a>, s: &'a TStmt) -> Result<Given, Stop>
+    pub fn statement(&mut self, setting: &Setting<'a>, s: &'a TStmt) -> Result<Given, Stop>
         requires { self.old.tasks ≡ [] }
-        ensures { Resumes (within_of around.now) result (doing (does (within_of around.now) s.now) self.old.evaluator) self.old.rest self.new.tasks self.new.rest self.new.evaluator }
+        ensures { Resumes (tabled_of setting.now) result (doing (noted (tabled_of setting.now) s.now) self.old.evaluator) self.old.rest self.new.tasks self.new.rest self.new.evaluator }
     {
         match s {
-            TStmt::Expr { value, .. } => self.begin_expression(around, value),
+            TStmt::Expr { value, .. } => self.begin_expression(setting, value),
             TStmt::Empty { .. } => Ok(Given::Flow(Flow::Normal)),
             TStmt::Block { parts, .. } => self.begin_block(parts),
             TStmt::If {
@@ -36,19 +36,19 @@ impl<'a> Runner<'a> {
                 test,
                 then,
                 other,
-            } => self.begin_if(around, *spot, test, then, other),
+            } => self.begin_if(setting, *spot, test, then, other),
             TStmt::While {
                 spot,
                 turns,
                 test,
                 body,
-            } => self.begin_while(around, *spot, *turns, test, body),
+            } => self.begin_while(setting, *spot, *turns, test, body),
             TStmt::DoWhile {
                 spot,
                 turns,
                 body,
                 test,
-            } => self.begin_do(around, *spot, *turns, body, test),
+            } => self.begin_do(setting, *spot, *turns, body, test),
             TStmt::For {
                 spot,
                 turns,
@@ -56,33 +56,39 @@ impl<'a> Runner<'a> {
                 test,
                 step,
                 body,
-            } => self.begin_for(around, *spot, *turns, first, test, step, body),
+            } => self.begin_for(setting, *spot, *turns, first, test, step, body),
             TStmt::Switch {
+                spot,
                 kind,
                 on,
                 parts,
-                ..
-            } => self.begin_switch(around, *kind, on, parts),
+            } => self.begin_switch(setting, *spot, *kind, on, parts),
             TStmt::Break { .. } => Ok(Given::Flow(Flow::Broke)),
             TStmt::Continue { .. } => Ok(Given::Flow(Flow::Continued)),
-            TStmt::Return { spot, value } => self.begin_return(around, *spot, value),
+            TStmt::Return { spot, value } => self.begin_return(setting, *spot, value),
             TStmt::Declare { list, .. } => self.begin_declaration(list),
         }
     }
 
     /// `e;`
-    fn begin_expression(&mut self, around: &Around<'a>, e: &'a Box<TExpr>) -> Result<Given, Stop>
+    fn begin_expression(&mut self, setting: &Setting<'a>, e: &'a Box<TExpr>) -> Result<Given, Stop>
         requires { self.old.tasks ≡ [] }
-        ensures { Resumes (within_of around.now) result (doing (expression (within_of around.now) e.now) self.old.evaluator) self.old.rest self.new.tasks self.new.rest self.new.evaluator }
+        ensures { Resumes (tabled_of setting.now) result (doing (expression (within_of setting.now.around) e.now) self.old.evaluator) self.old.rest self.new.tasks self.new.rest self.new.evaluator }
     {
         self.rest.push(Waiting::OfStatement(StatementTask::Done))?;
-        value(e.get(), false, &mut self.evaluator, around, &mut self.tasks)
+        value(
+            e.get(),
+            false,
+            &mut self.evaluator,
+            &setting.around,
+            &mut self.tasks,
+        )
     }
 
     /// A block.
     fn begin_block(&mut self, parts: &'a Seq<TStmt>) -> Result<Given, Stop>
         requires { self.old.tasks ≡ [] }
-        ensures { (w : Within) → Resumes w result (doing (compound (map (does w) parts.now)) self.old.evaluator) self.old.rest self.new.tasks self.new.rest self.new.evaluator }
+        ensures { (w : Tabled) → Resumes w result (doing (compound (map (noted w) parts.now)) self.old.evaluator) self.old.rest self.new.tasks self.new.rest self.new.evaluator }
     {
         let live = self.evaluator.live();
         self.rest.push(Waiting::OfScope(ScopeTask::Keep(live)))?;
@@ -94,16 +100,16 @@ impl<'a> Runner<'a> {
     /// `if`
     fn begin_if(
         &mut self,
-        around: &Around<'a>,
+        setting: &Setting<'a>,
         spot: Spot,
         test: &'a Box<TExpr>,
         then: &'a Box<TStmt>,
         other: &'a Option<Box<TStmt>>,
     ) -> Result<Given, Stop>
         requires { self.old.tasks ≡ [] }
-        ensures { Resumes (within_of around.now) result (doing (if_else (within_of around.now) spot test.now (does (within_of around.now) then.now) (option_map (does (within_of around.now)) other.now)) self.old.evaluator) self.old.rest self.new.tasks self.new.rest self.new.evaluator }
+        ensures { Resumes (tabled_of setting.now) result (doing (if_by (noted_arms (tabled_of setting.now) spot.number then.now other.now) (within_of setting.now.around) spot test.now (noted (tabled_of setting.now) then.now) (option_map (noted (tabled_of setting.now)) other.now)) self.old.evaluator) self.old.rest self.new.tasks self.new.rest self.new.evaluator }
     {
-        let stays = any(jumps_of_both(jumps_of(then.get()), jumps_of_else(other)));
+        let stays = any(jumps_of_arms(then, other, spot, setting.jumps));
         let control = self.evaluator.control();
         self.rest
             .push(Waiting::OfScope(ScopeTask::Settle(stays, control)))?;
@@ -112,7 +118,7 @@ impl<'a> Runner<'a> {
             test.get(),
             true,
             &mut self.evaluator,
-            around,
+            &setting.around,
             &mut self.tasks,
         )
     }
@@ -120,19 +126,25 @@ impl<'a> Runner<'a> {
     /// `return`, with or without a value.
     fn begin_return(
         &mut self,
-        around: &Around<'a>,
+        setting: &Setting<'a>,
         spot: Spot,
         e: &'a Option<Box<TExpr>>,
     ) -> Result<Given, Stop>
         requires { self.old.tasks ≡ [] }
-        ensures { Resumes (within_of around.now) result (doing (return (within_of around.now) spot e.now) self.old.evaluator) self.old.rest self.new.tasks self.new.rest self.new.evaluator }
+        ensures { Resumes (tabled_of setting.now) result (doing (return (within_of setting.now.around) spot e.now) self.old.evaluator) self.old.rest self.new.tasks self.new.rest self.new.evaluator }
     {
         match e {
             None => Ok(Given::Flow(Flow::Returned(None))),
             Some(e) => {
                 self.rest
                     .push(Waiting::OfStatement(StatementTask::Return(spot.place)))?;
-                value(e.get(), true, &mut self.evaluator, around, &mut self.tasks)
+                value(
+                    e.get(),
+                    true,
+                    &mut self.evaluator,
+                    &setting.around,
+                    &mut self.tasks,
+                )
             }
         }
     }
@@ -140,7 +152,7 @@ impl<'a> Runner<'a> {
     /// A declaration.
     fn begin_declaration(&mut self, list: &'a Seq<TDeclarator>) -> Result<Given, Stop>
         requires { self.old.tasks ≡ [] }
-        ensures { (w : Within) → Resumes w result (doing (declaration w list.now) self.old.evaluator) self.old.rest self.new.tasks self.new.rest self.new.evaluator }
+        ensures { (w : Tabled) → Resumes w result (doing (declaration w.within list.now) self.old.evaluator) self.old.rest self.new.tasks self.new.rest self.new.evaluator }
     {
         self.rest
             .push(Waiting::OfDeclaration(DeclareTask::All(list, 0)))?;
@@ -148,15 +160,21 @@ impl<'a> Runner<'a> {
     }
 
     /// The first part of a `for`.
-    pub fn first(&mut self, around: &Around<'a>, first: &'a TFirst) -> Result<Given, Stop>
+    pub fn first(&mut self, setting: &Setting<'a>, first: &'a TFirst) -> Result<Given, Stop>
         requires { self.old.tasks ≡ [] }
-        ensures { Resumes (within_of around.now) result (started (within_of around.now) first.now self.old.evaluator) self.old.rest self.new.tasks self.new.rest self.new.evaluator }
+        ensures { Resumes (tabled_of setting.now) result (started (tabled_of setting.now) first.now self.old.evaluator) self.old.rest self.new.tasks self.new.rest self.new.evaluator }
     {
         match first {
             TFirst::Nothing => Ok(Given::Flow(Flow::Normal)),
             TFirst::Value(e) => {
                 self.rest.push(Waiting::OfStatement(StatementTask::Done))?;
-                value(e, false, &mut self.evaluator, around, &mut self.tasks)
+                value(
+                    e,
+                    false,
+                    &mut self.evaluator,
+                    &setting.around,
+                    &mut self.tasks,
+                )
             }
             TFirst::Declare(list) => {
                 self.rest
@@ -169,12 +187,12 @@ impl<'a> Runner<'a> {
     /// A task of statements is given this.
     pub fn step_statement(
         &mut self,
-        around: &Around<'a>,
+        setting: &Setting<'a>,
         task: StatementTask<'a>,
         given: Given,
     ) -> Result<Given, Stop>
         requires { self.old.tasks ≡ [] }
-        ensures { Resumes (within_of around.now) result (statement_task (within_of around.now) task.entry given self.old.evaluator) self.old.rest self.new.tasks self.new.rest self.new.evaluator }
+        ensures { Resumes (tabled_of setting.now) result (statement_task (tabled_of setting.now) task.entry given self.old.evaluator) self.old.rest self.new.tasks self.new.rest self.new.evaluator }
     {
         match task {
             StatementTask::Done => {
@@ -183,29 +201,29 @@ impl<'a> Runner<'a> {
             }
             StatementTask::Do(s) => {
                 drop(given);
-                self.statement(around, s.get())
+                self.statement(setting, s.get())
             }
-            StatementTask::InOrder(ss, from) => self.in_order(around, ss, from, given.into_flow()),
+            StatementTask::InOrder(ss, from) => self.in_order(setting, ss, from, given.into_flow()),
             StatementTask::Choose(place, first, second) => {
-                self.choose(around, place, first, second, given.into_operand())
+                self.choose(setting, place, first, second, given.into_operand())
             }
-            StatementTask::Return(place) => self.give_back(around, place, given.into_operand()),
+            StatementTask::Return(place) => self.give_back(setting, place, given.into_operand()),
         }
     }
 
     /// The statements from this one on follow one that ended so.
     fn in_order(
         &mut self,
-        around: &Around<'a>,
+        setting: &Setting<'a>,
         ss: &'a Seq<TStmt>,
         from: usize,
         flow: Flow,
     ) -> Result<Given, Stop>
         requires { self.old.tasks ≡ [] }
-        ensures { Resumes (within_of around.now) result (statement_task (within_of around.now) (statement.InOrder ss.entry from) (given.Flow flow) self.old.evaluator) self.old.rest self.new.tasks self.new.rest self.new.evaluator }
+        ensures { Resumes (tabled_of setting.now) result (statement_task (tabled_of setting.now) (statement.InOrder ss.entry from) (given.Flow flow) self.old.evaluator) self.old.rest self.new.tasks self.new.rest self.new.evaluator }
     {
         match flow {
-            Flow::Normal => self.next(around, ss, from),
+            Flow::Normal => self.next(setting, ss, from),
             Flow::Broke => Ok(Given::Flow(Flow::Broke)),
             Flow::Continued => Ok(Given::Flow(Flow::Continued)),
             Flow::Returned(held) => Ok(Given::Flow(Flow::Returned(held))),
@@ -213,16 +231,21 @@ impl<'a> Runner<'a> {
     }
 
     /// The statements from this one on.
-    fn next(&mut self, around: &Around<'a>, ss: &'a Seq<TStmt>, from: usize) -> Result<Given, Stop>
+    fn next(
+        &mut self,
+        setting: &Setting<'a>,
+        ss: &'a Seq<TStmt>,
+        from: usize,
+    ) -> Result<Given, Stop>
         requires { self.old.tasks ≡ [] }
-        ensures { Resumes (within_of around.now) result (ordered (within_of around.now) ss.now from self.old.evaluator) self.old.rest self.new.tasks self.new.rest self.new.evaluator }
+        ensures { Resumes (tabled_of setting.now) result (ordered (tabled_of setting.now) ss.now from self.old.evaluator) self.old.rest self.new.tasks self.new.rest self.new.evaluator }
     {
         match statement_at(ss, from) {
             None => Ok(Given::Flow(Flow::Normal)),
             Some(s) => {
                 self.rest
                     .push(Waiting::OfStatement(StatementTask::InOrder(ss, from + 1)))?;
-                self.statement(around, s)
+                self.statement(setting, s)
             }
         }
     }
@@ -230,40 +253,40 @@ impl<'a> Runner<'a> {
     /// The arm that a test chooses.
     fn choose(
         &mut self,
-        around: &Around<'a>,
+        setting: &Setting<'a>,
         place: Place,
         first: &'a Box<TStmt>,
         second: &'a Option<Box<TStmt>>,
         a: Operand,
     ) -> Result<Given, Stop>
         requires { self.old.tasks ≡ [] }
-        ensures { Resumes (within_of around.now) result (statement_task (within_of around.now) (statement.Choose place first.entry second.entry) (given.Operand a) self.old.evaluator) self.old.rest self.new.tasks self.new.rest self.new.evaluator }
+        ensures { Resumes (tabled_of setting.now) result (statement_task (tabled_of setting.now) (statement.Choose place first.entry second.entry) (given.Operand a) self.old.evaluator) self.old.rest self.new.tasks self.new.rest self.new.evaluator }
     {
-        let test = self.evaluator.test(around, place, a)?;
+        let test = self.evaluator.test(&setting.around, place, a)?;
         if holds(test) {
-            self.statement(around, first.get())
+            self.statement(setting, first.get())
         } else {
-            self.other(around, second)
+            self.other(setting, second)
         }
     }
 
     /// A statement that may be left out.
-    fn other(&mut self, around: &Around<'a>, s: &'a Option<Box<TStmt>>) -> Result<Given, Stop>
+    fn other(&mut self, setting: &Setting<'a>, s: &'a Option<Box<TStmt>>) -> Result<Given, Stop>
         requires { self.old.tasks ≡ [] }
-        ensures { Resumes (within_of around.now) result (other (within_of around.now) s.now self.old.evaluator) self.old.rest self.new.tasks self.new.rest self.new.evaluator }
+        ensures { Resumes (tabled_of setting.now) result (other (tabled_of setting.now) s.now self.old.evaluator) self.old.rest self.new.tasks self.new.rest self.new.evaluator }
     {
         match s {
             None => Ok(Given::Flow(Flow::Normal)),
-            Some(s) => self.statement(around, s.get()),
+            Some(s) => self.statement(setting, s.get()),
         }
     }
 
     /// The move of a value that is returned.
-    fn give_back(&mut self, around: &Around<'a>, place: Place, a: Operand) -> Result<Given, Stop>
+    fn give_back(&mut self, setting: &Setting<'a>, place: Place, a: Operand) -> Result<Given, Stop>
         requires { self.old.tasks ≡ [] }
-        ensures { Resumes (within_of around.now) result (statement_task (within_of around.now) (statement.Return place) (given.Operand a) self.old.evaluator) self.old.rest self.new.tasks self.new.rest self.new.evaluator }
+        ensures { Resumes (tabled_of setting.now) result (statement_task (tabled_of setting.now) (statement.Return place) (given.Operand a) self.old.evaluator) self.old.rest self.new.tasks self.new.rest self.new.evaluator }
     {
-        let held = self.evaluator.move_held(around, place, a)?;
+        let held = self.evaluator.move_held(&setting.around, place, a)?;
         Ok(Given::Flow(Flow::Returned(Some(held))))
     }
 }

@@ -1,11 +1,11 @@
 //! Switches (C17 6.8.4.2).
 ghost use Rattle.std.specs.Prelude.{◌≡◌, ◌+◌, ◌^◌, ◌<◌, [], map, drop, slice_get, IfSome};
 ghost use Rattle.std.specs.Option.{option_copied};
-ghost use Rattle.k_evaluation.specs.Flows.{Within};
-ghost use Rattle.k_evaluation.specs.Switches.{behind_switch as behind_switch_meant, has_case as has_case_meant, selects, switch};
+ghost use Rattle.k_evaluation.specs.Switches.{behind_switch as behind_switch_meant, has_case as has_case_meant, selects};
 ghost use Rattle.k_listing.specs.Arounds.{program_of, within_of};
+ghost use Rattle.k_running.specs.Noted.{Tabled, noted_parts, part_of, switch_by, tabled_of};
 ghost use Rattle.k_listing.specs.Comes.{Comes};
-ghost use Rattle.k_running.specs.Parts.{IsSort, IsWithin, Stands, behind_case, cases, chosen, chosen_default, doing, has_case_part, part_of, parted};
+ghost use Rattle.k_running.specs.Parts.{IsSort, IsWithin, Stands, behind_case, cases, chosen, chosen_default, doing, has_case_part, parted};
 ghost use Rattle.k_running.specs.Resumes.{Resumes};
 ghost use Rattle.k_running.specs.Tasks.{switch_task};
 ghost use Rattle.k_pending.specs.declared.given.Given.TheVariants as given;
@@ -14,13 +14,14 @@ ghost use Rattle.k_running.specs.declared.task.SwitchTask.TheVariants as switchi
 use crate::jumps::{any, jumps_of_parts, out_of_switch};
 use crate::runner::Runner;
 use crate::scope::holds;
+use crate::setting::Setting;
 use crate::task::{ScopeTask, SwitchTask, Waiting};
 use k_evaluation::{Flow, Operand};
 use k_listing::{Around, Evaluator, Making};
 use k_num::{Bin, Box, Kind, Place, Seq};
 use k_optab::Class;
 use k_pending::{Given, value};
-use k_typed::{TExpr, TPart, TStmt};
+use k_typed::{Spot, TExpr, TPart, TStmt};
 use k_world::{ActRef, Held, Stop, Value};
 
 /// A part of the braces of a switch.
@@ -46,7 +47,7 @@ fn part_there(parts: &Seq<TPart>, from: usize) -> Option<&TPart>
 
 /// The part of this number, or that none is left.
 fn part_at<'a>(parts: &'a Seq<TPart>, from: usize) -> NextPart<'a>
-    ensures part { (w : Within) → Stands w result (map (part_of w) (drop from parts.now)) (map (part_of w) (drop (from + 1) parts.now)) }
+    ensures part { (w : Tabled) → Stands w result (map (part_of w) (drop from parts.now)) (map (part_of w) (drop (from + 1) parts.now)) }
     ensures bound { IsWithin result from }
 {
     match part_there(parts, from) {
@@ -57,7 +58,7 @@ fn part_at<'a>(parts: &'a Seq<TPart>, from: usize) -> NextPart<'a>
 
 /// What a part is.
 fn sort_of<'a>(part: &'a TPart) -> NextPart<'a>
-    ensures { (w : Within) → IsSort w result (part_of w part.now) }
+    ensures { (w : Tabled) → IsSort w result (part_of w part.now) }
 {
     match part {
         TPart::Case { place, value } => NextPart::Case(*place, value),
@@ -68,7 +69,7 @@ fn sort_of<'a>(part: &'a TPart) -> NextPart<'a>
 
 /// Whether there is a case among the parts of a switch.
 fn has_case(parts: &Seq<TPart>) -> bool
-    ensures { (w : Within) → result ≡ has_case_meant (map (part_of w) parts.now) }
+    ensures { (w : Tabled) → result ≡ has_case_meant (map (part_of w) parts.now) }
 {
     for part in parts.as_slice() {
         if is_case(part) {
@@ -80,7 +81,7 @@ fn has_case(parts: &Seq<TPart>) -> bool
 
 /// Whether a part is a case.
 fn is_case(part: &TPart) -> bool
-    ensures { (w : Within) → result ≡ has_case_part (part_of w part.now) }
+    ensures { (w : Tabled) → result ≡ has_case_part (part_of w part.now) }
 {
     match part {
         TPart::Case { .. } => true,
@@ -122,15 +123,16 @@ impl<'a> Runner<'a> {
     /// `switch`
     pub fn begin_switch(
         &mut self,
-        around: &Around<'a>,
+        setting: &Setting<'a>,
+        spot: Spot,
         kind: Kind,
         on: &'a Box<TExpr>,
         parts: &'a Seq<TPart>,
     ) -> Result<Given, Stop>
         requires { self.old.tasks ≡ [] }
-        ensures { Resumes (within_of around.now) result (doing (switch (within_of around.now) kind on.now (map (part_of (within_of around.now)) parts.now)) self.old.evaluator) self.old.rest self.new.tasks self.new.rest self.new.evaluator }
+        ensures { Resumes (tabled_of setting.now) result (doing (switch_by (noted_parts (tabled_of setting.now) spot.number parts.now) (within_of setting.now.around) kind on.now (map (part_of (tabled_of setting.now)) parts.now)) self.old.evaluator) self.old.rest self.new.tasks self.new.rest self.new.evaluator }
     {
-        let stays = any(out_of_switch(jumps_of_parts(parts)));
+        let stays = any(out_of_switch(jumps_of_parts(parts, spot, setting.jumps)));
         let control = self.evaluator.control();
         self.rest
             .push(Waiting::OfScope(ScopeTask::Settle(stays, control)))?;
@@ -140,7 +142,7 @@ impl<'a> Runner<'a> {
             on.get(),
             has_case(parts),
             &mut self.evaluator,
-            around,
+            &setting.around,
             &mut self.tasks,
         )
     }
@@ -148,25 +150,31 @@ impl<'a> Runner<'a> {
     /// A task of a switch is given this.
     pub fn step_switch(
         &mut self,
-        around: &Around<'a>,
+        setting: &Setting<'a>,
         task: SwitchTask<'a>,
         given: Given,
     ) -> Result<Given, Stop>
         requires { self.old.tasks ≡ [] }
-        ensures { Resumes (within_of around.now) result (switch_task (within_of around.now) task.entry given self.old.evaluator) self.old.rest self.new.tasks self.new.rest self.new.evaluator }
+        ensures { Resumes (tabled_of setting.now) result (switch_task (tabled_of setting.now) task.entry given self.old.evaluator) self.old.rest self.new.tasks self.new.rest self.new.evaluator }
     {
         match task {
-            SwitchTask::On(kind, parts) => self.cases(around, kind, parts, 0, given.into_operand()),
+            SwitchTask::On(kind, parts) => self.cases(
+                setting,
+                kind,
+                parts,
+                0,
+                given.into_operand(),
+            ),
             SwitchTask::Cases(kind, parts, from, on) => {
                 drop(given);
-                self.cases(around, kind, parts, from, on)
+                self.cases(setting, kind, parts, from, on)
             }
             SwitchTask::Default(parts, from) => {
                 drop(given);
                 self.default(parts, from)
             }
             SwitchTask::Parts(parts, from) => self.behind_part(
-                around,
+                setting,
                 parts,
                 from,
                 given.into_flow(),
@@ -178,14 +186,14 @@ impl<'a> Runner<'a> {
     /// The cases from this part on.
     fn cases(
         &mut self,
-        around: &Around<'a>,
+        setting: &Setting<'a>,
         kind: Kind,
         parts: &'a Seq<TPart>,
         from: usize,
         on: Operand,
     ) -> Result<Given, Stop>
         requires { self.old.tasks ≡ [] }
-        ensures { Resumes (within_of around.now) result (cases (within_of around.now) kind parts.now from on self.old.evaluator) self.old.rest self.new.tasks self.new.rest self.new.evaluator }
+        ensures { Resumes (tabled_of setting.now) result (cases (tabled_of setting.now) kind parts.now from on self.old.evaluator) self.old.rest self.new.tasks self.new.rest self.new.evaluator }
     {
         match part_at(parts, from) {
             NextPart::End => {
@@ -194,7 +202,7 @@ impl<'a> Runner<'a> {
                 Ok(Given::Flow(Flow::Normal))
             }
             NextPart::Case(place, value) => {
-                let test = select(&mut self.evaluator, around, kind, place, value, on)?;
+                let test = select(&mut self.evaluator, &setting.around, kind, place, value, on)?;
                 self.case(holds(test), kind, parts, from + 1, on)
             }
             NextPart::Default | NextPart::Does(_) => {
@@ -214,7 +222,7 @@ impl<'a> Runner<'a> {
         on: Operand,
     ) -> Result<Given, Stop>
         requires { self.old.tasks ≡ [] }
-        ensures { (w : Within) → Resumes w result (behind_case w equal kind parts.now from on self.old.evaluator) self.old.rest self.new.tasks self.new.rest self.new.evaluator }
+        ensures { (w : Tabled) → Resumes w result (behind_case w equal kind parts.now from on self.old.evaluator) self.old.rest self.new.tasks self.new.rest self.new.evaluator }
     {
         if equal {
             return self.run_parts(parts, from);
@@ -226,7 +234,7 @@ impl<'a> Runner<'a> {
     /// The default is looked for from this part on.
     fn default(&mut self, parts: &'a Seq<TPart>, from: usize) -> Result<Given, Stop>
         requires { self.old.tasks ≡ [] }
-        ensures { (w : Within) → Resumes w result (chosen_default w parts.now from self.old.evaluator) self.old.rest self.new.tasks self.new.rest self.new.evaluator }
+        ensures { (w : Tabled) → Resumes w result (chosen_default w parts.now from self.old.evaluator) self.old.rest self.new.tasks self.new.rest self.new.evaluator }
     {
         match part_at(parts, from) {
             NextPart::End => Ok(Given::Flow(Flow::Normal)),
@@ -242,7 +250,7 @@ impl<'a> Runner<'a> {
     /// The parts from this one on run, up to a `break`.
     fn run_parts(&mut self, parts: &'a Seq<TPart>, from: usize) -> Result<Given, Stop>
         requires { self.old.tasks ≡ [] }
-        ensures { (w : Within) → Resumes w result (chosen w parts.now from self.old.evaluator) self.old.rest self.new.tasks self.new.rest self.new.evaluator }
+        ensures { (w : Tabled) → Resumes w result (chosen w parts.now from self.old.evaluator) self.old.rest self.new.tasks self.new.rest self.new.evaluator }
     {
         self.rest.push(Waiting::OfSwitch(SwitchTask::Ended))?;
         self.rest
@@ -253,16 +261,16 @@ impl<'a> Runner<'a> {
     /// The parts from this one on follow one that ended so.
     fn behind_part(
         &mut self,
-        around: &Around<'a>,
+        setting: &Setting<'a>,
         parts: &'a Seq<TPart>,
         from: usize,
         flow: Flow,
     ) -> Result<Given, Stop>
         requires { self.old.tasks ≡ [] }
-        ensures { Resumes (within_of around.now) result (switch_task (within_of around.now) (switching.Parts parts.entry from) (given.Flow flow) self.old.evaluator) self.old.rest self.new.tasks self.new.rest self.new.evaluator }
+        ensures { Resumes (tabled_of setting.now) result (switch_task (tabled_of setting.now) (switching.Parts parts.entry from) (given.Flow flow) self.old.evaluator) self.old.rest self.new.tasks self.new.rest self.new.evaluator }
     {
         match flow {
-            Flow::Normal => self.part(around, parts, from),
+            Flow::Normal => self.part(setting, parts, from),
             Flow::Broke => Ok(Given::Flow(Flow::Broke)),
             Flow::Continued => Ok(Given::Flow(Flow::Continued)),
             Flow::Returned(held) => Ok(Given::Flow(Flow::Returned(held))),
@@ -272,19 +280,19 @@ impl<'a> Runner<'a> {
     /// The parts from this one on.
     fn part(
         &mut self,
-        around: &Around<'a>,
+        setting: &Setting<'a>,
         parts: &'a Seq<TPart>,
         from: usize,
     ) -> Result<Given, Stop>
         requires { self.old.tasks ≡ [] }
-        ensures { Resumes (within_of around.now) result (parted (within_of around.now) parts.now from self.old.evaluator) self.old.rest self.new.tasks self.new.rest self.new.evaluator }
+        ensures { Resumes (tabled_of setting.now) result (parted (tabled_of setting.now) parts.now from self.old.evaluator) self.old.rest self.new.tasks self.new.rest self.new.evaluator }
     {
         match part_at(parts, from) {
             NextPart::End => Ok(Given::Flow(Flow::Normal)),
             NextPart::Does(s) => {
                 self.rest
                     .push(Waiting::OfSwitch(SwitchTask::Parts(parts, from + 1)))?;
-                self.statement(around, s.get())
+                self.statement(setting, s.get())
             }
             NextPart::Case(_, _) | NextPart::Default => {
                 self.rest

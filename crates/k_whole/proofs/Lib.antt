@@ -1,14 +1,14 @@
 mod Growing
 mod TextLemmas
-mod LatencyLemmas
-mod RegionLemmas
+pub mod LatencyLemmas
+pub mod RegionLemmas
 mod SourceLemmas
 mod StepLemmas
 mod ProgramLemmas
 mod Agreeing
 mod Showing
 mod ReadyLemmas
-mod RunLemmas
+pub mod RunLemmas
 mod Reporting
 mod SummaryLemmas
 mod DemoLemmas
@@ -17,5 +17,5 @@ mod OneReport
 mod AskedLemmas
 mod Sounding
 mod OneSummary
-mod OneAnswer
+pub mod OneAnswer
 mod Keeping

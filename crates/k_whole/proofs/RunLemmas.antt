@@ -7,6 +7,7 @@ use Rattle.k_optab.specs.declared.closed.Closed.{Closed}
 use Rattle.k_optab.specs.declared.event.Event.{Event}
 use Rattle.k_optab.specs.declared.event.Event.TheVariants.{Op, Enter, Exit}
 use Rattle.k_optab.specs.declared.node.Node.{Node}
+use Rattle.k_optab.specs.Entered.{EnterBelow, IsOfMain}
 use Rattle.k_optab.specs.Events.{Operation, SourcesAreEarlier, made_before, operations, total_latency}
 use Rattle.k_optab.specs.InstanceLaws.{IsCounted}
 use Rattle.k_optab.specs.Instances.{closed_from, instance_of, tracked, until_exit}
@@ -24,9 +25,7 @@ use Rattle.k_evaluation.proofs.Runs.{bounded_time, earlier_sources, kept_budget}
 use Rattle.k_graph.specs.Listings.{IsListed, IsListing}
 use Rattle.k_graph.specs.declared.tree.Instance.{Instance}
 use Rattle.k_lines.specs.Files.{AreRegions}
-use Rattle.k_profile.specs.RunReport as reports
 use Rattle.k_profile.specs.RunReport.{IsWhole}
-use Rattle.k_regions.specs.Laws as regions
 use Rattle.k_regions.specs.Laws.{entries}
 use Rattle.k_regions.specs.Regions.{regions_of}
 use Rattle.k_regions.proofs.Entries.{enter_few}
@@ -63,13 +62,6 @@ sound r depth fit = record {
 abbrev program_of : Running → evaluation.Program
 program_of r = record { unit = r.source.typed; marks = marks_of r.source.typed; latencies = r.latencies }
 
--- each region that is entered is one of so many
-below : (count : ℕ) (events : List Event) → regions.EnterBelow count events → reports.EnterBelow count events
-below count [] h = tt
-below count (Op class latency sources place ∷ events) h = below count events h
-below count (Enter region ∷ events) h = (h.0, below count events h.1)
-below count (Exit ∷ events) h = below count events h
-
 -- numbers of operations, and their time
 time_bounded : (time steps : ℕ) → time ≤ steps * 10000 → steps ≤ 1000000000 → time ≤ 17592186044416
 time_bounded time steps h few = omega (arith, h, few)
@@ -98,11 +90,11 @@ module _ (r : Running) (is : IsSound r) where
       let time : ℕ = total_latency (operations (run_of r).events) in
       time_short time (time_bounded time r.steps run_time is.steps)
 
-  run_below : regions.EnterBelow (length (regions_of r.source.unit r.source.typed)) (run_of r).events
+  run_below : EnterBelow (length (regions_of r.source.unit r.source.typed)) (run_of r).events
   unfolding run_of
   run_below = enter_theirs r.source.unit (program_of r) r.input r.steps is.typed is.faultless
 
-  run_of_main : IsReturned (run_of r).end → regions.IsOfMain (regions_of r.source.unit r.source.typed) (run_of r).events
+  run_of_main : IsReturned (run_of r).end → IsOfMain (regions_of r.source.unit r.source.typed) (run_of r).events
   unfolding run_of
   run_of_main returned = are_of_main r.source.unit (program_of r) r.input r.steps is.typed is.faultless returned
 
@@ -117,24 +109,14 @@ module _ (r : Running) (is : IsSound r) where
   -- A REPORT can be made of it, where main returned
   pub run_whole : (exit : ℤ) (depth : ℕ) → (run_of r).end ≡ Returned exit → FitsSigned w32 exit → 1 ≤ depth → depth ≤ 32 → IsWhole (ran_of r exit depth)
   run_whole exit depth returned fits some tracked =
-      let main = run_of_main (subst IsReturned (sym returned) tt) in
       record {
         exit = fits;
         sources = run_sources;
         few = counted (length (operations (run_of r).events)) r.steps run_counted is.steps;
         work = time_bounded (total_latency (operations (run_of r).events)) r.steps run_time is.steps;
         regions = is.regions;
-        entered = below (length (regions_of r.source.unit r.source.typed)) (run_of r).events run_below;
-        main = record {
-          number = main.number;
-          inside = main.inside;
-          main = main.main;
-          whole = main.whole;
-          balanced = main.balanced;
-          there = main.there;
-          kind = main.kind;
-          func = main.func;
-        };
+        entered = run_below;
+        main = run_of_main (subst IsReturned (sym returned) tt);
         some = some;
         tracked = tracked;
       }

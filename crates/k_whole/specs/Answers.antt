@@ -9,7 +9,7 @@ use Rattle.k_getchar.specs.Calls.{calls_getchar}
 use Rattle.k_graph.specs.Listings.{IsListing}
 use Rattle.k_graph.specs.declared.tree.Instance.{Instance}
 use Rattle.k_lines.specs.declared.fault.SavedFault.TheVariants.{NotSaved}
-use Rattle.k_plain.specs.declared.listing.Listing.{Listing}
+use Rattle.k_code.specs.declared.listing.Listing.{Listing}
 use Rattle.k_profile.specs.Report.{IsReport}
 use Rattle.k_profile.specs.RunReport.{IsRunReport, Ran}
 use Rattle.k_regions.specs.Regions.{regions_of}

@@ -8,9 +8,8 @@ ghost use Rattle.k_whole.specs.Texts.{ends_line, with_report};
 
 use crate::answer::{Answer, SavedFile};
 use crate::running::{Ready, listing};
-use k_code::End;
+use k_code::{End, Listing};
 use k_num::{NoMemory, Seq, Text};
-use k_plain::Listing;
 use k_profile::run_report;
 use k_regions::regions;
 use k_saved::{Saved, write};

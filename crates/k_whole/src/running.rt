@@ -10,9 +10,8 @@ use crate::failure::Failure;
 use crate::input::input_of;
 use crate::program::{Program, read_program};
 use k_edge::{Files, Source};
-use k_frames::plain;
 use k_num::{NoMemory, Seq, Text};
-use k_plain::Listing;
+use k_plain::{Listing, plain};
 use std::alloc::Global;
 
 /// A program with its input, of whose operations at most so many are made.
@@ -51,21 +50,12 @@ pub(crate) fn listing(alloc: Global, ready: &Ready) -> Result<Listing, NoMemory>
     requires { ready.now.program.marks ≡ marks_of ready.now.program.typed }
     ensures { IfOk result (λ listing. listing ≡ listing_of (run_of (running_of ready.now))) }
 {
-    let k_listing::Listing {
-        events,
-        output,
-        end,
-    } = plain(
+    plain(
         alloc,
         &ready.program.typed,
         &ready.program.marks,
         &ready.program.latencies,
         ready.input.as_slice(),
         ready.steps,
-    )?;
-    Ok(Listing {
-        events,
-        output,
-        end,
-    })
+    )
 }

@@ -3,6 +3,7 @@ pub mod Alike
 pub mod Effects
 pub mod Elements
 pub mod Listed
+pub mod MoreOperations
 pub mod Near
 pub mod Operations
 pub mod Sorted

@@ -7,7 +7,7 @@ use Rattle.k_optab.specs.declared.event.Event.{Event}
 use Rattle.k_optab.specs.declared.event.Event.TheVariants.{Op}
 use Rattle.k_optab.specs.declared.event.Src.{Src}
 use Rattle.k_optab.specs.Events.{Operation, operations, SourcesAreEarlier, AreBefore, total_latency}
-use Rattle.k_code.proofs.Sound.{operations-append, total-append, earlier_more}
+use Rattle.k_optab.proofs.Trees.{operations-append}
 use Rattle.k_code.specs.declared.ending.End.{End}
 use Rattle.k_code.specs.declared.ending.End.TheVariants.{Trapped, OutOfSteps}
 use Rattle.k_code.specs.declared.ending.Trap.{Trap}
@@ -25,6 +25,7 @@ use Rattle.k_world.specs.Operations.{Made, Gives, Ends, operation, acted, counte
 use Rattle.k_world.specs.Worlds.{World, HasOrigins}
 use Rattle.k_world.specs.WorldLaws.{IsMade, AreMade, AllComeFrom, IsEarly, IsSound, HasOneMore, IsCounted, LeavesSound, OperationsStaySound, WhereMade, OperationsCount, ControlStays, TestsControl, CallsStay, OriginsStay}
 use Rattle.k_world.proofs.Effects.{framed, effect_frame, effect_control, test_control, effect_objects, effect_origins}
+use Rattle.k_world.proofs.MoreOperations.{earlier_more, total-append}
 use Rattle.k_world.proofs.Operations.{operation_out, operation_unset, operation_acts}
 
 -- the bound on the work has room for one operation more

@@ -13,13 +13,30 @@ use std::alloc::Global;
 pub fn sources(alloc: Global, reads: &[Read], done: &Done) -> Result<Seq<Src>, NoMemory>
     ensures { IfOk result (λ list. list ≡ sources_of reads.now done.now.hidden done.now.control) }
 {
-    let mut list = Seq::new(alloc);
+    let mut list = Seq::from_vec(Vec::with_capacity(alloc, count(reads, done))?);
     for read in reads {
         push_source(&mut list, read.source(), read.broken)?;
     }
     push_source(&mut list, done.hidden, false)?;
     push_source(&mut list, done.control, false)?;
     Ok(list)
+}
+
+/// How many sources there are.
+fn count(reads: &[Read], done: &Done) -> usize {
+    let mut count = one_or_none(done.hidden).saturating_add(one_or_none(done.control));
+    for read in reads {
+        count = count.saturating_add(one_or_none(read.source()));
+    }
+    count
+}
+
+/// 1 for a source that there is.
+fn one_or_none(source: Option<u64>) -> usize {
+    match source {
+        Some(_) => 1,
+        None => 0,
+    }
 }
 
 /// Adds the source of an operand, if it has one.

@@ -3,11 +3,10 @@ ghost use Rattle.std.specs.Prelude.{◌≡◌, ◌<◌, ◌^◌, All, IfSome, Is
 ghost use Rattle.k_optab.specs.Events.{AreBefore, SourcesAreEarlier, operations, total_latency};
 ghost use Rattle.k_report.specs.Graph.{IsWithin};
 
-use k_code::{End, Trap};
+use k_code::{End, Listing, Trap};
 use k_graph::{Instance, Tree};
 use k_num::{Place, Seq};
 use k_optab::{Class, Event, Src};
-use k_plain::Listing;
 use k_report::graph_text;
 use std::alloc::Global;
 use std::process::Abort;

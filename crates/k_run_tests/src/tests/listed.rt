@@ -2,13 +2,12 @@
 //! number and `X` leaves the newest. `mul@24(0! 3)` is an operation with its class, the column at which it stands (behind its line,
 //! where that is not the first) and its sources, of which a broken one has a `!`. The operations are numbered from 0.
 use k_code::{End, name as trap_name};
-use k_frames::plain;
 use k_lex::lex;
-use k_listing::Listing;
 use k_marks::mark;
 use k_num::Place;
 use k_optab::{Class, Event, Src, name as class_name, of, standard};
 use k_parse::parse;
+use k_plain::{Listing, plain};
 use k_typed::TUnit;
 use k_types::check;
 use std::alloc::{AllocError, Global};

@@ -3,7 +3,7 @@ use super::listed::are_listed;
 use std::test::Fail;
 
 /// A source, and the end of its run with its events.
-static ROWS: [(&str, &str); 20] = [
+static ROWS: [(&str, &str); 22] = [
     // A counted loop: each test, body and step begins as before the loop; the step's read and that of a reduction are broken.
     (
         "int main(void){int i,s; s=0; for(i=0;i<2;i++) s+=i; return s;}",
@@ -74,6 +74,15 @@ static ROWS: [(&str, &str); 20] = [
     (
         "int main(void){int i=1; while(1){if(i) break; return 5;} return 6;}",
         "returned 6 E0 move@20 E1 test@25 E2 test@34(0 1) X X move@58(2) X",
+    ),
+    // A `return` deep in an arm that does not run leaves the `if` and the loop too; a `break` whose loop stands in the arm leaves neither.
+    (
+        "int main(void){int i=0; while(i<1){{if(i){do{if(i>5) return 7;}while(0);}} i=i+1;} return i;}",
+        "returned 1 E0 move@20 E1 simple@32(0) test@25(1) E2 test@37(0 2) simple@79(0 3) move@77(4 3) X simple@32(5 3) test@25(6 3) X move@84(5 7) X",
+    ),
+    (
+        "int main(void){int i=0; while(i<1){if(i){while(1) break;} i=i+1;} return i;}",
+        "returned 1 E0 move@20 E1 simple@32(0) test@25(1) E2 test@36(0 2) simple@62(0 2) move@60(4 2) X simple@32(5 2) test@25(6 2) X move@67(5) X",
     ),
     // `for` without a test tests 1; all regions are left.
     (

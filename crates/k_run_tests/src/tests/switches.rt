@@ -3,7 +3,7 @@ use super::listed::are_listed;
 use std::test::Fail;
 
 /// A source, and the end of its run with its events.
-static ROWS: [(&str, &str); 8] = [
+static ROWS: [(&str, &str); 9] = [
     // Each later comparison and select come under the select before, the parts under the last.
     (
         "int main(void){int x=2,y=0; switch(x){case 1: y=5; break; case 2: y=7; case 3: y=y+1; break; default: y=9;} return y;}",
@@ -36,6 +36,11 @@ static ROWS: [(&str, &str); 8] = [
     (
         "int main(void){int i=0; while(i<1){switch(i){case 0: i++; continue;} i=9;} return i;}",
         "returned 1 E0 move@20 E1 simple@32(0) test@25(1) E2 simple@46(0 2) select@46(3 2) simple@55(0 4) move@55(5 4) X simple@32(6 2) test@25(7 2) X move@76(6) X",
+    ),
+    // The text decides: a `continue` in a case that does not run leaves the switch too.
+    (
+        "int main(void){int i=0; while(i<1){switch(i){case 1: continue;} i=i+1;} return i;}",
+        "returned 1 E0 move@20 E1 simple@32(0) test@25(1) E2 simple@46(0 2) select@46(3 2) simple@68(0 4) move@66(5 4) X simple@32(6 2) test@25(7 2) X move@73(6) X",
     ),
     // A `break` in it ends it, and leaves no loop.
     (

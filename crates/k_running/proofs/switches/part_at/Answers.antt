@@ -1,7 +1,8 @@
 use Rattle.std.proofs.Common.{◌∙◌, ◌+◌, List, drop, map, sym, ap, subst}
 use Rattle.std.specs.Option.{option_copied}
 use Rattle.k_typed.specs.declared.tree.statement.TPart.{TPart}
-use Rattle.k_running.specs.Parts.{Stands, part_of}
+use Rattle.k_running.specs.Noted.{part_of}
+use Rattle.k_running.specs.Parts.{Stands}
 use Rattle.k_running.proofs.Lists.{item_none, item_there}
 use Rattle.k_running.proofs.SwitchRows.{stands_first, within_all}
 use Rattle.k_running.proofs.switches.part_at.Goals as goal

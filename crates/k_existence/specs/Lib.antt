@@ -1,0 +1,5 @@
+pub mod Files
+pub mod Graphs
+pub mod Laws
+pub mod Profiles
+pub mod Sources

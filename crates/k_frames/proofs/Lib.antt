@@ -1,3 +1,0 @@
-pub mod TurnRows
-pub mod FrameRows
-pub mod MainRows

@@ -1,4 +1,0 @@
-pub mod Behind
-pub mod Calling
-pub mod Starts
-pub mod Steps

@@ -1,9 +1,0 @@
-//! The listing interpreter: calls as frames on a stack, and the whole run of a source.
-#![tactic(auto)]
-
-mod call;
-mod frame;
-mod machine;
-mod program;
-
-pub use program::plain;

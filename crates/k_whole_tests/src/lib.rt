@@ -1,0 +1,6 @@
+//! The top call over files, inputs and sinks in memory. There is nothing here but tests: in a crate of their own they prove no
+//! other crate a second time.
+#![tactic(auto)]
+
+#[cfg(test)]
+mod tests;

@@ -1,0 +1,132 @@
+//! What the other commands and the options give.
+use super::{Row, expect_rows};
+use std::test::Fail;
+
+/// Runs with a table of latencies.
+static TABLES: [Row; 3] = [
+    // latency table
+    (
+        "run a.c --latency=l.toml",
+        &[
+            ("a.c", "int main(void){return 3*4;}"),
+            ("l.toml", "mul = 7"),
+        ],
+        (
+            0,
+            "== kremlin ==\nexit 12\nops 2\nfunc main 1:5 n=1 work=7 path=7 sp=1/1\nplan total 0 of 7\n",
+            "",
+        ),
+    ),
+    // switch fall with table
+    (
+        "run a.c --latency=l.toml",
+        &[
+            (
+                "a.c",
+                "int main(void){int x=2,y=0; switch(x){case 1: y=5; break; case 2: y=7; case 3: y=y+1; break; default: y=9;} return y;}",
+            ),
+            ("l.toml", "select = 3"),
+        ],
+        (
+            0,
+            "== kremlin ==\nexit 8\nops 10\nfunc main 1:5 n=1 work=9 path=9 sp=1/1\nplan total 0 of 9\n",
+            "",
+        ),
+    ),
+    // latency out of range
+    (
+        "run a.c --latency=l.toml",
+        &[
+            ("a.c", "int main(void){return 3*4;}"),
+            ("l.toml", "mul = 10001"),
+        ],
+        (
+            10,
+            "",
+            "kremlin: latency table refused: OutOfRange(mul, 10001)\n",
+        ),
+    ),
+];
+
+/// The list of the dictionary, and saved profiles.
+static PROFILES: [Row; 4] = [
+    // odd sum with dictionary
+    (
+        "run a.c --dict",
+        &[(
+            "a.c",
+            "int main(void){int i,s; s=0; for(i=0;i<6;i++) if(i&1) s+=i; return s;}",
+        )],
+        (
+            0,
+            "== kremlin ==\nexit 9\nops 47\nfunc main 1:5 n=1 work=35 path=4 sp=1/1\nloop main 1:30 n=1 work=35 path=4 sp=35/4\nbody main 1:47 n=6 work=15 path=15 sp=1/1\ndict 4\n0 region 2 work 2 path 2 runs\n1 region 2 work 3 path 3 runs\n2 region 1 work 35 path 4 runs 0*3 1*3\n3 region 0 work 35 path 4 runs 2*1\nplan loop main 1:30 at 0/1 doall saves 31\nplan total 31 of 35\n",
+            "",
+        ),
+    ),
+    // show of a profile
+    (
+        "show p.txt --dict",
+        &[(
+            "p.txt",
+            "kremlin 2\nexit 9\nops 47\nregions 3\nfunc main 1:5\nloop main 1:30\nbody main 1:47\nentries 4\n2 2 2\n2 3 3\n1 35 4 0*3 1*3\n0 35 4 2*1\nend\n",
+        )],
+        (
+            0,
+            "== kremlin ==\nexit 9\nops 47\nfunc main 1:5 n=1 work=35 path=4 sp=1/1\nloop main 1:30 n=1 work=35 path=4 sp=35/4\nbody main 1:47 n=6 work=15 path=15 sp=1/1\ndict 4\n0 region 2 work 2 path 2 runs\n1 region 2 work 3 path 3 runs\n2 region 1 work 35 path 4 runs 0*3 1*3\n3 region 0 work 35 path 4 runs 2*1\nplan loop main 1:30 at 0/1 doall saves 31\nplan total 31 of 35\n",
+            "",
+        ),
+    ),
+    // show of a profile of format 1
+    (
+        "show p.txt --dict",
+        &[(
+            "p.txt",
+            "kremlin 1\nexit 9\nops 47\nregions 3\nfunc main 1:5\nloop main 1:30\nbody main 1:47\nentries 4\n2 2 2\n2 3 3\n1 35 4 0*1 1*1 0*1 1*1 0*1 1*1\n0 35 4 2*1\nend\n",
+        )],
+        (
+            0,
+            "== kremlin ==\nexit 9\nops 47\nfunc main 1:5 n=1 work=35 path=4 sp=1/1\nloop main 1:30 n=1 work=35 path=4 sp=35/4\nbody main 1:47 n=6 work=15 path=15 sp=1/1\ndict 4\n0 region 2 work 2 path 2 runs\n1 region 2 work 3 path 3 runs\n2 region 1 work 35 path 4 runs 0*3 1*3\n3 region 0 work 35 path 4 runs 2*1\nplan loop main 1:30 at 0/1 doall saves 31\nplan total 31 of 35\n",
+            "",
+        ),
+    ),
+    // show of a cut profile
+    (
+        "show p.txt",
+        &[(
+            "p.txt",
+            "kremlin 2\nexit 9\nops 47\nregions 3\nfunc main 1:5\nloop main 1:30\nbody main 1:47\nentries 4\n2 2 2\n2 3 3\n1 35 4 0*3",
+        )],
+        (11, "", "kremlin: saved file refused at byte 100\n"),
+    ),
+];
+
+/// A listing, and the run of a made program.
+static OTHERS: [Row; 2] = [
+    // graph sum
+    (
+        "graph a.c",
+        &[("a.c", "int main(void){return 1+2;}")],
+        (
+            0,
+            "enter 0\nop 0 simple 1 1:24 from -\nop 1 move 0 1:16 from 0\nexit\ninstance 0 region 0 from 0 to 2 work 1 path 1 : 0\nend returned 3\n",
+            "",
+        ),
+    ),
+    // demo one
+    (
+        "demo 1 1",
+        &[],
+        (
+            0,
+            "demo 1 1\nbytes 4\nexit 0\nops 5121\nwork 6774\npath 38\nrows 7\nplan 2 saves 6651 of 6774\n",
+            "",
+        ),
+    ),
+];
+
+#[test]
+fn commands(rt: HostRuntime) -> Result<(), Fail> {
+    expect_rows(&rt, rt.alloc(), &TABLES)?;
+    expect_rows(&rt, rt.alloc(), &PROFILES)?;
+    expect_rows(&rt, rt.alloc(), &OTHERS)
+}
