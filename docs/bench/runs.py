@@ -59,6 +59,11 @@ def deep_signs():
     return recursion("return " + "- " * 190 + "f(n-1);")
 
 
+def deep_operands():
+    """Each call stands behind an operand under 190 signs."""
+    return recursion("return (" + "- " * 190 + "n) * 0 + f(n-1);")
+
+
 def deep_blocks():
     """Each call stands in 190 blocks."""
     return recursion("{" * 190 + "return f(n-1);" + "}" * 190)
@@ -118,7 +123,7 @@ def main(program, folder):
     rows += [("200,000 blocks with an array", put("blocks.c", BLOCKS % 200_000), nothing, WHOLE)]
     rows += [("10,000 turns round 10,000 statements that don't run", put("skipped.c", SKIPPED), nothing, WHOLE)]
     rows += [("200,000 bytes copied", put("copy.c", COPY), bytes_, WHOLE)]
-    deep = [(make.__name__, put(f"{make.__name__}.c", make()), nothing, WHOLE) for make in (deep_signs, deep_blocks, deep_loops)]
+    deep = [(make.__name__, put(f"{make.__name__}.c", make()), nothing, WHOLE) for make in (deep_signs, deep_operands, deep_blocks, deep_loops)]
     for name, source, given, budget in rows + deep:
         found, seconds, memory = least([program, source, given, str(budget)])
         made = int(found[2])

@@ -1,9 +1,9 @@
-"""Makes two sources and prints docs/PERFORMANCE.md's tables of the time by stage of `kremlin run`.
+"""Makes three sources and prints docs/PERFORMANCE.md's tables of the time by stage of `kremlin run`.
 
     (cd crates/kremlin && rt run)
     python3 docs/bench/stages.py crates/kremlin/out/kremlin /tmp/stages
 
-The sources are written into the folder: one of 400,000 tokens without a loop, and a product of matrices of some 10 million operations. The
+The sources are written into the folder: one of 400,000 tokens without a loop, and products of matrices of some 10 and 28 million operations. The
 program runs under gdb, which notes when the first function of each stage is entered, and lets it go on: a stop takes less than a millisecond.
 """
 
@@ -82,7 +82,7 @@ def main(program, folder):
     script = f"{folder}/stages.gdb.py"
     with open(script, "w") as file:
         file.write(f"STAGES = {places(program)!r}\nPROGRAM = {os.path.realpath(program)!r}\n" + GDB)
-    for stem, text in (("declarators", declarators()), ("product91", PRODUCT % 91)):
+    for stem, text in (("declarators", declarators()), ("product91", PRODUCT % 91), ("product128", PRODUCT % 128)):
         source = f"{folder}/{stem}.c"
         with open(source, "w") as file:
             file.write(text)

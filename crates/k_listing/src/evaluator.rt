@@ -83,6 +83,7 @@ impl<'a> Evaluator<'a> {
     }
 
     /// What an operand holds now.
+    #[inline(always)]
     pub fn read(&self, operand: Operand) -> Read
         ensures { result ≡ read_meant self.now operand }
     {
@@ -192,6 +193,7 @@ impl<'a> Evaluator<'a> {
     }
 
     /// Makes an operation on one operand.
+    #[inline(always)]
     pub fn make_one(
         &mut self,
         around: &Around<'a>,
@@ -205,6 +207,7 @@ impl<'a> Evaluator<'a> {
     }
 
     /// Makes an operation on two operands.
+    #[inline(always)]
     pub fn make_two(
         &mut self,
         around: &Around<'a>,

@@ -26,6 +26,16 @@ pub computed_at : (r : Result Operand Stop) (early : Early) (o part : Outcome Op
     → IsEarly early part s s'
 computed_at r early o part s s' known is come = subst (λ (x : Early). IsEarly x part s s') (sym known) (computed r o part s s' is come)
 
+-- an operand that was computed is given at once
+pub evaluated : (w : Within) (r : Result Operand Stop) (g : Result Given Stop) (o : Outcome Operand) (before : List Task) (s : State)
+    → g ≡ operand_given r → Comes r o s → Leads w g (follow o gives_operand) before before s
+evaluated w r g o before s known come = subst (λ (x : Result Given Stop). Leads w x (follow o gives_operand) before before s) (sym known) (by r come)
+  where
+    by : (r : Result Operand Stop) → Comes r o s → Leads w (operand_given r) (follow o gives_operand) before before s
+    by (Ok a) come = λ behind. ap (λ (x : Outcome Operand). follow (follow x gives_operand) (performs w behind before)) come
+    by (Err (stop.Ended end)) come = ap (λ (x : Outcome Operand). follow x gives_operand) come
+    by (Err stop.Memory) come = tt
+
 -- an operation on an operand that was found
 pub found : (w : Within) (r : Result Operand Stop) (o : Outcome Operand) (a : Operand) (f : Operand → Part Operand) (before : List Task) (u s : State)
     → o ≡ Goes a u → Comes r (f a u) s → Leads w (operand_given r) (follow (follow o f) gives_operand) before before s

@@ -34,7 +34,7 @@ use Rattle.k_pending.specs.declared.given.Given.{Given}
 use Rattle.k_pending.specs.declared.given.Given.TheVariants as given
 use Rattle.k_pending.specs.Givens.{gives_list, gives_operand, gives_target}
 use Rattle.k_pending.specs.Leads.{placed, valued}
-use Rattle.k_pending.specs.Tasks.{made_on_two}
+use Rattle.k_direct.specs.Makings.{made_on_two}
 use Rattle.k_pending.proofs.Begun.{finds, from_list, from_operand, from_target, on_list, on_operand, on_target, then_given, to_target}
 
 -- what an expression means, by what its operands mean
@@ -109,21 +109,6 @@ module _ (w : Within) (s : State) where
       ∙ (ap (λ (k : Option ℕ). follow (follow (follow ((means w a).value true s) tested) (λ (x : Operand). settles false k >>= λ (done : Unit {0}). gives x)) gives_operand) before
       ∙ (restores (follow ((means w a).value true s) tested) c
       ∙ ap (λ (o : Outcome Given). follow o (λ (g : Given). settles false c >>= λ (done : Unit {0}). gives g)) (on_operand ((means w a).value true s) tested))))
-
-  -- the value itself, where it takes no task
-  pub value_Number : (e : TExpr) (node : Node) (z : ℤ) → e ≡ typed.Number node z → (means w e).value true s ≡ Goes (Constant (held.Number z)) s
-  unfolding number
-  value_Number e node z is = ap (λ (m : Meaning). m.value true s) (ap (means w) is ∙ typed_Number Meaning (step_of w) node z)
-
-  pub value_Object : (e : TExpr) (node : Node) (n : ℕ) → e ≡ typed.Object node n
-      → (means w e).value true s ≡ value_at w.program node true (InMemory (address_of n)) s
-  unfolding object
-  value_Object e node n is = ap (λ (m : Meaning). m.value true s) (ap (means w) is ∙ typed_Object Meaning (step_of w) node n)
-
-  pub value_Variable : (e : TExpr) (node : Node) (n : ℕ) → e ≡ typed.Variable node n
-      → (means w e).value true s ≡ follow (variable_place w.program node n (is_register w.vars n) s) (value_at w.program node true)
-  unfolding variable
-  value_Variable e node n is = ap (λ (m : Meaning). m.value true s) (ap (means w) is ∙ typed_Variable Meaning (step_of w) node n)
 
   pub row_Number : (e : TExpr) (node : Node) (z : ℤ) (used : Bool) → e ≡ typed.Number node z
       → valued w e used s ≡ Goes (given.Operand (Constant (held.Number z))) s

@@ -1,4 +1,4 @@
--- What comes of an operand that is asked for without a task.
+-- What comes of a value that is asked for without a task.
 use Rattle.std.specs.Prelude.{◌≡◌, Result, Ok, Err}
 use Rattle.k_world.specs.declared.answer.Stop.{Stop}
 use Rattle.k_evaluation.specs.declared.operand.Operand.{Operand}

@@ -1,8 +1,6 @@
 -- What is still to be done, as parts of a run.
-use Rattle.std.specs.Prelude.{Bool, true, false, [], ◌∷◌, map, drop, None}
+use Rattle.std.specs.Prelude.{◌∷◌, map, drop, None}
 use Rattle.k_world.specs.declared.act.Out.TheVariants as out
-use Rattle.k_world.specs.Answers.{act_of}
-use Rattle.k_evaluation.specs.declared.operand.Operand.{Operand}
 use Rattle.k_evaluation.specs.declared.operand.Target.TheVariants.{InMemory}
 use Rattle.k_evaluation.specs.Assignments.{writes, behind_place, changes_old, behind_changed, after_place, one}
 use Rattle.k_evaluation.specs.Flows.{Within, means}
@@ -10,9 +8,9 @@ use Rattle.k_evaluation.specs.Library.{outputs, puts_byte, chunk_of}
 use Rattle.k_evaluation.specs.Meanings.{nothing, value_at, behind_one, in_turn, tests}
 use Rattle.k_evaluation.specs.Operators.{behind_test, arm_by, converts}
 use Rattle.k_evaluation.specs.Places.{address_at, behind_base, element_at}
-use Rattle.k_evaluation.specs.States.{Program, Part, ◌>>=◌, gives, computes, settles}
+use Rattle.k_evaluation.specs.States.{Part, ◌>>=◌, gives, settles}
+use Rattle.k_direct.specs.Makings.{made_on_one, made_on_two}
 use Rattle.k_pending.specs.declared.given.Given.{Given}
-use Rattle.k_listing.specs.declared.making.Making.{Making}
 use Rattle.k_pending.specs.declared.task.ValueTask.{ValueTask}
 use Rattle.k_pending.specs.declared.task.ValueTask.TheVariants as value
 use Rattle.k_pending.specs.declared.task.BranchTask.{BranchTask}
@@ -24,15 +22,6 @@ use Rattle.k_pending.specs.declared.task.CallTask.TheVariants as call
 use Rattle.k_pending.specs.declared.task.Task.{Task}
 use Rattle.k_pending.specs.declared.task.Task.TheVariants as task
 use Rattle.k_pending.specs.Givens.{operand_in, target_in, list_in, gives_operand, gives_target, gives_list}
-
--- an operation on one operand
-abbrev pub made_on_one : Program → Making → Operand → Part Operand
-made_on_one program m a = computes program m.class m.place (act_of m.act) (a ∷ [])
-
--- an operation on two operands, in their order or the other way round
-abbrev pub made_on_two : Program → Making → Bool → Operand → Operand → Part Operand
-made_on_two program m false a b = computes program m.class m.place (act_of m.act) (a ∷ b ∷ [])
-made_on_two program m true a b = computes program m.class m.place (act_of m.act) (b ∷ a ∷ [])
 
 -- what is still to be done of values and places
 abbrev pub value_task : Within → ValueTask → Given → Part Given

@@ -1,16 +1,16 @@
-//! Operands that are found without a task: most second operands are numbers or variables.
-ghost use Rattle.std.specs.Prelude.{◌≡◌, true};
+//! Values that are found without a task.
+ghost use Rattle.std.specs.Prelude.{◌≡◌};
 ghost use Rattle.k_evaluation.specs.Flows.{means};
 ghost use Rattle.k_listing.specs.Arounds.{within_of};
 ghost use Rattle.k_pending.specs.EarlyOperands.{IsEarly, early_of};
 
-use crate::expression::{object_value, variable_value};
+use k_direct::{evaluate, is_direct};
 use k_evaluation::Operand;
 use k_listing::{Around, Evaluator};
 use k_typed::TExpr;
-use k_world::{Stop, Value};
+use k_world::Stop;
 
-/// What comes of an operand that is asked for without a task.
+/// What comes of a value that is asked for without a task.
 #[derive(Drop)]
 pub enum Early {
     /// It takes tasks, and nothing was done.
@@ -31,44 +31,13 @@ fn computed(made: Result<Operand, Stop>) -> Early
     }
 }
 
-/// The value of a number, of a variable and of a file object, which is used; any other takes tasks.
-pub fn at_once<'a>(e: &TExpr, state: &mut Evaluator<'a>, around: &Around<'a>) -> Early
-    ensures { IsEarly result ((means (within_of around.now) e.now).value true state.old) state.old state.new }
+/// The value of a direct expression, which is used or not; any other takes tasks.
+pub fn at_once<'a>(e: &TExpr, used: bool, state: &mut Evaluator<'a>, around: &Around<'a>) -> Early
+    ensures { IsEarly result ((means (within_of around.now) e.now).value used state.old) state.old state.new }
 {
-    match e {
-        TExpr::Number { value, .. } => Early::Found(Operand::Constant(Value::Number(*value))),
-        TExpr::Object { node, object } => computed(object_value(
-            state, around, *node, true, *object,
-        )),
-        TExpr::Variable { node, variable } => {
-            computed(variable_value(state, around, *node, true, *variable))
-        }
-        TExpr::Str { .. }
-        | TExpr::Index { .. }
-        | TExpr::Call { .. }
-        | TExpr::Getchar { .. }
-        | TExpr::Putchar { .. }
-        | TExpr::Puts { .. }
-        | TExpr::Printf { .. }
-        | TExpr::Post { .. }
-        | TExpr::Pre { .. }
-        | TExpr::Address { .. }
-        | TExpr::Deref { .. }
-        | TExpr::Plus { .. }
-        | TExpr::Unary { .. }
-        | TExpr::Convert { .. }
-        | TExpr::Cast { .. }
-        | TExpr::Binary { .. }
-        | TExpr::Both { .. }
-        | TExpr::Either { .. }
-        | TExpr::Forward { .. }
-        | TExpr::Onto { .. }
-        | TExpr::Back { .. }
-        | TExpr::PtrCompare { .. }
-        | TExpr::PtrDistance { .. }
-        | TExpr::Cond { .. }
-        | TExpr::Assign { .. }
-        | TExpr::AssignBy { .. }
-        | TExpr::Comma { .. } => Early::Waits,
+    if is_direct(e) {
+        computed(evaluate(e, used, state, around))
+    } else {
+        Early::Waits
     }
 }

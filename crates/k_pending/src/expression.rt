@@ -1,11 +1,8 @@
 //! Expressions are begun: what waits for an operand is put on the stack of tasks, and the operand is begun in turn (C17 6.5).
 //! So this recurses along first operands, as deep as an expression is nested.
-ghost use Rattle.std.specs.Prelude.{◌≡◌, true};
+ghost use Rattle.std.specs.Prelude.{true};
 ghost use Rattle.k_evaluation.specs.Flows.{Within, means};
-ghost use Rattle.k_evaluation.specs.declared.operand.Target.TheVariants.{InMemory};
-ghost use Rattle.k_evaluation.specs.Meanings.{value_at as value_meant};
 ghost use Rattle.k_evaluation.specs.Operators.{cast_to};
-ghost use Rattle.k_evaluation.specs.Places.{address_of as address_meant, is_register, variable_place as variable_meant};
 ghost use Rattle.k_evaluation.specs.States.{State, follow};
 ghost use Rattle.k_listing.specs.Arounds.{program_of, within_of};
 ghost use Rattle.k_listing.specs.Comes.{Comes};
@@ -17,9 +14,10 @@ ghost use Rattle.k_pending.specs.declared.plan.Plan.TheVariants.{Two};
 ghost use Rattle.k_pending.specs.declared.task.ValueTask.TheVariants.{Address};
 
 use crate::given::{Given, give};
-use crate::plan::{Leaf, Plan, distance, moving, node_of, plan_place};
+use crate::plan::{Leaf, Plan, plan_place};
 use crate::task::{AssignTask, BranchTask, CallTask, Task, ValueTask};
 use crate::text::put_text;
+use k_direct::{distance, evaluate, is_direct, moving, node_of, object_value, variable_value};
 use k_evaluation::{Flow, Operand, Target};
 use k_listing::{
     Around, Evaluator, Making, Stack, address_of, class_of, kind_of, scale_of, string_address,
@@ -29,9 +27,41 @@ use k_optab::Class;
 use k_typed::{Node, TExpr, TType};
 use k_world::{ActRef, Stop, Value};
 
-/// The value of an expression is begun, which is used or not.
-#[cycle(expressions)]
+/// The value of an expression is begun, which is used or not: that of a direct one is evaluated.
 pub fn value<'a>(
+    e: &'a TExpr,
+    used: bool,
+    state: &mut Evaluator<'a>,
+    around: &Around<'a>,
+    tasks: &mut Stack<Task<'a>>,
+) -> Result<Given, Stop>
+    ensures { Leads (within_of around.now) result (valued (within_of around.now) e.now used state.old) tasks.old tasks.new state.new }
+{
+    if is_direct(e) {
+        give(evaluate(e, used, state, around))
+    } else {
+        by_tasks(e, used, state, around, tasks)
+    }
+}
+
+/// The same, and a task waits for it.
+pub fn value_first<'a>(
+    e: &'a Box<TExpr>,
+    used: bool,
+    task: Task<'a>,
+    state: &mut Evaluator<'a>,
+    around: &Around<'a>,
+    tasks: &mut Stack<Task<'a>>,
+) -> Result<Given, Stop>
+    ensures { Leads (within_of around.now) result (follow (valued (within_of around.now) e.now used state.old) (works (within_of around.now) task.entry)) tasks.old tasks.new state.new }
+{
+    tasks.push(task)?;
+    value(e.get(), used, state, around, tasks)
+}
+
+/// The same by tasks: nothing is asked of the expression, nor of its first operand and so on.
+#[cycle(expressions)]
+pub fn by_tasks<'a>(
     e: &'a TExpr,
     used: bool,
     state: &mut Evaluator<'a>,
@@ -68,7 +98,7 @@ pub fn value<'a>(
         ),
         TExpr::Getchar { node } => answer(state, around, Leaf::Getchar(node.place)),
         TExpr::Putchar { node, of } => {
-            value_first(
+            first_by_tasks(
                 of,
                 true,
                 Task::OfCall(CallTask::Put(node.place)),
@@ -104,8 +134,8 @@ pub fn value<'a>(
             around,
             tasks,
         ),
-        TExpr::Plus { of, .. } => value(of.get(), used, state, around, tasks),
-        TExpr::Unary { node, op, kind, of } => value_first(
+        TExpr::Plus { of, .. } => by_tasks(of.get(), used, state, around, tasks),
+        TExpr::Unary { node, op, kind, of } => first_by_tasks(
             of,
             true,
             Task::OfValue(ValueTask::One(Making {
@@ -117,7 +147,7 @@ pub fn value<'a>(
             around,
             tasks,
         ),
-        TExpr::Convert { node, of } => value_first(
+        TExpr::Convert { node, of } => first_by_tasks(
             of,
             true,
             Task::OfValue(ValueTask::Convert(node.place, kind_of(node.of))),
@@ -132,7 +162,7 @@ pub fn value<'a>(
             kind,
             left,
             right,
-        } => value_first(
+        } => first_by_tasks(
             left,
             true,
             Task::OfValue(ValueTask::Second(
@@ -166,7 +196,7 @@ pub fn value<'a>(
                 tasks,
             )
         }
-        TExpr::Forward { node, left, right } => value_first(
+        TExpr::Forward { node, left, right } => first_by_tasks(
             left,
             true,
             Task::OfValue(ValueTask::Second(moving(*node, false), false, right)),
@@ -174,7 +204,7 @@ pub fn value<'a>(
             around,
             tasks,
         ),
-        TExpr::Onto { node, left, right } => value_first(
+        TExpr::Onto { node, left, right } => first_by_tasks(
             left,
             true,
             Task::OfValue(ValueTask::Second(moving(*node, false), true, right)),
@@ -182,7 +212,7 @@ pub fn value<'a>(
             around,
             tasks,
         ),
-        TExpr::Back { node, left, right } => value_first(
+        TExpr::Back { node, left, right } => first_by_tasks(
             left,
             true,
             Task::OfValue(ValueTask::Second(moving(*node, true), false, right)),
@@ -195,7 +225,7 @@ pub fn value<'a>(
             op,
             left,
             right,
-        } => value_first(
+        } => first_by_tasks(
             left,
             true,
             Task::OfValue(ValueTask::Second(
@@ -211,7 +241,7 @@ pub fn value<'a>(
             around,
             tasks,
         ),
-        TExpr::PtrDistance { node, left, right } => value_first(
+        TExpr::PtrDistance { node, left, right } => first_by_tasks(
             left,
             true,
             Task::OfValue(ValueTask::Second(distance(*node, left), false, right)),
@@ -254,14 +284,14 @@ pub fn value<'a>(
         ),
         TExpr::Comma { left, right, .. } => {
             let task = Task::OfValue(ValueTask::Value(right, used));
-            value_first(left, false, task, state, around, tasks)
+            first_by_tasks(left, false, task, state, around, tasks)
         }
     }
 }
 
-/// The value of an expression is begun, which is used or not, and a task waits for it.
+/// The same, and a task waits for it.
 #[cycle(expressions)]
-pub fn value_first<'a>(
+pub fn first_by_tasks<'a>(
     e: &'a Box<TExpr>,
     used: bool,
     task: Task<'a>,
@@ -272,7 +302,7 @@ pub fn value_first<'a>(
     ensures { Leads (within_of around.now) result (follow (valued (within_of around.now) e.now used state.old) (works (within_of around.now) task.entry)) tasks.old tasks.new state.new }
 {
     tasks.push(task)?;
-    value(e.get(), used, state, around, tasks)
+    by_tasks(e.get(), used, state, around, tasks)
 }
 
 /// The value of an expression is begun, and two tasks wait for it, one behind the other.
@@ -288,7 +318,7 @@ fn two_behind<'a>(
     ensures { Leads (within_of around.now) result (follow (follow (valued (within_of around.now) e.now true state.old) (works (within_of around.now) first.entry)) (works (within_of around.now) second.entry)) tasks.old tasks.new state.new }
 {
     tasks.push(second)?;
-    value_first(e, true, first, state, around, tasks)
+    first_by_tasks(e, true, first, state, around, tasks)
 }
 
 /// A condition is begun: what depends on it waits for it, and behind that the control source as it is now.
@@ -327,7 +357,7 @@ fn cast<'a>(
 {
     match node.of {
         TType::Void => {
-            value_first(
+            first_by_tasks(
                 e,
                 false,
                 Task::OfValue(ValueTask::Unused),
@@ -336,7 +366,7 @@ fn cast<'a>(
                 tasks,
             )
         }
-        TType::Number(kind) => value_first(
+        TType::Number(kind) => first_by_tasks(
             e,
             true,
             Task::OfValue(ValueTask::Convert(node.place, Some(kind))),
@@ -344,7 +374,7 @@ fn cast<'a>(
             around,
             tasks,
         ),
-        TType::Pointer(_) => value(e.get(), used, state, around, tasks),
+        TType::Pointer(_) => by_tasks(e.get(), used, state, around, tasks),
     }
 }
 
@@ -418,9 +448,9 @@ fn answer<'a>(state: &mut Evaluator<'a>, around: &Around<'a>, leaf: Leaf<'a>) ->
     match leaf {
         Leaf::Number(number) => Ok(Given::Operand(Operand::Constant(Value::Number(number)))),
         Leaf::Str(string) => Ok(Given::Operand(string_address(around, string)?)),
-        Leaf::Object(node, used, object) => give(object_value(state, around, node, used, object)),
+        Leaf::Object(node, used, object) => give(object_value(state, around, &node, used, object)),
         Leaf::Variable(node, used, variable) => {
-            give(variable_value(state, around, node, used, variable))
+            give(variable_value(state, around, &node, used, variable))
         }
         Leaf::Getchar(place) => give(state.read_input(around, place)),
         Leaf::Puts(place, e) => give(put_text(state, around, place, e.get())),
@@ -432,32 +462,4 @@ fn answer<'a>(state: &mut Evaluator<'a>, around: &Around<'a>, leaf: Leaf<'a>) ->
         }
         Leaf::Nowhere => Ok(Given::Target(Target::InMemory(Operand::Constant(Value::Number(0))))),
     }
-}
-
-/// The value of a file object, if it is used.
-pub fn object_value<'a>(
-    state: &mut Evaluator<'a>,
-    around: &Around<'a>,
-    node: Node,
-    used: bool,
-    object: u32,
-) -> Result<Operand, Stop>
-    ensures { Comes result (value_meant (program_of around.now) node used (InMemory (address_meant object)) state.old) state.new }
-{
-    let target = Target::InMemory(address_of(u64::from(object)));
-    state.value_at(around, node, used, target)
-}
-
-/// The value of a variable, if it is used.
-pub fn variable_value<'a>(
-    state: &mut Evaluator<'a>,
-    around: &Around<'a>,
-    node: Node,
-    used: bool,
-    variable: u32,
-) -> Result<Operand, Stop>
-    ensures { Comes result (follow (variable_meant (program_of around.now) node variable (is_register around.now.variables.now variable) state.old) (value_meant (program_of around.now) node used)) state.new }
-{
-    let target = state.variable_place(around, node, variable);
-    state.value_at(around, node, used, target)
 }

@@ -11,7 +11,8 @@ mod step;
 mod task;
 mod text;
 
-pub use expression::{place, value};
+pub use early::{Early, at_once};
+pub use expression::{by_tasks, value};
 pub use given::Given;
 pub use step::{step_assignment, step_branch, step_call, step_value};
 pub use task::{AssignTask, BranchTask, CallTask, Task, ValueTask};

@@ -1,55 +1,24 @@
 //! What follows when a task of an expression is given what it waited for (C17 6.5).
 ghost use Rattle.std.specs.Prelude.{◌≡◌, ◌+◌, ◌^◌, ◌<◌, slice_get, IfSome};
 ghost use Rattle.std.specs.Option.{option_copied};
-ghost use Rattle.k_evaluation.specs.Meanings.{holds as holds_meant};
-ghost use Rattle.k_listing.specs.Comes.{Comes};
-ghost use Rattle.k_listing.specs.Arounds.{program_of, within_of};
+ghost use Rattle.k_listing.specs.Arounds.{within_of};
 ghost use Rattle.k_pending.specs.Leads.{Leads, armed, listed};
-ghost use Rattle.k_evaluation.specs.Operators.{same_truth as same_meant};
-ghost use Rattle.k_evaluation.specs.Places.{address_at as address_meant};
-ghost use Rattle.k_pending.specs.Tasks.{assignment_task, branch_task, call_task, made_on_one, made_on_two, value_task};
+ghost use Rattle.k_pending.specs.Tasks.{assignment_task, branch_task, call_task, value_task};
 ghost use Rattle.k_pending.specs.declared.given.Given.TheVariants as given;
 ghost use Rattle.k_pending.specs.declared.task.BranchTask.TheVariants as branch;
 ghost use Rattle.k_pending.specs.declared.task.ValueTask.TheVariants as valuing;
 
 use crate::early::{Early, at_once};
-use crate::expression::{place, value, value_first};
+use crate::expression::{first_by_tasks, place, value, value_first};
 use crate::given::{Given, give, give_place};
-use crate::plan::node_of;
 use crate::task::{AssignTask, BranchTask, CallTask, Task, ValueTask};
+use k_direct::{address_at, compute_one, holds, make_both, node_of, same_truth};
 use k_evaluation::{Operand, Target};
 use k_listing::{Around, Evaluator, Making, Stack, kind_of, kind_or_int};
 use k_num::{Bin, Box, Place, Seq};
 use k_optab::Class;
 use k_typed::{Node, TExpr, TType};
-use k_world::{ActRef, Held, Stop, Value};
-
-/// Whether a test found a number other than 0.
-fn holds(test: Held) -> bool
-    ensures { result ≡ holds_meant test }
-{
-    match test.value {
-        Value::Number(number) => number != 0,
-        Value::Pointer(_) => true,
-    }
-}
-
-/// Whether two truths are one.
-fn same_truth(a: bool, b: bool) -> bool
-    ensures { result ≡ same_meant a b }
-{
-    if a { b } else { !b }
-}
-
-/// The address of a place.
-fn address_at(target: Target) -> Operand
-    ensures { result ≡ address_meant target }
-{
-    match target {
-        Target::InRegister(_, _) => Operand::Constant(Value::Number(0)),
-        Target::InMemory(address) => address,
-    }
-}
+use k_world::{ActRef, Stop, Value};
 
 /// A task of a value or a place.
 pub fn step_value<'a>(
@@ -112,8 +81,8 @@ fn second<'a>(
 ) -> Result<Given, Stop>
     ensures { Leads (within_of around.now) result (value_task (within_of around.now) (valuing.Second making swapped e.entry) (given.Operand a) state.old) tasks.old tasks.new state.new }
 {
-    match at_once(e.get(), state, around) {
-        Early::Waits => value_first(
+    match at_once(e.get(), true, state, around) {
+        Early::Waits => first_by_tasks(
             e,
             true,
             Task::OfValue(ValueTask::Both(making, swapped, a)),
@@ -138,8 +107,8 @@ fn index<'a>(
 ) -> Result<Given, Stop>
     ensures { Leads (within_of around.now) result (value_task (within_of around.now) (valuing.Index place scale e.entry) (given.Operand a) state.old) tasks.old tasks.new state.new }
 {
-    match at_once(e.get(), state, around) {
-        Early::Waits => value_first(
+    match at_once(e.get(), true, state, around) {
+        Early::Waits => first_by_tasks(
             e,
             true,
             Task::OfValue(ValueTask::Element(place, scale, a)),
@@ -149,39 +118,6 @@ fn index<'a>(
         ),
         Early::Found(b) => give_place(state.offset(around, place, false, scale, a, b)),
         Early::Stopped(stop) => Err(stop),
-    }
-}
-
-/// An operation is made on one operand.
-fn compute_one<'a>(
-    state: &mut Evaluator<'a>,
-    around: &Around<'a>,
-    making: Making,
-    a: Operand,
-) -> Result<Operand, Stop>
-    ensures { Comes result (made_on_one (program_of around.now) making a state.old) state.new }
-{
-    let held = state.make_one(around, &making, a)?;
-    Ok(Operand::Holding(held))
-}
-
-/// An operation is made on two operands, or on the second and the first.
-fn make_both<'a>(
-    state: &mut Evaluator<'a>,
-    around: &Around<'a>,
-    making: Making,
-    swapped: bool,
-    a: Operand,
-    b: Operand,
-) -> Result<Operand, Stop>
-    ensures { Comes result (made_on_two (program_of around.now) making swapped a b state.old) state.new }
-{
-    if swapped {
-        let held = state.make_two(around, &making, b, a)?;
-        Ok(Operand::Holding(held))
-    } else {
-        let held = state.make_two(around, &making, a, b)?;
-        Ok(Operand::Holding(held))
     }
 }
 

@@ -5,6 +5,7 @@ mod choices;
 mod conversions;
 mod declarations;
 mod examples;
+mod large;
 mod library;
 mod limits;
 mod listed;

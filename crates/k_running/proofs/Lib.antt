@@ -9,3 +9,4 @@ pub mod SwitchRows
 pub mod DeclareRows
 pub mod CallRows
 pub mod FitLaws
+pub mod FoundRows

@@ -5,6 +5,7 @@ use Rattle.k_num.specs.declared.numbers.Kind.{Kind}
 use Rattle.k_num.specs.declared.place.Place.{Place}
 use Rattle.k_typed.specs.declared.tree.declaration.TDeclarator.{TDeclarator}
 use Rattle.k_typed.specs.declared.tree.declaration.TItem.{TItem}
+use Rattle.k_typed.specs.declared.tree.expression.TExpr.{TExpr}
 use Rattle.k_typed.specs.declared.tree.statement.TFirst.{TFirst}
 use Rattle.k_typed.specs.declared.tree.statement.TPart.{TPart}
 use Rattle.k_typed.specs.declared.tree.statement.TStmt.{TStmt}
@@ -18,7 +19,7 @@ use Rattle.k_evaluation.specs.declared.jumps.Jumps.{Jumps}
 use Rattle.k_evaluation.specs.declared.operand.Operand.{Operand}
 use Rattle.k_evaluation.specs.Calls.{at_end, body, result_of, runs}
 use Rattle.k_evaluation.specs.Declarations.{begins_object, begins_register, declares, declares_all, starts_with, stores, stores_item, stores_items}
-use Rattle.k_evaluation.specs.Flows.{Doing, in_order}
+use Rattle.k_evaluation.specs.Flows.{Doing, drops, in_order, tests_at}
 use Rattle.k_evaluation.specs.Jumps.{no_jumps}
 use Rattle.k_evaluation.specs.Loops.{LoopParts, all_turns, loop, loop_region, starts, step_or_none, test_or_one, turn, turn_if, turns}
 use Rattle.k_evaluation.specs.Statements.{does_or_none}
@@ -76,6 +77,10 @@ abbrev pub tested : Tabled → Turns → ℕ → State → Outcome Given
 tested w t n u =
     ((starts (parts_of w t) t.before (parts_of w t).test >>= turn_if (parts_of w t) t.before (turns n (parts_of w t) t.before)) >>= gives_flow) u
 
+-- a condition, its test, and what is behind it
+abbrev pub conditioned : Tabled → Turns → ℕ → TExpr → State → Outcome Given
+conditioned w t n e u = ((tests_at w.within t.place e >>= turn_if (parts_of w t) t.before (turns n (parts_of w t) t.before)) >>= gives_flow) u
+
 -- a turn from its body on
 abbrev pub bodied : Tabled → Turns → Option ℕ → Option ℕ → State → Outcome Given
 bodied w t n last u = (turn (parts_of w t) t.before (turns_by n (parts_of w t) t.before) last >>= gives_flow) u
@@ -83,6 +88,10 @@ bodied w t n last u = (turn (parts_of w t) t.before (turns_by n (parts_of w t) t
 -- the step, and then the next turn
 abbrev pub rounded : Tabled → Turns → Option ℕ → State → Outcome Given
 rounded w t n u = ((starts (parts_of w t) t.before (parts_of w t).step >>= λ done. turns_by n (parts_of w t) t.before) >>= gives_flow) u
+
+-- a step, and then the next turn
+abbrev pub stepped : Tabled → Turns → Option ℕ → TExpr → State → Outcome Given
+stepped w t n e u = ((drops w.within e >>= λ done. turns_by n (parts_of w t) t.before) >>= gives_flow) u
 
 -- a part is a case
 abbrev pub has_case_part : PartDoing → Bool

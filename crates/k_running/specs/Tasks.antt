@@ -25,12 +25,11 @@ use Rattle.k_running.specs.declared.task.DeclareTask.{DeclareTask}
 use Rattle.k_running.specs.declared.task.DeclareTask.TheVariants as declare
 use Rattle.k_running.specs.declared.task.Turns.{Turns}
 use Rattle.k_running.specs.Noted.{Tabled, noted, part_of}
-use Rattle.k_running.specs.Parts.{begun_items, bodied, cases, chosen_default, declared_all, doing, looped, parts_of, stored, turned, turns_by}
+use Rattle.k_running.specs.Parts.{begun_items, bodied, cases, chosen_default, declared_all, looped, parts_of, stored, turned, turns_by}
 
 -- what is still to be done of statements
 abbrev pub statement_task : Tabled → StatementTask → Given → Part Given
 statement_task w statement.Done g = gives_flow Normal
-statement_task w (statement.Do s) g = doing (noted w s.now)
 statement_task w (statement.InOrder ss n) g = unless_left (in_order (map (noted w) (drop n ss.now))) (flow_in g) >>= gives_flow
 statement_task w (statement.Choose place first second) g =
     (tests w.within.program place (operand_in g) >>= chosen_arm (noted w first.now).does (does_or_none (option_map (noted w) second.now))) >>= gives_flow

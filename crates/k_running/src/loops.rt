@@ -7,21 +7,21 @@ ghost use Rattle.k_evaluation.specs.Statements.{for_loop};
 ghost use Rattle.k_pending.specs.declared.given.Given.TheVariants as given;
 ghost use Rattle.k_listing.specs.Arounds.{within_of};
 ghost use Rattle.k_running.specs.Noted.{Tabled, noted_body, tabled_of};
-ghost use Rattle.k_running.specs.Parts.{bodied, doing, fuel_of, looped, parts_of, rounded, tested, turned};
+ghost use Rattle.k_running.specs.Parts.{bodied, conditioned, doing, fuel_of, looped, parts_of, rounded, stepped, tested, turned};
 ghost use Rattle.k_running.specs.Resumes.{Resumes};
 ghost use Rattle.k_running.specs.Tasks.{first_task_of, loop_task};
 ghost use Rattle.k_running.specs.declared.task.LoopTask.TheVariants as turning;
 
 use crate::jumps::jumps_of_body;
 use crate::runner::Runner;
-use crate::scope::holds;
 use crate::setting::Setting;
-use crate::task::{LoopTask, ScopeTask, StatementTask, Turns, Waiting};
+use crate::task::{LoopTask, ScopeTask, Turns, Waiting};
 use k_code::End;
+use k_direct::holds;
 use k_evaluation::{Flow, Operand};
 use k_listing::{Evaluator, body_region, flag, loop_region};
 use k_num::Box;
-use k_pending::{Given, value};
+use k_pending::{Early, Given, at_once, by_tasks};
 use k_typed::{Spot, TExpr, TFirst, TStmt};
 use k_world::{Stop, Value};
 
@@ -186,18 +186,55 @@ impl<'a> Runner<'a> {
         ensures { Resumes (tabled_of setting.now) result (tested (tabled_of setting.now) turns.entry (count - 1) self.old.evaluator) self.old.rest self.new.tasks self.new.rest self.new.evaluator }
     {
         reset(&mut self.evaluator, &turns);
-        self.rest
-            .push(Waiting::OfLoop(LoopTask::Test(turns, count - 1)))?;
         match turns.test {
-            None => Ok(Given::Operand(Operand::Constant(Value::Number(1)))),
-            Some(e) => value(
-                e.get(),
-                true,
-                &mut self.evaluator,
-                &setting.around,
-                &mut self.tasks,
+            None => self.behind_test(
+                setting,
+                turns,
+                count - 1,
+                Operand::Constant(Value::Number(1)),
             ),
+            Some(e) => self.condition(setting, turns, count - 1, e),
         }
+    }
+
+    /// The condition of a turn, and what is behind it.
+    fn condition(
+        &mut self,
+        setting: &Setting<'a>,
+        turns: Turns<'a>,
+        count: u128,
+        e: &'a Box<TExpr>,
+    ) -> Result<Given, Stop>
+        requires { self.old.tasks ≡ [] }
+        ensures { Resumes (tabled_of setting.now) result (conditioned (tabled_of setting.now) turns.entry count e.now self.old.evaluator) self.old.rest self.new.tasks self.new.rest self.new.evaluator }
+    {
+        match at_once(e.get(), true, &mut self.evaluator, &setting.around) {
+            Early::Waits => self.wait_for_condition(setting, turns, count, e),
+            Early::Found(a) => self.behind_test(setting, turns, count, a),
+            Early::Stopped(stop) => Err(stop),
+        }
+    }
+
+    /// The same where the condition takes tasks.
+    fn wait_for_condition(
+        &mut self,
+        setting: &Setting<'a>,
+        turns: Turns<'a>,
+        count: u128,
+        e: &'a Box<TExpr>,
+    ) -> Result<Given, Stop>
+        requires { self.old.tasks ≡ [] }
+        ensures { Resumes (tabled_of setting.now) result (conditioned (tabled_of setting.now) turns.entry count e.now self.old.evaluator) self.old.rest self.new.tasks self.new.rest self.new.evaluator }
+    {
+        self.rest
+            .push(Waiting::OfLoop(LoopTask::Test(turns, count)))?;
+        by_tasks(
+            e.get(),
+            true,
+            &mut self.evaluator,
+            &setting.around,
+            &mut self.tasks,
+        )
     }
 
     /// A turn behind its condition.
@@ -213,8 +250,7 @@ impl<'a> Runner<'a> {
     {
         let test = self.evaluator.test(&setting.around, turns.place, a)?;
         if holds(test) {
-            self.rest.push(Waiting::OfLoop(LoopTask::Body(turns, Some(count), test.source)))?;
-            return Ok(Given::Flow(Flow::Normal));
+            return self.body(setting, turns, Some(count), test.source);
         }
         Ok(Given::Flow(Flow::Normal))
     }
@@ -235,9 +271,7 @@ impl<'a> Runner<'a> {
         self.evaluator.enter(region)?;
         self.rest
             .push(Waiting::OfLoop(LoopTask::Behind(turns, count, last)))?;
-        self.rest
-            .push(Waiting::OfStatement(StatementTask::Do(turns.body)))?;
-        Ok(Given::Flow(Flow::Normal))
+        self.statement(setting, turns.body.get())
     }
 
     /// A turn behind its body, which ended so.
@@ -274,18 +308,50 @@ impl<'a> Runner<'a> {
         ensures { Resumes (tabled_of setting.now) result (rounded (tabled_of setting.now) turns.entry count self.old.evaluator) self.old.rest self.new.tasks self.new.rest self.new.evaluator }
     {
         reset(&mut self.evaluator, &turns);
+        match turns.step {
+            None => self.turn(setting, turns, count),
+            Some(e) => self.step(setting, turns, count, e),
+        }
+    }
+
+    /// The step of a turn, and then the next one.
+    fn step(
+        &mut self,
+        setting: &Setting<'a>,
+        turns: Turns<'a>,
+        count: Option<u128>,
+        e: &'a Box<TExpr>,
+    ) -> Result<Given, Stop>
+        requires { self.old.tasks ≡ [] }
+        ensures { Resumes (tabled_of setting.now) result (stepped (tabled_of setting.now) turns.entry count e.now self.old.evaluator) self.old.rest self.new.tasks self.new.rest self.new.evaluator }
+    {
+        match at_once(e.get(), false, &mut self.evaluator, &setting.around) {
+            Early::Waits => self.wait_for_step(setting, turns, count, e),
+            Early::Found(_) => self.turn(setting, turns, count),
+            Early::Stopped(stop) => Err(stop),
+        }
+    }
+
+    /// The same where the step takes tasks.
+    fn wait_for_step(
+        &mut self,
+        setting: &Setting<'a>,
+        turns: Turns<'a>,
+        count: Option<u128>,
+        e: &'a Box<TExpr>,
+    ) -> Result<Given, Stop>
+        requires { self.old.tasks ≡ [] }
+        ensures { Resumes (tabled_of setting.now) result (stepped (tabled_of setting.now) turns.entry count e.now self.old.evaluator) self.old.rest self.new.tasks self.new.rest self.new.evaluator }
+    {
         self.rest
             .push(Waiting::OfLoop(LoopTask::Turn(turns, count)))?;
-        match turns.step {
-            None => Ok(Given::Flow(Flow::Normal)),
-            Some(e) => value(
-                e.get(),
-                false,
-                &mut self.evaluator,
-                &setting.around,
-                &mut self.tasks,
-            ),
-        }
+        by_tasks(
+            e.get(),
+            false,
+            &mut self.evaluator,
+            &setting.around,
+            &mut self.tasks,
+        )
     }
 
     /// The loop is left.

@@ -1,7 +1,6 @@
 //! What is done where a part is left: objects die, a region is left, the control source is put back (C17 6.2.4).
 ghost use Rattle.std.specs.Prelude.{◌≡◌, []};
 ghost use Rattle.k_evaluation.specs.Calls.{at_end as at_end_meant, falls_off};
-ghost use Rattle.k_evaluation.specs.Meanings.{holds as holds_meant};
 ghost use Rattle.k_evaluation.specs.States.{State};
 ghost use Rattle.k_running.specs.Parts.{ends_call, passed};
 ghost use Rattle.k_running.specs.Tasks.{scope_task};
@@ -19,16 +18,6 @@ use k_num::Place;
 use k_pending::Given;
 use k_typed::TType;
 use k_world::{Held, Stop, Value};
-
-/// Whether a test found a number other than 0.
-pub fn holds(test: Held) -> bool
-    ensures { result ≡ holds_meant test }
-{
-    match test.value {
-        Value::Number(number) => number != 0,
-        Value::Pointer(_) => true,
-    }
-}
 
 impl<'a> Runner<'a> {
     /// A task where a part is left is given this.

@@ -12,12 +12,12 @@ ghost use Rattle.k_running.specs.declared.task.StatementTask.TheVariants as stat
 
 use crate::jumps::{any, jumps_of_arms};
 use crate::runner::Runner;
-use crate::scope::holds;
 use crate::setting::Setting;
 use crate::task::{DeclareTask, ScopeTask, StatementTask, Waiting};
+use k_direct::holds;
 use k_evaluation::{Flow, Operand};
 use k_num::{Box, Place, Seq};
-use k_pending::{Given, value};
+use k_pending::{Early, Given, at_once, by_tasks, value};
 use k_typed::{Spot, TDeclarator, TExpr, TFirst, TStmt};
 use k_world::Stop;
 
@@ -75,8 +75,24 @@ impl<'a> Runner<'a> {
         requires { self.old.tasks ≡ [] }
         ensures { Resumes (tabled_of setting.now) result (doing (expression (within_of setting.now.around) e.now) self.old.evaluator) self.old.rest self.new.tasks self.new.rest self.new.evaluator }
     {
+        match at_once(e.get(), false, &mut self.evaluator, &setting.around) {
+            Early::Waits => self.wait_for_expression(setting, e),
+            Early::Found(_) => Ok(Given::Flow(Flow::Normal)),
+            Early::Stopped(stop) => Err(stop),
+        }
+    }
+
+    /// The same where it takes tasks.
+    fn wait_for_expression(
+        &mut self,
+        setting: &Setting<'a>,
+        e: &'a Box<TExpr>,
+    ) -> Result<Given, Stop>
+        requires { self.old.tasks ≡ [] }
+        ensures { Resumes (tabled_of setting.now) result (doing (expression (within_of setting.now.around) e.now) self.old.evaluator) self.old.rest self.new.tasks self.new.rest self.new.evaluator }
+    {
         self.rest.push(Waiting::OfStatement(StatementTask::Done))?;
-        value(
+        by_tasks(
             e.get(),
             false,
             &mut self.evaluator,
@@ -198,10 +214,6 @@ impl<'a> Runner<'a> {
             StatementTask::Done => {
                 drop(given);
                 Ok(Given::Flow(Flow::Normal))
-            }
-            StatementTask::Do(s) => {
-                drop(given);
-                self.statement(setting, s.get())
             }
             StatementTask::InOrder(ss, from) => self.in_order(setting, ss, from, given.into_flow()),
             StatementTask::Choose(place, first, second) => {

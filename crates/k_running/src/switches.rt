@@ -13,9 +13,9 @@ ghost use Rattle.k_running.specs.declared.task.SwitchTask.TheVariants as switchi
 
 use crate::jumps::{any, jumps_of_parts, out_of_switch};
 use crate::runner::Runner;
-use crate::scope::holds;
 use crate::setting::Setting;
 use crate::task::{ScopeTask, SwitchTask, Waiting};
+use k_direct::holds;
 use k_evaluation::{Flow, Operand};
 use k_listing::{Around, Evaluator, Making};
 use k_num::{Bin, Box, Kind, Place, Seq};

@@ -24,8 +24,6 @@ pub struct Turns<'a> {
 pub enum StatementTask<'a> {
     /// It is done, whatever is given.
     Done,
-    /// A statement is begun.
-    Do(&'a Box<TStmt>),
     /// The statements from this one on follow one that ended as is given.
     InOrder(&'a Seq<TStmt>, usize),
     /// The arm of an `if` behind its condition.

@@ -16,7 +16,7 @@ use crate::making::Making;
 use crate::stack::Stack;
 use k_evaluation::Operand;
 use k_mem::Start;
-use k_num::{Place, Seq};
+use k_num::{NoMemory, Place, Seq};
 use k_optab::Class;
 use k_typed::{TFunc, TVariable};
 use k_world::{ActRef, Held, Stop};
@@ -126,7 +126,7 @@ impl<'a> Evaluator<'a> {
     }
 
     /// A function begins, with these arguments; what its caller goes on with is answered.
-    pub fn begin_call(&mut self, f: &TFunc, args: Seq<Option<Held>>) -> Result<Caller, Stop>
+    pub fn begin_call(&mut self, f: &TFunc, args: Seq<Option<Held>>) -> Result<Caller, NoMemory>
         ensures caller { IfOk result (λ caller. caller ≡ caller_of self.old) }
         ensures new { OnOk result (self.new ≡ entered f.now args self.old) }
     {
@@ -137,7 +137,7 @@ impl<'a> Evaluator<'a> {
             calls.checked_add(1),
             size.checked_add(u64::from(f.nodes)),
         ) else {
-            return Err(Stop::Memory);
+            return Err(NoMemory);
         };
         let vars = variables_of(args, f.variables.as_slice())?;
         let vars = Seq::from_vec(self.replace_variables(vars));

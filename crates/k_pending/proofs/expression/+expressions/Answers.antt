@@ -23,8 +23,8 @@ use Rattle.k_pending.proofs.Begun.{as_part, begun_behind, done_as, on_operand, p
 use Rattle.k_pending.proofs.ValueRows.{row_Address, row_Assign, row_AssignBy, row_Back, row_Binary, row_Both, row_Call, row_Cast, row_Comma, row_Cond, row_Convert, row_Deref, row_Either, row_Forward, row_Getchar, row_Index, row_Number, row_Object, row_Onto, row_Plus, row_Post, row_Pre, row_Printf, row_PtrCompare, row_PtrDistance, row_Putchar, row_Puts, row_Str, row_Unary, row_Variable}
 use Rattle.k_pending.proofs.expression.+expressions.Goals as goal
 
-pub value-returns-in-Number : goal.value-returns-in-Number
-value-returns-in-Number t c =
+pub by_tasks-returns-in-Number : goal.by_tasks-returns-in-Number
+by_tasks-returns-in-Number t c =
     let w = within_of c.args.around.now in
     let s = c.args.state.now in
     done_as w c.answer.result _ (valued w c.args.e.now c.args.used s) c.args.tasks.now c.answer.new.state
@@ -32,32 +32,32 @@ value-returns-in-Number t c =
     ∙ ap (λ (z : ℤ). gives_operand (Constant (held.Number z)) s) (sym (to_z-of_z w128 c.in-Number.value (search rules))))
     c.answer.ensures
 
-pub value-returns-in-Str : goal.value-returns-in-Str
-value-returns-in-Str t c =
+pub by_tasks-returns-in-Str : goal.by_tasks-returns-in-Str
+by_tasks-returns-in-Str t c =
     let w = within_of c.args.around.now in
     let s = c.args.state.now in
     done_as w c.answer-in-Str.result _ (valued w c.args.e.now c.args.used s) c.args.tasks.now c.answer-in-Str.new.state
     (row_Str w s c.args.e.now _ c.in-Str.string _ c.args.used c.in-Str.is)
     c.answer-in-Str.ensures
 
-pub value-returns-in-Object : goal.value-returns-in-Object
-value-returns-in-Object t c =
+pub by_tasks-returns-in-Object : goal.by_tasks-returns-in-Object
+by_tasks-returns-in-Object t c =
     let w = within_of c.args.around.now in
     let s = c.args.state.now in
     done_as w c.answer-in-Object.result _ (valued w c.args.e.now c.args.used s) c.args.tasks.now c.answer-in-Object.new.state
     (row_Object w s c.args.e.now c.in-Object.node c.in-Object.object c.args.used c.in-Object.is)
     c.answer-in-Object.ensures
 
-pub value-returns-in-Variable : goal.value-returns-in-Variable
-value-returns-in-Variable t c =
+pub by_tasks-returns-in-Variable : goal.by_tasks-returns-in-Variable
+by_tasks-returns-in-Variable t c =
     let w = within_of c.args.around.now in
     let s = c.args.state.now in
     done_as w c.answer-in-Variable.result _ (valued w c.args.e.now c.args.used s) c.args.tasks.now c.answer-in-Variable.new.state
     (row_Variable w s c.args.e.now c.in-Variable.node c.in-Variable.variable c.args.used c.in-Variable.is)
     c.answer-in-Variable.ensures
 
-pub value-returns-in-Index : goal.value-returns-in-Index
-value-returns-in-Index t c =
+pub by_tasks-returns-in-Index : goal.by_tasks-returns-in-Index
+by_tasks-returns-in-Index t c =
     let w = within_of c.args.around.now in
     let s = c.args.state.now in
     as_part w c.two_behind.result _ (valued w c.args.e.now c.args.used s) c.args.tasks.now c.two_behind.new.tasks c.two_behind.new.state
@@ -65,219 +65,219 @@ value-returns-in-Index t c =
     (c.scale_of.ensures ∙ (ap (λ (n : Node). scale_of n.of) (c.node_of.ensures w) ∙ ap (λ (x : TExpr). scale_of (means w x).node.of) c.get.ensures)))
     c.two_behind.ensures
 
-pub value-returns-in-Call : goal.value-returns-in-Call
-value-returns-in-Call t c =
+pub by_tasks-returns-in-Call : goal.by_tasks-returns-in-Call
+by_tasks-returns-in-Call t c =
     let w = within_of c.args.around.now in
     let s = c.args.state.now in
     as_part w c.wait.result _ (valued w c.args.e.now c.args.used s) c.args.tasks.now c.wait.new.tasks s
     (row_Call w s c.args.e.now c.in-Call.node c.in-Call.function c.in-Call.args c.args.used c.in-Call.is)
     (c.wait.ensures w s)
 
-pub value-returns-in-Getchar : goal.value-returns-in-Getchar
-value-returns-in-Getchar t c =
+pub by_tasks-returns-in-Getchar : goal.by_tasks-returns-in-Getchar
+by_tasks-returns-in-Getchar t c =
     let w = within_of c.args.around.now in
     let s = c.args.state.now in
     done_as w c.answer-in-Getchar.result _ (valued w c.args.e.now c.args.used s) c.args.tasks.now c.answer-in-Getchar.new.state
     (row_Getchar w s c.args.e.now c.in-Getchar.node c.args.used c.in-Getchar.is)
     c.answer-in-Getchar.ensures
 
-pub value-returns-in-Putchar : goal.value-returns-in-Putchar
-value-returns-in-Putchar t c =
+pub by_tasks-returns-in-Putchar : goal.by_tasks-returns-in-Putchar
+by_tasks-returns-in-Putchar t c =
     let w = within_of c.args.around.now in
     let s = c.args.state.now in
-    as_part w c.value_first.result _ (valued w c.args.e.now c.args.used s) c.args.tasks.now c.value_first.new.tasks c.value_first.new.state
+    as_part w c.first_by_tasks.result _ (valued w c.args.e.now c.args.used s) c.args.tasks.now c.first_by_tasks.new.tasks c.first_by_tasks.new.state
     (row_Putchar w s c.args.e.now c.in-Putchar.node c.in-Putchar.of c.args.used c.in-Putchar.is)
-    c.value_first.ensures
+    c.first_by_tasks.ensures
 
-pub value-returns-in-Puts : goal.value-returns-in-Puts
-value-returns-in-Puts t c =
+pub by_tasks-returns-in-Puts : goal.by_tasks-returns-in-Puts
+by_tasks-returns-in-Puts t c =
     let w = within_of c.args.around.now in
     let s = c.args.state.now in
     done_as w c.answer-in-Puts.result _ (valued w c.args.e.now c.args.used s) c.args.tasks.now c.answer-in-Puts.new.state
     (row_Puts w s c.args.e.now c.in-Puts.node c.in-Puts.of c.args.used c.in-Puts.is)
     c.answer-in-Puts.ensures
 
-pub value-returns-in-Printf : goal.value-returns-in-Printf
-value-returns-in-Printf t c =
+pub by_tasks-returns-in-Printf : goal.by_tasks-returns-in-Printf
+by_tasks-returns-in-Printf t c =
     let w = within_of c.args.around.now in
     let s = c.args.state.now in
     as_part w c.wait-in-Printf.result _ (valued w c.args.e.now c.args.used s) c.args.tasks.now c.wait-in-Printf.new.tasks s
     (row_Printf w s c.args.e.now c.in-Printf.node c.in-Printf.format c.in-Printf.args c.args.used c.in-Printf.is)
     (c.wait-in-Printf.ensures w s)
 
-pub value-returns-in-Post : goal.value-returns-in-Post
-value-returns-in-Post t c =
+pub by_tasks-returns-in-Post : goal.by_tasks-returns-in-Post
+by_tasks-returns-in-Post t c =
     let w = within_of c.args.around.now in
     let s = c.args.state.now in
     as_part w c.place_first.result _ (valued w c.args.e.now c.args.used s) c.args.tasks.now c.place_first.new.tasks c.place_first.new.state
     (row_Post w s c.args.e.now c.in-Post.node c.in-Post.change c.in-Post.of c.args.used c.in-Post.is)
     c.place_first.ensures
 
-pub value-returns-in-Pre : goal.value-returns-in-Pre
-value-returns-in-Pre t c =
+pub by_tasks-returns-in-Pre : goal.by_tasks-returns-in-Pre
+by_tasks-returns-in-Pre t c =
     let w = within_of c.args.around.now in
     let s = c.args.state.now in
     as_part w c.place_first-in-Pre.result _ (valued w c.args.e.now c.args.used s) c.args.tasks.now c.place_first-in-Pre.new.tasks c.place_first-in-Pre.new.state
     (row_Pre w s c.args.e.now c.in-Pre.node c.in-Pre.change c.in-Pre.of c.args.used c.in-Pre.is)
     c.place_first-in-Pre.ensures
 
-pub value-returns-in-Address : goal.value-returns-in-Address
-value-returns-in-Address t c =
+pub by_tasks-returns-in-Address : goal.by_tasks-returns-in-Address
+by_tasks-returns-in-Address t c =
     let w = within_of c.args.around.now in
     let s = c.args.state.now in
     as_part w c.address.result _ (valued w c.args.e.now c.args.used s) c.args.tasks.now c.address.new.tasks c.address.new.state
     (row_Address w s c.args.e.now _ c.in-Address.of c.args.used c.in-Address.is)
     c.address.ensures
 
-pub value-returns-in-Deref : goal.value-returns-in-Deref
-value-returns-in-Deref t c =
+pub by_tasks-returns-in-Deref : goal.by_tasks-returns-in-Deref
+by_tasks-returns-in-Deref t c =
     let w = within_of c.args.around.now in
     let s = c.args.state.now in
     as_part w c.two_behind-in-Deref.result _ (valued w c.args.e.now c.args.used s) c.args.tasks.now c.two_behind-in-Deref.new.tasks c.two_behind-in-Deref.new.state
     (row_Deref w s c.args.e.now c.in-Deref.node c.in-Deref.of c.args.used c.in-Deref.is)
     c.two_behind-in-Deref.ensures
 
-pub value-returns-in-Plus : goal.value-returns-in-Plus
-value-returns-in-Plus t c =
+pub by_tasks-returns-in-Plus : goal.by_tasks-returns-in-Plus
+by_tasks-returns-in-Plus t c =
     let w = within_of c.args.around.now in
     let s = c.args.state.now in
-    as_part w c.value.result _ (valued w c.args.e.now c.args.used s) c.args.tasks.now c.value.new.tasks c.value.new.state
+    as_part w c.by_tasks.result _ (valued w c.args.e.now c.args.used s) c.args.tasks.now c.by_tasks.new.tasks c.by_tasks.new.state
     (row_Plus w s c.args.e.now _ c.in-Plus.of c.args.used c.in-Plus.is ∙ ap (λ (x : TExpr). valued w x c.args.used s) (sym c.get-in-Plus.ensures))
-    c.value.ensures
+    c.by_tasks.ensures
 
-pub value-returns-in-Unary : goal.value-returns-in-Unary
-value-returns-in-Unary t c =
+pub by_tasks-returns-in-Unary : goal.by_tasks-returns-in-Unary
+by_tasks-returns-in-Unary t c =
     let w = within_of c.args.around.now in
     let s = c.args.state.now in
-    as_part w c.value_first-in-Unary.result _ (valued w c.args.e.now c.args.used s) c.args.tasks.now c.value_first-in-Unary.new.tasks c.value_first-in-Unary.new.state
+    as_part w c.first_by_tasks-in-Unary.result _ (valued w c.args.e.now c.args.used s) c.args.tasks.now c.first_by_tasks-in-Unary.new.tasks c.first_by_tasks-in-Unary.new.state
     (row_Unary w s c.args.e.now c.in-Unary.node c.in-Unary.op c.in-Unary.kind c.in-Unary.of c.args.used c.in-Unary.is)
-    c.value_first-in-Unary.ensures
+    c.first_by_tasks-in-Unary.ensures
 
-pub value-returns-in-Convert : goal.value-returns-in-Convert
-value-returns-in-Convert t c =
+pub by_tasks-returns-in-Convert : goal.by_tasks-returns-in-Convert
+by_tasks-returns-in-Convert t c =
     let w = within_of c.args.around.now in
     let s = c.args.state.now in
-    as_part w c.value_first-in-Convert.result _ (valued w c.args.e.now c.args.used s) c.args.tasks.now c.value_first-in-Convert.new.tasks c.value_first-in-Convert.new.state
+    as_part w c.first_by_tasks-in-Convert.result _ (valued w c.args.e.now c.args.used s) c.args.tasks.now c.first_by_tasks-in-Convert.new.tasks c.first_by_tasks-in-Convert.new.state
     (row_Convert w s c.args.e.now c.in-Convert.node c.in-Convert.of c.args.used c.kind_of.result c.in-Convert.is c.kind_of.ensures)
-    c.value_first-in-Convert.ensures
+    c.first_by_tasks-in-Convert.ensures
 
-pub value-returns-in-Cast : goal.value-returns-in-Cast
-value-returns-in-Cast t c =
+pub by_tasks-returns-in-Cast : goal.by_tasks-returns-in-Cast
+by_tasks-returns-in-Cast t c =
     let w = within_of c.args.around.now in
     let s = c.args.state.now in
     as_part w c.cast.result _ (valued w c.args.e.now c.args.used s) c.args.tasks.now c.cast.new.tasks c.cast.new.state
     (row_Cast w s c.args.e.now c.in-Cast.node c.in-Cast.of c.args.used c.in-Cast.is)
     c.cast.ensures
 
-pub value-returns-in-Binary : goal.value-returns-in-Binary
-value-returns-in-Binary t c =
+pub by_tasks-returns-in-Binary : goal.by_tasks-returns-in-Binary
+by_tasks-returns-in-Binary t c =
     let w = within_of c.args.around.now in
     let s = c.args.state.now in
     let at = c.in-Binary in
     let f : Class → Making = λ (k : Class). record { class = k; place = at.node.place; act = borrowed.Binary at.op at.kind } in
-    as_part w c.value_first-in-Binary.result _ (valued w c.args.e.now c.args.used s) c.args.tasks.now c.value_first-in-Binary.new.tasks c.value_first-in-Binary.new.state
+    as_part w c.first_by_tasks-in-Binary.result _ (valued w c.args.e.now c.args.used s) c.args.tasks.now c.first_by_tasks-in-Binary.new.tasks c.first_by_tasks-in-Binary.new.state
     (row_Binary w s c.args.e.now at.node at.op at.kind at.left at.right c.args.used (f c.class_of.result) at.is (ap f c.class_of.ensures))
-    c.value_first-in-Binary.ensures
+    c.first_by_tasks-in-Binary.ensures
 
-pub value-returns-in-Both : goal.value-returns-in-Both
-value-returns-in-Both t c =
+pub by_tasks-returns-in-Both : goal.by_tasks-returns-in-Both
+by_tasks-returns-in-Both t c =
     let w = within_of c.args.around.now in
     let s = c.args.state.now in
     as_part w c.test_first.result _ (valued w c.args.e.now c.args.used s) c.args.tasks.now c.test_first.new.tasks c.test_first.new.state
     (row_Both w s c.args.e.now c.in-Both.node c.in-Both.left c.in-Both.right c.args.used s.world.control c.in-Both.is refl)
     c.test_first.ensures
 
-pub value-returns-in-Either : goal.value-returns-in-Either
-value-returns-in-Either t c =
+pub by_tasks-returns-in-Either : goal.by_tasks-returns-in-Either
+by_tasks-returns-in-Either t c =
     let w = within_of c.args.around.now in
     let s = c.args.state.now in
     as_part w c.test_first-in-Either.result _ (valued w c.args.e.now c.args.used s) c.args.tasks.now c.test_first-in-Either.new.tasks c.test_first-in-Either.new.state
     (row_Either w s c.args.e.now c.in-Either.node c.in-Either.left c.in-Either.right c.args.used s.world.control c.in-Either.is refl)
     c.test_first-in-Either.ensures
 
-pub value-returns-in-Forward : goal.value-returns-in-Forward
-value-returns-in-Forward t c =
+pub by_tasks-returns-in-Forward : goal.by_tasks-returns-in-Forward
+by_tasks-returns-in-Forward t c =
     let w = within_of c.args.around.now in
     let s = c.args.state.now in
-    as_part w c.value_first-in-Forward.result _ (valued w c.args.e.now c.args.used s) c.args.tasks.now c.value_first-in-Forward.new.tasks c.value_first-in-Forward.new.state
+    as_part w c.first_by_tasks-in-Forward.result _ (valued w c.args.e.now c.args.used s) c.args.tasks.now c.first_by_tasks-in-Forward.new.tasks c.first_by_tasks-in-Forward.new.state
     (row_Forward w s c.args.e.now c.in-Forward.node c.in-Forward.left c.in-Forward.right c.args.used c.moving.result c.in-Forward.is c.moving.ensures)
-    c.value_first-in-Forward.ensures
+    c.first_by_tasks-in-Forward.ensures
 
-pub value-returns-in-Onto : goal.value-returns-in-Onto
-value-returns-in-Onto t c =
+pub by_tasks-returns-in-Onto : goal.by_tasks-returns-in-Onto
+by_tasks-returns-in-Onto t c =
     let w = within_of c.args.around.now in
     let s = c.args.state.now in
-    as_part w c.value_first-in-Onto.result _ (valued w c.args.e.now c.args.used s) c.args.tasks.now c.value_first-in-Onto.new.tasks c.value_first-in-Onto.new.state
+    as_part w c.first_by_tasks-in-Onto.result _ (valued w c.args.e.now c.args.used s) c.args.tasks.now c.first_by_tasks-in-Onto.new.tasks c.first_by_tasks-in-Onto.new.state
     (row_Onto w s c.args.e.now c.in-Onto.node c.in-Onto.left c.in-Onto.right c.args.used c.moving-in-Onto.result c.in-Onto.is c.moving-in-Onto.ensures)
-    c.value_first-in-Onto.ensures
+    c.first_by_tasks-in-Onto.ensures
 
-pub value-returns-in-Back : goal.value-returns-in-Back
-value-returns-in-Back t c =
+pub by_tasks-returns-in-Back : goal.by_tasks-returns-in-Back
+by_tasks-returns-in-Back t c =
     let w = within_of c.args.around.now in
     let s = c.args.state.now in
-    as_part w c.value_first-in-Back.result _ (valued w c.args.e.now c.args.used s) c.args.tasks.now c.value_first-in-Back.new.tasks c.value_first-in-Back.new.state
+    as_part w c.first_by_tasks-in-Back.result _ (valued w c.args.e.now c.args.used s) c.args.tasks.now c.first_by_tasks-in-Back.new.tasks c.first_by_tasks-in-Back.new.state
     (row_Back w s c.args.e.now c.in-Back.node c.in-Back.left c.in-Back.right c.args.used c.moving-in-Back.result c.in-Back.is c.moving-in-Back.ensures)
-    c.value_first-in-Back.ensures
+    c.first_by_tasks-in-Back.ensures
 
-pub value-returns-in-PtrCompare : goal.value-returns-in-PtrCompare
-value-returns-in-PtrCompare t c =
+pub by_tasks-returns-in-PtrCompare : goal.by_tasks-returns-in-PtrCompare
+by_tasks-returns-in-PtrCompare t c =
     let w = within_of c.args.around.now in
     let s = c.args.state.now in
-    as_part w c.value_first-in-PtrCompare.result _ (valued w c.args.e.now c.args.used s) c.args.tasks.now c.value_first-in-PtrCompare.new.tasks c.value_first-in-PtrCompare.new.state
+    as_part w c.first_by_tasks-in-PtrCompare.result _ (valued w c.args.e.now c.args.used s) c.args.tasks.now c.first_by_tasks-in-PtrCompare.new.tasks c.first_by_tasks-in-PtrCompare.new.state
     (row_PtrCompare w s c.args.e.now c.in-PtrCompare.node c.in-PtrCompare.op c.in-PtrCompare.left c.in-PtrCompare.right c.args.used c.in-PtrCompare.is)
-    c.value_first-in-PtrCompare.ensures
+    c.first_by_tasks-in-PtrCompare.ensures
 
-pub value-returns-in-PtrDistance : goal.value-returns-in-PtrDistance
-value-returns-in-PtrDistance t c =
+pub by_tasks-returns-in-PtrDistance : goal.by_tasks-returns-in-PtrDistance
+by_tasks-returns-in-PtrDistance t c =
     let w = within_of c.args.around.now in
     let s = c.args.state.now in
-    as_part w c.value_first-in-PtrDistance.result _ (valued w c.args.e.now c.args.used s) c.args.tasks.now c.value_first-in-PtrDistance.new.tasks c.value_first-in-PtrDistance.new.state
+    as_part w c.first_by_tasks-in-PtrDistance.result _ (valued w c.args.e.now c.args.used s) c.args.tasks.now c.first_by_tasks-in-PtrDistance.new.tasks c.first_by_tasks-in-PtrDistance.new.state
     (row_PtrDistance w s c.args.e.now c.in-PtrDistance.node c.in-PtrDistance.left c.in-PtrDistance.right c.args.used c.distance.result c.in-PtrDistance.is (c.distance.ensures w))
-    c.value_first-in-PtrDistance.ensures
+    c.first_by_tasks-in-PtrDistance.ensures
 
-pub value-returns-in-Cond : goal.value-returns-in-Cond
-value-returns-in-Cond t c =
+pub by_tasks-returns-in-Cond : goal.by_tasks-returns-in-Cond
+by_tasks-returns-in-Cond t c =
     let w = within_of c.args.around.now in
     let s = c.args.state.now in
     as_part w c.test_first-in-Cond.result _ (valued w c.args.e.now c.args.used s) c.args.tasks.now c.test_first-in-Cond.new.tasks c.test_first-in-Cond.new.state
     (row_Cond w s c.args.e.now c.in-Cond.node c.in-Cond.test c.in-Cond.then c.in-Cond.other c.args.used s.world.control c.in-Cond.is refl)
     c.test_first-in-Cond.ensures
 
-pub value-returns-in-Assign : goal.value-returns-in-Assign
-value-returns-in-Assign t c =
+pub by_tasks-returns-in-Assign : goal.by_tasks-returns-in-Assign
+by_tasks-returns-in-Assign t c =
     let w = within_of c.args.around.now in
     let s = c.args.state.now in
     as_part w c.place_first-in-Assign.result _ (valued w c.args.e.now c.args.used s) c.args.tasks.now c.place_first-in-Assign.new.tasks c.place_first-in-Assign.new.state
     (row_Assign w s c.args.e.now c.in-Assign.node c.in-Assign.left c.in-Assign.right c.args.used c.in-Assign.is)
     c.place_first-in-Assign.ensures
 
-pub value-returns-in-AssignBy : goal.value-returns-in-AssignBy
-value-returns-in-AssignBy t c =
+pub by_tasks-returns-in-AssignBy : goal.by_tasks-returns-in-AssignBy
+by_tasks-returns-in-AssignBy t c =
     let w = within_of c.args.around.now in
     let s = c.args.state.now in
     as_part w c.place_first-in-AssignBy.result _ (valued w c.args.e.now c.args.used s) c.args.tasks.now c.place_first-in-AssignBy.new.tasks c.place_first-in-AssignBy.new.state
     (row_AssignBy w s c.args.e.now c.in-AssignBy.node c.in-AssignBy.change c.in-AssignBy.left c.in-AssignBy.right c.args.used c.in-AssignBy.is)
     c.place_first-in-AssignBy.ensures
 
-pub value-returns-in-Comma : goal.value-returns-in-Comma
-value-returns-in-Comma t c =
+pub by_tasks-returns-in-Comma : goal.by_tasks-returns-in-Comma
+by_tasks-returns-in-Comma t c =
     let w = within_of c.args.around.now in
     let s = c.args.state.now in
-    as_part w c.value_first-in-Comma.result _ (valued w c.args.e.now c.args.used s) c.args.tasks.now c.value_first-in-Comma.new.tasks c.value_first-in-Comma.new.state
+    as_part w c.first_by_tasks-in-Comma.result _ (valued w c.args.e.now c.args.used s) c.args.tasks.now c.first_by_tasks-in-Comma.new.tasks c.first_by_tasks-in-Comma.new.state
     (row_Comma w s c.args.e.now _ c.in-Comma.left c.in-Comma.right c.args.used c.in-Comma.is)
-    c.value_first-in-Comma.ensures
+    c.first_by_tasks-in-Comma.ensures
 
-pub value_first-returns : goal.value_first-returns
-value_first-returns t c =
-    begun_behind (within_of c.args.around.now) c.value.result c.args.e.now c.get.result.now c.args.used c.args.task c.args.tasks.now c.push.new.self c.value.new.tasks
-    c.args.state.now c.value.new.state c.get.ensures c.in_ok-push.ensures c.value.ensures
+pub first_by_tasks-returns : goal.first_by_tasks-returns
+first_by_tasks-returns t c =
+    begun_behind (within_of c.args.around.now) c.by_tasks.result c.args.e.now c.get.result.now c.args.used c.args.task c.args.tasks.now c.push.new.self c.by_tasks.new.tasks
+    c.args.state.now c.by_tasks.new.state c.get.ensures c.in_ok-push.ensures c.by_tasks.ensures
 
 pub two_behind-returns : goal.two_behind-returns
 two_behind-returns t c =
     let w = within_of c.args.around.now in
     let o = follow (valued w c.args.e.now true c.args.state.now) (works w c.args.first) in
-    pushed w c.value_first.result o (follow o (works w c.args.second)) c.args.second c.args.tasks.now c.push.new.self c.value_first.new.tasks c.value_first.new.state
-    refl c.in_ok-push.ensures c.value_first.ensures
+    pushed w c.first_by_tasks.result o (follow o (works w c.args.second)) c.args.second c.args.tasks.now c.push.new.self c.first_by_tasks.new.tasks c.first_by_tasks.new.state
+    refl c.in_ok-push.ensures c.first_by_tasks.ensures
 
 pub test_first-returns : goal.test_first-returns
 test_first-returns t c =
@@ -293,24 +293,24 @@ cast-returns-in-Void t c =
     let w = within_of c.args.around.now in
     let s = c.args.state.now in
     let part = λ (of : TType). follow (cast_to w.program c.args.node.place of (means w c.args.e.now) c.args.used s) gives_operand in
-    as_part w c.value_first.result _ (part c.args.node.of) c.args.tasks.now c.value_first.new.tasks c.value_first.new.state
+    as_part w c.first_by_tasks.result _ (part c.args.node.of) c.args.tasks.now c.first_by_tasks.new.tasks c.first_by_tasks.new.state
     (ap part c.in-Void.is ∙ on_operand ((means w c.args.e.now).value false s) (λ (x : Operand). gives nothing))
-    c.value_first.ensures
+    c.first_by_tasks.ensures
 
 pub cast-returns-in-Number : goal.cast-returns-in-Number
 cast-returns-in-Number t c =
     let w = within_of c.args.around.now in
     let s = c.args.state.now in
     let part = λ (of : TType). follow (cast_to w.program c.args.node.place of (means w c.args.e.now) c.args.used s) gives_operand in
-    as_part w c.value_first-in-Number.result _ (part c.args.node.of) c.args.tasks.now c.value_first-in-Number.new.tasks c.value_first-in-Number.new.state
+    as_part w c.first_by_tasks-in-Number.result _ (part c.args.node.of) c.args.tasks.now c.first_by_tasks-in-Number.new.tasks c.first_by_tasks-in-Number.new.state
     (ap part c.in-Number.is ∙ on_operand ((means w c.args.e.now).value true s) (converts w.program c.args.node.place (Some c.in-Number.kind)))
-    c.value_first-in-Number.ensures
+    c.first_by_tasks-in-Number.ensures
 
 pub cast-returns-in-Pointer : goal.cast-returns-in-Pointer
 cast-returns-in-Pointer t c =
     let w = within_of c.args.around.now in
     let s = c.args.state.now in
     let part = λ (of : TType). follow (cast_to w.program c.args.node.place of (means w c.args.e.now) c.args.used s) gives_operand in
-    as_part w c.value.result _ (part c.args.node.of) c.args.tasks.now c.value.new.tasks c.value.new.state
+    as_part w c.by_tasks.result _ (part c.args.node.of) c.args.tasks.now c.by_tasks.new.tasks c.by_tasks.new.state
     (ap part c.in-Pointer.is ∙ ap (λ (x : TExpr). valued w x c.args.used s) (sym c.get.ensures))
-    c.value.ensures
+    c.by_tasks.ensures

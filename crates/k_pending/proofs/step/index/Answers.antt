@@ -21,10 +21,10 @@ returns-in-Waits c =
     let s = c.args.state.now in
     let e = c.args.e.now in
     let f = element_at w.program c.args.place c.args.scale in
-    as_part w c.value_first.result _ (value_task w (value.Index c.args.place c.args.scale c.args.e) (given.Operand c.args.a) s) c.args.tasks.now
-    c.value_first.new.tasks c.value_first.new.state
+    as_part w c.first_by_tasks.result _ (value_task w (value.Index c.args.place c.args.scale c.args.e) (given.Operand c.args.a) s) c.args.tasks.now
+    c.first_by_tasks.new.tasks c.first_by_tasks.new.state
     (keeps_base w s e f c.args.a c.args.a refl ∙ ap (λ (x : State). follow (valued w e true x) (to_target (f c.args.a))) (sym c.in-Waits.ensures))
-    c.value_first.ensures
+    c.first_by_tasks.ensures
 
 pub returns-in-Found : goal.returns-in-Found
 returns-in-Found c =

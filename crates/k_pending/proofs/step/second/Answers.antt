@@ -8,7 +8,8 @@ use Rattle.k_pending.specs.declared.given.Given.TheVariants as given
 use Rattle.k_pending.specs.declared.task.ValueTask.TheVariants as value
 use Rattle.k_pending.specs.Givens.{gives_operand}
 use Rattle.k_pending.specs.Leads.{valued}
-use Rattle.k_pending.specs.Tasks.{made_on_two, value_task}
+use Rattle.k_direct.specs.Makings.{made_on_two}
+use Rattle.k_pending.specs.Tasks.{value_task}
 use Rattle.k_pending.proofs.Begun.{as_part, from_operand}
 use Rattle.k_pending.proofs.EarlyRows.{found_at, stopped}
 use Rattle.k_pending.proofs.StepRows.{keeps}
@@ -20,10 +21,10 @@ returns-in-Waits c =
     let s = c.args.state.now in
     let e = c.args.e.now in
     let f = made_on_two w.program c.args.making c.args.swapped in
-    as_part w c.value_first.result _ (value_task w (value.Second c.args.making c.args.swapped c.args.e) (given.Operand c.args.a) s) c.args.tasks.now
-    c.value_first.new.tasks c.value_first.new.state
+    as_part w c.first_by_tasks.result _ (value_task w (value.Second c.args.making c.args.swapped c.args.e) (given.Operand c.args.a) s) c.args.tasks.now
+    c.first_by_tasks.new.tasks c.first_by_tasks.new.state
     (keeps w s e f c.args.a c.args.a refl ∙ ap (λ (x : State). follow (valued w e true x) (from_operand (f c.args.a))) (sym c.in-Waits.ensures))
-    c.value_first.ensures
+    c.first_by_tasks.ensures
 
 pub returns-in-Found : goal.returns-in-Found
 returns-in-Found c =

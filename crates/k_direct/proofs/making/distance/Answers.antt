@@ -6,7 +6,7 @@ use Rattle.k_world.specs.declared.act.ActRef.TheVariants as borrowed
 use Rattle.k_evaluation.specs.Flows.{means}
 use Rattle.k_evaluation.specs.Meanings.{scale_of}
 use Rattle.k_listing.specs.declared.making.Making.{Making}
-use Rattle.k_pending.proofs.plan.distance.Goals as goal
+use Rattle.k_direct.proofs.making.distance.Goals as goal
 
 pub returns : goal.returns
 returns c =
