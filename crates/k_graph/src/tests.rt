@@ -4,7 +4,7 @@ ghost use Rattle.k_optab.specs.Events.{AreBefore, SourcesAreEarlier, operations,
 
 use crate::{Instance, Tree, heaviest, heaviest_from, instances, place_of};
 use k_num::{NoMemory, Place, Seq};
-use k_optab::{Class, Event, Src};
+use k_optab::{Class, Event, Sources, Src};
 use std::alloc::Global;
 use std::test::Fail;
 
@@ -22,7 +22,7 @@ fn events_of(alloc: Global, steps: &[Step<'_>]) -> Result<Seq<Event>, NoMemory> 
     for step in steps {
         let event = match step {
             Step::Op(latency, list) => {
-                let mut sources = Seq::new(alloc);
+                let mut sources = Sources::new(alloc);
                 for (number, broken) in *list {
                     sources.push(Src {
                         number: *number,

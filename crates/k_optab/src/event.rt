@@ -1,10 +1,10 @@
 //! The events of a run.
 
-use crate::Class;
-use k_num::{Place, Seq};
+use crate::{Class, Sources};
+use k_num::Place;
 
 /// Where an operand's value came from.
-#[derive(Clone, Copy, Debug, PartialEq, Eq, Hash)]
+#[derive(Clone, Copy, Debug, Default, PartialEq, Eq, Hash)]
 pub struct Src {
     /// The number of the operation that gave the value. Operations are numbered from 0 in a run.
     pub number: u64,
@@ -21,7 +21,7 @@ pub enum Event {
     Op {
         class: Class,
         latency: u64,
-        sources: Seq<Src>,
+        sources: Sources,
         place: Place,
     },
     /// An instance of the region of this number was entered.

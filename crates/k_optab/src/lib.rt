@@ -9,6 +9,7 @@ mod latencies;
 pub mod laws;
 mod node;
 mod region;
+mod sources;
 mod table;
 mod toml_table;
 
@@ -18,5 +19,6 @@ pub use event::{Event, Src};
 pub use latencies::{Latencies, name, of, standard};
 pub use node::Node;
 pub use region::{Region, RegionKind};
+pub use sources::Sources;
 pub use table::Table;
 pub use toml_table::{TableFault, from_toml};

@@ -6,7 +6,7 @@ ghost use Rattle.k_report.specs.Graph.{IsWithin};
 use k_code::{End, Listing, Trap};
 use k_graph::{Instance, Tree};
 use k_num::{Place, Seq};
-use k_optab::{Class, Event, Src};
+use k_optab::{Class, Event, Sources, Src};
 use k_report::graph_text;
 use std::alloc::Global;
 use std::process::Abort;
@@ -51,8 +51,8 @@ static OTHER_TREE: [Within; 3] = [
     (1, 1, (1, 3), 4, 4),
 ];
 
-fn sources_of(alloc: Global, list: &[(u64, bool)]) -> Result<Seq<Src>, Fail> {
-    let mut sources = Seq::new(alloc);
+fn sources_of(alloc: Global, list: &[(u64, bool)]) -> Result<Sources, Fail> {
+    let mut sources = Sources::new(alloc);
     for source in list {
         let (number, broken) = *source;
         sources.push(Src { number, broken })?;
