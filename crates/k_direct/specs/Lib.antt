@@ -1,3 +1,4 @@
+pub mod ComesInto
 pub mod Direct
 pub mod Makings
 pub mod Rows

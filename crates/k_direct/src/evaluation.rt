@@ -1,25 +1,26 @@
 //! The values and places of direct expressions, operand within operand (C17 6.5).
 ghost use Rattle.std.specs.Prelude.{◌≡◌, ◌&&◌, true, false, None};
+ghost use Rattle.k_direct.specs.ComesInto.{ComesInto};
 ghost use Rattle.k_direct.specs.Direct.{is_direct};
 ghost use Rattle.k_direct.specs.Makings.{made_on_one, made_on_two};
 ghost use Rattle.k_direct.specs.Rows.{chosen, decided, place_of, value_of};
 ghost use Rattle.k_evaluation.specs.Assignments.{after_place, behind_changed, behind_place, changes_old, one as one_meant};
 ghost use Rattle.k_evaluation.specs.Flows.{means};
 ghost use Rattle.k_evaluation.specs.Library.{puts_byte};
-ghost use Rattle.k_evaluation.specs.Meanings.{behind_one, nothing, scale_of as scale_meant, value_at as value_meant};
+ghost use Rattle.k_evaluation.specs.Meanings.{behind_one, nothing as nothing_meant, scale_of as scale_meant, value_at as value_meant};
 ghost use Rattle.k_evaluation.specs.Operators.{arm as arm_meant, binary_on, cast_to, compare_on, converts, distance_on, truth_of, unary_on};
 ghost use Rattle.k_evaluation.specs.Places.{address_at as address_meant, behind_base, element_at};
 ghost use Rattle.k_evaluation.specs.States.{follow, gives, settled};
 ghost use Rattle.k_evaluation.specs.declared.operand.Target.TheVariants.{InMemory};
 ghost use Rattle.k_listing.specs.Arounds.{program_of, within_of};
+ghost use Rattle.k_listing.specs.Comes.{Comes};
 ghost use Rattle.k_optab.specs.declared.class.Class.TheVariants.{Simple};
 ghost use Rattle.k_world.specs.declared.act.ActRef.TheVariants.{Offset};
-ghost use Rattle.k_listing.specs.Comes.{Comes};
 
 use crate::making::{compute_one, distance, make_both, moving, node_of};
 use crate::operand::{
-    address_at, holds, nowhere, number_value, object_target, object_value, same_truth,
-    string_value, variable_target, variable_value,
+    address_at, give_input, give_nowhere, give_number, give_object, give_object_place, give_string,
+    give_variable, give_variable_place, holds, nothing, nowhere, same_truth, written,
 };
 use crate::part::{last_of, middle_of, second_of};
 use k_evaluation::{Operand, Target};
@@ -30,8 +31,6 @@ use k_typed::{Change, Node, TExpr, TType};
 use k_world::{ActRef, Stop, Value};
 
 /// The value of a direct expression, which is used or not.
-#[cycle(evaluation)]
-#[tactic(auto, unfolding(k_evaluation::specs::Places::number, k_evaluation::specs::Places::string, k_evaluation::specs::Places::object, k_evaluation::specs::Places::variable, k_evaluation::specs::Places::index, k_evaluation::specs::Places::deref, k_evaluation::specs::Places::address, k_evaluation::specs::Places::forward, k_evaluation::specs::Places::back, k_evaluation::specs::Places::onto, k_evaluation::specs::Operators::plus, k_evaluation::specs::Operators::unary, k_evaluation::specs::Operators::convert, k_evaluation::specs::Operators::cast, k_evaluation::specs::Operators::binary, k_evaluation::specs::Operators::compare, k_evaluation::specs::Operators::distance, k_evaluation::specs::Operators::both, k_evaluation::specs::Operators::either, k_evaluation::specs::Operators::cond, k_evaluation::specs::Operators::comma, k_evaluation::specs::Assignments::assign, k_evaluation::specs::Assignments::assign_by, k_evaluation::specs::Assignments::pre, k_evaluation::specs::Assignments::post, k_evaluation::specs::Library::getchar, k_evaluation::specs::Library::putchar, k_evaluation::specs::Library::puts, k_evaluation::specs::Library::printf, k_evaluation::specs::Expressions::call))]
 pub fn evaluate<'a>(
     e: &TExpr,
     used: bool,
@@ -41,73 +40,141 @@ pub fn evaluate<'a>(
     requires { is_direct e.now ≡ true }
     ensures { Comes result (value_of (within_of around.now) e.now used state.old) state.new }
 {
+    let mut value = nothing();
+    value_into(e, used, state, around, &mut value)?;
+    Ok(value)
+}
+
+/// The same, which is written to a place.
+#[cycle(evaluation)]
+#[tactic(auto, unfolding(k_evaluation::specs::Places::number, k_evaluation::specs::Places::string, k_evaluation::specs::Places::object, k_evaluation::specs::Places::variable, k_evaluation::specs::Places::index, k_evaluation::specs::Places::deref, k_evaluation::specs::Places::address, k_evaluation::specs::Places::forward, k_evaluation::specs::Places::back, k_evaluation::specs::Places::onto, k_evaluation::specs::Operators::plus, k_evaluation::specs::Operators::unary, k_evaluation::specs::Operators::convert, k_evaluation::specs::Operators::cast, k_evaluation::specs::Operators::binary, k_evaluation::specs::Operators::compare, k_evaluation::specs::Operators::distance, k_evaluation::specs::Operators::both, k_evaluation::specs::Operators::either, k_evaluation::specs::Operators::cond, k_evaluation::specs::Operators::comma, k_evaluation::specs::Assignments::assign, k_evaluation::specs::Assignments::assign_by, k_evaluation::specs::Assignments::pre, k_evaluation::specs::Assignments::post, k_evaluation::specs::Library::getchar, k_evaluation::specs::Library::putchar, k_evaluation::specs::Library::puts, k_evaluation::specs::Library::printf, k_evaluation::specs::Expressions::call))]
+fn value_into<'a>(
+    e: &TExpr,
+    used: bool,
+    state: &mut Evaluator<'a>,
+    around: &Around<'a>,
+    out: &mut Operand,
+) -> Result<(), Stop>
+    requires { is_direct e.now ≡ true }
+    ensures { ComesInto result out.new (value_of (within_of around.now) e.now used state.old) state.new }
+{
     match e {
-        TExpr::Number { value, .. } => number_value(*value),
-        TExpr::Str { string, .. } => string_value(state, around, *string),
-        TExpr::Object { node, object } => object_value(state, around, node, used, *object),
-        TExpr::Variable { node, variable } => variable_value(state, around, node, used, *variable),
-        TExpr::Index { node, base, index } => element_value(base, index, node, used, state, around),
-        TExpr::Getchar { node } => state.read_input(around, node.place),
-        TExpr::Putchar { node, of } => byte_put(of, node.place, state, around),
-        TExpr::Post { node, change, of } => after(of, node, *change, used, state, around),
-        TExpr::Pre { node, change, of } => before(of, node, *change, state, around),
-        TExpr::Address { of, .. } => address(of, state, around),
-        TExpr::Deref { node, of } => pointed_value(of, node, used, state, around),
-        TExpr::Plus { of, .. } => evaluate(of.get(), used, state, around),
-        TExpr::Unary { node, op, kind, of } => unary(of, node.place, *op, *kind, state, around),
-        TExpr::Convert { node, of } => converted(of, node.place, kind_of(node.of), state, around),
-        TExpr::Cast { node, of } => cast(of, node, used, state, around),
+        TExpr::Number { value, .. } => give_number(*value, out),
+        TExpr::Str { string, .. } => give_string(*string, state, around, out),
+        TExpr::Object { node, object } => give_object(*object, node, used, state, around, out),
+        TExpr::Variable { node, variable } => {
+            give_variable(*variable, node, used, state, around, out)
+        }
+        TExpr::Index { node, base, index } => element_value(
+            base, index, node, used, state, around, out,
+        ),
+        TExpr::Getchar { node } => give_input(node.place, state, around, out),
+        TExpr::Putchar { node, of } => byte_put(of, node.place, state, around, out),
+        TExpr::Post { node, change, of } => after(of, node, *change, used, state, around, out),
+        TExpr::Pre { node, change, of } => before(of, node, *change, state, around, out),
+        TExpr::Address { of, .. } => address(of, state, around, out),
+        TExpr::Deref { node, of } => pointed_value(of, node, used, state, around, out),
+        TExpr::Plus { of, .. } => value_into(of.get(), used, state, around, out),
+        TExpr::Unary { node, op, kind, of } => unary(
+            of, node.place, *op, *kind, state, around, out,
+        ),
+        TExpr::Convert { node, of } => converted(
+            of,
+            node.place,
+            kind_of(node.of),
+            state,
+            around,
+            out,
+        ),
+        TExpr::Cast { node, of } => cast(of, node, used, state, around, out),
         TExpr::Binary {
             node,
             op,
             kind,
             left,
             right,
-        } => binary(left, right, node.place, *op, *kind, state, around),
-        TExpr::Both { node, left, right } => logic(left, right, node, false, state, around),
-        TExpr::Either { node, left, right } => logic(left, right, node, true, state, around),
+        } => binary(left, right, node.place, *op, *kind, state, around, out),
+        TExpr::Both { node, left, right } => logic(left, right, node, false, state, around, out),
+        TExpr::Either { node, left, right } => logic(left, right, node, true, state, around, out),
         TExpr::Forward { node, left, right } => {
-            moved(left, right, node, false, false, state, around)
+            moved(left, right, node, false, false, state, around, out)
         }
-        TExpr::Onto { node, left, right } => moved(left, right, node, false, true, state, around),
-        TExpr::Back { node, left, right } => moved(left, right, node, true, false, state, around),
+        TExpr::Onto { node, left, right } => moved(
+            left, right, node, false, true, state, around, out,
+        ),
+        TExpr::Back { node, left, right } => moved(
+            left, right, node, true, false, state, around, out,
+        ),
         TExpr::PtrCompare {
             node,
             op,
             left,
             right,
-        } => compared(left, right, node.place, *op, state, around),
-        TExpr::PtrDistance { node, left, right } => distanced(left, right, node, state, around),
+        } => compared(left, right, node.place, *op, state, around, out),
+        TExpr::PtrDistance { node, left, right } => distanced(
+            left, right, node, state, around, out,
+        ),
         TExpr::Cond {
             node,
             test,
             then,
             other,
-        } => conditional(test, then, other, node, state, around),
-        TExpr::Assign { node, left, right } => assigned(left, right, node.place, state, around),
+        } => conditional(test, then, other, node, state, around, out),
+        TExpr::Assign { node, left, right } => assigned(
+            left, right, node.place, state, around, out,
+        ),
         TExpr::AssignBy {
             node,
             change,
             left,
             right,
-        } => assigned_by(left, right, node, *change, state, around),
-        TExpr::Comma { left, right, .. } => both_in_turn(left, right, used, state, around),
+        } => assigned_by(left, right, node, *change, state, around, out),
+        TExpr::Comma { left, right, .. } => both_in_turn(left, right, used, state, around, out),
         TExpr::Call { .. } | TExpr::Puts { .. } | TExpr::Printf { .. } => unreachable!(),
+    }
+}
+
+/// The value of a direct expression that is used, with the frequent leaves at hand.
+#[cycle(evaluation)]
+#[inline(always)]
+#[tactic(auto, unfolding(k_evaluation::specs::Places::number, k_evaluation::specs::Places::variable))]
+fn operand_into<'a>(
+    e: &TExpr,
+    state: &mut Evaluator<'a>,
+    around: &Around<'a>,
+    out: &mut Operand,
+) -> Result<(), Stop>
+    requires { is_direct e.now ≡ true }
+    ensures { ComesInto result out.new (value_of (within_of around.now) e.now true state.old) state.new }
+{
+    match e {
+        TExpr::Number { value, .. } => give_number(*value, out),
+        TExpr::Variable { node, variable } => {
+            give_variable(*variable, node, true, state, around, out)
+        }
+        _ => value_into(e, true, state, around, out),
     }
 }
 
 /// The place that a direct expression designates.
 #[cycle(evaluation)]
 #[tactic(auto, unfolding(k_evaluation::specs::Places::number, k_evaluation::specs::Places::string, k_evaluation::specs::Places::object, k_evaluation::specs::Places::variable, k_evaluation::specs::Places::index, k_evaluation::specs::Places::deref, k_evaluation::specs::Places::address, k_evaluation::specs::Places::forward, k_evaluation::specs::Places::back, k_evaluation::specs::Places::onto, k_evaluation::specs::Operators::plus, k_evaluation::specs::Operators::unary, k_evaluation::specs::Operators::convert, k_evaluation::specs::Operators::cast, k_evaluation::specs::Operators::binary, k_evaluation::specs::Operators::compare, k_evaluation::specs::Operators::distance, k_evaluation::specs::Operators::both, k_evaluation::specs::Operators::either, k_evaluation::specs::Operators::cond, k_evaluation::specs::Operators::comma, k_evaluation::specs::Assignments::assign, k_evaluation::specs::Assignments::assign_by, k_evaluation::specs::Assignments::pre, k_evaluation::specs::Assignments::post, k_evaluation::specs::Library::getchar, k_evaluation::specs::Library::putchar, k_evaluation::specs::Library::puts, k_evaluation::specs::Library::printf, k_evaluation::specs::Expressions::call))]
-pub fn place<'a>(e: &TExpr, state: &mut Evaluator<'a>, around: &Around<'a>) -> Result<Target, Stop>
+fn place_into<'a>(
+    e: &TExpr,
+    state: &mut Evaluator<'a>,
+    around: &Around<'a>,
+    out: &mut Target,
+) -> Result<(), Stop>
     requires { is_direct e.now ≡ true }
-    ensures { Comes result (place_of (within_of around.now) e.now state.old) state.new }
+    ensures { ComesInto result out.new (place_of (within_of around.now) e.now state.old) state.new }
 {
     match e {
-        TExpr::Object { object, .. } => object_target(*object),
-        TExpr::Variable { node, variable } => variable_target(state, around, node, *variable),
-        TExpr::Index { node, base, index } => element(base, index, node.place, state, around),
-        TExpr::Deref { of, .. } => pointed(of, state, around),
+        TExpr::Object { object, .. } => give_object_place(*object, out),
+        TExpr::Variable { node, variable } => {
+            give_variable_place(*variable, node, state, around, out)
+        }
+        TExpr::Index { node, base, index } => element(base, index, node.place, state, around, out),
+        TExpr::Deref { of, .. } => pointed(of, state, around, out),
         TExpr::Number { .. }
         | TExpr::Str { .. }
         | TExpr::Call { .. }
@@ -133,7 +200,7 @@ pub fn place<'a>(e: &TExpr, state: &mut Evaluator<'a>, around: &Around<'a>) -> R
         | TExpr::Cond { .. }
         | TExpr::Assign { .. }
         | TExpr::AssignBy { .. }
-        | TExpr::Comma { .. } => nowhere(),
+        | TExpr::Comma { .. } => give_nowhere(out),
     }
 }
 
@@ -145,14 +212,17 @@ fn element<'a>(
     place: Place,
     state: &mut Evaluator<'a>,
     around: &Around<'a>,
-) -> Result<Target, Stop>
+    out: &mut Target,
+) -> Result<(), Stop>
     requires { (is_direct base.now && is_direct index.now) ≡ true }
-    ensures { Comes result (follow (value_of (within_of around.now) base.now true state.old) (behind_base (program_of around.now) place (scale_meant (means (within_of around.now) base.now).node.of) (means (within_of around.now) index.now))) state.new }
+    ensures { ComesInto result out.new (follow (value_of (within_of around.now) base.now true state.old) (behind_base (program_of around.now) place (scale_meant (means (within_of around.now) base.now).node.of) (means (within_of around.now) index.now))) state.new }
 {
     let scale = scale_of(node_of(base.get()).of);
-    let a = evaluate(base.get(), true, state, around)?;
-    let b = evaluate(second_of(base, index), true, state, around)?;
-    element_behind(state, around, place, scale, a, b)
+    let mut a = nothing();
+    operand_into(base.get(), state, around, &mut a)?;
+    let mut b = nothing();
+    operand_into(second_of(base, index), state, around, &mut b)?;
+    element_behind(state, around, place, scale, a, b, out)
 }
 
 /// The element behind a pointer, as a place.
@@ -164,11 +234,13 @@ fn element_behind<'a>(
     scale: u32,
     pointer: Operand,
     by: Operand,
-) -> Result<Target, Stop>
-    ensures { Comes result (element_at (program_of around.now) place scale pointer by state.old) state.new }
+    out: &mut Target,
+) -> Result<(), Stop>
+    ensures { ComesInto result out.new (element_at (program_of around.now) place scale pointer by state.old) state.new }
 {
     let address = state.offset(around, place, false, scale, pointer, by)?;
-    Ok(Target::InMemory(address))
+    *out = Target::InMemory(address);
+    Ok(())
 }
 
 /// The value of an element, if it is used.
@@ -180,12 +252,15 @@ fn element_value<'a>(
     used: bool,
     state: &mut Evaluator<'a>,
     around: &Around<'a>,
-) -> Result<Operand, Stop>
+    out: &mut Operand,
+) -> Result<(), Stop>
     requires { (is_direct base.now && is_direct index.now) ≡ true }
-    ensures { Comes result (follow (follow (value_of (within_of around.now) base.now true state.old) (behind_base (program_of around.now) node.now.place (scale_meant (means (within_of around.now) base.now).node.of) (means (within_of around.now) index.now))) (value_meant (program_of around.now) node.now used)) state.new }
+    ensures { ComesInto result out.new (follow (follow (value_of (within_of around.now) base.now true state.old) (behind_base (program_of around.now) node.now.place (scale_meant (means (within_of around.now) base.now).node.of) (means (within_of around.now) index.now))) (value_meant (program_of around.now) node.now used)) state.new }
 {
-    let target = element(base, index, node.place, state, around)?;
-    state.value_at(around, *node, used, target)
+    let mut target = nowhere();
+    element(base, index, node.place, state, around, &mut target)?;
+    *out = state.value_at(around, *node, used, target)?;
+    Ok(())
 }
 
 /// What a pointer points to, as a place.
@@ -194,12 +269,15 @@ fn pointed<'a>(
     of: &Box<TExpr>,
     state: &mut Evaluator<'a>,
     around: &Around<'a>,
-) -> Result<Target, Stop>
+    out: &mut Target,
+) -> Result<(), Stop>
     requires { is_direct of.now ≡ true }
-    ensures { Comes result (follow (value_of (within_of around.now) of.now true state.old) (λ pointer. gives (InMemory pointer))) state.new }
+    ensures { ComesInto result out.new (follow (value_of (within_of around.now) of.now true state.old) (λ pointer. gives (InMemory pointer))) state.new }
 {
-    let pointer = evaluate(of.get(), true, state, around)?;
-    Ok(Target::InMemory(pointer))
+    let mut pointer = nothing();
+    operand_into(of.get(), state, around, &mut pointer)?;
+    *out = Target::InMemory(pointer);
+    Ok(())
 }
 
 /// The value of what a pointer points to, if it is used.
@@ -210,12 +288,15 @@ fn pointed_value<'a>(
     used: bool,
     state: &mut Evaluator<'a>,
     around: &Around<'a>,
-) -> Result<Operand, Stop>
+    out: &mut Operand,
+) -> Result<(), Stop>
     requires { is_direct of.now ≡ true }
-    ensures { Comes result (follow (follow (value_of (within_of around.now) of.now true state.old) (λ pointer. gives (InMemory pointer))) (value_meant (program_of around.now) node.now used)) state.new }
+    ensures { ComesInto result out.new (follow (follow (value_of (within_of around.now) of.now true state.old) (λ pointer. gives (InMemory pointer))) (value_meant (program_of around.now) node.now used)) state.new }
 {
-    let target = pointed(of, state, around)?;
-    state.value_at(around, *node, used, target)
+    let mut target = nowhere();
+    pointed(of, state, around, &mut target)?;
+    *out = state.value_at(around, *node, used, target)?;
+    Ok(())
 }
 
 /// The address of a place, as a value.
@@ -224,12 +305,15 @@ fn address<'a>(
     of: &Box<TExpr>,
     state: &mut Evaluator<'a>,
     around: &Around<'a>,
-) -> Result<Operand, Stop>
+    out: &mut Operand,
+) -> Result<(), Stop>
     requires { is_direct of.now ≡ true }
-    ensures { Comes result (follow (place_of (within_of around.now) of.now state.old) (λ target. gives (address_meant target))) state.new }
+    ensures { ComesInto result out.new (follow (place_of (within_of around.now) of.now state.old) (λ target. gives (address_meant target))) state.new }
 {
-    let target = place(of.get(), state, around)?;
-    Ok(address_at(target))
+    let mut target = nowhere();
+    place_into(of.get(), state, around, &mut target)?;
+    *out = address_at(target);
+    Ok(())
 }
 
 /// `putchar` of a value.
@@ -239,12 +323,14 @@ fn byte_put<'a>(
     place: Place,
     state: &mut Evaluator<'a>,
     around: &Around<'a>,
-) -> Result<Operand, Stop>
+    out: &mut Operand,
+) -> Result<(), Stop>
     requires { is_direct of.now ≡ true }
-    ensures { Comes result (follow (value_of (within_of around.now) of.now true state.old) (puts_byte (program_of around.now) place)) state.new }
+    ensures { ComesInto result out.new (follow (value_of (within_of around.now) of.now true state.old) (puts_byte (program_of around.now) place)) state.new }
 {
-    let a = evaluate(of.get(), true, state, around)?;
-    state.put_byte(around, place, a)
+    operand_into(of.get(), state, around, out)?;
+    *out = state.put_byte(around, place, *out)?;
+    Ok(())
 }
 
 /// An operation on the value of an expression.
@@ -254,12 +340,14 @@ fn one<'a>(
     making: Making,
     state: &mut Evaluator<'a>,
     around: &Around<'a>,
-) -> Result<Operand, Stop>
+    out: &mut Operand,
+) -> Result<(), Stop>
     requires { is_direct of.now ≡ true }
-    ensures { Comes result (follow (value_of (within_of around.now) of.now true state.old) (made_on_one (program_of around.now) making)) state.new }
+    ensures { ComesInto result out.new (follow (value_of (within_of around.now) of.now true state.old) (made_on_one (program_of around.now) making)) state.new }
 {
-    let a = evaluate(of.get(), true, state, around)?;
-    compute_one(state, around, making, a)
+    operand_into(of.get(), state, around, out)?;
+    *out = compute_one(state, around, making, *out)?;
+    Ok(())
 }
 
 /// An operation on the values of two expressions from left to right, or on the second and the first.
@@ -271,13 +359,16 @@ fn two<'a>(
     swapped: bool,
     state: &mut Evaluator<'a>,
     around: &Around<'a>,
-) -> Result<Operand, Stop>
+    out: &mut Operand,
+) -> Result<(), Stop>
     requires { (is_direct left.now && is_direct right.now) ≡ true }
-    ensures { Comes result (follow (value_of (within_of around.now) left.now true state.old) (behind_one (means (within_of around.now) right.now) (made_on_two (program_of around.now) making swapped))) state.new }
+    ensures { ComesInto result out.new (follow (value_of (within_of around.now) left.now true state.old) (behind_one (means (within_of around.now) right.now) (made_on_two (program_of around.now) making swapped))) state.new }
 {
-    let a = evaluate(left.get(), true, state, around)?;
-    let b = evaluate(second_of(left, right), true, state, around)?;
-    make_both(state, around, making, swapped, a, b)
+    operand_into(left.get(), state, around, out)?;
+    let mut b = nothing();
+    operand_into(second_of(left, right), state, around, &mut b)?;
+    *out = make_both(state, around, making, swapped, *out, b)?;
+    Ok(())
 }
 
 /// `- ~ !` of a value.
@@ -289,16 +380,17 @@ fn unary<'a>(
     kind: Kind,
     state: &mut Evaluator<'a>,
     around: &Around<'a>,
-) -> Result<Operand, Stop>
+    out: &mut Operand,
+) -> Result<(), Stop>
     requires { is_direct of.now ≡ true }
-    ensures { Comes result (follow (value_of (within_of around.now) of.now true state.old) (unary_on (program_of around.now) place op kind)) state.new }
+    ensures { ComesInto result out.new (follow (value_of (within_of around.now) of.now true state.old) (unary_on (program_of around.now) place op kind)) state.new }
 {
     let making = Making {
         class: Class::Simple,
         place,
         act: ActRef::Unary(op, kind),
     };
-    one(of, making, state, around)
+    one(of, making, state, around, out)
 }
 
 /// A binary operator on numbers.
@@ -311,16 +403,17 @@ fn binary<'a>(
     kind: Kind,
     state: &mut Evaluator<'a>,
     around: &Around<'a>,
-) -> Result<Operand, Stop>
+    out: &mut Operand,
+) -> Result<(), Stop>
     requires { (is_direct left.now && is_direct right.now) ≡ true }
-    ensures { Comes result (follow (value_of (within_of around.now) left.now true state.old) (behind_one (means (within_of around.now) right.now) (binary_on (program_of around.now) place op kind))) state.new }
+    ensures { ComesInto result out.new (follow (value_of (within_of around.now) left.now true state.old) (behind_one (means (within_of around.now) right.now) (binary_on (program_of around.now) place op kind))) state.new }
 {
     let making = Making {
         class: class_of(op),
         place,
         act: ActRef::Binary(op, kind),
     };
-    two(left, right, making, false, state, around)
+    two(left, right, making, false, state, around, out)
 }
 
 /// A comparison of pointers.
@@ -332,16 +425,17 @@ fn compared<'a>(
     op: Bin,
     state: &mut Evaluator<'a>,
     around: &Around<'a>,
-) -> Result<Operand, Stop>
+    out: &mut Operand,
+) -> Result<(), Stop>
     requires { (is_direct left.now && is_direct right.now) ≡ true }
-    ensures { Comes result (follow (value_of (within_of around.now) left.now true state.old) (behind_one (means (within_of around.now) right.now) (compare_on (program_of around.now) place op))) state.new }
+    ensures { ComesInto result out.new (follow (value_of (within_of around.now) left.now true state.old) (behind_one (means (within_of around.now) right.now) (compare_on (program_of around.now) place op))) state.new }
 {
     let making = Making {
         class: Class::Simple,
         place,
         act: ActRef::PtrCompare(op),
     };
-    two(left, right, making, false, state, around)
+    two(left, right, making, false, state, around, out)
 }
 
 /// A pointer that is moved forward or back by a number, which stands behind it or before it.
@@ -354,11 +448,20 @@ fn moved<'a>(
     swapped: bool,
     state: &mut Evaluator<'a>,
     around: &Around<'a>,
-) -> Result<Operand, Stop>
+    out: &mut Operand,
+) -> Result<(), Stop>
     requires { (is_direct left.now && is_direct right.now) ≡ true }
-    ensures { Comes result (follow (value_of (within_of around.now) left.now true state.old) (behind_one (means (within_of around.now) right.now) (made_on_two (program_of around.now) (record { class = Simple; place = node.now.place; act = Offset minus (scale_meant node.now.of) }) swapped))) state.new }
+    ensures { ComesInto result out.new (follow (value_of (within_of around.now) left.now true state.old) (behind_one (means (within_of around.now) right.now) (made_on_two (program_of around.now) (record { class = Simple; place = node.now.place; act = Offset minus (scale_meant node.now.of) }) swapped))) state.new }
 {
-    two(left, right, moving(*node, minus), swapped, state, around)
+    two(
+        left,
+        right,
+        moving(*node, minus),
+        swapped,
+        state,
+        around,
+        out,
+    )
 }
 
 /// A difference of pointers.
@@ -369,11 +472,20 @@ fn distanced<'a>(
     node: &Node,
     state: &mut Evaluator<'a>,
     around: &Around<'a>,
-) -> Result<Operand, Stop>
+    out: &mut Operand,
+) -> Result<(), Stop>
     requires { (is_direct left.now && is_direct right.now) ≡ true }
-    ensures { Comes result (follow (value_of (within_of around.now) left.now true state.old) (behind_one (means (within_of around.now) right.now) (distance_on (program_of around.now) node.now.place (scale_meant (means (within_of around.now) left.now).node.of)))) state.new }
+    ensures { ComesInto result out.new (follow (value_of (within_of around.now) left.now true state.old) (behind_one (means (within_of around.now) right.now) (distance_on (program_of around.now) node.now.place (scale_meant (means (within_of around.now) left.now).node.of)))) state.new }
 {
-    two(left, right, distance(*node, left), false, state, around)
+    two(
+        left,
+        right,
+        distance(*node, left),
+        false,
+        state,
+        around,
+        out,
+    )
 }
 
 /// The value of an expression, converted to a kind if there is one.
@@ -384,22 +496,30 @@ fn converted<'a>(
     kind: Option<Kind>,
     state: &mut Evaluator<'a>,
     around: &Around<'a>,
-) -> Result<Operand, Stop>
+    out: &mut Operand,
+) -> Result<(), Stop>
     requires { is_direct of.now ≡ true }
-    ensures { Comes result (follow (value_of (within_of around.now) of.now true state.old) (converts (program_of around.now) place kind)) state.new }
+    ensures { ComesInto result out.new (follow (value_of (within_of around.now) of.now true state.old) (converts (program_of around.now) place kind)) state.new }
 {
-    let a = evaluate(of.get(), true, state, around)?;
-    state.convert(around, place, kind, a)
+    operand_into(of.get(), state, around, out)?;
+    *out = state.convert(around, place, kind, *out)?;
+    Ok(())
 }
 
 /// An expression whose value is not used.
 #[cycle(evaluation)]
-fn unused<'a>(of: &TExpr, state: &mut Evaluator<'a>, around: &Around<'a>) -> Result<Operand, Stop>
+fn unused<'a>(
+    of: &TExpr,
+    state: &mut Evaluator<'a>,
+    around: &Around<'a>,
+    out: &mut Operand,
+) -> Result<(), Stop>
     requires { is_direct of.now ≡ true }
-    ensures { Comes result (follow (value_of (within_of around.now) of.now false state.old) (λ a. gives nothing)) state.new }
+    ensures { ComesInto result out.new (follow (value_of (within_of around.now) of.now false state.old) (λ a. gives nothing_meant)) state.new }
 {
-    evaluate(of, false, state, around)?;
-    Ok(Operand::Constant(Value::Number(0)))
+    value_into(of, false, state, around, out)?;
+    *out = nothing();
+    Ok(())
 }
 
 /// A cast, by the type that it names.
@@ -410,14 +530,15 @@ fn cast<'a>(
     used: bool,
     state: &mut Evaluator<'a>,
     around: &Around<'a>,
-) -> Result<Operand, Stop>
+    out: &mut Operand,
+) -> Result<(), Stop>
     requires { is_direct of.now ≡ true }
-    ensures { Comes result (cast_to (program_of around.now) node.now.place node.now.of (means (within_of around.now) of.now) used state.old) state.new }
+    ensures { ComesInto result out.new (cast_to (program_of around.now) node.now.place node.now.of (means (within_of around.now) of.now) used state.old) state.new }
 {
     match node.of {
-        TType::Void => unused(of.get(), state, around),
-        TType::Number(kind) => converted(of, node.place, Some(kind), state, around),
-        TType::Pointer(_) => evaluate(of.get(), used, state, around),
+        TType::Void => unused(of.get(), state, around, out),
+        TType::Number(kind) => converted(of, node.place, Some(kind), state, around, out),
+        TType::Pointer(_) => value_into(of.get(), used, state, around, out),
     }
 }
 
@@ -430,14 +551,15 @@ fn logic<'a>(
     decides: bool,
     state: &mut Evaluator<'a>,
     around: &Around<'a>,
-) -> Result<Operand, Stop>
+    out: &mut Operand,
+) -> Result<(), Stop>
     requires { (is_direct left.now && is_direct right.now) ≡ true }
-    ensures { Comes result (settled false (decided (within_of around.now) node.now decides left.now right.now) state.old) state.new }
+    ensures { ComesInto result out.new (settled false (decided (within_of around.now) node.now decides left.now right.now) state.old) state.new }
 {
     let control = state.control();
-    let value = decide(left, right, node, decides, state, around)?;
+    decide(left, right, node, decides, state, around, out)?;
     state.settle(false, control);
-    Ok(value)
+    Ok(())
 }
 
 /// The same up to where the control source is put back.
@@ -449,16 +571,18 @@ fn decide<'a>(
     decides: bool,
     state: &mut Evaluator<'a>,
     around: &Around<'a>,
-) -> Result<Operand, Stop>
+    out: &mut Operand,
+) -> Result<(), Stop>
     requires { (is_direct left.now && is_direct right.now) ≡ true }
-    ensures { Comes result (decided (within_of around.now) node.now decides left.now right.now state.old) state.new }
+    ensures { ComesInto result out.new (decided (within_of around.now) node.now decides left.now right.now state.old) state.new }
 {
-    let a = evaluate(left.get(), true, state, around)?;
-    let test = state.test(around, node.place, a)?;
+    operand_into(left.get(), state, around, out)?;
+    let test = state.test(around, node.place, *out)?;
     if same_truth(holds(test), decides) {
-        return Ok(Operand::Holding(test));
+        *out = Operand::Holding(test);
+        return Ok(());
     }
-    truth(second_of(left, right), node, state, around)
+    truth(second_of(left, right), node, state, around, out)
 }
 
 /// Whether the right operand is other than 0, as an operation.
@@ -468,19 +592,20 @@ fn truth<'a>(
     node: &Node,
     state: &mut Evaluator<'a>,
     around: &Around<'a>,
-) -> Result<Operand, Stop>
+    out: &mut Operand,
+) -> Result<(), Stop>
     requires { is_direct right.now ≡ true }
-    ensures { Comes result (truth_of (program_of around.now) node.now (means (within_of around.now) right.now) state.old) state.new }
+    ensures { ComesInto result out.new (truth_of (program_of around.now) node.now (means (within_of around.now) right.now) state.old) state.new }
 {
     let kind = kind_or_int(kind_of(node_of(right).of));
-    let b = evaluate(right, true, state, around)?;
+    operand_into(right, state, around, out)?;
     let making = Making {
         class: Class::Simple,
         place: node.place,
         act: ActRef::Binary(Bin::Ne, kind),
     };
     let zero = Operand::Constant(Value::Number(0));
-    make_both(state, around, making, false, b, zero)
+    written(make_both(state, around, making, false, *out, zero), out)
 }
 
 /// `?:`; behind it the control source is as before.
@@ -492,14 +617,15 @@ fn conditional<'a>(
     node: &Node,
     state: &mut Evaluator<'a>,
     around: &Around<'a>,
-) -> Result<Operand, Stop>
+    out: &mut Operand,
+) -> Result<(), Stop>
     requires { (is_direct test.now && (is_direct then.now && is_direct other.now)) ≡ true }
-    ensures { Comes result (settled false (chosen (within_of around.now) node.now test.now then.now other.now) state.old) state.new }
+    ensures { ComesInto result out.new (settled false (chosen (within_of around.now) node.now test.now then.now other.now) state.old) state.new }
 {
     let outer = state.control();
-    let value = choose(test, then, other, node, state, around)?;
+    choose(test, then, other, node, state, around, out)?;
     state.settle(false, outer);
-    Ok(value)
+    Ok(())
 }
 
 /// The same up to where the control source is put back.
@@ -511,16 +637,17 @@ fn choose<'a>(
     node: &Node,
     state: &mut Evaluator<'a>,
     around: &Around<'a>,
-) -> Result<Operand, Stop>
+    out: &mut Operand,
+) -> Result<(), Stop>
     requires { (is_direct test.now && (is_direct then.now && is_direct other.now)) ≡ true }
-    ensures { Comes result (chosen (within_of around.now) node.now test.now then.now other.now state.old) state.new }
+    ensures { ComesInto result out.new (chosen (within_of around.now) node.now test.now then.now other.now state.old) state.new }
 {
-    let a = evaluate(test.get(), true, state, around)?;
-    let found = state.test(around, node.place, a)?;
+    operand_into(test.get(), state, around, out)?;
+    let found = state.test(around, node.place, *out)?;
     if holds(found) {
-        arm(middle_of(test, then, other), node, state, around)
+        arm(middle_of(test, then, other), node, state, around, out)
     } else {
-        arm(last_of(test, then, other), node, state, around)
+        arm(last_of(test, then, other), node, state, around, out)
     }
 }
 
@@ -531,15 +658,17 @@ fn arm<'a>(
     node: &Node,
     state: &mut Evaluator<'a>,
     around: &Around<'a>,
-) -> Result<Operand, Stop>
+    out: &mut Operand,
+) -> Result<(), Stop>
     requires { is_direct e.now ≡ true }
-    ensures { Comes result (arm_meant (program_of around.now) node.now.place node.now.of (means (within_of around.now) e.now) state.old) state.new }
+    ensures { ComesInto result out.new (arm_meant (program_of around.now) node.now.place node.now.of (means (within_of around.now) e.now) state.old) state.new }
 {
     match node.of {
-        TType::Void => unused(e, state, around),
+        TType::Void => unused(e, state, around, out),
         TType::Number(_) | TType::Pointer(_) => {
-            let a = evaluate(e, true, state, around)?;
-            state.move_value(around, node.place, a)
+            operand_into(e, state, around, out)?;
+            *out = state.move_value(around, node.place, *out)?;
+            Ok(())
         }
     }
 }
@@ -552,12 +681,13 @@ fn both_in_turn<'a>(
     used: bool,
     state: &mut Evaluator<'a>,
     around: &Around<'a>,
-) -> Result<Operand, Stop>
+    out: &mut Operand,
+) -> Result<(), Stop>
     requires { (is_direct left.now && is_direct right.now) ≡ true }
-    ensures { Comes result (follow (value_of (within_of around.now) left.now false state.old) (λ a. value_of (within_of around.now) right.now used)) state.new }
+    ensures { ComesInto result out.new (follow (value_of (within_of around.now) left.now false state.old) (λ a. value_of (within_of around.now) right.now used)) state.new }
 {
-    evaluate(left.get(), false, state, around)?;
-    evaluate(second_of(left, right), used, state, around)
+    value_into(left.get(), false, state, around, out)?;
+    value_into(second_of(left, right), used, state, around, out)
 }
 
 /// `left = right`
@@ -568,13 +698,16 @@ fn assigned<'a>(
     at: Place,
     state: &mut Evaluator<'a>,
     around: &Around<'a>,
-) -> Result<Operand, Stop>
+    out: &mut Operand,
+) -> Result<(), Stop>
     requires { (is_direct left.now && is_direct right.now) ≡ true }
-    ensures { Comes result (follow (place_of (within_of around.now) left.now state.old) (behind_place (program_of around.now) at (means (within_of around.now) right.now))) state.new }
+    ensures { ComesInto result out.new (follow (place_of (within_of around.now) left.now state.old) (behind_place (program_of around.now) at (means (within_of around.now) right.now))) state.new }
 {
-    let target = place(left.get(), state, around)?;
-    let a = evaluate(second_of(left, right), true, state, around)?;
-    state.write(around, at, target, a)
+    let mut target = nowhere();
+    place_into(left.get(), state, around, &mut target)?;
+    operand_into(second_of(left, right), state, around, out)?;
+    *out = state.write(around, at, target, *out)?;
+    Ok(())
 }
 
 /// `left op= right`
@@ -586,14 +719,17 @@ fn assigned_by<'a>(
     change: Change,
     state: &mut Evaluator<'a>,
     around: &Around<'a>,
-) -> Result<Operand, Stop>
+    out: &mut Operand,
+) -> Result<(), Stop>
     requires { (is_direct left.now && is_direct right.now) ≡ true }
-    ensures { Comes result (follow (place_of (within_of around.now) left.now state.old) (behind_changed (program_of around.now) node.now change (means (within_of around.now) right.now))) state.new }
+    ensures { ComesInto result out.new (follow (place_of (within_of around.now) left.now state.old) (behind_changed (program_of around.now) node.now change (means (within_of around.now) right.now))) state.new }
 {
     let kind = kind_of(node_of(right.get()).of);
-    let target = place(left.get(), state, around)?;
-    let by = evaluate(second_of(left, right), true, state, around)?;
-    state.change_old(around, *node, change, kind, target, by)
+    let mut target = nowhere();
+    place_into(left.get(), state, around, &mut target)?;
+    operand_into(second_of(left, right), state, around, out)?;
+    let made = state.change_old(around, *node, change, kind, target, *out);
+    written(made, out)
 }
 
 /// `++ place`, `-- place`
@@ -604,13 +740,16 @@ fn before<'a>(
     change: Change,
     state: &mut Evaluator<'a>,
     around: &Around<'a>,
-) -> Result<Operand, Stop>
+    out: &mut Operand,
+) -> Result<(), Stop>
     requires { is_direct of.now ≡ true }
-    ensures { Comes result (follow (place_of (within_of around.now) of.now state.old) (λ target. changes_old (program_of around.now) node.now change None target one_meant)) state.new }
+    ensures { ComesInto result out.new (follow (place_of (within_of around.now) of.now state.old) (λ target. changes_old (program_of around.now) node.now change None target one_meant)) state.new }
 {
-    let target = place(of.get(), state, around)?;
+    let mut target = nowhere();
+    place_into(of.get(), state, around, &mut target)?;
     let one = Operand::Constant(Value::Number(1));
-    state.change_old(around, *node, change, None, target, one)
+    *out = state.change_old(around, *node, change, None, target, one)?;
+    Ok(())
 }
 
 /// `place ++`, `place --`
@@ -622,10 +761,13 @@ fn after<'a>(
     used: bool,
     state: &mut Evaluator<'a>,
     around: &Around<'a>,
-) -> Result<Operand, Stop>
+    out: &mut Operand,
+) -> Result<(), Stop>
     requires { is_direct of.now ≡ true }
-    ensures { Comes result (follow (place_of (within_of around.now) of.now state.old) (after_place (program_of around.now) node.now change used)) state.new }
+    ensures { ComesInto result out.new (follow (place_of (within_of around.now) of.now state.old) (after_place (program_of around.now) node.now change used)) state.new }
 {
-    let target = place(of.get(), state, around)?;
-    state.after_place(around, *node, change, used, target)
+    let mut target = nowhere();
+    place_into(of.get(), state, around, &mut target)?;
+    *out = state.after_place(around, *node, change, used, target)?;
+    Ok(())
 }

@@ -1,9 +1,13 @@
 //! What is told of values without an operation, and the values of variables (C17 6.3.2.1, 6.5.1).
-ghost use Rattle.std.specs.Prelude.{◌≡◌, Ok};
-ghost use Rattle.k_evaluation.specs.Meanings.{holds as holds_meant, nothing, value_at as value_meant};
+ghost use Rattle.std.specs.Prelude.{◌≡◌, [], Ok};
+ghost use Rattle.k_optab.specs.declared.class.Class.TheVariants as class;
+ghost use Rattle.k_world.specs.declared.act.Act.TheVariants as act;
+ghost use Rattle.k_direct.specs.ComesInto.{ComesInto};
+ghost use Rattle.k_evaluation.specs.Meanings.{holds as holds_meant, nothing as nothing_meant, value_at as value_meant};
 ghost use Rattle.k_evaluation.specs.Operators.{same_truth as same_meant};
 ghost use Rattle.k_evaluation.specs.Places.{address_at as address_meant, address_of as address_of_meant, is_register, string_number, variable_place as variable_meant};
-ghost use Rattle.k_evaluation.specs.States.{Goes, follow};
+ghost use Rattle.k_evaluation.specs.States.{Goes, Outcome, State, computes, follow};
+ghost use Rattle.k_evaluation.specs.declared.operand.Operand.{Operand};
 ghost use Rattle.k_evaluation.specs.declared.operand.Operand.TheVariants.{Constant};
 ghost use Rattle.k_evaluation.specs.declared.operand.Target.TheVariants.{InMemory};
 ghost use Rattle.k_listing.specs.Arounds.{program_of};
@@ -12,6 +16,7 @@ ghost use Rattle.k_world.specs.declared.value.Value.TheVariants.{Number};
 
 use k_evaluation::{Operand, Target};
 use k_listing::{Around, Evaluator, address_of, string_address};
+use k_num::Place;
 use k_typed::Node;
 use k_world::{Held, Stop, Value};
 
@@ -42,48 +47,127 @@ pub fn address_at(target: Target) -> Operand
     }
 }
 
-/// The value of a number.
-pub fn number_value(number: i128) -> Result<Operand, Stop>
-    ensures { result ≡ Ok (Constant (Number number)) }
+/// What waits to be written, and what a value that there is not is: 0.
+#[inline]
+pub fn nothing() -> Operand
+    ensures { result ≡ nothing_meant }
 {
-    Ok(Operand::Constant(Value::Number(number)))
-}
-
-/// The address of the string of this number.
-pub fn string_value<'a>(
-    _state: &Evaluator<'a>,
-    around: &Around<'a>,
-    string: u32,
-) -> Result<Operand, Stop>
-    ensures { Comes result (Goes (address_of_meant (string_number (program_of around.now) string)) _state.now) _state.now }
-{
-    Ok(string_address(around, string)?)
-}
-
-/// A file object as a place.
-pub fn object_target(object: u32) -> Result<Target, Stop>
-    ensures { result ≡ Ok (InMemory (address_of_meant object)) }
-{
-    Ok(Target::InMemory(address_of(u64::from(object))))
-}
-
-/// A variable as a place.
-pub fn variable_target<'a>(
-    state: &Evaluator<'a>,
-    around: &Around<'a>,
-    node: &Node,
-    variable: u32,
-) -> Result<Target, Stop>
-    ensures { Comes result (variable_meant (program_of around.now) node.now variable (is_register around.now.variables.now variable) state.now) state.now }
-{
-    Ok(state.variable_place(around, *node, variable))
+    Operand::Constant(Value::Number(0))
 }
 
 /// The place of what is none.
-pub fn nowhere() -> Result<Target, Stop>
-    ensures { result ≡ Ok (InMemory nothing) }
+#[inline]
+pub fn nowhere() -> Target
+    ensures { result ≡ InMemory nothing_meant }
 {
-    Ok(Target::InMemory(Operand::Constant(Value::Number(0))))
+    Target::InMemory(nothing())
+}
+
+/// What a call gives is written to a place.
+#[inline(always)]
+pub fn written(given: Result<Operand, Stop>, out: &mut Operand) -> Result<(), Stop>
+    ensures { (outcome : Outcome Operand) (s : State) → Comes given outcome s → ComesInto result out.new outcome s }
+{
+    *out = given?;
+    Ok(())
+}
+
+/// The value of a number.
+#[inline]
+pub fn give_number(number: i128, out: &mut Operand) -> Result<(), Stop>
+    ensures done { result ≡ Ok tt }
+    ensures value { out.new ≡ Constant (Number number) }
+{
+    *out = Operand::Constant(Value::Number(number));
+    Ok(())
+}
+
+/// The address of the string of this number.
+pub fn give_string<'a>(
+    string: u32,
+    state: &Evaluator<'a>,
+    around: &Around<'a>,
+    out: &mut Operand,
+) -> Result<(), Stop>
+    ensures { ComesInto result out.new (Goes (address_of_meant (string_number (program_of around.now) string)) state.now) state.now }
+{
+    *out = string_address(around, string)?;
+    Ok(())
+}
+
+/// The value of a file object, if it is used.
+pub fn give_object<'a>(
+    object: u32,
+    node: &Node,
+    used: bool,
+    state: &mut Evaluator<'a>,
+    around: &Around<'a>,
+    out: &mut Operand,
+) -> Result<(), Stop>
+    ensures { ComesInto result out.new (value_meant (program_of around.now) node.now used (InMemory (address_of_meant object)) state.old) state.new }
+{
+    *out = object_value(state, around, node, used, object)?;
+    Ok(())
+}
+
+/// The value of a variable, if it is used.
+#[inline]
+pub fn give_variable<'a>(
+    variable: u32,
+    node: &Node,
+    used: bool,
+    state: &mut Evaluator<'a>,
+    around: &Around<'a>,
+    out: &mut Operand,
+) -> Result<(), Stop>
+    ensures { ComesInto result out.new (follow (variable_meant (program_of around.now) node.now variable (is_register around.now.variables.now variable) state.old) (value_meant (program_of around.now) node.now used)) state.new }
+{
+    *out = variable_value(state, around, node, used, variable)?;
+    Ok(())
+}
+
+/// The next byte of the input.
+pub fn give_input<'a>(
+    place: Place,
+    state: &mut Evaluator<'a>,
+    around: &Around<'a>,
+    out: &mut Operand,
+) -> Result<(), Stop>
+    ensures { ComesInto result out.new (computes (program_of around.now) class.Input place act.Input [] state.old) state.new }
+{
+    *out = state.read_input(around, place)?;
+    Ok(())
+}
+
+/// A file object as a place.
+pub fn give_object_place(object: u32, out: &mut Target) -> Result<(), Stop>
+    ensures { (s : State) → ComesInto result out.new (Goes (InMemory (address_of_meant object)) s) s }
+{
+    *out = Target::InMemory(address_of(u64::from(object)));
+    Ok(())
+}
+
+/// A variable as a place.
+#[inline]
+pub fn give_variable_place<'a>(
+    variable: u32,
+    node: &Node,
+    state: &Evaluator<'a>,
+    around: &Around<'a>,
+    out: &mut Target,
+) -> Result<(), Stop>
+    ensures { ComesInto result out.new (variable_meant (program_of around.now) node.now variable (is_register around.now.variables.now variable) state.now) state.now }
+{
+    *out = state.variable_place(around, *node, variable);
+    Ok(())
+}
+
+/// The place of what is none.
+pub fn give_nowhere(out: &mut Target) -> Result<(), Stop>
+    ensures { (s : State) → ComesInto result out.new (Goes (InMemory nothing_meant) s) s }
+{
+    *out = nowhere();
+    Ok(())
 }
 
 /// The value of a file object, if it is used.
