@@ -1,1 +1,11 @@
-pub mod Traps
+pub mod Balances
+pub mod Budgets
+pub mod Checking
+pub mod Endings
+pub mod Finds
+pub mod Named
+pub mod Reads
+pub mod Runs
+pub mod Stands
+pub mod Steps
+pub mod Valid

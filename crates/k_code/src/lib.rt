@@ -1,8 +1,14 @@
-//! How a run can end, and what a run leaves: its listing.
+//! Flat code: a program as one list of instructions, its validity, and its runs.
 #![tactic(auto)]
 
-mod ending;
-mod listing;
+mod balance;
+mod code;
+mod instruction;
+pub mod laws;
+mod validity;
 
-pub use ending::{End, Trap, name, trap_of};
-pub use listing::Listing;
+pub use balance::Balance;
+pub use code::{Code, CodeFunc, CodeObject};
+pub use instruction::{Arg, Do, Home, Instr};
+pub use k_world::{Chunk, Out};
+pub use validity::valid;

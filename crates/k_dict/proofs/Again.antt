@@ -1,11 +1,10 @@
 -- The dictionary of what a dictionary expands to has the same entries, up to their numbers and the order of siblings.
 use Rattle.std.proofs.Common.{◌≡◌, ℕ, zero, suc, ◌+◌, ◌<◌, ◌⊎◌, inl, inr, List, [], ◌∷◌, ◌++◌, length, Some, slice_get, refl, sym, ap, ◌∙◌, subst, arith}
 use Rattle.std.proofs.lemmas.Option.{none-some, same_Some, slice_get_within}
-use Rattle.k_optab.specs.declared.node.Node.{Node}
-use Rattle.k_dict.specs.Trees.{Label, Forest, Tree, bare, grown, Alike, neither, both, exchanged, further, SameShape, alone, list_of, post_order}
-use Rattle.k_dict.specs.Entries.{expansion, tree_at, trees_of}
-use Rattle.k_dict.specs.Dictionary.{Firsts, ended, again, anew, IsDictionary, IsDictionaryOf}
-use Rattle.k_dict.specs.Laws.{AreAlike, HaveLikes, GatheredAgain}
+use Rattle.k_dict.specs.Trees.{Label, Forest, Tree, bare, grown, Alike, neither, both, exchanged, further, SameShape, alone, post_order}
+use Rattle.k_dict.specs.Entries.{tree_at, trees_of}
+use Rattle.k_dict.specs.Dictionary.{Firsts, ended, again, anew, IsDictionaryOf}
+use Rattle.k_dict.specs.Laws.{HaveLikes, GatheredAgain}
 use Rattle.k_dict.specs.declared.entry.Entry.{Entry}
 use Rattle.k_dict.proofs.EntryTrees.{length-trees}
 use Rattle.k_dict.proofs.Forests.{SameShape-further, SameShape-refl, SameShape-sym, grown_alike}

@@ -1,6 +1,6 @@
 -- Forests that are equal up to the order of siblings.
 use Rattle.std.proofs.Common.{◌≡◌, ℕ, zero, suc, ◌+◌, max, refl, ap, ◌∙◌, sym, subst, arith}
-use Rattle.k_dict.specs.Trees.{Label, Forest, Tree, bare, grown, Alike, neither, both, exchanged, further, SameShape, alone, height, size}
+use Rattle.k_dict.specs.Trees.{Label, Forest, Tree, bare, grown, Alike, neither, both, exchanged, further, SameShape, height, size}
 use Rattle.k_dict.specs.Entries.{copies}
 
 pub Alike-refl : (f : Forest) → Alike f f

@@ -1,7 +1,7 @@
 -- What a gathering leads to is the dictionary.
 use Rattle.std.proofs.Common.{◌≡◌, ℕ, ◌+◌, ◌<◌, ◌≤◌, List, [], ◌∷◌, ◌++◌, length, Result, Ok, Err, refl, sym, ap, ◌∙◌, subst}
 use Rattle.k_optab.specs.declared.node.Node.{Node}
-use Rattle.k_dict.specs.Trees.{IsInOrder, Tree, alone, list_of}
+use Rattle.k_dict.specs.Trees.{IsInOrder, Tree, alone}
 use Rattle.k_dict.specs.Dictionary.{IsDictionary, IsDictionaryOf}
 use Rattle.k_dict.specs.Gathering.{LeadsTo, gathered}
 use Rattle.k_dict.specs.Interning.{Gathers}

@@ -2,7 +2,7 @@
 use Rattle.std.proofs.Common.{◌≡◌, ℕ, zero, suc, ◌+◌, ◌-◌, ◌<◌, ◌≤◌, List, [], ◌∷◌, ◌++◌, length, refl, sym, ap, ◌∙◌, subst, arith, zero-add}
 use Rattle.k_optab.specs.declared.node.Node.{Node}
 use Rattle.k_dict.specs.Trees.{Label, Forest, Tree, bare, grown, alone, list_of, node_at, nodes_of}
-use Rattle.k_dict.specs.Gathering.{State, closed, closed_of, closed_times, closed_to, gathered, number_of, opened, start, summary, taken, with_child, with_entry}
+use Rattle.k_dict.specs.Gathering.{State, closed, closed_of, closed_times, closed_to, gathered, number_of, opened, start, taken, with_child, with_entry}
 use Rattle.k_dict.specs.Tallies.{counted}
 use Rattle.k_dict.specs.declared.entry.Entry.{Entry}
 use Rattle.k_dict.specs.declared.entry.Run.{Run}

@@ -5,7 +5,7 @@ use Rattle.std.proofs.lemmas.List.{take-append-drop}
 use Rattle.std.proofs.lemmas.List.Sums.{sum_by-append, sum_by-take-le}
 use Rattle.std.proofs.lemmas.List.Folds.{list_any_at}
 use Rattle.std.proofs.lemmas.List.Quantifiers.{position-Some}
-use Rattle.std.proofs.lemmas.Option.{slice_get-get_or}
+use Rattle.std.proofs.lemmas.Option.{none-some, slice_get-get_or}
 use Rattle.k_dict.specs.Entries.{AreRuns, NameEarlier, AreApart, AreDistinct, AreInterned, all_runs}
 use Rattle.k_dict.specs.Interning.{CanIntern, HasNumber, Interns}
 use Rattle.k_dict.specs.declared.entry.Entry.{Entry}
@@ -13,7 +13,7 @@ use Rattle.k_dict.specs.declared.dict.DictFault.{DictFault}
 use Rattle.k_dict.specs.declared.dict.DictFault.TheVariants.{Full, Memory}
 use Rattle.k_dict.specs.declared.dict.Which.TheVariants.{Entries, AllRuns}
 use Rattle.k_dict.proofs.Equal.{entry_eq, entry_decides}
-use Rattle.k_dict.proofs.Places.{place_of_push, place_in_take, place_behind, place_kept, is_there}
+use Rattle.k_dict.proofs.Places.{place_of_push, place_in_take, is_there}
 
 -- the entry that was found stands where it was found
 pub found_at : (entries : List Entry) (e : Entry) (n : ℕ) → position (entry_eq e) entries ≡ Some n → slice_get entries n ≡ Some e
@@ -147,3 +147,9 @@ pub few_newest : (keep : ℕ) (entries newest : List Entry) → AreDistinct entr
 few_newest keep entries newest are is =
     let cut = all_runs-cut keep entries in let few = are.few_runs in
     let same : all_runs newest ≡ all_runs (drop keep entries) = ap all_runs is in omega arith
+
+-- no entries are those of a dictionary
+pub none_interned : (entries : List Entry) → entries ≡ [] → AreInterned entries
+none_interned entries none =
+    subst AreInterned (sym none)
+    (record { few = omega arith; few_runs = omega arith; earlier = λ n e h. absurd (none-some e h); apart = λ m n e h k. absurd (none-some e h) })

@@ -16,7 +16,7 @@ use Rattle.k_dict.specs.declared.dict.DictFault.{DictFault}
 use Rattle.k_dict.specs.declared.dict.DictFault.TheVariants.{Full, Memory}
 use Rattle.k_dict.specs.declared.dict.Which.{Which}
 use Rattle.k_dict.specs.declared.dict.Which.TheVariants.{Entries, AllRuns}
-use Rattle.k_dict.proofs.Counting.{run_with, counted-at, counted-before, counted-behind, AreRuns-counted}
+use Rattle.k_dict.proofs.Counting.{counted-at, counted-before, counted-behind, AreRuns-counted}
 use Rattle.k_dict.proofs.Numbers.{IsAbsent, not_contained, number_absent, number_found, with_absent, with_there}
 use Rattle.k_dict.proofs.Places.{place_behind}
 use Rattle.k_dict.proofs.Refusals.{refusal-behind, refusal-entries, refusal-runs, refusal_stays}

@@ -4,19 +4,18 @@ use Rattle.std.proofs.lemmas.List.{ext_get_or}
 use Rattle.std.proofs.lemmas.Option.{none-some, same_Some, slice_get_within, slice_get-get_or, get_or_from_slice_get}
 use Rattle.k_optab.specs.declared.node.Node.{Node}
 use Rattle.k_optab.specs.Tree.{EachWith}
-use Rattle.k_dict.specs.Trees.{IsInOrder, Label, Forest, Tree, bare, grown, Alike, further, SameShape, alone, list_of, post_order, size}
-use Rattle.k_dict.specs.Entries.{NameEarlier, AreApart, expansion, label_of, laid, no_tree, tree_at, tree_of, trees_of}
-use Rattle.k_dict.specs.Dictionary.{Firsts, ended, again, anew, IsDictionary, IsDictionaryOf}
+use Rattle.k_dict.specs.Trees.{Forest, Tree, bare, grown, SameShape, alone, post_order, size}
+use Rattle.k_dict.specs.Entries.{NameEarlier, label_of, no_tree, tree_at, tree_of, trees_of}
+use Rattle.k_dict.specs.Dictionary.{Firsts, ended, again, anew, IsDictionaryOf}
 use Rattle.k_dict.specs.Gathering.{number_of}
 use Rattle.k_dict.specs.Laws.{AreAlike, DictionaryExists, DictionaryExpands, DictionaryIsUnique}
 use Rattle.k_dict.specs.declared.entry.Entry.{Entry}
-use Rattle.k_dict.specs.declared.entry.Run.{Run}
 use Rattle.k_dict.proofs.Coding.{AreProper, code, code-entry, code-laid, code_alike, entry_at, number_below, number_in}
 use Rattle.k_dict.proofs.EntryTrees.{length-trees, tree_is}
-use Rattle.k_dict.proofs.Forests.{Alike-refl, Alike-size, Alike-sym, SameShape-further, SameShape-refl, SameShape-sym}
+use Rattle.k_dict.proofs.Forests.{Alike-size, SameShape-further, SameShape-sym}
 use Rattle.k_dict.proofs.Lists.{same_tree}
 use Rattle.k_dict.proofs.Ordered.{is_of_tree}
-use Rattle.k_dict.proofs.Places.{place_behind, place_kept, place_of_push}
+use Rattle.k_dict.proofs.Places.{place_behind, place_of_push}
 use Rattle.k_dict.proofs.Walking.{EachWith-at, EachWith-back, tree_there, walk, walk_is}
 
 -- the first trees are the same ones

@@ -2,8 +2,8 @@
 use Rattle.std.proofs.Common.{◌≡◌, ℕ, zero, suc, ◌+◌, ◌<◌, ◌≤◌, ◌⊎◌, inl, inr, List, [], ◌∷◌, ◌++◌, length, get_or, Some, slice_get, refl, sym, ap, ◌∙◌, subst, arith, append-nil, append_assoc}
 use Rattle.std.proofs.lemmas.Option.{none-some, same_Some, slice_get_within, slice_get-get_or, get_or_from_slice_get}
 use Rattle.k_optab.specs.Tree.{EachWith}
-use Rattle.k_dict.specs.Trees.{Label, Forest, Tree, bare, grown, Alike, further, SameShape, alone, post_order}
-use Rattle.k_dict.specs.Entries.{AreRuns, NameEarlier, AreApart, label_of, laid, no_tree, tree_at, tree_of, trees_of}
+use Rattle.k_dict.specs.Trees.{Label, Forest, Tree, bare, grown, SameShape, alone, post_order}
+use Rattle.k_dict.specs.Entries.{AreRuns, label_of, laid, no_tree, tree_at, tree_of, trees_of}
 use Rattle.k_dict.specs.Dictionary.{Firsts, ended, again, anew, IsDictionaryOf}
 use Rattle.k_dict.specs.Gathering.{number_of, with_entry}
 use Rattle.k_dict.specs.Tallies.{counted}
@@ -12,7 +12,7 @@ use Rattle.k_dict.specs.declared.entry.Run.{Run}
 use Rattle.k_dict.proofs.Coding.{AreProper, Knows, Knows-kept, code, code-entry, code-kept, code_alike, entry_at, known_alike, tree_alike, AreRuns-code}
 use Rattle.k_dict.proofs.EntryTrees.{length-trees, tree_is, trees-push}
 use Rattle.k_dict.proofs.Forests.{SameShape-sym, SameShape-further}
-use Rattle.k_dict.proofs.Numbers.{IsIn, IsAbsent, absent_is, is_in_or_absent, number_added, number_absent, number_found, number_kept, with_absent, with_there}
+use Rattle.k_dict.proofs.Numbers.{IsIn, IsAbsent, absent_is, is_in_or_absent, number_added, number_kept, with_absent, with_there}
 use Rattle.k_dict.proofs.Places.{place_behind, place_kept}
 use Rattle.k_dict.proofs.Pushes.{NameEarlier-push, AreApart-push}
 

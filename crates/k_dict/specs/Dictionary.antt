@@ -1,3 +1,4 @@
+-- Believed with the theorem on the top call.
 -- *Dictionary*: the entries of a tree of instances.
 use Rattle.std.specs.Prelude.{ℕ, ◌+◌, ◌≤◌, ◌≡◌, List, [], ◌∷◌, ◌++◌, length, slice_get, Option, Some, None, nat_le, nat_lt, if◌then◌else◌}
 use Rattle.k_optab.specs.declared.node.Node.{Node}

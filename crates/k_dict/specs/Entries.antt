@@ -1,3 +1,4 @@
+-- Believed with the theorem on the top call.
 -- Entries of a dictionary, and the trees that they stand for.
 use Rattle.std.specs.Prelude.{ℕ, zero, suc, ◌+◌, ◌<◌, ◌≤◌, ◌≡◌, List, [], ◌∷◌, ◌++◌, length, sum_by, Some, slice_get, slice_index_or}
 use Rattle.k_optab.specs.declared.node.Node.{Node}

@@ -1,8 +1,9 @@
+-- For contracts between crates: nobody has to believe it.
 -- What is given of an entry's instances, and what is still owed.
 use Rattle.std.specs.Prelude.{ℕ, ◌+◌, ◌-◌, ◌<◌, ◌≤◌, ◌≡◌, List, [], ◌∷◌, ◌++◌, length, Result, Ok, Err, map, nat_lt, if◌then◌else◌, slice_index_or}
 use Rattle.k_optab.specs.declared.node.Node.{Node}
 use Rattle.k_dict.specs.Trees.{Tree, bare, nodes_of}
-use Rattle.k_dict.specs.Entries.{copies, expansion, no_tree, trees_of}
+use Rattle.k_dict.specs.Entries.{copies, expansion, no_tree}
 use Rattle.k_dict.specs.declared.entry.Entry.{Entry}
 use Rattle.k_dict.specs.declared.entry.Run.{Run}
 use Rattle.k_dict.specs.declared.expansion.ExpandFault.{ExpandFault}

@@ -1,8 +1,9 @@
+-- For contracts between crates: nobody has to believe it.
 -- What the calls of a dictionary answer.
 use Rattle.std.specs.Prelude.{ℕ, ◌+◌, ◌<◌, ◌≤◌, ◌≡◌, ◌⊎◌, List, [], ◌∷◌, ◌++◌, length, Some, slice_get, Contains, Result, Ok, Err}
 use Rattle.k_optab.specs.declared.node.Node.{Node}
 use Rattle.k_dict.specs.Dictionary.{IsDictionary, refusal}
-use Rattle.k_dict.specs.Entries.{AreRuns, all_runs, expansion}
+use Rattle.k_dict.specs.Entries.{AreRuns, all_runs}
 use Rattle.k_dict.specs.declared.entry.Entry.{Entry}
 use Rattle.k_dict.specs.declared.dict.DictFault.{DictFault}
 use Rattle.k_dict.specs.declared.dict.DictFault.TheVariants.{Full, Memory}

@@ -1,3 +1,4 @@
+-- Believed with a public law.
 -- What holds of dictionaries and their trees: the statements of the laws.
 use Rattle.std.specs.Prelude.{ℕ, ◌+◌, ◌<◌, ◌≡◌, List, length}
 use Rattle.k_optab.specs.declared.node.Node.{Node}

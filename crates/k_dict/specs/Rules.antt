@@ -1,3 +1,4 @@
+-- Believed with the theorem on the top call.
 -- The rules that the entries of a saved profile meet, and on which its numbers rest.
 use Rattle.std.specs.Prelude.{ℕ, ◌+◌, ◌-◌, ◌*◌, ◌<◌, ◌≤◌, ◌≡◌, List, [], ◌∷◌, length, Some, slice_get, slice_index_or}
 use Rattle.k_dict.specs.Trees.{alone, height, size}

@@ -1,3 +1,4 @@
+-- Believed with the theorem on the top call.
 -- Instances with those within them, the list of them in order of entry, and when two of them differ in the order of siblings alone.
 use Rattle.std.specs.Prelude.{ℕ, ◌+◌, ◌≤◌, ◌≡◌, max, List, [], ◌∷◌, ◌++◌}
 use Rattle.k_optab.specs.declared.node.Node.{Node}

@@ -4,8 +4,7 @@ ghost use Rattle.k_dict.specs.Expanding.{Expands, less_one, pending_at, visited}
 
 use crate::dict::Dict;
 use crate::entry::{Entry, Run};
-use crate::stack::Stack;
-use k_num::{NoMemory, Seq};
+use k_num::{NoMemory, Seq, Stack};
 use k_optab::Node;
 use std::alloc::Global;
 

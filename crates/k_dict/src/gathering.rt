@@ -1,16 +1,15 @@
 //! The dictionary of a tree that is given as its list of nodes.
 ghost use Rattle.std.specs.Prelude.{◌≡◌, ◌+◌, ◌<◌, [], ◌∷◌, OnOk, IfOk};
+ghost use Rattle.k_dict.specs.Entries.{AreInterned};
 ghost use Rattle.k_dict.specs.Gathering.{CanCount, IsSound, Leads, LeadsTo, closed, closed_to, gathered, opened, state, summary, with_child};
 ghost use Rattle.k_dict.specs.Interning.{Gathers};
-ghost use Rattle.k_dict.specs.Tallies.{count_of};
 ghost use Rattle.k_dict.specs.Trees.{IsInOrder};
 ghost use Rattle.std.specs.Prelude.{◌^◌, length, Result, List};
 
 use crate::dict::{Dict, DictFault};
 use crate::entry::Entry;
-use crate::stack::Stack;
 use crate::tally::Tally;
-use k_num::{NoMemory, Seq};
+use k_num::{NoMemory, Seq, Stack};
 use k_optab::Node;
 use std::alloc::Global;
 
@@ -61,8 +60,10 @@ fn count_child(levels: &mut Stack<Level>, number: u32) -> Result<(), NoMemory>
 impl Gathering {
     /// Closes the innermost open instance.
     fn close(&mut self, alloc: Global) -> Result<(), DictFault>
-        requires { IsSound (state self.old) }
-        ensures { Leads result (state self.new) (closed (state self.old)) }
+        requires sound { IsSound (state self.old) }
+        requires interned { AreInterned self.old.dict }
+        ensures leads { Leads result (state self.new) (closed (state self.old)) }
+        ensures interned { AreInterned self.new.dict }
     {
         let Some(level) = self.levels.pop() else {
             return Ok(());
@@ -82,8 +83,10 @@ impl Gathering {
 
     /// Closes open instances until so many are left.
     fn close_to(&mut self, alloc: Global, depth: usize) -> Result<(), DictFault>
-        requires { IsSound (state self.old) }
-        ensures { Leads result (state self.new) (closed_to depth (state self.old)) }
+        requires sound { IsSound (state self.old) }
+        requires interned { AreInterned self.old.dict }
+        ensures leads { Leads result (state self.new) (closed_to depth (state self.old)) }
+        ensures interned { AreInterned self.new.dict }
     {
         while self.levels.len() > depth {
             if let Err(fault) = self.close(alloc) {
@@ -95,7 +98,8 @@ impl Gathering {
 
     /// Opens an instance within the innermost one.
     fn open(&mut self, alloc: Global, node: &Node) -> Result<(), NoMemory>
-        ensures { OnOk result (state self.new ≡ opened node.now (state self.old)) }
+        ensures opened { OnOk result (state self.new ≡ opened node.now (state self.old)) }
+        ensures dict { self.new.dict ≡ self.old.dict }
     {
         self.levels.push(Level {
             region: node.region,
@@ -107,8 +111,10 @@ impl Gathering {
 }
 
 /// The entries of the instances of these nodes, in order of their ends.
+#[tactic(auto, using(crate::proofs::Pushes::none_interned))]
 fn gather_all(alloc: Global, nodes: &[Node]) -> Result<Dict, DictFault>
-    ensures { LeadsTo result (gathered nodes.now) }
+    ensures leads { LeadsTo result (gathered nodes.now) }
+    ensures interned { IfOk result AreInterned }
 {
     let mut gathering = Gathering {
         dict: Dict::new(alloc),
@@ -134,7 +140,8 @@ fn gather_all(alloc: Global, nodes: &[Node]) -> Result<Dict, DictFault>
 /// of that shape, the root's last.
 pub fn gather(alloc: Global, nodes: &Seq<Node>) -> Result<Dict, DictFault>
     requires { IsInOrder nodes.now }
-    ensures { Gathers nodes.now result }
+    ensures answer { Gathers nodes.now result }
+    ensures interned { IfOk result AreInterned }
 {
     gather_all(alloc, nodes.as_slice())
 }

@@ -7,7 +7,6 @@ mod entry;
 mod expansion;
 mod gathering;
 pub mod laws;
-mod stack;
 mod table;
 mod tally;
 
@@ -18,6 +17,3 @@ pub use gathering::gather;
 pub use k_optab::Node;
 pub use table::EntryTable;
 pub use tally::Tally;
-
-#[cfg(test)]
-mod tests;

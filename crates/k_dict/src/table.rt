@@ -13,7 +13,7 @@ use std::marker::Model;
 const MOST_ENTRIES: usize = 1_048_576;
 
 /// The greatest number of runs of all entries together.
-const MOST_RUNS: u64 = 16_777_216;
+const MOST_RUNS_TOGETHER: u64 = 16_777_216;
 
 /// Entries without repeats, in order of first use. Contracts see their list.
 #[derive(Drop)]
@@ -107,7 +107,7 @@ impl EntryTable {
             drop(entry);
             return Err(DictFault::Full(Which::Entries));
         }
-        if runs > MOST_RUNS {
+        if runs > MOST_RUNS_TOGETHER {
             drop(entry);
             return Err(DictFault::Full(Which::AllRuns));
         }

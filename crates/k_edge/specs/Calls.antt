@@ -1,3 +1,4 @@
+-- For contracts between crates: nobody has to believe it.
 -- The calls of an object in memory are numbered, and a list says which of them fail.
 use Rattle.std.specs.Prelude.{ℕ, ◌+◌, ◌-◌, ◌^◌, ◌==◌, Bool, List, min}
 use Rattle.std.specs.List.{list_any}

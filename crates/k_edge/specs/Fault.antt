@@ -1,3 +1,4 @@
+-- Believed with the theorem on the top call.
 -- Faults are counted, so that an answer which blames the outside has a cause.
 use Rattle.std.specs.Prelude.{ℕ, ◌≡◌, ◌+◌, ◌^◌, ◌<◌, ◌⊎◌}
 

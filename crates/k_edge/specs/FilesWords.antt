@@ -1,3 +1,4 @@
+-- Believed with the theorem on the top call.
 -- What a store of named files is, and what a load and a save do.
 use Rattle.std.specs.Prelude.{ℕ, ⊤, ◌≡◌, ◌≢◌, ◌<◌, ◌≤◌, List, length, Option, Some, None, Result, Ok, Err, Vec}
 use Rattle.std.specs.declared.alloc.Global.{Global}

@@ -1,3 +1,4 @@
+-- For contracts between crates: nobody has to believe it.
 -- What is known of the adapters over the host: their counts, and no content.
 use Rattle.std.specs.Prelude.{ℕ, ⊤, ◌≤◌, Bool, true, false, List, length, take, Option, None, Result, Ok, Err}
 use Rattle.std.specs.Io.KnownBytes.{Appends}

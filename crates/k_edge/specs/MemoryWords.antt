@@ -1,3 +1,4 @@
+-- For contracts between crates: nobody has to believe it.
 -- What contracts see of the sources, sinks and files in memory.
 use Rattle.std.specs.Prelude.{ℕ, ⊤, ◌≡◌, Bool, true, false, List, [], ◌∷◌, Option, Some, None, Result, Err, Vec, nat_eq, if◌then◌else◌}
 use Rattle.std.specs.declared.alloc.Global.{Global}

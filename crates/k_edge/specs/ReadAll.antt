@@ -1,3 +1,4 @@
+-- Believed with the theorem on the top call.
 -- What reading a source to its end answers, and what it leaves.
 use Rattle.std.specs.Prelude.{ℕ, ◌≡◌, ◌+◌, ◌≤◌, List, ◌++◌, length, Option, Some, None, Result, Ok, Err, Vec}
 use Rattle.std.specs.Io.KnownBytes.{IsAtEnd}

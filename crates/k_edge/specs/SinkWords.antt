@@ -1,3 +1,4 @@
+-- Believed with the theorem on the top call.
 -- What a sink of bytes is, and what a put does.
 use Rattle.std.specs.Prelude.{ℕ, ⊤, ◌≡◌, ◌≤◌, List, ◌++◌, length, take, Option, Some, None, Result, Ok, Err}
 use Rattle.k_edge.specs.declared.sink.PutFault.{PutFault}

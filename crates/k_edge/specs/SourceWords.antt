@@ -1,3 +1,4 @@
+-- Believed with the theorem on the top call.
 -- What a source of bytes is, and what a read of it does.
 use Rattle.std.specs.Prelude.{ℕ, ◌≡◌, ◌+◌, ◌<◌, ◌≤◌, ◌↔◌, List, [], length, take, drop, Option, Some, None, Result, Ok, Err}
 use Rattle.k_edge.specs.declared.source.Failed.{Failed}

@@ -1,3 +1,4 @@
+-- Believed with a public law.
 -- Where a count of faults is the constant 0, nothing is answered that blames the outside.
 use Rattle.std.specs.Prelude.{ℕ, ⊤, ◌≡◌, ◌≢◌, List, Result, Err, IsOk, Vec}
 use Rattle.std.specs.declared.alloc.Global.{Global}

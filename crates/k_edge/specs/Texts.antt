@@ -1,3 +1,4 @@
+-- For contracts between crates: nobody has to believe it.
 -- What the faults of the outside print.
 use Rattle.std.specs.Prelude.{ℕ, List, codes}
 use Rattle.k_edge.specs.declared.files.LoadFault.{LoadFault}

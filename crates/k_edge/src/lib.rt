@@ -21,6 +21,3 @@ pub use memory::source::{MemSource, SureSource};
 pub use reading::{ReadAllFault, read_all};
 pub use sink::{PutFault, Sink};
 pub use source::{Failed, Source};
-
-#[cfg(test)]
-mod tests;

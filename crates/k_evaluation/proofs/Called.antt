@@ -2,14 +2,14 @@
 use Rattle.std.proofs.Common.{ℕ, zero, suc, ◌+◌, ◌≤◌, pos, List, [], ◌∷◌, ◌++◌, map, Option, Some, None, Bool, true, false, nat_eq, if◌then◌else◌, ap, slice_get}
 use Rattle.k_num.specs.declared.place.Place.{Place}
 use Rattle.k_optab.specs.declared.class.Class.TheVariants as class
-use Rattle.k_code.specs.declared.ending.End.TheVariants as ending
-use Rattle.k_code.specs.declared.ending.Trap.TheVariants.{StackOverflow, FallOff}
-use Rattle.k_typed.specs.declared.types.TType.{TType}
-use Rattle.k_typed.specs.declared.types.TType.TheVariants as ttype
-use Rattle.k_typed.specs.declared.tree.unit.TFunc.{TFunc}
-use Rattle.k_typed.specs.declared.tree.unit.TObject.{TObject}
-use Rattle.k_typed.specs.declared.tree.unit.TString.{TString}
-use Rattle.k_typed.specs.declared.tree.unit.TVariable.{TVariable}
+use Rattle.k_ending.specs.declared.ending.End.TheVariants as ending
+use Rattle.k_ending.specs.declared.ending.Trap.TheVariants.{StackOverflow, FallOff}
+use Rattle.k_types_meaning.specs.declared.types.TType.{TType}
+use Rattle.k_types_meaning.specs.declared.types.TType.TheVariants as ttype
+use Rattle.k_types_meaning.specs.declared.tree.unit.TFunc.{TFunc}
+use Rattle.k_types_meaning.specs.declared.tree.unit.TObject.{TObject}
+use Rattle.k_types_meaning.specs.declared.tree.unit.TString.{TString}
+use Rattle.k_types_meaning.specs.declared.tree.unit.TVariable.{TVariable}
 use Rattle.k_mem.specs.declared.start.Start.TheVariants.{Unset, Zero}
 use Rattle.k_world.specs.declared.act.Act.TheVariants as act
 use Rattle.k_world.specs.declared.value.Held.{Held}

@@ -4,25 +4,25 @@ use Rattle.k_num.specs.declared.place.Place.{Place}
 use Rattle.k_num.specs.declared.numbers.Kind.{Kind}
 use Rattle.k_num.specs.declared.numbers.Bin.TheVariants as bin
 use Rattle.k_optab.specs.declared.class.Class.TheVariants as class
-use Rattle.k_code.specs.declared.ending.Trap.TheVariants.{StackOverflow, FallOff}
-use Rattle.k_typed.specs.declared.types.TType.{TType}
-use Rattle.k_typed.specs.declared.types.TType.TheVariants as ttype
-use Rattle.k_typed.specs.declared.tree.declaration.TDeclarator.{TDeclarator}
-use Rattle.k_typed.specs.declared.tree.declaration.TInit.{TInit}
-use Rattle.k_typed.specs.declared.tree.declaration.TInit.TheVariants as init
-use Rattle.k_typed.specs.declared.tree.declaration.TItem.{TItem}
-use Rattle.k_typed.specs.declared.tree.declaration.TItem.TheVariants as item
-use Rattle.k_typed.specs.declared.tree.expression.TExpr.{TExpr}
-use Rattle.k_typed.specs.declared.tree.statement.Spot.{Spot}
-use Rattle.k_typed.specs.declared.tree.statement.TFirst.{TFirst}
-use Rattle.k_typed.specs.declared.tree.statement.TFirst.TheVariants as first
-use Rattle.k_typed.specs.declared.tree.statement.TPart.{TPart, fold-TPart, fold-roll-TPart, map-TPart}
-use Rattle.k_typed.specs.declared.tree.statement.TPart.TheOpen.{TPart-F, TStmt-F}
-use Rattle.k_typed.specs.declared.tree.statement.TStmt.{TStmt, fold-roll-TStmt, ind-TStmt, map-TStmt}
-use Rattle.k_typed.specs.declared.tree.unit.TFunc.{TFunc}
-use Rattle.k_typed.specs.declared.tree.unit.TObject.{TObject}
-use Rattle.k_typed.specs.declared.tree.unit.TString.{TString}
-use Rattle.k_typed.specs.declared.tree.unit.TVariable.{TVariable}
+use Rattle.k_ending.specs.declared.ending.Trap.TheVariants.{StackOverflow, FallOff}
+use Rattle.k_types_meaning.specs.declared.types.TType.{TType}
+use Rattle.k_types_meaning.specs.declared.types.TType.TheVariants as ttype
+use Rattle.k_types_meaning.specs.declared.tree.declaration.TDeclarator.{TDeclarator}
+use Rattle.k_types_meaning.specs.declared.tree.declaration.TInit.{TInit}
+use Rattle.k_types_meaning.specs.declared.tree.declaration.TInit.TheVariants as init
+use Rattle.k_types_meaning.specs.declared.tree.declaration.TItem.{TItem}
+use Rattle.k_types_meaning.specs.declared.tree.declaration.TItem.TheVariants as item
+use Rattle.k_types_meaning.specs.declared.tree.expression.TExpr.{TExpr}
+use Rattle.k_types_meaning.specs.declared.tree.statement.Spot.{Spot}
+use Rattle.k_types_meaning.specs.declared.tree.statement.TFirst.{TFirst}
+use Rattle.k_types_meaning.specs.declared.tree.statement.TFirst.TheVariants as first
+use Rattle.k_types_meaning.specs.declared.tree.statement.TPart.{TPart, fold-TPart, fold-roll-TPart, map-TPart}
+use Rattle.k_types_meaning.specs.declared.tree.statement.TPart.TheOpen.{TPart-F, TStmt-F}
+use Rattle.k_types_meaning.specs.declared.tree.statement.TStmt.{TStmt, fold-roll-TStmt, ind-TStmt, map-TStmt}
+use Rattle.k_types_meaning.specs.declared.tree.unit.TFunc.{TFunc}
+use Rattle.k_types_meaning.specs.declared.tree.unit.TObject.{TObject}
+use Rattle.k_types_meaning.specs.declared.tree.unit.TString.{TString}
+use Rattle.k_types_meaning.specs.declared.tree.unit.TVariable.{TVariable}
 use Rattle.k_mem.specs.declared.start.Start.TheVariants.{Unset, Zero}
 use Rattle.k_world.specs.declared.act.Act.TheVariants as act
 use Rattle.k_world.specs.declared.value.Held.{Held}
@@ -36,7 +36,7 @@ use Rattle.k_evaluation.specs.declared.flow.Flow.{Flow}
 use Rattle.k_evaluation.specs.declared.flow.Flow.TheVariants.{Normal, Broke, Continued, Returned}
 use Rattle.k_evaluation.specs.States.{Program, State, Outcome, Goes, Stops, Part, follow, ◌>>=◌, gives, traps, read, sets, control, settles}
 use Rattle.k_evaluation.specs.Objects.{makes_object, makes_string, fills, block}
-use Rattle.k_evaluation.specs.Jumps.{is_left}
+use Rattle.k_marks_meaning.specs.Jumps.{is_left}
 use Rattle.k_evaluation.specs.Meanings.{tests, holds}
 use Rattle.k_evaluation.specs.Assignments.{writes}
 use Rattle.k_evaluation.specs.Expressions.{Calls}
@@ -44,7 +44,7 @@ use Rattle.k_evaluation.specs.Flows.{Doing, Within, means, drops, tests_at, goes
 use Rattle.k_evaluation.specs.Loops.{LoopParts, Turn, Again, Ends, turn_of, resets, starts, stays_behind_body, stays_behind_loop, step_or_end, behind_body, turn, turn_if, turns, all_turns, begins, inside_loop, loop, loop_region, test_or_one, step_or_none, loop_parts, source_loop, while_loop, do_loop}
 use Rattle.k_evaluation.specs.Declarations.{stores, initialises, begins_register, values_from, element_of, stores_item, stores_items, begins_object, begins_variable, declares_by, elements_of, declares, declares_all, starts_with}
 use Rattle.k_evaluation.specs.Switches.{PartDoing, ACase, ADefault, AStatement, statements_of, behind_default, has_case, selects, chooses, behind_switch, runs_chosen, switches, switch_jumps, switch}
-use Rattle.k_evaluation.specs.Statements.{expression, empty, compound, does_or_none, chosen_arm, if_jumps, if_else, for_loop, break, continue, returns_moved, returned, return, declaration, does_step, part_step, does}
+use Rattle.k_evaluation.specs.Statements.{expression, empty, compound, does_or_none, chosen_arm, if_jumps, if_else, for_loop, break, continue, returns_moved, returns_value, return, declaration, does_step, part_step, does}
 use Rattle.k_evaluation.specs.Calls.{serves_by, serves, falls_off, at_end, result_of, function_region, within, body, runs, is_too_large, entered, back_to, enters_function, enters_number, calls_operation, calls}
 use Rattle.k_evaluation.specs.Runs.{starts_object, starts_objects, starts_strings, runs_main, whole, initial, ended, run}
 use Rattle.k_evaluation.specs.Texts.{joined, texts, option_texts, item_texts, init_texts, declared_texts, first_texts, stmt_step, stmt_texts, part_texts, function_texts, source_texts}
@@ -327,7 +327,7 @@ module _ (program : Program) (function : ℕ) (vs : List TVariable) (calls : Cal
   unfolding continue
   continue_clean = gives_clean Continued
 
-  returned_clean : (place : Place) (e : Option TExpr) → AreBytes (option_texts e) → IsClean (returned here place e)
+  returned_clean : (place : Place) (e : Option TExpr) → AreBytes (option_texts e) → IsClean (returns_value here place e)
   returned_clean place None h = gives_clean (Returned None)
   returned_clean place (Some e) h =
       then_clean ((means here e).value true) (returns_moved program place) ((means_clean e h).value true)

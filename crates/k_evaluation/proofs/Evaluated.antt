@@ -1,8 +1,8 @@
 -- Expressions are lawful, where calls are.
 use Rattle.std.proofs.Common.{List, [], ◌∷◌, map, sym, subst}
-use Rattle.k_typed.specs.declared.tree.expression.TExpr.{TExpr, fold-roll-TExpr, ind-TExpr, map-TExpr}
-use Rattle.k_typed.specs.declared.tree.expression.TExpr.TheOpen.{TExpr-F}
-use Rattle.k_typed.specs.declared.tree.unit.TVariable.{TVariable}
+use Rattle.k_types_meaning.specs.declared.tree.expression.TExpr.{TExpr, fold-roll-TExpr, ind-TExpr, map-TExpr}
+use Rattle.k_types_meaning.specs.declared.tree.expression.TExpr.TheOpen.{TExpr-F}
+use Rattle.k_types_meaning.specs.declared.tree.unit.TVariable.{TVariable}
 use Rattle.k_evaluation.specs.Meanings.{Meaning}
 use Rattle.k_evaluation.specs.Expressions.{Calls, eval_step, eval}
 use Rattle.k_evaluation.proofs.Kept.{Setting}

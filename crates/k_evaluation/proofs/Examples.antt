@@ -1,5 +1,6 @@
 -- Examples: small constructs, with each event and the whole state that they leave worked out by hand from the table of constructs.
 use Rattle.std.proofs.Common.{◌≡◌, ℕ, ◌+◌, ℤ, pos, true, false, List, [], ◌∷◌, Option, Some, None, refl, sym, ap, ◌∙◌}
+use Rattle.std.specs.Prelude.{codes}
 use Rattle.k_num.specs.declared.place.Place.{Place}
 use Rattle.k_num.specs.declared.numbers.Bin.TheVariants.{Add, Mul, Div, Lt}
 use Rattle.k_num.specs.declared.numbers.Kind.TheVariants.{I8, I32}
@@ -8,20 +9,20 @@ use Rattle.k_optab.specs.declared.event.Event.{Event}
 use Rattle.k_optab.specs.declared.event.Event.TheVariants.{Op, Enter, Exit}
 use Rattle.k_optab.specs.declared.event.Src.{Src}
 use Rattle.k_optab.specs.Latencies.{standard_latencies}
-use Rattle.k_code.specs.declared.ending.End.TheVariants.{Returned, Trapped, OutOfSteps}
-use Rattle.k_code.specs.declared.ending.Trap.TheVariants.{DivideByZero, Uninit, StackOverflow, OutOfBounds}
-use Rattle.k_typed.specs.declared.types.TType.TheVariants as ttype
-use Rattle.k_typed.specs.declared.tree.expression.Change.TheVariants as change
-use Rattle.k_typed.specs.declared.tree.expression.Node.{Node}
-use Rattle.k_typed.specs.declared.tree.expression.TExpr.{TExpr, fold-roll-TExpr}
-use Rattle.k_typed.specs.declared.tree.expression.TExpr.TheOpen.{TExpr-F}
-use Rattle.k_typed.specs.declared.tree.expression.TExpr.TheVariants as typed
-use Rattle.k_typed.specs.declared.tree.statement.TPart.TheOpen.{TStmt-F}
-use Rattle.k_typed.specs.declared.tree.statement.TStmt.{TStmt, fold-roll-TStmt}
-use Rattle.k_typed.specs.declared.tree.statement.TStmt.TheVariants as stmt
-use Rattle.k_typed.specs.declared.tree.unit.TFunc.{TFunc}
-use Rattle.k_typed.specs.declared.tree.unit.TVariable.{TVariable}
-use Rattle.k_evaluation.specs.Jumps.{no_jumps, a_break, a_return}
+use Rattle.k_ending.specs.declared.ending.End.TheVariants.{Returned, Trapped, OutOfSteps}
+use Rattle.k_ending.specs.declared.ending.Trap.TheVariants.{DivideByZero, Uninit, StackOverflow, OutOfBounds}
+use Rattle.k_types_meaning.specs.declared.types.TType.TheVariants as ttype
+use Rattle.k_types_meaning.specs.declared.tree.expression.Change.TheVariants as change
+use Rattle.k_types_meaning.specs.declared.tree.expression.Node.{Node}
+use Rattle.k_types_meaning.specs.declared.tree.expression.TExpr.{TExpr, fold-roll-TExpr}
+use Rattle.k_types_meaning.specs.declared.tree.expression.TExpr.TheOpen.{TExpr-F}
+use Rattle.k_types_meaning.specs.declared.tree.expression.TExpr.TheVariants as typed
+use Rattle.k_types_meaning.specs.declared.tree.statement.TPart.TheOpen.{TStmt-F}
+use Rattle.k_types_meaning.specs.declared.tree.statement.TStmt.{TStmt, fold-roll-TStmt}
+use Rattle.k_types_meaning.specs.declared.tree.statement.TStmt.TheVariants as stmt
+use Rattle.k_types_meaning.specs.declared.tree.unit.TFunc.{TFunc}
+use Rattle.k_types_meaning.specs.declared.tree.unit.TVariable.{TVariable}
+use Rattle.k_marks_meaning.specs.Jumps.{no_jumps, a_break, a_return}
 use Rattle.k_mem.specs.Memory.{Memory}
 use Rattle.k_world.specs.declared.value.Held.{Held}
 use Rattle.k_world.specs.declared.value.Value.{Value}
@@ -72,6 +73,7 @@ variables =
 -- `void f(int n) {}`, where n is memory
 abbrev function : TFunc
 function = record {
+  name = codes "f";
   place = col 60;
   close = col 69;
   nodes = 2;
@@ -320,6 +322,7 @@ returns_product = stmt.Return (record { number = 0; place = col 16 }) (Some prod
 
 abbrev main : TFunc
 main = record {
+  name = codes "main";
   place = col 5;
   close = col 27;
   nodes = 5;

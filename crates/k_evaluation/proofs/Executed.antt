@@ -4,17 +4,17 @@ use Rattle.k_num.specs.declared.place.Place.{Place}
 use Rattle.k_num.specs.declared.numbers.Kind.{Kind}
 use Rattle.k_num.specs.declared.numbers.Bin.TheVariants as bin
 use Rattle.k_optab.specs.declared.class.Class.TheVariants as class
-use Rattle.k_typed.specs.declared.tree.declaration.TDeclarator.{TDeclarator}
-use Rattle.k_typed.specs.declared.tree.declaration.TInit.{TInit}
-use Rattle.k_typed.specs.declared.tree.declaration.TInit.TheVariants as init
-use Rattle.k_typed.specs.declared.tree.declaration.TItem.{TItem}
-use Rattle.k_typed.specs.declared.tree.declaration.TItem.TheVariants as item
-use Rattle.k_typed.specs.declared.tree.expression.TExpr.{TExpr}
-use Rattle.k_typed.specs.declared.tree.statement.Spot.{Spot}
-use Rattle.k_typed.specs.declared.tree.statement.TFirst.{TFirst}
-use Rattle.k_typed.specs.declared.tree.statement.TFirst.TheVariants as first
-use Rattle.k_typed.specs.declared.tree.unit.TVariable.{TVariable}
-use Rattle.k_evaluation.specs.Jumps.{is_left}
+use Rattle.k_types_meaning.specs.declared.tree.declaration.TDeclarator.{TDeclarator}
+use Rattle.k_types_meaning.specs.declared.tree.declaration.TInit.{TInit}
+use Rattle.k_types_meaning.specs.declared.tree.declaration.TInit.TheVariants as init
+use Rattle.k_types_meaning.specs.declared.tree.declaration.TItem.{TItem}
+use Rattle.k_types_meaning.specs.declared.tree.declaration.TItem.TheVariants as item
+use Rattle.k_types_meaning.specs.declared.tree.expression.TExpr.{TExpr}
+use Rattle.k_types_meaning.specs.declared.tree.statement.Spot.{Spot}
+use Rattle.k_types_meaning.specs.declared.tree.statement.TFirst.{TFirst}
+use Rattle.k_types_meaning.specs.declared.tree.statement.TFirst.TheVariants as first
+use Rattle.k_types_meaning.specs.declared.tree.unit.TVariable.{TVariable}
+use Rattle.k_marks_meaning.specs.Jumps.{is_left}
 use Rattle.k_mem.specs.declared.start.Start.TheVariants.{Unset}
 use Rattle.k_world.specs.declared.act.Act.TheVariants as act
 use Rattle.k_world.specs.declared.value.Held.{Held}
@@ -34,7 +34,7 @@ use Rattle.k_evaluation.specs.Flows.{Doing, Within, means, drops, tests_at, goes
 use Rattle.k_evaluation.specs.Loops.{loop_region, test_or_one, step_or_none, loop_parts, source_loop, while_loop, do_loop}
 use Rattle.k_evaluation.specs.Declarations.{initialises, begins_register, values_from, element_of, stores, stores_item, stores_items, begins_object, begins_variable, declares_by, elements_of, declares, declares_all, starts_with}
 use Rattle.k_evaluation.specs.Switches.{PartDoing, ACase, ADefault, AStatement, statements_of, behind_default, has_case, selects, chooses, behind_switch, runs_chosen, switches, switch_jumps, switch}
-use Rattle.k_evaluation.specs.Statements.{expression, empty, compound, does_or_none, chosen_arm, if_jumps, if_else, for_loop, break, continue, returns_moved, returned, return, declaration}
+use Rattle.k_evaluation.specs.Statements.{expression, empty, compound, does_or_none, chosen_arm, if_jumps, if_else, for_loop, break, continue, returns_moved, returns_value, return, declaration}
 use Rattle.k_evaluation.proofs.Kept.{Setting, OperandsCome, operands_later, Lawful, bind}
 use Rattle.k_evaluation.proofs.Parts.{Brings, of_operand, of_held, of_none, Counted, binds, anywhere, before_both, gives_lawful, sets_lawful, settled_lawful, makes_lawful, makes_counted, computes_lawful, makes_object_lawful, fills_lawful, block_lawful, region_lawful}
 use Rattle.k_evaluation.proofs.Rows.{of_target, LawfulMeaning, LawfulCalls, tests_lawful, writes_lawful}
@@ -313,7 +313,7 @@ module _ (g : Setting) (function : ℕ) (vs : List TVariable) (calls : Calls) (c
   unfolding continue
   continue_lawful = gives_flow g Continued
 
-  returned_lawful : (place : Place) (e : Option TExpr) → Brings g [] of_flow (returned around place e)
+  returned_lawful : (place : Place) (e : Option TExpr) → Brings g [] of_flow (returns_value around place e)
   returned_lawful place None = gives_flow g (Returned None)
   returned_lawful place (Some e) =
       binds g [] of_operand of_flow ((means around e).value true) (returns_moved g.program place) ((meaning_lawful e).0 true)

@@ -8,7 +8,7 @@ use Rattle.k_optab.specs.declared.event.Src.{Src}
 use Rattle.k_optab.specs.declared.event.Event.{Event}
 use Rattle.k_optab.specs.declared.event.Event.TheVariants.{Op, Enter, Exit}
 use Rattle.k_optab.specs.Instances.{Balanced, nothing, operation, instance}
-use Rattle.k_code.specs.declared.ending.End.TheVariants as ending
+use Rattle.k_ending.specs.declared.ending.End.TheVariants as ending
 use Rattle.k_world.specs.declared.value.Held.{Held}
 use Rattle.k_world.specs.Operands.{source_in}
 use Rattle.k_world.specs.Worlds.{World}

@@ -10,4 +10,5 @@ pub mod Loops
 pub mod Parts
 pub mod Rows
 pub mod Runs
+pub mod StatementJumps
 pub mod Written

@@ -9,8 +9,8 @@ use Rattle.k_optab.specs.declared.event.Event.TheVariants.{Op, Enter, Exit}
 use Rattle.k_optab.specs.Events.{Operation, operations, SourcesAreEarlier, total_latency}
 use Rattle.k_optab.specs.Instances.{nothing}
 use Rattle.k_optab.specs.Latencies.{latency}
-use Rattle.k_code.specs.declared.ending.End.TheVariants as ending
-use Rattle.k_code.specs.declared.ending.Trap.{Trap}
+use Rattle.k_ending.specs.declared.ending.End.TheVariants as ending
+use Rattle.k_ending.specs.declared.ending.Trap.{Trap}
 use Rattle.k_optab.proofs.Trees.{operations-append}
 use Rattle.k_mem.specs.declared.fault.MemTrap.{MemTrap}
 use Rattle.k_mem.specs.declared.pointer.Pointer.{Pointer}

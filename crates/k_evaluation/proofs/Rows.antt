@@ -6,14 +6,14 @@ use Rattle.k_num.specs.declared.numbers.Bin.TheVariants as bin
 use Rattle.k_num.specs.declared.numbers.Kind.{Kind}
 use Rattle.k_num.specs.declared.numbers.Un.{Un}
 use Rattle.k_optab.specs.declared.class.Class.TheVariants as class
-use Rattle.k_typed.specs.declared.types.TType.{TType}
-use Rattle.k_typed.specs.declared.types.TType.TheVariants as ttype
-use Rattle.k_typed.specs.declared.tree.expression.Change.{Change}
-use Rattle.k_typed.specs.declared.tree.expression.Change.TheVariants as change
-use Rattle.k_typed.specs.declared.tree.expression.Node.{Node}
-use Rattle.k_typed.specs.declared.tree.expression.Piece.{Piece}
-use Rattle.k_typed.specs.declared.tree.unit.TVariable.{TVariable}
-use Rattle.k_typed.specs.Types.{same_kind}
+use Rattle.k_types_meaning.specs.declared.types.TType.{TType}
+use Rattle.k_types_meaning.specs.declared.types.TType.TheVariants as ttype
+use Rattle.k_types_meaning.specs.declared.tree.expression.Change.{Change}
+use Rattle.k_types_meaning.specs.declared.tree.expression.Change.TheVariants as change
+use Rattle.k_types_meaning.specs.declared.tree.expression.Node.{Node}
+use Rattle.k_types_meaning.specs.declared.tree.expression.Piece.{Piece}
+use Rattle.k_types_meaning.specs.declared.tree.unit.TVariable.{TVariable}
+use Rattle.k_types_meaning.specs.Types.{same_kind}
 use Rattle.k_world.specs.declared.act.Act.TheVariants as act
 use Rattle.k_world.specs.declared.act.Out.{Out}
 use Rattle.k_world.specs.declared.act.Out.TheVariants as out

@@ -6,8 +6,8 @@ use Rattle.k_optab.specs.declared.event.Event.{Event}
 use Rattle.k_optab.specs.Events.{operations, SourcesAreEarlier, total_latency}
 use Rattle.k_optab.specs.Instances.{Balanced}
 use Rattle.k_optab.specs.Latencies.{latency}
-use Rattle.k_code.specs.declared.ending.End.{End}
-use Rattle.k_code.specs.declared.ending.End.TheVariants as ending
+use Rattle.k_ending.specs.declared.ending.End.{End}
+use Rattle.k_ending.specs.declared.ending.End.TheVariants as ending
 use Rattle.k_world.specs.declared.value.Held.{Held}
 use Rattle.k_world.specs.Worlds.{World}
 use Rattle.k_world.specs.WorldLaws.{IsSound, IsEarly}

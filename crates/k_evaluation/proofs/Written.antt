@@ -9,7 +9,7 @@ use Rattle.k_num.proofs.KindLaws.{remainder_below}
 use Rattle.k_optab.specs.declared.class.Class.{Class}
 use Rattle.k_optab.specs.declared.event.Event.{Event}
 use Rattle.k_optab.specs.Latencies.{latency}
-use Rattle.k_code.specs.declared.ending.Trap.{Trap}
+use Rattle.k_ending.specs.declared.ending.Trap.{Trap}
 use Rattle.k_mem.specs.declared.pointer.Pointer.{Pointer}
 use Rattle.k_mem.specs.declared.start.Start.{Start}
 use Rattle.k_mem.specs.Memory.{Memory}

@@ -1,3 +1,4 @@
+-- Believed with the theorem on the top call.
 -- The rows of assignments: `=`, the compound forms, `++` and `--` (C17 6.5.2.4, 6.5.3.1, 6.5.16).
 use Rattle.std.specs.Prelude.{Bool, true, false, if◌then◌else◌, pos, [], ◌∷◌, Option, Some, None}
 use Rattle.k_num.specs.declared.place.Place.{Place}
@@ -6,11 +7,11 @@ use Rattle.k_num.specs.declared.numbers.Bin.{Bin}
 use Rattle.k_num.specs.declared.numbers.Bin.TheVariants.{Shl, Shr}
 use Rattle.k_num.specs.Kind.{promoted}
 use Rattle.k_optab.specs.declared.class.Class.TheVariants as class
-use Rattle.k_typed.specs.declared.types.TType.{TType}
-use Rattle.k_typed.specs.declared.tree.expression.Change.{Change}
-use Rattle.k_typed.specs.declared.tree.expression.Change.TheVariants as change
-use Rattle.k_typed.specs.declared.tree.expression.Node.{Node}
-use Rattle.k_typed.specs.Types.{same_kind}
+use Rattle.k_types_meaning.specs.declared.types.TType.{TType}
+use Rattle.k_types_meaning.specs.declared.tree.expression.Change.{Change}
+use Rattle.k_types_meaning.specs.declared.tree.expression.Change.TheVariants as change
+use Rattle.k_types_meaning.specs.declared.tree.expression.Node.{Node}
+use Rattle.k_types_meaning.specs.Types.{same_kind}
 use Rattle.k_world.specs.declared.act.Act.TheVariants as act
 use Rattle.k_world.specs.declared.value.Value.TheVariants as value
 use Rattle.k_evaluation.specs.declared.operand.Operand.{Operand}

@@ -1,12 +1,13 @@
+-- Believed with the theorem on the top call.
 -- Calls: the call operation, the limits, the parameters, the function's block, and what the caller goes on with (C17 6.5.2.2, 6.9.1).
 use Rattle.std.specs.Prelude.{ℕ, zero, suc, ◌+◌, ◌*◌, nat_lt, nat_eq, Bool, true, false, if◌then◌else◌, pos, List, [], ◌∷◌, map, slice_get, Option, Some, None}
 use Rattle.k_num.specs.declared.place.Place.{Place}
 use Rattle.k_optab.specs.declared.class.Class.TheVariants as class
-use Rattle.k_code.specs.declared.ending.Trap.TheVariants.{StackOverflow, FallOff}
-use Rattle.k_typed.specs.declared.types.TType.{TType}
-use Rattle.k_typed.specs.declared.types.TType.TheVariants as ttype
-use Rattle.k_typed.specs.declared.tree.unit.TFunc.{TFunc}
-use Rattle.k_typed.specs.declared.tree.unit.TVariable.{TVariable}
+use Rattle.k_ending.specs.declared.ending.Trap.TheVariants.{StackOverflow, FallOff}
+use Rattle.k_types_meaning.specs.declared.types.TType.{TType}
+use Rattle.k_types_meaning.specs.declared.types.TType.TheVariants as ttype
+use Rattle.k_types_meaning.specs.declared.tree.unit.TFunc.{TFunc}
+use Rattle.k_types_meaning.specs.declared.tree.unit.TVariable.{TVariable}
 use Rattle.k_mem.specs.declared.start.Start.TheVariants.{Unset}
 use Rattle.k_world.specs.declared.act.Act.TheVariants as act
 use Rattle.k_world.specs.declared.value.Held.{Held}

@@ -1,11 +1,12 @@
+-- Believed with the theorem on the top call.
 -- *Evaluation* of expressions: what each means, by what its operands mean (C17 6.5). Each row of the table is a function of its own: see
 -- `Places`, `Operators`, `Assignments` and `Library`.
 use Rattle.std.specs.Prelude.{ℕ, List}
 use Rattle.k_num.specs.declared.place.Place.{Place}
-use Rattle.k_typed.specs.declared.tree.expression.Node.{Node}
-use Rattle.k_typed.specs.declared.tree.expression.TExpr.{TExpr, fold-TExpr}
-use Rattle.k_typed.specs.declared.tree.expression.TExpr.TheOpen.{TExpr-F}
-use Rattle.k_typed.specs.declared.tree.unit.TVariable.{TVariable}
+use Rattle.k_types_meaning.specs.declared.tree.expression.Node.{Node}
+use Rattle.k_types_meaning.specs.declared.tree.expression.TExpr.{TExpr, fold-TExpr}
+use Rattle.k_types_meaning.specs.declared.tree.expression.TExpr.TheOpen.{TExpr-F}
+use Rattle.k_types_meaning.specs.declared.tree.unit.TVariable.{TVariable}
 use Rattle.k_evaluation.specs.declared.operand.Operand.{Operand}
 use Rattle.k_evaluation.specs.States.{Program, Part, ◌>>=◌}
 use Rattle.k_evaluation.specs.Meanings.{Meaning, only_value, in_turn}

@@ -1,10 +1,11 @@
+-- Believed with the theorem on the top call.
 -- What a statement does, and how statements follow one another (C17 6.8).
 use Rattle.std.specs.Prelude.{ℕ, false, List, [], ◌∷◌, true}
 use Rattle.k_num.specs.declared.place.Place.{Place}
-use Rattle.k_typed.specs.declared.tree.expression.TExpr.{TExpr}
-use Rattle.k_typed.specs.declared.tree.unit.TVariable.{TVariable}
-use Rattle.k_evaluation.specs.declared.jumps.Jumps.{Jumps}
-use Rattle.k_evaluation.specs.Jumps.{no_jumps, jumps_of_both}
+use Rattle.k_types_meaning.specs.declared.tree.expression.TExpr.{TExpr}
+use Rattle.k_types_meaning.specs.declared.tree.unit.TVariable.{TVariable}
+use Rattle.k_marks_meaning.specs.declared.jumps.Jumps.{Jumps}
+use Rattle.k_marks_meaning.specs.Jumps.{no_jumps, jumps_of_both}
 use Rattle.k_world.specs.declared.value.Held.{Held}
 use Rattle.k_evaluation.specs.declared.flow.Flow.{Flow}
 use Rattle.k_evaluation.specs.declared.flow.Flow.TheVariants.{Normal, Broke, Continued, Returned}

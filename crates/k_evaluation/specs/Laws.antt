@@ -1,11 +1,12 @@
+-- Believed with a public law.
 -- What holds of every run.
 use Rattle.std.specs.Prelude.{ℕ, ◌≡◌, ◌≢◌, ◌+◌, ◌*◌, ◌≤◌, List, ◌++◌, length}
 use Rattle.k_optab.specs.declared.class.Class.{Class}
 use Rattle.k_optab.specs.Events.{operations, SourcesAreEarlier, total_latency}
 use Rattle.k_optab.specs.Instances.{Balanced}
 use Rattle.k_optab.specs.Latencies.{latency}
-use Rattle.k_code.specs.declared.ending.End.{End}
-use Rattle.k_code.specs.declared.ending.End.TheVariants.{Returned, Trapped, OutOfSteps}
+use Rattle.k_ending.specs.declared.ending.End.{End}
+use Rattle.k_ending.specs.declared.ending.End.TheVariants.{Returned, Trapped, OutOfSteps}
 use Rattle.k_world.specs.WorldLaws.{AreBytes}
 use Rattle.k_evaluation.specs.States.{Program}
 use Rattle.k_evaluation.specs.Runs.{Run, run}

@@ -3,7 +3,7 @@ pub mod Calls
 pub mod Declarations
 pub mod Expressions
 pub mod Flows
-pub mod Jumps
+pub mod JumpLaws
 pub mod Laws
 pub mod Library
 pub mod Loops

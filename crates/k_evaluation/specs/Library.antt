@@ -1,12 +1,13 @@
+-- Believed with the theorem on the top call.
 -- The rows of the library's functions (C17 7.21).
 use Rattle.std.specs.Prelude.{List, [], ◌∷◌, map}
 use Rattle.k_num.specs.declared.place.Place.{Place}
 use Rattle.k_optab.specs.declared.class.Class.TheVariants as class
-use Rattle.k_typed.specs.declared.tree.expression.Node.{Node}
-use Rattle.k_typed.specs.declared.tree.expression.Piece.{Piece}
-use Rattle.k_typed.specs.declared.tree.expression.Piece.TheVariants as piece
-use Rattle.k_typed.specs.declared.tree.expression.Written.{Written}
-use Rattle.k_typed.specs.declared.tree.expression.Written.TheVariants as written
+use Rattle.k_types_meaning.specs.declared.tree.expression.Node.{Node}
+use Rattle.k_types_meaning.specs.declared.tree.expression.Piece.{Piece}
+use Rattle.k_types_meaning.specs.declared.tree.expression.Piece.TheVariants as piece
+use Rattle.k_types_meaning.specs.declared.tree.expression.Written.{Written}
+use Rattle.k_types_meaning.specs.declared.tree.expression.Written.TheVariants as written
 use Rattle.k_world.specs.declared.act.Act.TheVariants as act
 use Rattle.k_world.specs.declared.act.Chunk.{Chunk}
 use Rattle.k_world.specs.declared.act.Chunk.TheVariants as chunk

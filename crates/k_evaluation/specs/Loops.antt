@@ -1,11 +1,12 @@
+-- Believed with the theorem on the top call.
 -- Loops, turn by turn, and the control source of each of their parts (C17 6.8.5).
 use Rattle.std.specs.Prelude.{ℕ, zero, suc, ◌+◌, ◌*◌, Bool, true, false, not, ◌&&◌, ◌||◌, if◌then◌else◌, pos, Option, Some, None, slice_get}
 use Rattle.k_num.specs.declared.place.Place.{Place}
-use Rattle.k_code.specs.declared.ending.End.TheVariants.{OutOfSteps}
-use Rattle.k_typed.specs.declared.tree.expression.TExpr.{TExpr}
-use Rattle.k_typed.specs.declared.tree.statement.Spot.{Spot}
-use Rattle.k_evaluation.specs.declared.jumps.Jumps.{Jumps}
-use Rattle.k_evaluation.specs.Jumps.{out_of_loop}
+use Rattle.k_ending.specs.declared.ending.End.TheVariants.{OutOfSteps}
+use Rattle.k_types_meaning.specs.declared.tree.expression.TExpr.{TExpr}
+use Rattle.k_types_meaning.specs.declared.tree.statement.Spot.{Spot}
+use Rattle.k_marks_meaning.specs.declared.jumps.Jumps.{Jumps}
+use Rattle.k_marks_meaning.specs.Jumps.{out_of_loop}
 use Rattle.k_world.specs.declared.value.Held.{Held}
 use Rattle.k_world.specs.declared.value.Value.TheVariants as value
 use Rattle.k_evaluation.specs.declared.operand.Operand.TheVariants.{Constant}

@@ -1,12 +1,13 @@
+-- Believed with the theorem on the top call.
 -- What an expression means: what it does, and what it gives as a value that is used or not, and as a place.
 use Rattle.std.specs.Prelude.{ℕ, Bool, true, false, not, pos, List, [], ◌∷◌, Option, Some, None}
 use Rattle.k_num.specs.declared.place.Place.{Place}
 use Rattle.k_num.specs.declared.numbers.Kind.{Kind}
 use Rattle.k_num.specs.Arithmetic.{is_zero}
 use Rattle.k_optab.specs.declared.class.Class.TheVariants as class
-use Rattle.k_typed.specs.declared.types.TType.{TType}
-use Rattle.k_typed.specs.declared.types.TType.TheVariants as ttype
-use Rattle.k_typed.specs.declared.tree.expression.Node.{Node}
+use Rattle.k_types_meaning.specs.declared.types.TType.{TType}
+use Rattle.k_types_meaning.specs.declared.types.TType.TheVariants as ttype
+use Rattle.k_types_meaning.specs.declared.tree.expression.Node.{Node}
 use Rattle.k_world.specs.declared.act.Act.TheVariants as act
 use Rattle.k_world.specs.declared.value.Held.{Held}
 use Rattle.k_world.specs.declared.value.Value.{Value}

@@ -1,9 +1,10 @@
+-- Believed with the theorem on the top call.
 -- The objects of a run: made at their declaration, set without operations, and dead where their block is left (C17 6.2.4).
 use Rattle.std.specs.Prelude.{ℕ, ◌+◌, false, if◌then◌else◌, ℤ, List, [], ◌∷◌, ◌++◌, length, map, Option, Some, None}
 use Rattle.std.specs.Int.{w8, cast_signed}
 use Rattle.k_num.specs.declared.place.Place.{Place}
-use Rattle.k_code.specs.declared.ending.End.TheVariants.{Trapped}
-use Rattle.k_code.specs.declared.ending.Trap.TheVariants.{MemoryLimit}
+use Rattle.k_ending.specs.declared.ending.End.TheVariants.{Trapped}
+use Rattle.k_ending.specs.declared.ending.Trap.TheVariants.{MemoryLimit}
 use Rattle.k_mem.specs.declared.start.Start.{Start}
 use Rattle.k_mem.specs.Memory.{Object, Memory, live_elements}
 use Rattle.k_mem.specs.Calls.{is_over_limit}

@@ -1,18 +1,19 @@
+-- Believed with the theorem on the top call.
 -- The rows of operators: conversions, arithmetic, comparisons, `&&`, `||`, `?:` and the comma (C17 6.5.3 to 6.5.17).
 use Rattle.std.specs.Prelude.{ℕ, Bool, true, false, if◌then◌else◌, [], ◌∷◌, Option, Some, None}
 use Rattle.k_num.specs.declared.place.Place.{Place}
 use Rattle.k_num.specs.declared.numbers.Kind.{Kind}
 use Rattle.k_num.specs.declared.numbers.Kind.TheVariants.{I32}
 use Rattle.k_num.specs.declared.numbers.Bin.{Bin}
-use Rattle.k_num.specs.declared.numbers.Bin.TheVariants.{Mul, Div, Rem, Ne}
+use Rattle.k_num.specs.declared.numbers.Bin.TheVariants.{Ne}
 use Rattle.k_num.specs.declared.numbers.Un.{Un}
-use Rattle.k_optab.specs.declared.class.Class.{Class}
 use Rattle.k_optab.specs.declared.class.Class.TheVariants as class
-use Rattle.k_typed.specs.declared.types.TType.{TType}
-use Rattle.k_typed.specs.declared.types.TType.TheVariants as ttype
-use Rattle.k_typed.specs.declared.tree.expression.Node.{Node}
+use Rattle.k_types_meaning.specs.declared.types.TType.{TType}
+use Rattle.k_types_meaning.specs.declared.types.TType.TheVariants as ttype
+use Rattle.k_types_meaning.specs.declared.tree.expression.Node.{Node}
 use Rattle.k_world.specs.declared.act.Act.TheVariants as act
 use Rattle.k_world.specs.declared.value.Held.{Held}
+pub use Rattle.k_world.specs.Classes.{class_of}
 use Rattle.k_evaluation.specs.declared.operand.Operand.{Operand}
 use Rattle.k_evaluation.specs.declared.operand.Operand.TheVariants.{Holding}
 use Rattle.k_evaluation.specs.States.{Program, Part, ◌>>=◌, gives, computes, settled}
@@ -48,13 +49,6 @@ cast_to program place (ttype.Pointer target) e used = e.value used
 -- CAST (C17 6.5.4)
 unfoldable pub cast : Program → Node → Meaning → Meaning
 cast program node e = only_value node (cast_to program node.place node.of e)
-
--- the class of a binary operation
-abbrev pub class_of : Bin → Class
-class_of Mul = class.Mul
-class_of Div = class.Div
-class_of Rem = class.Div
-class_of op = class.Simple
 
 -- the operation of a binary operator on numbers
 abbrev pub binary_on : Program → Place → Bin → Kind → Operand → Operand → Part Operand

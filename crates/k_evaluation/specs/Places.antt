@@ -1,9 +1,10 @@
+-- Believed with the theorem on the top call.
 -- The rows of constants and places: numbers, strings, variables, elements and addresses (C17 6.5.1, 6.5.2.1, 6.5.3.2).
 use Rattle.std.specs.Prelude.{ℕ, ◌+◌, nat_eq, Bool, true, false, ℤ, List, [], ◌∷◌, length, slice_get, Option, Some, None}
 use Rattle.k_num.specs.declared.place.Place.{Place}
 use Rattle.k_optab.specs.declared.class.Class.TheVariants as class
-use Rattle.k_typed.specs.declared.tree.expression.Node.{Node}
-use Rattle.k_typed.specs.declared.tree.unit.TVariable.{TVariable}
+use Rattle.k_types_meaning.specs.declared.tree.expression.Node.{Node}
+use Rattle.k_types_meaning.specs.declared.tree.unit.TVariable.{TVariable}
 use Rattle.k_world.specs.declared.act.Act.TheVariants as act
 use Rattle.k_world.specs.declared.value.Held.{Held}
 use Rattle.k_world.specs.declared.value.Value.TheVariants as value

@@ -1,13 +1,15 @@
+-- Believed with the theorem on the top call.
 -- *Run*: a program's start, main and its end (C17 5.1.2.2).
 use Rattle.std.specs.Prelude.{ℕ, ℤ, pos, List, [], ◌∷◌, slice_get, Option, Some, None}
 use Rattle.k_num.specs.declared.numbers.Kind.TheVariants.{I32}
 use Rattle.k_num.specs.Kind.{converted}
 use Rattle.k_optab.specs.declared.event.Event.{Event}
-use Rattle.k_code.specs.declared.ending.End.{End}
-use Rattle.k_code.specs.declared.ending.End.TheVariants.{Returned}
-use Rattle.k_typed.specs.declared.tree.unit.TFunc.{TFunc}
-use Rattle.k_typed.specs.declared.tree.unit.TObject.{TObject}
-use Rattle.k_typed.specs.declared.tree.unit.TString.{TString}
+use Rattle.k_ending.specs.declared.ending.End.{End}
+use Rattle.k_ending.specs.declared.ending.End.TheVariants.{Returned}
+use Rattle.k_ending.specs.declared.listing.Listing.{Listing}
+use Rattle.k_types_meaning.specs.declared.tree.unit.TFunc.{TFunc}
+use Rattle.k_types_meaning.specs.declared.tree.unit.TObject.{TObject}
+use Rattle.k_types_meaning.specs.declared.tree.unit.TString.{TString}
 use Rattle.k_mem.specs.declared.start.Start.TheVariants.{Zero}
 use Rattle.k_world.specs.declared.value.Held.{Held}
 use Rattle.k_world.specs.declared.value.Value.{Value}
@@ -57,6 +59,10 @@ pub record Run : Type 0 where
   pub events : List Event
   pub output : List ℕ
   pub end : End
+
+-- what a run leaves, as its listing
+abbrev pub listing_of : Run → Listing
+listing_of r = record { events = r.events; output = r.output; end = r.end }
 
 -- a run, by how main ended
 abbrev pub ended : Outcome (Option Held) → Run

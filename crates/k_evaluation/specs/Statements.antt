@@ -1,16 +1,17 @@
+-- Believed with the theorem on the top call.
 -- *Evaluation* of statements: what each does, by what the statements in it do, and the jumps that lead out of it (C17 6.8). Loops, switches
 -- and declarations stand in files of their own.
 use Rattle.std.specs.Prelude.{ℕ, true, if◌then◌else◌, List, [], ◌∷◌, Option, Some, None}
 use Rattle.k_num.specs.declared.place.Place.{Place}
 use Rattle.k_optab.specs.declared.class.Class.TheVariants as class
-use Rattle.k_typed.specs.declared.tree.declaration.TDeclarator.{TDeclarator}
-use Rattle.k_typed.specs.declared.tree.expression.TExpr.{TExpr}
-use Rattle.k_typed.specs.declared.tree.statement.Spot.{Spot}
-use Rattle.k_typed.specs.declared.tree.statement.TFirst.{TFirst}
-use Rattle.k_typed.specs.declared.tree.statement.TStmt.{TStmt, fold-TStmt}
-use Rattle.k_typed.specs.declared.tree.statement.TPart.TheOpen.{TPart-F, TStmt-F}
-use Rattle.k_evaluation.specs.declared.jumps.Jumps.{Jumps}
-use Rattle.k_evaluation.specs.Jumps.{no_jumps, a_break, a_continue, a_return, jumps_of_both, out_of_loop, is_left}
+use Rattle.k_types_meaning.specs.declared.tree.declaration.TDeclarator.{TDeclarator}
+use Rattle.k_types_meaning.specs.declared.tree.expression.TExpr.{TExpr}
+use Rattle.k_types_meaning.specs.declared.tree.statement.Spot.{Spot}
+use Rattle.k_types_meaning.specs.declared.tree.statement.TFirst.{TFirst}
+use Rattle.k_types_meaning.specs.declared.tree.statement.TStmt.{TStmt, fold-TStmt}
+use Rattle.k_types_meaning.specs.declared.tree.statement.TPart.TheOpen.{TPart-F, TStmt-F}
+use Rattle.k_marks_meaning.specs.declared.jumps.Jumps.{Jumps}
+use Rattle.k_marks_meaning.specs.Jumps.{no_jumps, a_break, a_continue, a_return, jumps_of_both, out_of_loop, is_left}
 use Rattle.k_world.specs.declared.act.Act.TheVariants as act
 use Rattle.k_world.specs.declared.value.Held.{Held}
 use Rattle.k_evaluation.specs.declared.operand.Operand.{Operand}
@@ -82,13 +83,13 @@ abbrev pub returns_moved : Program → Place → Operand → Part Flow
 returns_moved program place a = makes program class.Move place act.Move (a ∷ []) >>= λ held. gives (Returned (Some held))
 
 -- a returned value, if there is one
-abbrev pub returned : Within → Place → Option TExpr → Part Flow
-returned w place None = gives (Returned None)
-returned w place (Some e) = (means w e).value true >>= returns_moved w.program place
+abbrev pub returns_value : Within → Place → Option TExpr → Part Flow
+returns_value w place None = gives (Returned None)
+returns_value w place (Some e) = (means w e).value true >>= returns_moved w.program place
 
 -- `return e;`, `return;` (C17 6.8.6.4)
 unfoldable pub return : Within → Spot → Option TExpr → Doing
-return w spot value = record { does = returned w spot.place value; jumps = a_return }
+return w spot value = record { does = returns_value w spot.place value; jumps = a_return }
 
 -- a declaration (C17 6.7)
 unfoldable pub declaration : Within → List TDeclarator → Doing

@@ -1,3 +1,4 @@
+-- Believed with the theorem on the top call.
 -- The state of an evaluation and its parts: how they follow one another, and how an operation is one.
 use Rattle.std.specs.Prelude.{ℕ, Bool, true, false, List, [], ◌∷◌, ◌++◌, map, slice_get, slice_set, Option, Some, None}
 use Rattle.k_num.specs.declared.place.Place.{Place}
@@ -5,11 +6,11 @@ use Rattle.k_optab.specs.declared.class.Class.{Class}
 use Rattle.k_optab.specs.declared.event.Event.{Event}
 use Rattle.k_optab.specs.declared.event.Event.TheVariants as event
 use Rattle.k_optab.specs.Latencies.{latency}
-use Rattle.k_code.specs.declared.ending.End.{End}
-use Rattle.k_code.specs.declared.ending.End.TheVariants.{Trapped}
-use Rattle.k_code.specs.declared.ending.Trap.{Trap}
-use Rattle.k_typed.specs.declared.tree.unit.TUnit.{TUnit}
-use Rattle.k_marks.specs.declared.Marks.{Marks}
+use Rattle.k_ending.specs.declared.ending.End.{End}
+use Rattle.k_ending.specs.declared.ending.End.TheVariants.{Trapped}
+use Rattle.k_ending.specs.declared.ending.Trap.{Trap}
+use Rattle.k_types_meaning.specs.declared.tree.unit.TUnit.{TUnit}
+use Rattle.k_marks_meaning.specs.declared.Marks.{Marks}
 use Rattle.k_world.specs.declared.act.Act.{Act}
 use Rattle.k_world.specs.declared.value.Held.{Held}
 use Rattle.k_world.specs.declared.value.Read.{Read}

@@ -1,12 +1,13 @@
+-- Believed with the theorem on the top call.
 -- `switch`: which of its statements run, and the control source of each part (C17 6.8.4.2).
 use Rattle.std.specs.Prelude.{Bool, true, false, if◌then◌else◌, ℤ, List, [], ◌∷◌}
 use Rattle.k_num.specs.declared.numbers.Bin.TheVariants.{Eq}
 use Rattle.k_num.specs.declared.numbers.Kind.{Kind}
 use Rattle.k_num.specs.declared.place.Place.{Place}
 use Rattle.k_optab.specs.declared.class.Class.TheVariants as class
-use Rattle.k_typed.specs.declared.tree.expression.TExpr.{TExpr}
-use Rattle.k_evaluation.specs.declared.jumps.Jumps.{Jumps}
-use Rattle.k_evaluation.specs.Jumps.{out_of_switch, is_left}
+use Rattle.k_types_meaning.specs.declared.tree.expression.TExpr.{TExpr}
+use Rattle.k_marks_meaning.specs.declared.jumps.Jumps.{Jumps}
+use Rattle.k_marks_meaning.specs.Jumps.{out_of_switch, is_left}
 use Rattle.k_world.specs.declared.act.Act.TheVariants as act
 use Rattle.k_world.specs.declared.value.Held.{Held}
 use Rattle.k_world.specs.declared.value.Value.TheVariants as value

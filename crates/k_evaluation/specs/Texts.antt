@@ -1,21 +1,22 @@
+-- Believed with a public law.
 -- The texts that a program may write: those of its strings and formats, as one list of bytes in text order.
 use Rattle.std.specs.Prelude.{ℕ, List, [], ◌∷◌, ◌++◌, map, Option, Some, None}
-use Rattle.k_typed.specs.declared.tree.declaration.TDeclarator.{TDeclarator}
-use Rattle.k_typed.specs.declared.tree.declaration.TInit.{TInit}
-use Rattle.k_typed.specs.declared.tree.declaration.TInit.TheVariants as init
-use Rattle.k_typed.specs.declared.tree.declaration.TItem.{TItem}
-use Rattle.k_typed.specs.declared.tree.declaration.TItem.TheVariants as item
-use Rattle.k_typed.specs.declared.tree.expression.Piece.{Piece}
-use Rattle.k_typed.specs.declared.tree.expression.Piece.TheVariants as piece
-use Rattle.k_typed.specs.declared.tree.expression.TExpr.{TExpr, fold-TExpr}
-use Rattle.k_typed.specs.declared.tree.expression.TExpr.TheOpen.{TExpr-F}
-use Rattle.k_typed.specs.declared.tree.statement.TFirst.{TFirst}
-use Rattle.k_typed.specs.declared.tree.statement.TFirst.TheVariants as first
-use Rattle.k_typed.specs.declared.tree.statement.TPart.{TPart, fold-TPart}
-use Rattle.k_typed.specs.declared.tree.statement.TPart.TheOpen.{TPart-F, TStmt-F}
-use Rattle.k_typed.specs.declared.tree.statement.TStmt.{TStmt, fold-TStmt}
-use Rattle.k_typed.specs.declared.tree.unit.TFunc.{TFunc}
-use Rattle.k_typed.specs.declared.tree.unit.TUnit.{TUnit}
+use Rattle.k_types_meaning.specs.declared.tree.declaration.TDeclarator.{TDeclarator}
+use Rattle.k_types_meaning.specs.declared.tree.declaration.TInit.{TInit}
+use Rattle.k_types_meaning.specs.declared.tree.declaration.TInit.TheVariants as init
+use Rattle.k_types_meaning.specs.declared.tree.declaration.TItem.{TItem}
+use Rattle.k_types_meaning.specs.declared.tree.declaration.TItem.TheVariants as item
+use Rattle.k_types_meaning.specs.declared.tree.expression.Piece.{Piece}
+use Rattle.k_types_meaning.specs.declared.tree.expression.Piece.TheVariants as piece
+use Rattle.k_types_meaning.specs.declared.tree.expression.TExpr.{TExpr, fold-TExpr}
+use Rattle.k_types_meaning.specs.declared.tree.expression.TExpr.TheOpen.{TExpr-F}
+use Rattle.k_types_meaning.specs.declared.tree.statement.TFirst.{TFirst}
+use Rattle.k_types_meaning.specs.declared.tree.statement.TFirst.TheVariants as first
+use Rattle.k_types_meaning.specs.declared.tree.statement.TPart.{TPart, fold-TPart}
+use Rattle.k_types_meaning.specs.declared.tree.statement.TPart.TheOpen.{TPart-F, TStmt-F}
+use Rattle.k_types_meaning.specs.declared.tree.statement.TStmt.{TStmt, fold-TStmt}
+use Rattle.k_types_meaning.specs.declared.tree.unit.TFunc.{TFunc}
+use Rattle.k_types_meaning.specs.declared.tree.unit.TUnit.{TUnit}
 
 -- several texts, one behind another
 abbrev pub joined : List (List ℕ) → List ℕ

@@ -1,4 +1,5 @@
 //! What holds of every run: each function's contract is a law, and its body does nothing.
+ghost use Rattle.k_evaluation.specs.JumpLaws.{StatementsAreListed};
 ghost use Rattle.k_evaluation.specs.Laws.{CutRunsBegin, EndedRunsStay, ReturnedRunsAreBalanced, RunsHaveEarlierSources, RunsKeepTheBudget, RunsTakeBoundedTime, RunsWriteBytes};
 
 /// Each source of each operation of a run is an earlier operation.
@@ -26,4 +27,9 @@ pub fn the_budget_only_cuts()
 /// Where the texts of its program are bytes, so is what a run writes.
 pub fn output_is_bytes()
     ensures { RunsWriteBytes }
+{}
+
+/// *Marks* lists each statement with the jumps that *Evaluation* finds in it.
+pub fn statements_are_listed()
+    ensures { StatementsAreListed }
 {}

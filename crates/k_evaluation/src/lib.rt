@@ -3,10 +3,8 @@
 #![tactic(auto)]
 
 mod flow;
-mod jumps;
 pub mod laws;
 mod operand;
 
 pub use flow::Flow;
-pub use jumps::Jumps;
 pub use operand::{Operand, Target};

@@ -1,3 +1,4 @@
+-- Believed with the theorem on the top call.
 -- *Draws*: a row of numbers that follows from its first.
 use Rattle.std.specs.Prelude.{ℕ, zero, suc, ◌+◌, ◌*◌, ◌/◌, ◌%◌, ◌^◌}
 

@@ -1,3 +1,4 @@
+-- Believed with the theorem on the top call.
 -- *Generated text*: a program of so many loops, made from a number.
 use Rattle.std.specs.Prelude.{ℕ, zero, suc, ◌+◌, ◌*◌, ◌%◌, ◌==◌, ◌++◌, if◌then◌else◌, List, [], codes, decimal}
 use Rattle.k_gen.specs.Draw.{draw}

@@ -1,3 +1,4 @@
+-- For contracts between crates: nobody has to believe it.
 -- What is kept of each operation of an interval, and how a path is read off it.
 use Rattle.std.specs.Prelude.{ℕ, ◌≡◌, ◌+◌, ◌-◌, ◌^◌, ◌<◌, ◌≤◌, ◌==◌, min, List, [], ◌∷◌, ◌++◌, length, Option, Some, None, slice_get, slice_index, nat_lt, if◌then◌else◌}
 use Rattle.k_optab.specs.declared.event.Src.{Src}

@@ -1,3 +1,4 @@
+-- Believed with the theorem on the top call.
 -- One heaviest path of all: which of them is chosen.
 use Rattle.std.specs.Prelude.{ℕ, ◌≡◌, ◌+◌, ◌<◌, ◌≤◌, ◌⊎◌, max, List, [], ◌∷◌, ◌++◌, length, Option, Some, None, slice_get}
 use Rattle.k_optab.specs.declared.event.Src.{Src}

@@ -1,3 +1,4 @@
+-- For contracts between crates: nobody has to believe it.
 -- An open instance that is tracked: what one operation more makes of it, and what it is once it is closed.
 use Rattle.std.specs.Prelude.{ℕ, ◌+◌, ◌^◌, ◌<◌, max, List, [], ◌∷◌, ◌++◌, length}
 use Rattle.k_optab.specs.declared.event.Src.{Src}

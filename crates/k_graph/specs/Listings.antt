@@ -1,3 +1,4 @@
+-- Believed with the theorem on the top call.
 -- What is listed of a run's instances.
 use Rattle.std.specs.Prelude.{ℕ, ◌≡◌, ◌<◌, ◌==◌, Bool, false, List, Option, None, Some, filter, map, slice_get, All, AllPairs}
 use Rattle.k_optab.specs.declared.event.Event.{Event}

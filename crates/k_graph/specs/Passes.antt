@@ -1,3 +1,4 @@
+-- For contracts between crates: nobody has to believe it.
 -- Where a pass over the events stands, and what each event makes of it.
 use Rattle.std.specs.Prelude.{ℕ, ◌+◌, ◌-◌, ◌^◌, ◌<◌, ◌==◌, List, [], ◌∷◌, ◌++◌, map, All, nat_lt, if◌then◌else◌}
 use Rattle.k_optab.specs.declared.event.Event.{Event}

@@ -1,3 +1,4 @@
+-- For contracts between crates: nobody has to believe it.
 -- The time of a source, by the times of the operations of an interval so far.
 use Rattle.std.specs.Prelude.{ℕ, ◌-◌, List, slice_index, nat_lt, if◌then◌else◌}
 

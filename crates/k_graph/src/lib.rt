@@ -14,6 +14,3 @@ mod tree;
 pub use chain::{heaviest, heaviest_from, place_of};
 pub use listing::instances;
 pub use tree::{Instance, Tree};
-
-#[cfg(test)]
-mod tests;

@@ -4,12 +4,12 @@ use Rattle.std.specs.Prelude.{IsOk}
 use Rattle.std.proofs.lemmas.Bool.{false≢true}
 use Rattle.std.proofs.lemmas.List.{take-append-drop, append-nil}
 use Rattle.k_num.specs.declared.place.Place.{Place}
-use Rattle.k_lex.specs.declared.fault.Fault.{Fault}
-use Rattle.k_lex.specs.Bytes.{after}
+use Rattle.k_lex_pieces.specs.declared.fault.Fault.{Fault}
+use Rattle.k_lex_pieces.specs.Bytes.{after}
 use Rattle.k_lex.specs.Lines.{State}
 use Rattle.k_lex.specs.Tokens.{piece_in, turn, run}
 use Rattle.k_lex.specs.Cuts.{Cut, cut, cuts, joined_pieces}
-use Rattle.k_lex.specs.Outcome.{◌>>=◌}
+use Rattle.k_lex_pieces.specs.Outcome.{◌>>=◌}
 use Rattle.k_lex.proofs.RunLaws.{piece_in_within}
 
 behind_first : (n : ℕ) (b : ℕ) (bs : List ℕ) → 1 ≤ n → take n (b ∷ bs) ++ drop (n - 1) bs ≡ b ∷ bs

@@ -2,8 +2,8 @@
 use Rattle.std.proofs.Common.{◌≡◌, Bool, true, false, if◌then◌else◌, List, [], ◌∷◌, ◌++◌, Result, Ok, Err, refl}
 use Rattle.std.specs.Prelude.{IfOk}
 use Rattle.k_tree.specs.declared.tokens.Token.{Token}
-use Rattle.k_lex.specs.declared.fault.Fault.{Fault}
-use Rattle.k_lex.specs.Outcome.{◌>>=◌}
+use Rattle.k_lex_pieces.specs.declared.fault.Fault.{Fault}
+use Rattle.k_lex_pieces.specs.Outcome.{◌>>=◌}
 use Rattle.k_lex.specs.Tokens.{answer}
 
 -- P holds of each item

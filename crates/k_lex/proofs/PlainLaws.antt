@@ -6,25 +6,25 @@ use Rattle.k_num.specs.declared.place.Place.{Place}
 use Rattle.k_tree.specs.declared.tokens.Token.{Token}
 use Rattle.k_tree.specs.declared.tokens.TokenKind.{TokenKind}
 use Rattle.k_tree.specs.declared.tokens.TokenKind.TheVariants as t
-use Rattle.k_lex.specs.declared.fault.Fault.{Fault}
-use Rattle.k_lex.specs.declared.fault.Refusal.{Refusal}
-use Rattle.k_lex.specs.declared.fault.Refusal.TheVariants as r
-use Rattle.k_lex.specs.declared.pieces.Piece.{Piece}
-use Rattle.k_lex.specs.declared.pieces.Piece.TheVariants as p
+use Rattle.k_lex_pieces.specs.declared.fault.Fault.{Fault}
+use Rattle.k_lex_pieces.specs.declared.fault.Refusal.{Refusal}
+use Rattle.k_lex_pieces.specs.declared.fault.Refusal.TheVariants as r
+use Rattle.k_lex_pieces.specs.declared.pieces.Piece.{Piece}
+use Rattle.k_lex_pieces.specs.declared.pieces.Piece.TheVariants as p
 use Rattle.k_lex.specs.declared.lines.Mode.{Mode}
 use Rattle.k_lex.specs.declared.lines.Mode.TheVariants as m
 use Rattle.k_lex.specs.declared.lines.Limits.{Limits}
-use Rattle.k_lex.specs.declared.macros.Lexeme.{Lexeme}
-use Rattle.k_lex.specs.Bytes.{same, after, behind}
-use Rattle.k_lex.specs.Pieces.{class_of, piece_by}
-use Rattle.k_lex.specs.Macros.{Macro, lexeme, full_or, fulls, used, replaced}
+use Rattle.k_lex_macros.specs.declared.macros.Lexeme.{Lexeme}
+use Rattle.k_lex_pieces.specs.Bytes.{same, after, behind}
+use Rattle.k_lex_pieces.specs.Pieces.{class_of, piece_by}
+use Rattle.k_lex_macros.specs.Macros.{Macro, lexeme, full_or, fulls, used, replaced}
 use Rattle.k_lex.specs.Lines
 use Rattle.k_lex.specs.Lines.{State, token_of, token_in_text, in_text, add, has_room, is_literal, step, step_in}
-use Rattle.k_lex.specs.Outcome.{◌>>=◌, refused}
+use Rattle.k_lex_pieces.specs.Outcome.{◌>>=◌, refused}
 use Rattle.k_lex.specs.Tokens.{piece_in, turn, run, joined, first_place, nothing_read, answer, fault_of, limits}
 use Rattle.k_lex.specs.Cuts.{Cut}
 use Rattle.k_lex.specs.Laws.{tokens_of, pieces_from, with_end, IsLimit, has_no_hash, SourceIsItsPieces}
-use Rattle.k_lex.proofs.PieceLaws.{piece_length}
+use Rattle.k_lex_pieces.proofs.PieceLaws.{piece_length}
 
 -- ---- what a run gives, and what it should
 

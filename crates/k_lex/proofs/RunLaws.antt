@@ -3,21 +3,21 @@ use Rattle.std.proofs.Common.{◌≡◌, ℕ, zero, suc, ◌-◌, ◌<◌, ◌�
 use Rattle.std.proofs.lemmas.Bool.{cases_Bool}
 use Rattle.k_num.specs.declared.place.Place.{Place}
 use Rattle.k_tree.specs.declared.tokens.mark.Mark.{Mark}
-use Rattle.k_lex.specs.declared.fault.Fault.{Fault}
-use Rattle.k_lex.specs.declared.pieces.Piece.{Piece}
-use Rattle.k_lex.specs.declared.pieces.Piece.TheVariants as p
+use Rattle.k_lex_pieces.specs.declared.fault.Fault.{Fault}
+use Rattle.k_lex_pieces.specs.declared.pieces.Piece.{Piece}
+use Rattle.k_lex_pieces.specs.declared.pieces.Piece.TheVariants as p
 use Rattle.k_lex.specs.declared.lines.Mode.{Mode}
 use Rattle.k_lex.specs.declared.lines.Mode.TheVariants as m
-use Rattle.k_lex.specs.Bytes.{after, behind, begins, same}
-use Rattle.k_lex.specs.Marks.{mark_of}
-use Rattle.k_lex.specs.Pieces
-use Rattle.k_lex.specs.Pieces.{piece_by, piece_of_length, longest, class_of, class_in_pragma, class_in_include, is_known, is_name}
+use Rattle.k_lex_pieces.specs.Bytes.{after, behind, begins, same}
+use Rattle.k_lex_pieces.specs.Marks.{mark_of}
+use Rattle.k_lex_pieces.specs.Pieces
+use Rattle.k_lex_pieces.specs.Pieces.{piece_by, piece_of_length, longest, class_of, class_in_pragma, class_in_include, is_known, is_name}
 use Rattle.k_lex.specs.Lines.{State, step}
 use Rattle.k_lex.specs.Tokens.{run, turn, piece_in}
-use Rattle.k_lex.specs.Outcome.{◌>>=◌, Fails}
-use Rattle.k_lex.specs.declared.fault.Stop.{Stop}
-use Rattle.k_lex.specs.declared.fault.Stop.TheVariants as stop
-use Rattle.k_lex.proofs.PieceLaws.{piece_length}
+use Rattle.k_lex_pieces.specs.Outcome.{◌>>=◌, Fails}
+use Rattle.k_lex_pieces.specs.declared.fault.Stop.{Stop}
+use Rattle.k_lex_pieces.specs.declared.fault.Stop.TheVariants as stop
+use Rattle.k_lex_pieces.proofs.PieceLaws.{piece_length}
 use Rattle.std.specs.Prelude.{Option, Some, None}
 
 -- ---- a piece that is a name is spelled as one

@@ -12,26 +12,26 @@ use Rattle.k_tree.specs.declared.tokens.TokenKind.{TokenKind}
 use Rattle.k_tree.specs.declared.tokens.TokenKind.TheVariants as t
 use Rattle.k_tree.specs.declared.tokens.word.Word.{Word}
 use Rattle.k_num.specs.declared.numbers.Kind.{Kind}
-use Rattle.k_lex.specs.declared.fault.Fault.{Fault}
-use Rattle.k_lex.specs.declared.fault.Refusal.TheVariants as r
-use Rattle.k_lex.specs.declared.pieces.Piece.{Piece}
-use Rattle.k_lex.specs.declared.pieces.Piece.TheVariants as p
+use Rattle.k_lex_pieces.specs.declared.fault.Fault.{Fault}
+use Rattle.k_lex_pieces.specs.declared.fault.Refusal.TheVariants as r
+use Rattle.k_lex_pieces.specs.declared.pieces.Piece.{Piece}
+use Rattle.k_lex_pieces.specs.declared.pieces.Piece.TheVariants as p
 use Rattle.k_lex.specs.declared.lines.Mode.{Mode}
 use Rattle.k_lex.specs.declared.lines.Mode.TheVariants as m
-use Rattle.k_lex.specs.declared.macros.Lexeme.{Lexeme}
-use Rattle.k_lex.specs.declared.headers.Header.{Header}
-use Rattle.k_lex.specs.Bytes.{same, begins, after, behind}
-use Rattle.k_lex.specs.Words.{word_of}
-use Rattle.k_lex.specs.Numbers.{number_of}
-use Rattle.k_lex.specs.Literals.{content, inside, character_of}
-use Rattle.k_lex.specs.Macros.{Macro, lexeme, find, find_from, full_or, fulls, used, replaced, is_named, mentions, body_at, stands_at, header_macros, breaks_order, changes, included, sizes}
+use Rattle.k_lex_macros.specs.declared.macros.Lexeme.{Lexeme}
+use Rattle.k_lex_macros.specs.declared.headers.Header.{Header}
+use Rattle.k_lex_pieces.specs.Bytes.{same, begins, after, behind}
+use Rattle.k_lex_pieces.specs.Words.{word_of}
+use Rattle.k_lex_pieces.specs.Numbers.{number_of}
+use Rattle.k_lex_pieces.specs.Literals.{content, inside, character_of}
+use Rattle.k_lex_macros.specs.Macros.{Macro, lexeme, find, find_from, full_or, fulls, used, replaced, is_named, mentions, body_at, stands_at, header_macros, breaks_order, changes, included, sizes, placed}
 use Rattle.k_lex.specs.Lines
 use Rattle.k_lex.specs.Lines.{State, token_of, step_in}
-use Rattle.k_lex.specs.Outcome.{◌>>=◌, refused}
+use Rattle.k_lex_pieces.specs.Outcome.{◌>>=◌, refused}
 use Rattle.k_lex.specs.Tokens.{piece_in, turn, run, joined, first_place, nothing_read, tokens_within, limits}
 use Rattle.k_lex.specs.Cuts.{Cut, cut, cuts}
 use Rattle.k_lex.specs.Laws.{Line, Fresh, Text, Directive, begun, line_behind, is_text, is_directive, pieces_of, header_names, names_in, names_of, is_among, is_in_directive, IsToken, Gives, Come, with_end, TokensComeOfText}
-use Rattle.k_lex.proofs.Tables.{same_true, same_refl}
+use Rattle.k_lex_pieces.proofs.Tables.{same_true, same_refl}
 use Rattle.k_lex.proofs.Outcomes.{Each, each_one_more, either_way, cond_ok, bind_ok, bind_any, bind_equal, answered}
 
 -- ---- names that may be macros
@@ -110,14 +110,14 @@ replaced_unused table x e = ap (full_or (fulls table) x) e
 
 -- the tokens at the place of a use
 abbrev group_of : Place → List ℕ → State → TokenKind → List Token
-group_of place s old what = map (Lines.placed place) (replaced old.macros (lexeme what (length s)))
+group_of place s old what = map (placed place) (replaced old.macros (lexeme what (length s)))
 
-all_placed : (place : Place) (xs : List Lexeme) → All (λ token. token.place ≡ place) (map (Lines.placed place) xs)
+all_placed : (place : Place) (xs : List Lexeme) → All (λ token. token.place ≡ place) (map (placed place) xs)
 all_placed place [] = All-nil (λ (token : Token). token.place ≡ place)
-all_placed place (x ∷ xs) = All-cons (λ (token : Token). token.place ≡ place) (Lines.placed place x) (map (Lines.placed place) xs) refl (all_placed place xs)
+all_placed place (x ∷ xs) = All-cons (λ (token : Token). token.place ≡ place) (placed place x) (map (placed place) xs) refl (all_placed place xs)
 
 itself : (place : Place) (s : List ℕ) (piece : Piece) (old : State) (what : TokenKind) → token_of place s piece ≡ Ok what → used old.macros what ≡ None → IsToken piece place s (group_of place s old what)
-itself place s piece old what given unused = (what, (given, ap (map (Lines.placed place)) (replaced_unused old.macros (lexeme what (length s)) unused)))
+itself place s piece old what given unused = (what, (given, ap (map (placed place)) (replaced_unused old.macros (lexeme what (length s)) unused)))
 
 -- a name that is unknown is no macro
 name_unused : (known : List ℕ → Bool) (table : List Macro) (s : List ℕ) (word : Option Word) → HasKnown known table → known s ≡ false → used table (Lines.name_token s word) ≡ None
@@ -177,9 +177,9 @@ add_does : (known : List ℕ → Bool) (place : Place) (s : List ℕ) (piece : P
     → IfOk (Lines.add place (replaced old.macros (lexeme what (length s))) old) (Does known Text piece place s old)
 add_does known place s piece old what knows solid given =
     let xs = replaced old.macros (lexeme what (length s)) in
-    let added : State = record old { mode = m.Middle; tokens = old.tokens ++ map (Lines.placed place) xs; spelled = old.spelled + sizes xs } in
+    let added : State = record old { mode = m.Middle; tokens = old.tokens ++ map (placed place) xs; spelled = old.spelled + sizes xs } in
     cond_ok (Does known Text piece place s old) (Lines.has_room old (length xs) (sizes xs)) (Ok added) (refused r.TokensMany place)
-    (refl, (knows, tt), (map (Lines.placed place) xs, (refl, gives known place s piece old what knows solid given))) tt
+    (refl, (knows, tt), (map (placed place) xs, (refl, gives known place s piece old what knows solid given))) tt
 
 token_in_text_does : (known : List ℕ → Bool) (place : Place) (s : List ℕ) (piece : Piece) (old : State) → HasKnown known old.macros → IsSolid piece → IfOk (Lines.token_in_text place s piece old) (Does known Text piece place s old)
 token_in_text_does known place s piece old knows solid =

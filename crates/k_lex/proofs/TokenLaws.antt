@@ -17,27 +17,27 @@ use Rattle.k_tree.specs.declared.tokens.Token.{Token}
 use Rattle.k_tree.specs.declared.tokens.TokenKind.{TokenKind}
 use Rattle.k_tree.specs.declared.tokens.TokenKind.TheVariants as t
 use Rattle.k_tree.specs.declared.tokens.word.Word.{Word}
-use Rattle.k_lex.specs.declared.fault.Fault.{Fault}
-use Rattle.k_lex.specs.declared.fault.Refusal.TheVariants as r
-use Rattle.k_lex.specs.declared.pieces.Piece.{Piece}
-use Rattle.k_lex.specs.declared.pieces.Piece.TheVariants as p
+use Rattle.k_lex_pieces.specs.declared.fault.Fault.{Fault}
+use Rattle.k_lex_pieces.specs.declared.fault.Refusal.TheVariants as r
+use Rattle.k_lex_pieces.specs.declared.pieces.Piece.{Piece}
+use Rattle.k_lex_pieces.specs.declared.pieces.Piece.TheVariants as p
 use Rattle.k_lex.specs.declared.lines.Mode.{Mode}
 use Rattle.k_lex.specs.declared.lines.Mode.TheVariants as m
-use Rattle.k_lex.specs.declared.macros.Lexeme.{Lexeme}
-use Rattle.k_lex.specs.declared.headers.Header.{Header}
-use Rattle.k_lex.specs.declared.headers.Header.TheVariants as h
-use Rattle.k_lex.specs.Bytes.{is_digit, is_octal, is_hexadecimal, span, look_up, same, begins, after}
-use Rattle.k_lex.specs.Words.{word_of}
-use Rattle.k_lex.specs.Numbers
-use Rattle.k_lex.specs.Numbers.{number_of}
-use Rattle.k_lex.specs.Marks.{mark_of}
-use Rattle.k_lex.specs.Pieces.{class_in_include, class_in_pragma, class_of, is_blank_piece, is_character, is_comment, is_header, is_known, is_name, is_number, is_string, item_length, longest, mark_piece, piece_by, piece_of_length}
+use Rattle.k_lex_macros.specs.declared.macros.Lexeme.{Lexeme}
+use Rattle.k_lex_macros.specs.declared.headers.Header.{Header}
+use Rattle.k_lex_macros.specs.declared.headers.Header.TheVariants as h
+use Rattle.k_lex_pieces.specs.Bytes.{is_digit, is_octal, is_hexadecimal, span, look_up, same, begins, after}
+use Rattle.k_lex_pieces.specs.Words.{word_of}
+use Rattle.k_lex_pieces.specs.Numbers
+use Rattle.k_lex_pieces.specs.Numbers.{number_of}
+use Rattle.k_lex_pieces.specs.Marks.{mark_of}
+use Rattle.k_lex_pieces.specs.Pieces.{class_in_include, class_in_pragma, class_of, is_blank_piece, is_character, is_comment, is_header, is_known, is_name, is_number, is_string, item_length, longest, mark_piece, piece_by, piece_of_length}
 use Rattle.k_tree.specs.declared.tokens.mark.Mark.{Mark}
-use Rattle.k_lex.specs.Literals.{content, item_at, inside, character_of}
-use Rattle.k_lex.specs.Macros.{Macro, lexeme, find, full_at, full_or, used, replaced_by, fulls_from, fulls, replaced, is_named, mentions, body_at, stands_at, header_macros, breaks_order, changes, included, sizes}
+use Rattle.k_lex_pieces.specs.Literals.{content, item_at, inside, character_of}
+use Rattle.k_lex_macros.specs.Macros.{Macro, lexeme, find, full_at, full_or, used, replaced_by, fulls_from, fulls, replaced, is_named, mentions, body_at, stands_at, header_macros, breaks_order, changes, included, sizes, placed}
 use Rattle.k_lex.specs.Lines
 use Rattle.k_lex.specs.Lines.{State, step_in}
-use Rattle.k_lex.specs.Outcome.{◌>>=◌, refused}
+use Rattle.k_lex_pieces.specs.Outcome.{◌>>=◌, refused}
 use Rattle.k_lex.specs.Tokens.{piece_in, turn, run, join_kinds, join, joined, first_place, nothing_read, tokens_within, limits, tokens}
 use Rattle.k_tree.specs.Closed.{EndsOnce}
 use Rattle.k_tree.specs.Literals.{string_bytes, NumberIsHeld}
@@ -245,7 +245,7 @@ strings_summed : (xs : List Token) → sum (map string_bytes (kinds_of xs)) ≡ 
 strings_summed [] = refl
 strings_summed (x ∷ xs) = sum_by-cons (λ n. n) (string_bytes x.what) (map string_bytes (kinds_of xs)) ∙ ap (λ n. string_bytes x.what + n) (strings_summed xs)
 
-strings_placed : (place : Place) (xs : List Lexeme) → AreInner xs → strings (map (Lines.placed place) xs) ≤ sizes xs
+strings_placed : (place : Place) (xs : List Lexeme) → AreInner xs → strings (map (placed place) xs) ≤ sizes xs
 strings_placed place [] inner = omega arith
 strings_placed place (x ∷ xs) inner = omega (arith, inner.0.1, strings_placed place xs inner.1)
 
@@ -259,23 +259,23 @@ AreWithin s = (strings s.tokens ≤ s.spelled) × (s.spelled ≤ s.limits.spelli
 abbrev HasInner : State → Type 0
 HasInner s = Each IsInnerToken s.tokens × AreInner s.body × Each HasInnerBody s.macros × AreWithin s
 
-placed_inner : (place : Place) (xs : List Lexeme) → IsInside place → AreInner xs → Each IsInnerToken (map (Lines.placed place) xs)
+placed_inner : (place : Place) (xs : List Lexeme) → IsInside place → AreInner xs → Each IsInnerToken (map (placed place) xs)
 placed_inner place [] inside inner = tt
 placed_inner place (x ∷ xs) inside inner = ((inner.0.0, inside), placed_inner place xs inside inner.1)
 
 within_added : (place : Place) (xs : List Lexeme) (s : State) → AreInner xs → AreWithin s → Lines.has_room s (length xs) (sizes xs) ≡ true
-    → (strings (s.tokens ++ map (Lines.placed place) xs) ≤ s.spelled + sizes xs) × (s.spelled + sizes xs ≤ s.limits.spelling)
+    → (strings (s.tokens ++ map (placed place) xs) ≤ s.spelled + sizes xs) × (s.spelled + sizes xs ≤ s.limits.spelling)
 within_added place xs s inner within room =
     let fits : s.spelled + sizes xs ≤ s.limits.spelling = grind (arith, nat_tests, room) in
-    (omega (arith, within.0, strings-append s.tokens (map (Lines.placed place) xs), strings_placed place xs inner), fits)
+    (omega (arith, within.0, strings-append s.tokens (map (placed place) xs), strings_placed place xs inner), fits)
 
 add_inner : (place : Place) (xs : List Lexeme) (s : State) → IsInside place → AreInner xs → HasInner s → IfOk (Lines.add place xs s) HasInner
 add_inner place xs s inside inner read =
-    let added = record s { mode = m.Middle; tokens = s.tokens ++ map (Lines.placed place) xs; spelled = s.spelled + sizes xs } in
+    let added = record s { mode = m.Middle; tokens = s.tokens ++ map (placed place) xs; spelled = s.spelled + sizes xs } in
     when_ok HasInner (Lines.has_room s (length xs) (sizes xs)) (Ok added) (refused r.TokensMany place)
     (λ room.
     let within = within_added place xs s inner read.3 room in
-    (each_append IsInnerToken s.tokens (map (Lines.placed place) xs) read.0 (placed_inner place xs inside inner), read.1, read.2, (within.0, within.1, read.3.2))) tt
+    (each_append IsInnerToken s.tokens (map (placed place) xs) read.0 (placed_inner place xs inside inner), read.1, read.2, (within.0, within.1, read.3.2))) tt
 
 token_in_text_inner : (place : Place) (s : List ℕ) (piece : Piece) (old : State) → IsInside place → Spells piece s → HasInner old → IfOk (Lines.token_in_text place s piece old) HasInner
 token_in_text_inner place s piece old inside spells read =

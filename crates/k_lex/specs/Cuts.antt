@@ -1,10 +1,11 @@
+-- Believed with a public law.
 -- The pieces into which a source is cut.
 use Rattle.std.specs.Prelude.{◌≡◌, ℕ, zero, suc, ◌-◌, List, [], ◌∷◌, ◌++◌, Result, Ok, Err, IsOk, take}
 use Rattle.k_num.specs.declared.place.Place.{Place}
-use Rattle.k_lex.specs.declared.fault.Fault.{Fault}
+use Rattle.k_lex_pieces.specs.declared.fault.Fault.{Fault}
 use Rattle.k_lex.specs.declared.lines.Limits.{Limits}
-use Rattle.k_lex.specs.declared.pieces.Piece.{Piece}
-use Rattle.k_lex.specs.Bytes.{after}
+use Rattle.k_lex_pieces.specs.declared.pieces.Piece.{Piece}
+use Rattle.k_lex_pieces.specs.Bytes.{after}
 use Rattle.k_lex.specs.Lines.{State}
 use Rattle.k_lex.specs.Tokens.{piece_in, turn, run, first_place, nothing_read}
 

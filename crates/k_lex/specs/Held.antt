@@ -1,3 +1,4 @@
+-- For contracts between crates: nobody has to believe it.
 -- How the code joins strings.
 use Rattle.std.specs.Prelude.{List, [], ◌∷◌, Option, Some, None}
 use Rattle.k_num.specs.declared.place.Place.{Place}

@@ -1,3 +1,4 @@
+-- Believed with a public law.
 -- Laws of the definition of tokens, in words that its modes and tables are not needed for.
 use Rattle.std.specs.Prelude.{◌≡◌, ℕ, zero, suc, ◌-◌, ◌<◌, ◌≤◌, Bool, true, false, not, ◌||◌, ◌==◌, if◌then◌else◌, ◌⊎◌, List, [], ◌∷◌, ◌++◌, Option, Some, None, Result, Ok, Err, All, map, take, length, codes}
 use Rattle.k_num.specs.declared.place.Place.{Place}
@@ -7,18 +8,18 @@ use Rattle.k_tree.specs.declared.tokens.TokenKind.TheVariants as t
 use Rattle.k_tree.specs.Spelling.{Spelled}
 use Rattle.k_tree.specs.Closed.{EndsOnce}
 use Rattle.k_tree.specs.Literals.{NumbersAreHeld, StringsFit}
-use Rattle.k_lex.specs.declared.fault.Fault.{Fault}
+use Rattle.k_lex_pieces.specs.declared.fault.Fault.{Fault}
 use Rattle.k_lex.specs.declared.fault.LexFault.{LexFault}
 use Rattle.k_lex.specs.declared.fault.LexFault.TheVariants as l
-use Rattle.k_lex.specs.declared.headers.Header.{Header}
-use Rattle.k_lex.specs.declared.pieces.Piece.{Piece}
-use Rattle.k_lex.specs.declared.pieces.Piece.TheVariants as p
-use Rattle.k_lex.specs.Bytes.{same, every, after, behind}
-use Rattle.k_lex.specs.Pieces.{class_of, is_name, piece_by}
-use Rattle.k_lex.specs.Words.{word_of}
-use Rattle.k_lex.specs.Macros.{header_of, header_macros}
+use Rattle.k_lex_macros.specs.declared.headers.Header.{Header}
+use Rattle.k_lex_pieces.specs.declared.pieces.Piece.{Piece}
+use Rattle.k_lex_pieces.specs.declared.pieces.Piece.TheVariants as p
+use Rattle.k_lex_pieces.specs.Bytes.{same, every, after, behind}
+use Rattle.k_lex_pieces.specs.Pieces.{class_of, is_name, piece_by}
+use Rattle.k_lex_pieces.specs.Words.{word_of}
+use Rattle.k_lex_macros.specs.Macros.{header_of, header_macros}
 use Rattle.k_lex.specs.Lines.{token_of}
-use Rattle.k_lex.specs.Outcome.{◌>>=◌}
+use Rattle.k_lex_pieces.specs.Outcome.{◌>>=◌}
 use Rattle.k_lex.specs.Tokens.{joined, first_place, nothing_read, answer, limits, tokens}
 use Rattle.k_lex.specs.Cuts.{Cut, cuts}
 

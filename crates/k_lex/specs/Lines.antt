@@ -1,3 +1,4 @@
+-- Believed with the theorem on the top call.
 -- Lines and directives (C17 6.10): what a piece of the text does, by what has been read of its line.
 use Rattle.std.specs.Prelude.{ℕ, ◌+◌, Bool, true, false, ◌&&◌, ◌||◌, not, List, [], ◌∷◌, ◌++◌, Option, Some, None, Result, Ok, nat_le, ◌==◌, if◌then◌else◌, length, map, codes, is_some}
 use Rattle.k_num.specs.declared.place.Place.{Place}
@@ -6,21 +7,21 @@ use Rattle.k_tree.specs.declared.tokens.word.Word.{Word}
 use Rattle.k_tree.specs.declared.tokens.TokenKind.{TokenKind}
 use Rattle.k_tree.specs.declared.tokens.TokenKind.TheVariants as t
 use Rattle.k_num.specs.declared.numbers.Kind.{Kind}
-use Rattle.k_lex.specs.declared.fault.Fault.{Fault}
-use Rattle.k_lex.specs.declared.fault.Refusal.TheVariants as r
-use Rattle.k_lex.specs.declared.pieces.Piece.{Piece}
-use Rattle.k_lex.specs.declared.pieces.Piece.TheVariants as p
+use Rattle.k_lex_pieces.specs.declared.fault.Fault.{Fault}
+use Rattle.k_lex_pieces.specs.declared.fault.Refusal.TheVariants as r
+use Rattle.k_lex_pieces.specs.declared.pieces.Piece.{Piece}
+use Rattle.k_lex_pieces.specs.declared.pieces.Piece.TheVariants as p
 use Rattle.k_lex.specs.declared.lines.Mode.{Mode}
 use Rattle.k_lex.specs.declared.lines.Mode.TheVariants as m
 use Rattle.k_lex.specs.declared.lines.Limits.{Limits}
-use Rattle.k_lex.specs.declared.macros.Lexeme.{Lexeme}
-use Rattle.k_lex.specs.declared.headers.Header.{Header}
-use Rattle.k_lex.specs.Bytes.{same, begins, after}
-use Rattle.k_lex.specs.Words.{word_of}
-use Rattle.k_lex.specs.Numbers.{number_of}
-use Rattle.k_lex.specs.Literals.{content, inside, character_of}
-use Rattle.k_lex.specs.Macros.{Macro, lexeme, find, body_at, replaced, defined, is_named, mentions, stands_at, header_of, header_macros, breaks_order, changes, included, sizes}
-use Rattle.k_lex.specs.Outcome.{◌>>=◌, refused}
+use Rattle.k_lex_macros.specs.declared.macros.Lexeme.{Lexeme}
+use Rattle.k_lex_macros.specs.declared.headers.Header.{Header}
+use Rattle.k_lex_pieces.specs.Bytes.{same, begins, after}
+use Rattle.k_lex_pieces.specs.Words.{word_of}
+use Rattle.k_lex_pieces.specs.Numbers.{number_of}
+use Rattle.k_lex_pieces.specs.Literals.{content, inside, character_of}
+use Rattle.k_lex_macros.specs.Macros.{Macro, lexeme, find, body_at, replaced, defined, is_named, mentions, stands_at, header_of, header_macros, breaks_order, changes, included, sizes, placed}
+use Rattle.k_lex_pieces.specs.Outcome.{◌>>=◌, refused}
 
 -- what has been read
 pub record State : Type 0 where
@@ -62,10 +63,6 @@ token_of place s _ = refused r.BadByte place
 -- so many tokens more, spelled with so many bytes, are within the limits
 abbrev pub has_room : State → ℕ → ℕ → Bool
 has_room s count bytes = nat_le (length s.tokens + count) s.limits.tokens && nat_le (s.spelled + bytes) s.limits.spelling
-
--- a token of a body, at the place of its use
-abbrev pub placed : Place → Lexeme → Token
-placed place x = record { what = x.what; place = place }
 
 -- adds the tokens that one token of a line is replaced by
 abbrev pub add : Place → List Lexeme → State → Result State Fault

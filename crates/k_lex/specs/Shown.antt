@@ -1,14 +1,15 @@
+-- For contracts between crates: nobody has to believe it.
 -- How the code keeps what has been read.
 use Rattle.std.specs.Prelude.{◌≡◌, ℕ, ◌+◌, ◌^◌, ◌<◌, ◌≤◌, true, List, length}
 use Rattle.k_num.specs.declared.place.Place.{Place}
 use Rattle.k_lex.specs.declared.lines.Limits.{Limits}
 use Rattle.k_lex.specs.declared.lines.State as code
-use Rattle.k_lex.specs.declared.pieces.Piece.{Piece}
-use Rattle.k_lex.specs.declared.pieces.Piece.TheVariants.{Name}
-use Rattle.k_lex.specs.Bytes.{HasRoom}
-use Rattle.k_lex.specs.Pieces.{is_name}
+use Rattle.k_lex_pieces.specs.declared.pieces.Piece.{Piece}
+use Rattle.k_lex_pieces.specs.declared.pieces.Piece.TheVariants.{Name}
+use Rattle.k_lex_pieces.specs.Bytes.{HasRoom}
+use Rattle.k_lex_pieces.specs.Pieces.{is_name}
 use Rattle.k_lex.specs.Lines.{State}
-use Rattle.k_lex.specs.Table.{listed, IsIndexed, ArePlanned}
+use Rattle.k_lex_macros.specs.Table.{listed, IsIndexed, ArePlanned}
 
 -- what the code's state stands for
 abbrev pub shown : code.State → State

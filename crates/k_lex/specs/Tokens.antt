@@ -1,23 +1,24 @@
+-- Believed with the theorem on the top call.
 -- The tokens of a source (C17 5.1.1.2, 6.4).
 use Rattle.std.specs.Prelude.{ℕ, zero, suc, ◌-◌, List, [], ◌∷◌, ◌++◌, Result, Ok, Err, nat_lt, if◌then◌else◌, length, take, drop}
 use Rattle.k_num.specs.declared.place.Place.{Place}
 use Rattle.k_tree.specs.declared.tokens.Token.{Token}
 use Rattle.k_tree.specs.declared.tokens.TokenKind.{TokenKind}
 use Rattle.k_tree.specs.declared.tokens.TokenKind.TheVariants as t
-use Rattle.k_lex.specs.declared.fault.Fault.{Fault}
+use Rattle.k_lex_pieces.specs.declared.fault.Fault.{Fault}
 use Rattle.k_lex.specs.declared.fault.LexFault.{LexFault}
 use Rattle.k_lex.specs.declared.fault.LexFault.TheVariants as l
-use Rattle.k_lex.specs.declared.fault.Refusal.{Refusal}
-use Rattle.k_lex.specs.declared.fault.Refusal.TheVariants as r
-use Rattle.k_lex.specs.declared.pieces.Piece.{Piece}
-use Rattle.k_lex.specs.declared.pieces.Piece.TheVariants.{Newline}
+use Rattle.k_lex_pieces.specs.declared.fault.Refusal.{Refusal}
+use Rattle.k_lex_pieces.specs.declared.fault.Refusal.TheVariants as r
+use Rattle.k_lex_pieces.specs.declared.pieces.Piece.{Piece}
+use Rattle.k_lex_pieces.specs.declared.pieces.Piece.TheVariants.{Newline}
 use Rattle.k_lex.specs.declared.lines.Mode.{Mode}
 use Rattle.k_lex.specs.declared.lines.Mode.TheVariants as m
 use Rattle.k_lex.specs.declared.lines.Limits.{Limits}
-use Rattle.k_lex.specs.Bytes.{after}
-use Rattle.k_lex.specs.Pieces.{class_of, class_in_pragma, class_in_include, piece_by}
+use Rattle.k_lex_pieces.specs.Bytes.{after}
+use Rattle.k_lex_pieces.specs.Pieces.{class_of, class_in_pragma, class_in_include, piece_by}
 use Rattle.k_lex.specs.Lines.{State, step}
-use Rattle.k_lex.specs.Outcome.{◌>>=◌, refused}
+use Rattle.k_lex_pieces.specs.Outcome.{◌>>=◌, refused}
 
 -- the longest piece at the front of the text (C17 6.4p4)
 abbrev pub piece_in : Mode → List ℕ → Piece × ℕ

@@ -4,7 +4,7 @@ ghost use Rattle.k_lex.specs.Tokens as spec;
 ghost use Rattle.k_lex.specs.Held.{held_tokens, end_token};
 ghost use Rattle.k_tree.specs.declared.tokens.Token.{Token};
 
-use crate::tokens::{copy_of, copy_of_bytes};
+use k_lex_macros::copies::{copy_of, copy_of_bytes};
 use k_num::{NoMemory, Place, Seq};
 use k_tree::{Token, TokenKind};
 use std::alloc::Global;

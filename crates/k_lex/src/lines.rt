@@ -4,20 +4,20 @@ ghost use Rattle.std.specs.Prelude.{◌≡◌, OnOk};
 ghost use Rattle.k_lex.specs.Lines as spec;
 ghost use Rattle.k_lex.specs.Tokens as tokens;
 ghost use Rattle.k_lex.specs.Shown.{shown, Sound, IsSmall, IsReadable};
-ghost use Rattle.k_lex.specs.Outcome.{Gives};
+ghost use Rattle.k_lex_pieces.specs.Outcome.{Gives};
 
 mod definitions;
 mod inclusions;
 mod text;
 
-use crate::fault::{Refusal, Stop};
-use crate::headers::Header;
-use crate::macros::{Lexeme, Macros};
-use crate::pieces::{Piece, piece_at, piece_in_include, piece_in_pragma};
 use crate::tokens::refusal;
-use crate::words::is_same;
 use definitions::{in_again, in_body, in_define};
 use inclusions::{in_header, in_include};
+use k_lex_macros::headers::Header;
+use k_lex_macros::macros::{Lexeme, Macros};
+use k_lex_pieces::fault::{Refusal, Stop};
+use k_lex_pieces::pieces::{Piece, piece_at, piece_in_include, piece_in_pragma};
+use k_lex_pieces::words::is_same;
 use k_num::{Place, Seq};
 use k_tree::Token;
 use std::alloc::Global;

@@ -1,19 +1,19 @@
 //! The token that a piece is.
 ghost use Rattle.std.specs.Prelude.{◌≡◌, ◌+◌, true, length, Ok, IfOk};
-ghost use Rattle.k_lex.specs.Bytes as bytes;
-ghost use Rattle.k_lex.specs.Pieces as pieces;
+ghost use Rattle.k_lex_pieces.specs.Bytes as bytes;
+ghost use Rattle.k_lex_pieces.specs.Pieces as pieces;
 ghost use Rattle.k_lex.specs.Lines as spec;
-ghost use Rattle.k_lex.specs.Numbers as numbers;
-ghost use Rattle.k_lex.specs.Words as words;
-ghost use Rattle.k_lex.specs.Outcome.{Gives};
+ghost use Rattle.k_lex_pieces.specs.Numbers as numbers;
+ghost use Rattle.k_lex_pieces.specs.Words as words;
+ghost use Rattle.k_lex_pieces.specs.Outcome.{Gives};
 
-use crate::bytes::after;
-use crate::fault::{Fault, Refusal, Stop};
-use crate::literals::{character, content, inside};
-use crate::numbers::number_of;
-use crate::pieces::Piece;
-use crate::words::word_of;
-use k_num::{NoMemory, Place, Seq, Text};
+use k_lex_pieces::bytes::after;
+use k_lex_pieces::fault::{Fault, Refusal, Stop};
+use k_lex_pieces::literals::{character, content, inside};
+use k_lex_pieces::numbers::number_of;
+use k_lex_pieces::pieces::Piece;
+use k_lex_pieces::words::word_of;
+use k_num::{NoMemory, Place, Text};
 use k_tree::TokenKind;
 use std::alloc::Global;
 
@@ -90,31 +90,5 @@ pub fn token_of(
         Piece::Blank | Piece::Newline | Piece::Comment | Piece::Header | Piece::Unknown => {
             Err(refusal(Refusal::BadByte, place))
         }
-    }
-}
-
-/// A copy of the bytes.
-pub fn copy_of_bytes(alloc: Global, bytes: &[u8]) -> Result<Seq<u8>, NoMemory>
-    ensures { IfOk result (λ copy. copy ≡ bytes.now) }
-{
-    let mut copy = Seq::new(alloc);
-    for b in bytes {
-        copy.push(*b)?;
-    }
-    Ok(copy)
-}
-
-/// A copy of the token's kind and value.
-pub fn copy_of(alloc: Global, what: &TokenKind) -> Result<TokenKind, NoMemory>
-    ensures { IfOk result (λ copy. copy ≡ what.now) }
-{
-    match what {
-        TokenKind::Name(name) => Ok(TokenKind::Name(Text::copy_of(alloc, name.as_str())?)),
-        TokenKind::Word(word) => Ok(TokenKind::Word(*word)),
-        TokenKind::Number(kind, value) => Ok(TokenKind::Number(*kind, *value)),
-        TokenKind::Char(value) => Ok(TokenKind::Char(*value)),
-        TokenKind::Str(bytes) => Ok(TokenKind::Str(copy_of_bytes(alloc, bytes.as_slice())?)),
-        TokenKind::Mark(mark) => Ok(TokenKind::Mark(*mark)),
-        TokenKind::End => Ok(TokenKind::End),
     }
 }

@@ -3,9 +3,9 @@ use Rattle.std.proofs.Common.{◌≡◌, ℕ, zero, suc, ◌+◌, ◌≤◌, Boo
 use Rattle.std.specs.Prelude.{nat_eq, ◌||◌, slice_set}
 use Rattle.std.specs.List.{list_any}
 use Rattle.std.proofs.lemmas.Bool.Decides.{nat_tests}
-use Rattle.k_typed.specs.Numbered.{numbers_from}
+use Rattle.k_types_meaning.specs.Numbered.{numbers_from}
 use Rattle.k_marks.specs.Flags.{raised}
-use Rattle.k_marks.specs.Marking.{flags}
+use Rattle.k_marks_meaning.specs.Marking.{flags}
 
 -- two tests that agree from a number on flag the numbers from there alike
 agree : (f g : ℕ → Bool) (a count : ℕ) → ((k : ℕ) → a ≤ k → f k ≡ g k) → map f (numbers_from a count) ≡ map g (numbers_from a count)

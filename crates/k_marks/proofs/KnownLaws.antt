@@ -3,14 +3,14 @@ use Rattle.std.proofs.Common.{◌≡◌, ℕ, Bool, true, false, not, cond, List
 use Rattle.std.specs.Prelude.{nat_eq, ◌&&◌, ◌||◌, if◌then◌else◌}
 use Rattle.std.specs.List.{list_all, list_any}
 use Rattle.std.proofs.lemmas.Bool.Decides.{nat_tests}
-use Rattle.k_marks.specs.declared.uses.Group.{Group}
-use Rattle.k_marks.specs.declared.uses.Group.TheVariants.{Sums, Products, Ands, Ors, Xors}
-use Rattle.k_marks.specs.declared.uses.Use.{Use}
-use Rattle.k_marks.specs.declared.uses.Use.TheVariants.{Names, Assigns, Declares, Reduces}
+use Rattle.k_marks_meaning.specs.declared.uses.Group.{Group}
+use Rattle.k_marks_meaning.specs.declared.uses.Group.TheVariants.{Sums, Products, Ands, Ors, Xors}
+use Rattle.k_marks_meaning.specs.declared.uses.Use.{Use}
+use Rattle.k_marks_meaning.specs.declared.uses.Use.TheVariants.{Names, Assigns, Declares, Reduces}
 use Rattle.k_marks.specs.declared.known.How.{How}
 use Rattle.k_marks.specs.declared.known.How.TheVariants.{Nowhere, By, Elsewhere}
-use Rattle.k_marks.specs.declared.known.Known.{Known}
-use Rattle.k_marks.specs.Loops.{same_group, assigns_it, fits}
+use Rattle.k_marks.specs.declared.known.Occurrence.{Occurrence}
+use Rattle.k_marks_meaning.specs.Loops.{same_group, assigns_it, fits}
 use Rattle.k_marks.specs.Known.{how_behind, allows, known_behind, known_from}
 
 -- tests with a constant
@@ -75,36 +75,36 @@ how_meets (By a) b g = groups_meet a b g
 how_meets Elsewhere b g = refl
 
 -- what happens elsewhere allows nothing to its variable
-elsewhere : (t a : Bool) (k : Known) (g : Group) → allows (if t then (record { assigned = a; how = Elsewhere }) else k).how g ≡ (allows k.how g && not t)
+elsewhere : (t a : Bool) (k : Occurrence) (g : Group) → allows (if t then (record { assigned = a; how = Elsewhere }) else k).how g ≡ (allows k.how g && not t)
 elsewhere true a k g = with_false (allows k.how g)
 elsewhere false a k g = with_true (allows k.how g)
 
-reduced : (t : Bool) (k : Known) (b g : Group) → allows (if t then (record { assigned = true; how = how_behind k.how b }) else k).how g ≡ (allows k.how g && (not t || same_group b g))
+reduced : (t : Bool) (k : Occurrence) (b g : Group) → allows (if t then (record { assigned = true; how = how_behind k.how b }) else k).how g ≡ (allows k.how g && (not t || same_group b g))
 reduced true k b g = how_meets k.how b g
 reduced false k b g = with_true (allows k.how g)
 
-fits_behind : (n : ℕ) (g : Group) (u : Use) (k : Known) → allows (known_behind n u k).how g ≡ (allows k.how g && fits n g u)
+fits_behind : (n : ℕ) (g : Group) (u : Use) (k : Occurrence) → allows (known_behind n u k).how g ≡ (allows k.how g && fits n g u)
 fits_behind n g (Names m) k = elsewhere (nat_eq m n) k.assigned k g
 fits_behind n g (Assigns m) k = elsewhere (nat_eq m n) true k g
 fits_behind n g (Declares m) k = elsewhere (nat_eq m n) k.assigned k g
 fits_behind n g (Reduces r) k = reduced (nat_eq r.variable n) k r.group g
 
-kept : (t : Bool) (k : Known) (h : How) → (if t then (record { assigned = k.assigned; how = h }) else k).assigned ≡ (k.assigned || false)
+kept : (t : Bool) (k : Occurrence) (h : How) → (if t then (record { assigned = k.assigned; how = h }) else k).assigned ≡ (k.assigned || false)
 kept true k h = or_false k.assigned
 kept false k h = or_false k.assigned
 
-set_if : (t : Bool) (k : Known) (h : How) → (if t then (record { assigned = true; how = h }) else k).assigned ≡ (k.assigned || t)
+set_if : (t : Bool) (k : Occurrence) (h : How) → (if t then (record { assigned = true; how = h }) else k).assigned ≡ (k.assigned || t)
 set_if true k h = or_true k.assigned
 set_if false k h = or_false k.assigned
 
-assigned_behind : (n : ℕ) (u : Use) (k : Known) → (known_behind n u k).assigned ≡ (k.assigned || assigns_it n u)
+assigned_behind : (n : ℕ) (u : Use) (k : Occurrence) → (known_behind n u k).assigned ≡ (k.assigned || assigns_it n u)
 assigned_behind n (Names m) k = kept (nat_eq m n) k Elsewhere
 assigned_behind n (Assigns m) k = set_if (nat_eq m n) k Elsewhere
 assigned_behind n (Declares m) k = kept (nat_eq m n) k Elsewhere
 assigned_behind n (Reduces r) k = set_if (nat_eq r.variable n) k (how_behind k.how r.group)
 
 -- a variable is assigned where something assigns it
-pub assigned_from : (n : ℕ) (k : Known) (us : List Use) → (known_from n k us).assigned ≡ (k.assigned || list_any (assigns_it n) us)
+pub assigned_from : (n : ℕ) (k : Occurrence) (us : List Use) → (known_from n k us).assigned ≡ (k.assigned || list_any (assigns_it n) us)
 assigned_from n k [] = or_false k.assigned
 assigned_from n k (u ∷ us) =
     assigned_from n (known_behind n u k) us
@@ -112,7 +112,7 @@ assigned_from n k (u ∷ us) =
     ∙ or_again k.assigned (assigns_it n u) (list_any (assigns_it n) us))
 
 -- operators of a group may reduce a variable where all that happens fits
-pub allowed_from : (n : ℕ) (g : Group) (k : Known) (us : List Use) → allows (known_from n k us).how g ≡ (allows k.how g && list_all (fits n g) us)
+pub allowed_from : (n : ℕ) (g : Group) (k : Occurrence) (us : List Use) → allows (known_from n k us).how g ≡ (allows k.how g && list_all (fits n g) us)
 allowed_from n g k [] = with_true (allows k.how g)
 allowed_from n g k (u ∷ us) =
     allowed_from n g (known_behind n u k) us

@@ -7,9 +7,9 @@ use Rattle.std.proofs.lemmas.Bool.Decides.{eqb_tells, nat_tests}
 use Rattle.std.proofs.lemmas.List.{get_or-set_same, get_or-set_other, length-set}
 use Rattle.std.proofs.lemmas.Option.{slice_get-get_or, slice_get_past}
 use Rattle.k_marks.specs.declared.known.Entry.{Entry}
-use Rattle.k_marks.specs.declared.known.Known.{Known}
-use Rattle.k_marks.specs.declared.uses.Use.{Use}
-use Rattle.k_marks.specs.Known.{nothing_known, behind, variable_in, known_behind, known_from, said, look, noted, noted_all, blank, IsFresh}
+use Rattle.k_marks.specs.declared.known.Occurrence.{Occurrence}
+use Rattle.k_marks_meaning.specs.declared.uses.Use.{Use}
+use Rattle.k_marks.specs.Known.{nothing_known, behind, variable_in, known_behind, known_from, said, look, table_with, table_with_all, blank, IsFresh}
 
 -- what was written is found
 set_found : (table : List Entry) (n : ℕ) (e : Entry) → n < length table → slice_get (slice_set table n e) n ≡ Some e
@@ -25,15 +25,15 @@ set_beside table m n e h apart =
     ∙ (ap Some (get_or-set_other table m n e e apart) ∙ sym (slice_get-get_or table n e h))
 
 -- an entry of this loop says what it holds
-said_here : (turn : ℕ) (k : Known) → said turn (Some (record { turn = turn; known = k })) ≡ k
+said_here : (turn : ℕ) (k : Occurrence) → said turn (Some (record { turn = turn; known = k })) ≡ k
 said_here turn k = ap (λ b. if b then k else nothing_known) (eq-eqb turn turn refl)
 
 -- an entry of an earlier loop says nothing
-said_later : (turn t : ℕ) (k : Known) → turn < t → said t (Some (record { turn = turn; known = k })) ≡ nothing_known
+said_later : (turn t : ℕ) (k : Occurrence) → turn < t → said t (Some (record { turn = turn; known = k })) ≡ nothing_known
 said_later turn t k h = let apart : nat_eq turn t ≡ false = grind (arith, nat_tests) in ap (λ b. if b then k else nothing_known) apart
 
 -- what is said of a variable behind what happens to some variable
-look_noted : (turn n : ℕ) (u : Use) (table : List Entry) → n < length table → look turn (noted turn u table) n ≡ known_behind n u (look turn table n)
+look_noted : (turn n : ℕ) (u : Use) (table : List Entry) → n < length table → look turn (table_with turn u table) n ≡ known_behind n u (look turn table n)
 look_noted turn n u table h =
     let k = behind u (look turn table (variable_in u)) in
     elim (eqb_tells (variable_in u) n) [
@@ -51,22 +51,22 @@ look_noted turn n u table h =
     ]
 
 -- a table keeps its length
-pub length_noted : (turn : ℕ) (us : List Use) (table : List Entry) → length (noted_all turn us table) ≡ length table
+pub length_noted : (turn : ℕ) (us : List Use) (table : List Entry) → length (table_with_all turn us table) ≡ length table
 length_noted turn [] table = refl
 length_noted turn (u ∷ us) table =
-    length_noted turn us (noted turn u table)
+    length_noted turn us (table_with turn u table)
     ∙ length-set table (variable_in u) (record { turn = turn; known = behind u (look turn table (variable_in u)) })
 
 -- what is said of a variable behind all that happens
-pub look_all : (turn n : ℕ) (us : List Use) (table : List Entry) → n < length table → look turn (noted_all turn us table) n ≡ known_from n (look turn table n) us
+pub look_all : (turn n : ℕ) (us : List Use) (table : List Entry) → n < length table → look turn (table_with_all turn us table) n ≡ known_from n (look turn table n) us
 look_all turn n [] table h = refl
 look_all turn n (u ∷ us) table h =
-    let inside : n < length (noted turn u table) =
+    let inside : n < length (table_with turn u table) =
     rw (length-set table (variable_in u) (record { turn = turn; known = behind u (look turn table (variable_in u)) })) h in
-    look_all turn n us (noted turn u table) inside ∙ ap (λ k. known_from n k us) (look_noted turn n u table h)
+    look_all turn n us (table_with turn u table) inside ∙ ap (λ k. known_from n k us) (look_noted turn n u table h)
 
 -- what is written in a loop says nothing in later ones
-later_noted : (turn t n : ℕ) (u : Use) (table : List Entry) → turn < t → look t table n ≡ nothing_known → look t (noted turn u table) n ≡ nothing_known
+later_noted : (turn t n : ℕ) (u : Use) (table : List Entry) → turn < t → look t table n ≡ nothing_known → look t (table_with turn u table) n ≡ nothing_known
 later_noted turn t n u table h was =
     let e : Entry = record { turn = turn; known = behind u (look turn table (variable_in u)) } in
     elim (cases_lt n (length table)) [
@@ -83,10 +83,10 @@ later_noted turn t n u table h was =
     ]
 
 -- a table that said nothing from this loop on says nothing from the next one on
-pub fresh_noted : (turn : ℕ) (us : List Use) (table : List Entry) → IsFresh (turn + 1) table → IsFresh (turn + 1) (noted_all turn us table)
+pub fresh_noted : (turn : ℕ) (us : List Use) (table : List Entry) → IsFresh (turn + 1) table → IsFresh (turn + 1) (table_with_all turn us table)
 fresh_noted turn [] table fresh = fresh
 fresh_noted turn (u ∷ us) table fresh =
-    fresh_noted turn us (noted turn u table)
+    fresh_noted turn us (table_with turn u table)
     (λ (t n : ℕ) (h : turn + 1 ≤ t). let later : turn < t = omega arith in later_noted turn t n u table later (fresh t n h))
 
 -- a table of such entries says nothing

@@ -1,3 +1,4 @@
+-- For contracts between crates: nobody has to believe it.
 -- Flags that are raised one by one.
 use Rattle.std.specs.Prelude.{ℕ, Bool, true, List, [], ◌∷◌, slice_set}
 

@@ -1,20 +1,21 @@
+-- For contracts between crates: nobody has to believe it.
 -- What is known of each variable in a loop, when what happens to variables is gone through once.
 use Rattle.std.specs.Prelude.{ℕ, ◌≤◌, ◌≡◌, nat_eq, Bool, true, false, not, ◌&&◌, if◌then◌else◌, List, [], ◌∷◌, ◌++◌, count_by, Option, Some, None, slice_set}
 use Rattle.std.specs.List.{slice_get}
-use Rattle.k_typed.specs.declared.tree.expression.TExpr.{TExpr}
-use Rattle.k_typed.specs.declared.tree.unit.TVariable.{TVariable}
+use Rattle.k_types_meaning.specs.declared.tree.expression.TExpr.{TExpr}
+use Rattle.k_types_meaning.specs.declared.tree.unit.TVariable.{TVariable}
 use Rattle.k_marks.specs.declared.known.Entry.{Entry}
 use Rattle.k_marks.specs.declared.known.How.{How}
 use Rattle.k_marks.specs.declared.known.How.TheVariants.{Nowhere, By, Elsewhere}
-use Rattle.k_marks.specs.declared.known.Known.{Known}
-use Rattle.k_marks.specs.declared.uses.Group.{Group}
-use Rattle.k_marks.specs.declared.uses.Read.{Read}
-use Rattle.k_marks.specs.declared.uses.Use.{Use}
-use Rattle.k_marks.specs.declared.uses.Use.TheVariants.{Names, Assigns, Declares, Reduces}
-use Rattle.k_marks.specs.Loops.{Loop, same_group, is_register, assigns_it, bound_of, is_fixed, runs_through}
+use Rattle.k_marks.specs.declared.known.Occurrence.{Occurrence}
+use Rattle.k_marks_meaning.specs.declared.uses.Group.{Group}
+use Rattle.k_marks_meaning.specs.declared.uses.Read.{Read}
+use Rattle.k_marks_meaning.specs.declared.uses.Use.{Use}
+use Rattle.k_marks_meaning.specs.declared.uses.Use.TheVariants.{Names, Assigns, Declares, Reduces}
+use Rattle.k_marks_meaning.specs.Loops.{Loop, same_group, is_register, assigns_it, bound_of, is_fixed, runs_through}
 
 -- nothing
-abbrev pub nothing_known : Known
+abbrev pub nothing_known : Occurrence
 nothing_known = record { assigned = false; how = Nowhere }
 
 -- how a variable occurs behind a statement that reduces it
@@ -37,39 +38,39 @@ variable_in (Declares n) = n
 variable_in (Reduces r) = r.variable
 
 -- what is known of a variable behind what happens to it
-abbrev pub behind : Use → Known → Known
+abbrev pub behind : Use → Occurrence → Occurrence
 behind (Names n) k = record { assigned = k.assigned; how = Elsewhere }
 behind (Assigns n) k = record { assigned = true; how = Elsewhere }
 behind (Declares n) k = record { assigned = k.assigned; how = Elsewhere }
 behind (Reduces r) k = record { assigned = true; how = how_behind k.how r.group }
 
 -- what is known of this variable behind what happens to some variable
-abbrev pub known_behind : ℕ → Use → Known → Known
+abbrev pub known_behind : ℕ → Use → Occurrence → Occurrence
 known_behind n u k = if nat_eq (variable_in u) n then behind u k else k
 
 -- what is known of this variable behind all that happens
-abbrev pub known_from : ℕ → Known → List Use → Known
+abbrev pub known_from : ℕ → Occurrence → List Use → Occurrence
 known_from n k [] = k
 known_from n k (u ∷ us) = known_from n (known_behind n u k) us
 
 -- what an entry says in the loop of this number
-abbrev pub said : ℕ → Option Entry → Known
+abbrev pub said : ℕ → Option Entry → Occurrence
 said turn None = nothing_known
 said turn (Some e) = if nat_eq e.turn turn then e.known else nothing_known
 
 -- what a table says of a variable in the loop of this number
-abbrev pub look : ℕ → List Entry → ℕ → Known
+abbrev pub look : ℕ → List Entry → ℕ → Occurrence
 look turn table n = said turn (slice_get table n)
 
 -- a table behind what happens to a variable
-abbrev pub noted : ℕ → Use → List Entry → List Entry
-noted turn u table =
+abbrev pub table_with : ℕ → Use → List Entry → List Entry
+table_with turn u table =
     slice_set table (variable_in u) (record { turn = turn; known = behind u (look turn table (variable_in u)) })
 
 -- a table behind all that happens in a loop
-abbrev pub noted_all : ℕ → List Use → List Entry → List Entry
-noted_all turn [] table = table
-noted_all turn (u ∷ us) table = noted_all turn us (noted turn u table)
+abbrev pub table_with_all : ℕ → List Use → List Entry → List Entry
+table_with_all turn [] table = table
+table_with_all turn (u ∷ us) table = table_with_all turn us (table_with turn u table)
 
 -- by the table, a variable keeps its value in the loop
 abbrev pub known_stays : List TVariable → List Entry → ℕ → ℕ → Bool

@@ -1,9 +1,3 @@
-pub mod Uses
-pub mod Reductions
-pub mod Jumps
-pub mod Loops
-pub mod Contents
-pub mod Marking
 pub mod Found
 pub mod Known
 pub mod Flags

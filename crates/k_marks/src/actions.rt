@@ -1,11 +1,11 @@
 //! What expression statements do with variables: they may reduce one.
 ghost use Rattle.std.specs.Prelude.{◌≡◌, ◌++◌, OnOk};
-ghost use Rattle.k_marks.specs.Reductions.{group_of, change_group, variable_of, read_of, read_again, reduction, reduced_uses, unconverted, action_uses, simple_uses};
+ghost use Rattle.k_marks_meaning.specs.Reductions.{group_of, change_group, variable_of, read_of, read_again, reduction, reduced_uses, unconverted, action_uses, simple_uses};
 
 use crate::notes::note_expr;
-use crate::uses::{Group, Read, Reduction, Use};
+use k_marks_meaning::{Group, Read, Reduction, Use};
 use k_num::{Bin, NoMemory};
-use k_typed::{Change, TExpr};
+use k_types_meaning::{Change, TExpr};
 
 /// The group of an operator, if it has one.
 fn group_of(op: Bin) -> Option<Group>

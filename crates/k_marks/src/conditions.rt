@@ -1,14 +1,14 @@
 //! The parts of the five conditions of a counted loop.
 ghost use Rattle.std.specs.Prelude.{◌≡◌, nat_eq, not, ◌&&◌, count_by};
 ghost use Rattle.std.specs.Option.{option_copied};
-ghost use Rattle.k_marks.specs.Loops.{is_number, is_number_register, is_register, assigns_it, adds, is_nonzero, read_if, counter_of, counter, tests, reads, bound_in, bound_of, is_fixed};
+ghost use Rattle.k_marks_meaning.specs.Loops.{is_number, is_number_register, is_register, assigns_it, adds, is_nonzero, read_if, counter_of, counter, tests, reads, bound_in, bound_of, is_fixed};
 ghost use Rattle.k_marks.specs.Known.{known_stays};
 
 use crate::actions::{read_of, variable_of};
 use crate::known::{Entry, look};
-use crate::uses::{Read, Use};
+use k_marks_meaning::{Read, Use};
 use k_num::{Bin, Box};
-use k_typed::{Change, TExpr, TType, TVariable};
+use k_types_meaning::{Change, TExpr, TType, TVariable};
 
 /// Whether a type is that of a whole number.
 fn is_number(of: TType) -> bool

@@ -1,7 +1,7 @@
 //! One flag for each number below a count.
 ghost use Rattle.std.specs.Prelude.{◌≡◌, IfOk, slice_set, replicate, true, false};
 ghost use Rattle.k_marks.specs.Flags.{raised};
-ghost use Rattle.k_marks.specs.Marking.{flags};
+ghost use Rattle.k_marks_meaning.specs.Marking.{flags};
 
 use k_num::{NoMemory, Seq};
 use std::alloc::Global;

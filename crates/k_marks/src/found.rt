@@ -1,10 +1,10 @@
 //! The loops of a function, found in text order.
 ghost use Rattle.std.specs.Prelude.{◌≡◌, ◌++◌, map, OnOk};
-ghost use Rattle.k_marks.specs.Contents.{inside, part_inside, if_there, where_given, row};
+ghost use Rattle.k_marks_meaning.specs.Contents.{inside, part_inside, if_there, where_given, row};
 ghost use Rattle.k_marks.specs.Found.{seen};
 
 use k_num::{Box, NoMemory, Seq};
-use k_typed::{TExpr, TFirst, TPart, TStmt};
+use k_types_meaning::{TExpr, TFirst, TPart, TStmt};
 
 /// A loop: a `while` or a `do`, which are tested alone, or a `for`.
 #[derive(Clone, Copy)]

@@ -1,10 +1,10 @@
 //! What is known of each variable in a loop. One table serves for all loops of a function: an entry that was
 //! written in another loop says nothing.
 ghost use Rattle.std.specs.Prelude.{◌≡◌, ◌<◌, ◌==◌, length};
-ghost use Rattle.k_marks.specs.Loops.{same_group};
-ghost use Rattle.k_marks.specs.Known.{how_behind, behind, variable_in, allows, look, noted, noted_all};
+ghost use Rattle.k_marks_meaning.specs.Loops.{same_group};
+ghost use Rattle.k_marks.specs.Known.{how_behind, behind, variable_in, allows, look, table_with, table_with_all};
 
-use crate::uses::{Group, Use};
+use k_marks_meaning::{Group, Use};
 
 /// How a variable occurs, beside that it may be assigned.
 #[derive(Clone, Copy, Debug, PartialEq, Eq)]
@@ -19,7 +19,7 @@ pub(crate) enum How {
 
 /// What is known of a variable.
 #[derive(Clone, Copy, Debug, PartialEq, Eq)]
-pub(crate) struct Known {
+pub(crate) struct Occurrence {
     pub(crate) assigned: bool,
     pub(crate) how: How,
 }
@@ -28,7 +28,7 @@ pub(crate) struct Known {
 #[derive(Clone, Copy, Debug, PartialEq, Eq)]
 pub(crate) struct Entry {
     pub(crate) turn: u64,
-    pub(crate) known: Known,
+    pub(crate) known: Occurrence,
 }
 
 /// Whether two groups are one.
@@ -83,19 +83,19 @@ fn variable_in(what: Use) -> u32
 }
 
 /// What is known of a variable behind what happens to it.
-fn behind(what: Use, known: Known) -> Known
+fn behind(what: Use, known: Occurrence) -> Occurrence
     ensures { result ≡ behind what known }
 {
     match what {
-        Use::Names(_) | Use::Declares(_) => Known {
+        Use::Names(_) | Use::Declares(_) => Occurrence {
             assigned: known.assigned,
             how: How::Elsewhere,
         },
-        Use::Assigns(_) => Known {
+        Use::Assigns(_) => Occurrence {
             assigned: true,
             how: How::Elsewhere,
         },
-        Use::Reduces(by) => Known {
+        Use::Reduces(by) => Occurrence {
             assigned: true,
             how: how_behind(known.how, by.group),
         },
@@ -103,12 +103,12 @@ fn behind(what: Use, known: Known) -> Known
 }
 
 /// What is known of a variable in this loop.
-pub(crate) fn look(table: &[Entry], turn: u64, variable: u32) -> Known
+pub(crate) fn look(table: &[Entry], turn: u64, variable: u32) -> Occurrence
     ensures { result ≡ look turn table.now variable }
 {
     match table.get(variable as usize) {
         Some(entry) if entry.turn == turn => entry.known,
-        _ => Known {
+        _ => Occurrence {
             assigned: false,
             how: How::Nowhere,
         },
@@ -118,7 +118,7 @@ pub(crate) fn look(table: &[Entry], turn: u64, variable: u32) -> Known
 /// Notes what happens to a variable.
 #[tactic(auto, using(std::proofs::lemmas::List::set_past))]
 fn note_use(table: &mut [Entry], turn: u64, what: Use)
-    ensures { table.new ≡ noted turn what table.old }
+    ensures { table.new ≡ table_with turn what table.old }
 {
     let variable = variable_in(what);
     let known = behind(what, look(table, turn, variable));
@@ -130,7 +130,7 @@ fn note_use(table: &mut [Entry], turn: u64, what: Use)
 
 /// Notes all that happens in a loop.
 pub(crate) fn note_uses(table: &mut [Entry], turn: u64, uses: &[Use])
-    ensures { table.new ≡ noted_all turn uses.now table.old }
+    ensures { table.new ≡ table_with_all turn uses.now table.old }
 {
     for what in uses {
         note_use(table, turn, *what);

@@ -1,20 +1,20 @@
 //! Which loops are counted, and which reads they break.
 ghost use Rattle.std.specs.Prelude.{◌≡◌, ◌+◌, ◌++◌, ◌∷◌, [], length, if◌then◌else◌, IfOk, OnOk};
 ghost use Rattle.std.specs.Option.{option_copied};
-ghost use Rattle.k_marks.specs.Uses.{declares, first_declares};
-ghost use Rattle.k_marks.specs.Loops.{loop_uses, counter, counter_read, is_counted, broken_by, broken_by_all};
-ghost use Rattle.k_marks.specs.Known.{known_bound, known_counts, known_reduced, known_read, known_reads, noted_all, IsFresh};
+ghost use Rattle.k_marks_meaning.specs.Uses.{declares, first_declares};
+ghost use Rattle.k_marks_meaning.specs.Loops.{loop_uses, counter, counter_read, is_counted, broken_by, broken_by_all};
+ghost use Rattle.k_marks.specs.Known.{known_bound, known_counts, known_reduced, known_read, known_reads, table_with_all, IsFresh};
 ghost use Rattle.k_marks.specs.Found.{seen};
 
 use crate::conditions::{bound_of, counter, is_assigned_once, is_fixed, is_register};
 use crate::found::Turns;
-use crate::jumps::jumps_of;
 use crate::known::{Entry, allows, look, note_uses};
 use crate::notes::{note_expr, note_option};
 use crate::statements::note_stmt;
-use crate::uses::{Group, Read, Use};
+use k_marks_jumps::jumps_of;
+use k_marks_meaning::{Group, Read, Use};
 use k_num::{NoMemory, Seq};
-use k_typed::{TDeclarator, TExpr, TFirst, TVariable};
+use k_types_meaning::{TDeclarator, TExpr, TFirst, TVariable};
 use std::alloc::Global;
 
 /// Notes the variables that declarators declare.
@@ -174,7 +174,7 @@ fn break_counter(turns: Turns<'_>, broken: &mut Vec<u32>) -> Result<(), NoMemory
 
 /// Notes all that happens in a loop in a table.
 fn note_in(table: &mut Vec<Entry>, turn: u64, uses: &[Use])
-    ensures { table.new.items ≡ noted_all turn uses.now table.old.items }
+    ensures { table.new.items ≡ table_with_all turn uses.now table.old.items }
 {
     note_uses(table.as_mut_slice(), turn, uses)
 }
@@ -187,7 +187,7 @@ fn note_all(
     turns: Turns<'_>,
 ) -> Result<Vec<Use>, NoMemory>
     ensures uses { IfOk result (λ uses. uses.items ≡ loop_uses (seen turns.entry)) }
-    ensures table { OnOk result (table.new.items ≡ noted_all turn (loop_uses (seen turns.entry)) table.old.items) }
+    ensures table { OnOk result (table.new.items ≡ table_with_all turn (loop_uses (seen turns.entry)) table.old.items) }
 {
     let mut uses = Vec::new(alloc);
     note_loop(turns, &mut uses)?;

@@ -1,10 +1,10 @@
 //! What expressions and statements do with variables, noted in text order.
 ghost use Rattle.std.specs.Prelude.{◌≡◌, ◌++◌, map, OnOk};
-ghost use Rattle.k_marks.specs.Uses.{Used, used, assigns, uses_of, option_uses, all_uses, in_order, item_uses, init_uses, declarator_uses, declared_uses, first_uses};
+ghost use Rattle.k_marks_meaning.specs.Uses.{Used, used, assigns, uses_of, option_uses, all_uses, in_order, item_uses, init_uses, declarator_uses, declared_uses, first_uses};
 
-use crate::uses::Use;
+use k_marks_meaning::Use;
 use k_num::{Box, NoMemory, Seq};
-use k_typed::{TDeclarator, TExpr, TFirst, TInit, TItem};
+use k_types_meaning::{TDeclarator, TExpr, TFirst, TInit, TItem};
 
 /// Notes the variable that an assigned operand is, if it is one.
 fn note_target(expr: &TExpr, uses: &mut Vec<Use>) -> Result<(), NoMemory>

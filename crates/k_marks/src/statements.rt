@@ -1,12 +1,12 @@
 //! What statements do with variables, noted in text order.
 ghost use Rattle.std.specs.Prelude.{◌≡◌, ◌++◌, map, OnOk};
-ghost use Rattle.k_marks.specs.Contents.{inside, part_inside, if_there, where_given, row};
+ghost use Rattle.k_marks_meaning.specs.Contents.{inside, part_inside, if_there, where_given, row};
 
 use crate::actions::note_action;
 use crate::notes::{note_declared, note_expr, note_first, note_option};
-use crate::uses::Use;
+use k_marks_meaning::Use;
 use k_num::{Box, NoMemory, Seq};
-use k_typed::{TPart, TStmt};
+use k_types_meaning::{TPart, TStmt};
 
 /// Notes what a statement does.
 #[cycle(statements)]

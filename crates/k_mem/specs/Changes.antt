@@ -1,3 +1,4 @@
+-- Believed with a public law.
 -- The calls that change a program's objects, one after another.
 use Rattle.std.specs.Prelude.{ℕ, ◌≡◌, ◌≢◌, ◌⊎◌, List, [], ◌∷◌, Option, Some, None, Result, Ok, Err, ℤ}
 use Rattle.k_mem.specs.declared.pointer.Pointer.{Pointer}

@@ -1,3 +1,4 @@
+-- Believed with a public law.
 -- Laws of the calls, for those who rest on them.
 use Rattle.std.specs.Prelude.{ℕ, ◌≡◌, ◌≢◌, ◌+◌, ◌<◌, ◌≤◌, ◌⊎◌, List, [], length, slice_get, Some, None, Ok, Err, ⊤, ℤ, pos}
 use Rattle.std.specs.Int.{w8, cast_signed}

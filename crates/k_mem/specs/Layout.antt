@@ -1,3 +1,4 @@
+-- For contracts between crates: nobody has to believe it.
 -- How the objects are kept: the elements of all live objects in one list of cells, and for each object where
 -- its own begin and how many they are.
 use Rattle.std.specs.Prelude.{ℕ, ◌≡◌, ◌+◌, ◌^◌, ◌≤◌, ◌==◌, if◌then◌else◌, List, [], ◌∷◌, ◌++◌, take, drop, map, find, Option, Result, Ok, Err, ℤ, pos, ◌+ℤ◌}

@@ -1,3 +1,4 @@
+-- Believed with the theorem on the top call.
 -- *Memory*: the live objects of a running program.
 use Rattle.std.specs.Prelude.{ℕ, ◌≡◌, ◌+◌, ◌^◌, ◌≤◌, ◌==◌, Bool, List, [], ◌∷◌, length, sum_by, find, Option, ℤ}
 

@@ -9,8 +9,6 @@ pub mod laws;
 mod objects;
 mod pointer;
 mod start;
-#[cfg(test)]
-mod tests;
 
 pub use fault::{MemTrap, PushFault};
 pub use objects::Objects;

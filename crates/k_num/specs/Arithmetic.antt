@@ -1,3 +1,4 @@
+-- Believed with the theorem on the top call.
 -- *Arithmetic*: the value of an operation, or why it has none, over whole numbers without bound (C17 6.5.3.3, 6.5.5 to 6.5.14).
 use Rattle.std.specs.Prelude.{ℕ, ◌-◌, ◌^◌, Bool, ◌&&◌, ◌||◌, not, if◌then◌else◌, IsTrue, ℤ, pos, neg_ℤ, ◌+ℤ◌, ◌-ℤ◌, ◌*ℤ◌, int_le, int_lt, int_div, unsigned_abs, bit_and, bit_or, bit_xor, Result, Ok, Err}
 use Rattle.std.specs.Int.{int_shr}

@@ -1,3 +1,4 @@
+-- Believed with a public law.
 -- What holds of the values of the operators, whatever the operands: the statements of the laws.
 use Rattle.std.specs.Prelude.{◌⊎◌, Bool, true, false, IsTrue, IfOk, ◌≡◌, ℤ, pos, neg_ℤ, Result, Ok}
 use Rattle.k_num.specs.declared.numbers.Kind.{Kind}

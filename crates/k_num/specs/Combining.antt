@@ -1,3 +1,4 @@
+-- Believed with a public law.
 -- Operators modulo 2^n: what they combine may come in any order. Reductions rest on it.
 use Rattle.std.specs.Prelude.{ℕ, ◌^◌, ◌≤◌, Bool, true, false, IfOk, ◌≡◌, List, ℤ, neg_ℤ, bit_and, bit_or, bit_xor, Ok}
 use Rattle.std.specs.List.{fold}

@@ -1,3 +1,4 @@
+-- Believed with the theorem on the top call.
 -- The kinds of whole numbers (C17 6.2.5, 6.3.1). A kind is told by its width n and by whether it is signed.
 use Rattle.std.specs.Prelude.{ℕ, ◌-◌, ◌/◌, ◌^◌, Bool, true, false, ◌&&◌, nat_lt, if◌then◌else◌, ℤ, pos, neg_ℤ, ◌-ℤ◌, int_le, unsigned_abs}
 use Rattle.std.specs.Int.{int_rem_euclid}

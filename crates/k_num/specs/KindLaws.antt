@@ -1,3 +1,4 @@
+-- Believed with a public law.
 -- What holds of conversion, of promotion and of the common kind of two operands: the statements of the laws.
 use Rattle.std.specs.Prelude.{ℕ, ◌*◌, ◌^◌, ◌<◌, ◌≤◌, true, false, IsTrue, ◌≡◌, ℤ, pos, negsuc, ◌+ℤ◌}
 use Rattle.k_num.specs.declared.numbers.Kind.{Kind}

@@ -1,3 +1,4 @@
+-- For contracts between crates: nobody has to believe it.
 -- What a list ends as, where its items are lent for writing.
 use Rattle.std.specs.Prelude.{List, length}
 use Rattle.std.specs.List.{refill}

@@ -333,6 +333,3 @@ pub fn binary(op: Bin, kind: Kind, a: i128, b: i128) -> Result<i128, NumTrap>
         LogAnd => both,
         LogOr => either)
 }
-
-#[cfg(test)]
-mod tests;

@@ -135,6 +135,3 @@ pub fn common(a: Kind, b: Kind) -> Kind
         _ => Kind::I32,
     }
 }
-
-#[cfg(test)]
-mod tests;

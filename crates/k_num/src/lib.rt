@@ -10,6 +10,7 @@ mod memory;
 mod numbers;
 mod place;
 mod seq;
+mod stack;
 mod text;
 mod unary_operators;
 
@@ -20,5 +21,6 @@ pub use memory::NoMemory;
 pub use numbers::{Bin, Kind, NumTrap, Un};
 pub use place::Place;
 pub use seq::Seq;
+pub use stack::Stack;
 pub use text::Text;
 pub use unary_operators::unary;

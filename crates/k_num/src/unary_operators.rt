@@ -31,6 +31,3 @@ pub fn unary(op: Un, kind: Kind, a: i128) -> Result<i128, NumTrap>
         Un::Not => Ok(truth(is_zero(a))),
     }
 }
-
-#[cfg(test)]
-mod tests;

@@ -1,4 +1,5 @@
 pub mod Choices
+pub mod Classes
 pub mod Counting
 pub mod Crossing
 pub mod Heaviest
@@ -10,6 +11,5 @@ pub mod Nesting
 pub mod Opening
 pub mod Paths
 pub mod Rows
-pub mod Single
 pub mod TomlTables
 pub mod Trees

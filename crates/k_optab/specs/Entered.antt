@@ -1,3 +1,4 @@
+-- Believed with the theorem on the top call.
 -- Which regions a run enters, and the shape of a run from which main returned.
 use Rattle.std.specs.Prelude.{ℕ, ◌≡◌, ◌<◌, List, [], ◌∷◌, ◌++◌, Some, codes, slice_get}
 use Rattle.k_optab.specs.declared.event.Event.{Event}

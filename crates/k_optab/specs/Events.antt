@@ -1,3 +1,4 @@
+-- Believed with the theorem on the top call.
 -- *Event*: the operations of a run, numbered from 0.
 use Rattle.std.specs.Prelude.{ℕ, ◌≡◌, ◌+◌, ◌-◌, ◌<◌, ◌⊎◌, false, List, [], ◌∷◌, length, take, drop, slice_get, Some}
 use Rattle.k_num.specs.declared.place.Place.{Place}

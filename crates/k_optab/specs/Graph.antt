@@ -1,3 +1,4 @@
+-- Believed with the theorem on the top call.
 -- *Graph*, *Work and path*: the dependence graph of an interval [s, e) of a run's operations, the work of
 -- the interval, and the weight of its heaviest path.
 use Rattle.std.specs.Prelude.{ℕ, ◌≡◌, ◌+◌, ◌<◌, ◌≤◌, ◌⊎◌, List, [], ◌∷◌, ◌++◌, Option, Some, None}

@@ -1,3 +1,4 @@
+-- Believed with a public law.
 -- What holds of paths, of work and of times, whatever the run: the statements of the laws.
 use Rattle.std.specs.Prelude.{ℕ, ◌≡◌, ◌+◌, ◌<◌, ◌≤◌, ◌⊎◌, max, if◌then◌else◌, List, [], ◌∷◌, ◌++◌, length, Some}
 use Rattle.k_optab.specs.declared.event.Src.{Src}

@@ -1,3 +1,4 @@
+-- Believed with the theorem on the top call.
 -- What holds of instances, whatever the events: the statements of the laws.
 use Rattle.std.specs.Prelude.{ℕ, ◌≡◌, ◌<◌, ◌≤◌, ◌⊎◌, ◌↔◌, List, ◌∷◌, ◌++◌, length, Some, All, AllPairs}
 use Rattle.k_optab.specs.declared.event.Event.{Event}

@@ -1,3 +1,4 @@
+-- Believed with the theorem on the top call.
 -- *Instances*: an Enter with its matching Exit is a closed instance of a region.
 use Rattle.std.specs.Prelude.{ℕ, zero, suc, ◌≡◌, ◌+◌, ◌-◌, ◌<◌, ◌≤◌, List, [], ◌∷◌, ◌++◌, length, Option, Some, None, option_map, nat_lt, filter, slice_get}
 use Rattle.k_num.specs.declared.place.Place.{Place}

@@ -8,6 +8,6 @@ pub mod Latencies
 pub mod Meaning
 pub mod Open
 pub mod OpenLaws
-pub mod Single
+pub mod Regions
 pub mod TomlTable
 pub mod Tree

@@ -1,3 +1,4 @@
+-- Believed with the theorem on the top call.
 -- *Meaning of the numbers*: how an instance's critical path stands to its work and to its children's numbers.
 use Rattle.std.specs.Prelude.{ℕ, ◌+◌, ◌-◌, ◌≤◌, ◌==◌, nat_lt, if◌then◌else◌, List, [], ◌∷◌, All, Contains, filter, sum_by, take_while}
 use Rattle.k_optab.specs.declared.closed.Closed.{Closed}

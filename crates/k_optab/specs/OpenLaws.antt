@@ -1,3 +1,4 @@
+-- Believed with a public law.
 -- What each event does to the open instances and to the closed ones: the statements of the laws.
 use Rattle.std.specs.Prelude.{ℕ, ◌≡◌, ◌<◌, ◌≤◌, List, [], ◌∷◌, ◌++◌, length, Some, slice_get, All, AllPairs}
 use Rattle.k_num.specs.declared.place.Place.{Place}

@@ -1,3 +1,4 @@
+-- Believed with the theorem on the top call.
 -- *Table of latencies*: what a TOML document says of the latencies, or what is wrong with its first wrong key.
 use Rattle.std.specs.Prelude.{ℕ, ◌≡◌, ◌++◌, Bool, ◌&&◌, if◌then◌else◌, IsTrue, IsUtf8, List, [], ◌∷◌, map, nat_eq, Option, Some, None, option_map, option_and_then, option_to_list, Result, Ok, Err, ℤ, pos, int_le, unsigned_abs, unwrap_or}
 use Rattle.std.specs.List.{list_any}

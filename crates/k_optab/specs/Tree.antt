@@ -1,3 +1,4 @@
+-- Believed with the theorem on the top call.
 -- *Tree*: the tracked instances of a run in order of entry, each with its work and its critical path.
 use Rattle.std.specs.Prelude.{ℕ, ◌≡◌, List, [], ◌∷◌}
 use Rattle.k_optab.specs.declared.event.Event.{Event}

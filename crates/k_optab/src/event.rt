@@ -1,4 +1,6 @@
 //! The events of a run.
+ghost use Rattle.std.specs.Prelude.{◌≡◌, length};
+ghost use Rattle.k_optab.specs.Events.{operations};
 
 use crate::{Class, Sources};
 use k_num::Place;
@@ -28,4 +30,17 @@ pub enum Event {
     Enter(u32),
     /// The newest open instance was left.
     Exit,
+}
+
+/// How many operations there are among events.
+pub fn count_operations(events: &[Event]) -> u64
+    ensures { result ≡ length (operations events.now) }
+{
+    let mut count = 0u64;
+    for event in events {
+        if matches!(event, Event::Op { .. }) {
+            count += 1;
+        }
+    }
+    count
 }

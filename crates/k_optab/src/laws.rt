@@ -28,14 +28,6 @@ ghost use Rattle.k_optab.specs.OpenLaws.{
   OpenInstancesNest,
   OperationsKeepInstances,
 };
-ghost use Rattle.k_optab.specs.Single.{
-  OneInstanceIsBalanced,
-  OperationsOfOneInstance,
-  SingleExists,
-  SingleIsBounded,
-  SingleIsUnique,
-  TreeOfOneInstance,
-};
 
 /// A path weighs at most the work of its interval.
 pub fn path_is_at_most_work()
@@ -106,17 +98,6 @@ pub fn instances_never_cross()
     ensures apart { InstancesNeverCross }
     ensures intervals { IntervalsLieAsInstances }
     ensures counts { IntervalsCountOperations }
-{}
-
-/// A run that enters one instance, makes operations within it, and leaves it, has a tree of one node, whose work is that of
-/// all operations and whose path is their heaviest one.
-pub fn tree_of_one_instance()
-    ensures operations { OperationsOfOneInstance }
-    ensures balanced { OneInstanceIsBalanced }
-    ensures tree { TreeOfOneInstance }
-    ensures exists { SingleExists }
-    ensures unique { SingleIsUnique }
-    ensures bounded { SingleIsBounded }
 {}
 
 /// What one event more does to the instances that are open and to those that are closed.

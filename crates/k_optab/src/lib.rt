@@ -15,7 +15,7 @@ mod toml_table;
 
 pub use class::Class;
 pub use closed::Closed;
-pub use event::{Event, Src};
+pub use event::{Event, Src, count_operations};
 pub use latencies::{Latencies, name, of, standard};
 pub use node::Node;
 pub use region::{Region, RegionKind};

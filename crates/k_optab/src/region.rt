@@ -1,4 +1,6 @@
 //! The regions of a program: its functions, its loops and their bodies.
+ghost use Rattle.std.specs.Prelude.{◌≡◌};
+ghost use Rattle.k_optab.specs.Regions.{is_body, is_loop};
 
 use k_num::{Place, Text};
 
@@ -8,6 +10,22 @@ pub enum RegionKind {
     Func,
     Loop,
     Body,
+}
+
+impl RegionKind {
+    /// Whether this is a loop.
+    pub fn is_loop(self) -> bool
+        ensures { result ≡ is_loop self }
+    {
+        self == RegionKind::Loop
+    }
+
+    /// Whether this is a loop's body.
+    pub fn is_body(self) -> bool
+        ensures { result ≡ is_body self }
+    {
+        self == RegionKind::Body
+    }
 }
 
 /// A region of a program.

@@ -148,6 +148,3 @@ fn number_at(document: &Table, key: &str) -> Option<i64>
         Some(value) => value.as_integer(),
     }
 }
-
-#[cfg(test)]
-mod tests;

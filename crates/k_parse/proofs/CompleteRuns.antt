@@ -1,20 +1,20 @@
 -- A token list that spells a ranked source within the limit is read whole, as that source up to places.
 use Rattle.std.proofs.Common.{ℕ, ◌≡◌, ◌+◌, ◌<◌, ◌≤◌, cond, List, [], ◌∷◌, ◌++◌, map, Some, Ok, Err, sym, ap, ◌∙◌, subst, arith, le-leb}
-use Rattle.k_steps.specs.Types.{Token, TokenKind, Item}
-use Rattle.k_steps.specs.declared.source.Source.{Source}
+use Rattle.k_parse_steps.specs.Types.{Token, TokenKind, Item}
+use Rattle.k_parse_steps.specs.declared.source.Source.{Source}
 use Rattle.k_tree.specs.declared.tokens.TokenKind.TheVariants as token
 use Rattle.k_tree.specs.declared.tree.unit.Unit as source
 use Rattle.k_tree.specs.Bare.{bare_item}
 use Rattle.k_tree.specs.Nesting.{nesting}
 use Rattle.k_tree.specs.Ranked.{RankedUnit}
 use Rattle.k_tree.specs.Spelling.{Spelled, spell_item, spelling, in_row}
-use Rattle.k_steps.specs.Sources.{feed_source, begin_source}
+use Rattle.k_parse_steps.specs.Sources.{feed_source, begin_source}
 use Rattle.k_parse.specs.Runs.{next, runs}
-use Rattle.k_steps.specs.declared.turn.Turn.TheVariants as turn
+use Rattle.k_parse_steps.specs.declared.turn.Turn.TheVariants as turn
 use Rattle.k_parse.specs.declared.fault.ParseFault.TheVariants as fault
-use Rattle.k_steps.proofs.CompleteLeads.{token_at, Step, Leads}
-use Rattle.k_steps.proofs.CompleteItems.{Sources}
-use Rattle.k_steps.proofs.CompleteSources.{unit_of, SourceRead, source_complete}
+use Rattle.k_parse_steps.proofs.CompleteLeads.{token_at, Step, Leads}
+use Rattle.k_parse_steps.proofs.CompleteItems.{Sources}
+use Rattle.k_parse_steps.proofs.CompleteSources.{unit_of, SourceRead, source_complete}
 
 -- the list is read to the tree of these items, up to places
 pub record RunsTo (limit : ℕ) (s : Source) (ts : List Token) (items : List Item) : Type 0 where

@@ -3,8 +3,8 @@ use Rattle.std.proofs.Common.{ℕ, ◌≡◌, ◌+◌, ◌<◌, ◌≤◌, Bool,
 use Rattle.std.specs.Prelude.{◌⊎◌, Ok, Err}
 use Rattle.std.proofs.lemmas.Bool.{leb-true, leb-false}
 use Rattle.std.proofs.lemmas.List.{map-append}
-use Rattle.k_steps.specs.Types.{Token, Item, Sourced}
-use Rattle.k_steps.specs.declared.source.Source.{Source}
+use Rattle.k_parse_steps.specs.Types.{Token, Item, Sourced}
+use Rattle.k_parse_steps.specs.declared.source.Source.{Source}
 use Rattle.k_parse.specs.declared.fault.ParseFault.{ParseFault}
 use Rattle.k_tree.specs.declared.tokens.TokenKind.TheVariants as token
 use Rattle.k_tree.specs.declared.tree.unit.Unit as source
@@ -15,14 +15,14 @@ use Rattle.k_tree.proofs.Laid.{unit_spelled}
 use Rattle.k_tree.proofs.Standing.{stand-kinds}
 use Rattle.k_parse.specs.Beginnings.{kinds, Begins, IsRefusalAt, IsFirstWrong}
 use Rattle.k_parse.specs.Runs.{Outcome, next, runs}
-use Rattle.k_steps.specs.Sources.{begin_source, feed_source}
-use Rattle.k_steps.specs.declared.turn.Turn.TheVariants as turn
+use Rattle.k_parse_steps.specs.Sources.{begin_source, feed_source}
+use Rattle.k_parse_steps.specs.declared.turn.Turn.TheVariants as turn
 use Rattle.k_parse.specs.declared.fault.ParseFault.TheVariants as fault
-use Rattle.k_steps.proofs.CompleteLeads.{token_at, Step, Leads, Reaches}
-use Rattle.k_steps.proofs.CompleteItems.{Sources}
-use Rattle.k_steps.proofs.CompleteSources.{SourceRead, unit_of, source_complete, goes_once, cons_head, cons_tail}
-use Rattle.k_steps.proofs.SourceSound.{OkSource, IsUnit, KeepsSourced, source_keeps, begin_source_ok}
-use Rattle.k_steps.proofs.SourceViable.{PhaseReached, SourcedStays, source_stays, source_begins}
+use Rattle.k_parse_steps.proofs.CompleteLeads.{token_at, Step, Leads, Reaches}
+use Rattle.k_parse_steps.proofs.CompleteItems.{Sources}
+use Rattle.k_parse_steps.proofs.CompleteSources.{SourceRead, unit_of, source_complete, goes_once, cons_head, cons_tail}
+use Rattle.k_parse_steps.proofs.SourceSound.{OkSource, IsUnit, KeepsSourced, source_keeps, begin_source_ok}
+use Rattle.k_parse_steps.proofs.SourceViable.{PhaseReached, SourcedStays, source_stays, source_begins}
 
 -- a token is taken: the reading goes on no deeper than below the bound, or ends
 abbrev pub Takes : ℕ → Source → Token → Type 0

@@ -1,46 +1,46 @@
 -- Behind the end of a source no reading goes on.
 use Rattle.std.proofs.Common.{ℕ, ◌≡◌, ◌+◌, ◌<◌, false, ◌&&◌, cond, List, [], ◌∷◌, ◌++◌, length, get_or, drop, None, refl, sym, ap, subst, ◌∙◌}
 use Rattle.std.proofs.Math.Bool.{and-false}
-use Rattle.k_steps.specs.Types.{Place, Token, Stmt, Fed, Sourced, Param, Item}
-use Rattle.k_steps.specs.declared.expression.Term.{Term}
-use Rattle.k_steps.specs.declared.expression.ExpressionStage.{ExpressionStage}
-use Rattle.k_steps.specs.declared.expression.Site.{Site}
-use Rattle.k_steps.specs.declared.expression.Reading.{Reading}
-use Rattle.k_steps.specs.declared.expression.plug.Plugged.{Plugged}
-use Rattle.k_steps.specs.declared.reading.Closer.{Closer}
-use Rattle.k_steps.specs.declared.declaration.Front.{Front}
-use Rattle.k_steps.specs.declared.declaration.DeclarationStage.{DeclarationStage}
-use Rattle.k_steps.specs.declared.declaration.Declaration.{Declaration}
-use Rattle.k_steps.specs.declared.declaration.initialiser.Opened.{Opened}
-use Rattle.k_steps.specs.declared.parameter.ParameterStage.{ParameterStage}
-use Rattle.k_steps.specs.declared.parameter.Parameters.{Parameters}
-use Rattle.k_steps.specs.declared.statement.Frame.{Frame}
-use Rattle.k_steps.specs.declared.statement.BlockStage.{BlockStage}
-use Rattle.k_steps.specs.declared.statement.Body.{Body}
-use Rattle.k_steps.specs.declared.source.SourceStage.{SourceStage}
-use Rattle.k_steps.specs.declared.source.Source.{Source}
+use Rattle.k_parse_steps.specs.Types.{Place, Token, Stmt, Fed, Sourced, Param, Item}
+use Rattle.k_parse_steps.specs.declared.expression.Term.{Term}
+use Rattle.k_parse_steps.specs.declared.expression.ExpressionStage.{ExpressionStage}
+use Rattle.k_parse_steps.specs.declared.expression.Site.{Site}
+use Rattle.k_parse_steps.specs.declared.expression.Reading.{Reading}
+use Rattle.k_parse_steps.specs.declared.expression.plug.Plugged.{Plugged}
+use Rattle.k_parse_steps.specs.declared.reading.Closer.{Closer}
+use Rattle.k_parse_steps.specs.declared.declaration.Front.{Front}
+use Rattle.k_parse_steps.specs.declared.declaration.DeclarationStage.{DeclarationStage}
+use Rattle.k_parse_steps.specs.declared.declaration.Declaration.{Declaration}
+use Rattle.k_parse_steps.specs.declared.declaration.initialiser.Opened.{Opened}
+use Rattle.k_parse_steps.specs.declared.parameter.ParameterStage.{ParameterStage}
+use Rattle.k_parse_steps.specs.declared.parameter.Parameters.{Parameters}
+use Rattle.k_parse_steps.specs.declared.statement.Frame.{Frame}
+use Rattle.k_parse_steps.specs.declared.statement.BlockStage.{BlockStage}
+use Rattle.k_parse_steps.specs.declared.statement.Body.{Body}
+use Rattle.k_parse_steps.specs.declared.source.SourceStage.{SourceStage}
+use Rattle.k_parse_steps.specs.declared.source.Source.{Source}
 use Rattle.k_tree.specs.declared.tokens.TokenKind.TheVariants as token
 use Rattle.k_tree.specs.declared.tree.statement.Part.TheVariants as labels
-use Rattle.k_steps.specs.Expressions as expressions
-use Rattle.k_steps.specs.Expressions.{Opens}
-use Rattle.k_steps.specs.Readings as readings
-use Rattle.k_steps.specs.Declarations as declarations
-use Rattle.k_steps.specs.Parameters as parameters
-use Rattle.k_steps.specs.Statements as statements
-use Rattle.k_steps.specs.Statements.{Parts, Frames}
-use Rattle.k_steps.specs.Sources as sources
-use Rattle.k_steps.specs.declared.expression.ExpressionStage.TheVariants as now
-use Rattle.k_steps.specs.declared.turn.Turn.TheVariants as turn
-use Rattle.k_steps.specs.declared.expression.plug.Plugged.TheVariants as plugged
-use Rattle.k_steps.specs.declared.reading.Closer.TheVariants as closer
-use Rattle.k_steps.specs.declared.declaration.DeclarationStage.TheVariants as stage
-use Rattle.k_steps.specs.Initialisers as inits
-use Rattle.k_steps.specs.declared.parameter.ParameterStage.TheVariants as part_
-use Rattle.k_steps.specs.declared.statement.Frame.TheVariants as frame
-use Rattle.k_steps.specs.declared.statement.BlockStage.TheVariants as step
-use Rattle.k_steps.specs.declared.source.SourceStage.TheVariants as phase
+use Rattle.k_parse_steps.specs.Expressions as expressions
+use Rattle.k_parse_steps.specs.Expressions.{Opens}
+use Rattle.k_parse_steps.specs.Readings as readings
+use Rattle.k_parse_steps.specs.Declarations as declarations
+use Rattle.k_parse_steps.specs.Parameters as parameters
+use Rattle.k_parse_steps.specs.Statements as statements
+use Rattle.k_parse_steps.specs.Statements.{Parts, Frames}
+use Rattle.k_parse_steps.specs.Sources as sources
+use Rattle.k_parse_steps.specs.declared.expression.ExpressionStage.TheVariants as now
+use Rattle.k_parse_steps.specs.declared.turn.Turn.TheVariants as turn
+use Rattle.k_parse_steps.specs.declared.expression.plug.Plugged.TheVariants as plugged
+use Rattle.k_parse_steps.specs.declared.reading.Closer.TheVariants as closer
+use Rattle.k_parse_steps.specs.declared.declaration.DeclarationStage.TheVariants as stage
+use Rattle.k_parse_steps.specs.Initialisers as inits
+use Rattle.k_parse_steps.specs.declared.parameter.ParameterStage.TheVariants as part_
+use Rattle.k_parse_steps.specs.declared.statement.Frame.TheVariants as frame
+use Rattle.k_parse_steps.specs.declared.statement.BlockStage.TheVariants as step
+use Rattle.k_parse_steps.specs.declared.source.SourceStage.TheVariants as phase
 use Rattle.k_tree.specs.Closed.{EndsOnce}
-use Rattle.k_steps.proofs.CompleteLeads.{token_at}
+use Rattle.k_parse_steps.proofs.CompleteLeads.{token_at}
 use Rattle.k_parse.proofs.Turns.{drop_here}
 
 -- an expression does not go on

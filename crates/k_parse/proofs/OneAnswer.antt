@@ -2,7 +2,7 @@
 use Rattle.std.proofs.Common.{ℕ, ◌≡◌, ◌<◌, List, [], ◌∷◌, ◌++◌, Ok, Err, inl, inr, refl, sym, ap, subst, ◌∙◌, append_assoc, arith}
 use Rattle.std.specs.Prelude.{◌⊎◌, Result}
 use Rattle.std.proofs.lemmas.List.{map-append, append-nil}
-use Rattle.k_steps.specs.Types.{Token}
+use Rattle.k_parse_steps.specs.Types.{Token}
 use Rattle.k_parse.specs.declared.fault.ParseFault.{ParseFault}
 use Rattle.k_tree.specs.declared.tree.unit.Unit as source
 use Rattle.k_tree.specs.Count.{unit_count}

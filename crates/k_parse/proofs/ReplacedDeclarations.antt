@@ -3,12 +3,12 @@ use Rattle.std.proofs.Common.{◌≡◌, ◌≢◌, List, [], ◌∷◌, ◌++�
 use Rattle.std.specs.Prelude.{All}
 use Rattle.std.proofs.lemmas.List.{map-append}
 use Rattle.std.proofs.lemmas.List.Elements.{All-nil, All-cons}
-use Rattle.k_steps.specs.Types.{Place, Word, Init, Declarator, Param, Params}
+use Rattle.k_parse_steps.specs.Types.{Place, Word, Init, Declarator, Param, Params}
 use Rattle.k_tree.specs.declared.tokens.mark.Mark.TheVariants as mark
 use Rattle.k_tree.specs.declared.tree.declaration.Init.TheVariants as init
 use Rattle.k_tree.specs.declared.tree.declaration.Params.TheVariants as params
 use Rattle.k_tree.specs.Bare.{where_given, bare_init, bare_declarator, bare_param, bare_params}
-use Rattle.k_tree.specs.Folds.{init_One, init_List}
+use Rattle.k_tree.proofs.Folds.{init_One, init_List}
 use Rattle.k_tree.specs.Places.{Pieces, plain, lay_expr, lay_init, lay_init_step, lay_initialised, lay_behind_commas, lay_declarator, lay_declaration, lay_with_commas, lay_dims, lay_param, lay_params}
 use Rattle.k_tree.specs.Ranked.{RankedInit, RankedInits, one, braces, no_inits, more_inits, IfGiven, Specs, RankedDeclarator, RankedDeclaration, RankedParam, RankedParams}
 use Rattle.k_tree.specs.Spelling.{the_mark, spell_last_comma, spell_specs, spell_stars, spell_optional_name}

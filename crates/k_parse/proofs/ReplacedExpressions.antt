@@ -4,11 +4,11 @@ use Rattle.std.proofs.lemmas.List.{map-append}
 use Rattle.std.proofs.lemmas.List.Elements.{All-head, All-tail}
 use Rattle.k_tree.specs.declared.tokens.TokenKind.TheVariants as token
 use Rattle.k_tree.specs.declared.tokens.mark.Mark.TheVariants as mark
-use Rattle.k_steps.specs.Types.{Expr}
+use Rattle.k_parse_steps.specs.Types.{Expr}
 use Rattle.k_tree.specs.declared.tree.expression.Expr.TheVariants as expr
 use Rattle.k_tree.specs.Begins.{begins_expr}
 use Rattle.k_tree.specs.Bare.{where_given, bare_expr, bare_dims}
-use Rattle.k_tree.specs.Folds.{expr_Assign, expr_Binary, expr_Call, expr_Cast, expr_Char, expr_Comma, expr_Cond, expr_Index, expr_Name, expr_Number, expr_Paren, expr_Post, expr_Pre, expr_SizeofExpr, expr_SizeofType, expr_Str, expr_Unary}
+use Rattle.k_tree.proofs.Folds.{expr_Assign, expr_Binary, expr_Call, expr_Cast, expr_Char, expr_Comma, expr_Cond, expr_Index, expr_Name, expr_Number, expr_Paren, expr_Post, expr_Pre, expr_SizeofExpr, expr_SizeofType, expr_Str, expr_Unary}
 use Rattle.k_tree.specs.Places.{Pieces, kinds_of, lay_expr, lay_expr_step, lay_with_commas, lay_behind_commas, lay_option, lay_dims}
 use Rattle.k_tree.specs.Ranked.{Ranked, RankedArgs, IfGiven, RankedDims, no_args, more_args, comma, assignment, conditional, binary, cast, unary, prefix, sizeof_expr, sizeof_type, index, postfix, call, name, number, character, string, paren}
 use Rattle.k_tree.specs.Spelling.{the_mark, in_parens, spell_type, spell_expr}

@@ -1,6 +1,6 @@
 -- Trees that get the places of their nodes from the front of a list, in the order in which the nodes are laid.
 use Rattle.std.proofs.Common.{List, [], ◌∷◌, map, Option, Some, None}
-use Rattle.k_steps.specs.Types.{Place, Expr, Init, Declarator, Param, Params, First, Stmt, Part, Head, Item}
+use Rattle.k_parse_steps.specs.Types.{Place, Expr, Init, Declarator, Param, Params, First, Stmt, Part, Head, Item}
 use Rattle.k_tree.specs.declared.tree.expression.Expr.{fold-Expr}
 use Rattle.k_tree.specs.declared.tree.expression.Expr.TheOpen.{Expr-F}
 use Rattle.k_tree.specs.declared.tree.expression.Expr.TheVariants as expr

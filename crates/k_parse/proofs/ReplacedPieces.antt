@@ -4,7 +4,7 @@ use Rattle.std.specs.Prelude.{All, flat_map}
 use Rattle.std.proofs.lemmas.List.{map-append, append-nil}
 use Rattle.std.proofs.lemmas.Grind.{flat_map-append}
 use Rattle.std.proofs.lemmas.List.Elements.{All-head, All-tail}
-use Rattle.k_steps.specs.Types.{Place, TokenKind}
+use Rattle.k_parse_steps.specs.Types.{Place, TokenKind}
 use Rattle.k_tree.specs.Bare.{nowhere}
 use Rattle.k_tree.specs.Places.{Pieces, plain, at, lay_with_commas, lay_behind_commas, lay_row}
 use Rattle.k_tree.specs.Spelling.{Spelled}

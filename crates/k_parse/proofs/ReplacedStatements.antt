@@ -1,13 +1,13 @@
 -- Statements are given back by themselves without places and the places of their pieces.
 use Rattle.std.proofs.Common.{◌≡◌, ◌≢◌, List, [], ◌∷◌, ◌++◌, map, append_assoc, refl, sym, ap, ◌∙◌}
 use Rattle.std.proofs.lemmas.List.{map-append}
-use Rattle.k_steps.specs.Types.{Place, Word, Declarator, First, Stmt, Expr, Part}
+use Rattle.k_parse_steps.specs.Types.{Place, Word, Declarator, First, Stmt, Expr, Part}
 use Rattle.k_tree.specs.declared.tokens.mark.Mark.TheVariants as mark
 use Rattle.k_tree.specs.declared.tree.statement.First.TheVariants as first
 use Rattle.k_tree.specs.declared.tree.statement.Part.TheVariants as part
 use Rattle.k_tree.specs.declared.tree.statement.Stmt.TheVariants as stmt
 use Rattle.k_tree.specs.Bare.{bare_first, bare_stmt, bare_part}
-use Rattle.k_tree.specs.Folds.{stmt_Expr, stmt_Empty, stmt_Block, if_alone as if_alone_folds, if_else as if_else_folds, stmt_While, stmt_DoWhile, stmt_For, stmt_Switch, part_Case, part_Default, part_Does, stmt_Break, stmt_Continue, stmt_Return, stmt_Declare}
+use Rattle.k_tree.proofs.Folds.{stmt_Expr, stmt_Empty, stmt_Block, if_alone as if_alone_folds, if_else as if_else_folds, stmt_While, stmt_DoWhile, stmt_For, stmt_Switch, part_Case, part_Default, part_Does, stmt_Break, stmt_Continue, stmt_Return, stmt_Declare}
 use Rattle.k_tree.specs.Places.{plain, kinds_of, lay_expr, lay_declaration, lay_first, lay_part, lay_stmt, lay_stmts, lay_switched}
 use Rattle.k_tree.specs.Ranked.{Ranked, RankedDeclaration, RankedFirst, RankedStmt, RankedParts, value, empty, block, if_alone, if_else, while_loop, do_loop, for_loop, switch_stmt, RankedSwitch, no_labels, case_label, default_label, does, break_loop, continue_loop, return_value, no_parts, statement, declaration}
 use Rattle.k_tree.specs.Begins.{begins_stmt}

@@ -3,7 +3,7 @@ use Rattle.std.proofs.Common.{◌≡◌, ◌≢◌, List, [], ◌∷◌, ◌++�
 use Rattle.std.specs.Prelude.{All}
 use Rattle.std.proofs.lemmas.List.{map-append}
 use Rattle.std.proofs.lemmas.List.Elements.{All-head, All-tail}
-use Rattle.k_steps.specs.Types.{Place, Token, Stmt, Head, Item}
+use Rattle.k_parse_steps.specs.Types.{Place, Token, Stmt, Head, Item}
 use Rattle.k_tree.specs.declared.tokens.TokenKind.TheVariants as token
 use Rattle.k_tree.specs.declared.tree.unit.Item.TheVariants as item
 use Rattle.k_tree.specs.declared.tree.unit.Unit as source

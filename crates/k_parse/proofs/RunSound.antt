@@ -2,17 +2,17 @@
 use Rattle.std.proofs.Common.{ℕ, ◌≡◌, ◌≤◌, Bool, true, false, cond, List, [], ◌∷◌, ◌++◌, Some, None, refl, sym, subst, append_assoc, nat_le}
 use Rattle.std.specs.Prelude.{Ok, Err}
 use Rattle.std.proofs.lemmas.Bool.{leb-true}
-use Rattle.k_steps.specs.Types.{Token, Sourced}
-use Rattle.k_steps.specs.declared.source.Source.{Source}
+use Rattle.k_parse_steps.specs.Types.{Token, Sourced}
+use Rattle.k_parse_steps.specs.declared.source.Source.{Source}
 use Rattle.k_parse.specs.declared.fault.ParseFault.{ParseFault}
 use Rattle.k_tree.specs.declared.tokens.TokenKind.TheVariants as token
 use Rattle.k_tree.specs.declared.tree.unit.Unit as source
 use Rattle.k_tree.specs.Closed.{EndsOnce}
 use Rattle.k_parse.specs.Runs.{Outcome, next, runs}
-use Rattle.k_steps.specs.Sources.{begin_source, feed_source}
-use Rattle.k_steps.specs.declared.turn.Turn.TheVariants as turn
+use Rattle.k_parse_steps.specs.Sources.{begin_source, feed_source}
+use Rattle.k_parse_steps.specs.declared.turn.Turn.TheVariants as turn
 use Rattle.k_parse.specs.declared.fault.ParseFault.TheVariants as fault
-use Rattle.k_steps.proofs.SourceSound.{OkSource, IsUnit, KeepsSourced, source_keeps, begin_source_ok}
+use Rattle.k_parse_steps.proofs.SourceSound.{OkSource, IsUnit, KeepsSourced, source_keeps, begin_source_ok}
 
 ok_is : (u v : source.Unit) → ◌≡◌ {A = Outcome} (Some (Ok u)) (Some (Ok v)) → u ≡ v
 ok_is u v e = cc

@@ -1,7 +1,7 @@
 -- Trees of a token list: how many nodes they have, and that there is one.
 use Rattle.std.proofs.Common.{◌≡◌, ◌≤◌, ◌*◌, List, length, sym, ap, ◌∙◌, arith}
 use Rattle.std.proofs.lemmas.List.{length-map}
-use Rattle.k_steps.specs.Types.{Token}
+use Rattle.k_parse_steps.specs.Types.{Token}
 use Rattle.k_tree.specs.declared.tree.unit.Unit as source
 use Rattle.k_tree.specs.Count.{unit_count}
 use Rattle.k_tree.specs.Places.{Placed, lay_unit}
@@ -11,7 +11,7 @@ use Rattle.k_tree.proofs.Bounds.{unit_bound}
 use Rattle.k_tree.proofs.Laid.{unit_spelled}
 use Rattle.k_tree.proofs.Standing.{stand-kinds}
 use Rattle.k_parse.specs.Beginnings.{kinds}
-use Rattle.k_steps.proofs.CompleteSources.{source_spelled_once}
+use Rattle.k_parse_steps.proofs.CompleteSources.{source_spelled_once}
 use Rattle.k_parse.specs.Parse.{IsTreeOf, IsOnly, IsOne}
 use Rattle.k_parse.proofs.ReplacedUnit.{placed_alone}
 

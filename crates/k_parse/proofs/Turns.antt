@@ -1,12 +1,12 @@
 -- What one token of a list gives, where the rest of the list from that token on leads somewhere.
 use Rattle.std.proofs.Common.{ℕ, suc, ◌≡◌, ◌+◌, ◌<◌, ◌≤◌, cond, List, ◌∷◌, length, get_or, drop, Some, Ok, Err, sym, ap, ◌∙◌, add-one, drop-cons, le-leb}
 use Rattle.std.proofs.lemmas.Bool.{lt-leb}
-use Rattle.k_steps.specs.Types.{Token, Sourced}
-use Rattle.k_steps.specs.declared.source.Source.{Source}
+use Rattle.k_parse_steps.specs.Types.{Token, Sourced}
+use Rattle.k_parse_steps.specs.declared.source.Source.{Source}
 use Rattle.k_tree.specs.declared.tree.unit.Unit as source
 use Rattle.k_parse.specs.Runs.{Outcome, next, runs}
-use Rattle.k_steps.specs.Sources.{feed_source}
-use Rattle.k_steps.specs.declared.turn.Turn.TheVariants as turn
+use Rattle.k_parse_steps.specs.Sources.{feed_source}
+use Rattle.k_parse_steps.specs.declared.turn.Turn.TheVariants as turn
 use Rattle.k_parse.specs.declared.fault.ParseFault.TheVariants as fault
 use Rattle.k_parse.specs.Parse.{nesting_limit}
 

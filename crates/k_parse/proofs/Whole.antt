@@ -1,13 +1,13 @@
 -- What a whole list is read to.
 use Rattle.std.proofs.Common.{◌≡◌, List, Some, Ok, Err, inl, inr, sym, subst}
 use Rattle.std.specs.Prelude.{◌⊎◌, Result, IfErr}
-use Rattle.k_steps.specs.Types.{Token}
+use Rattle.k_parse_steps.specs.Types.{Token}
 use Rattle.k_parse.specs.declared.fault.ParseFault.{ParseFault}
 use Rattle.k_tree.specs.declared.tree.unit.Unit as source
 use Rattle.k_parse.specs.Beginnings.{IsFirstWrong}
 use Rattle.k_tree.specs.Closed.{EndsOnce}
 use Rattle.k_parse.specs.Runs.{runs}
-use Rattle.k_steps.specs.Sources.{begin_source}
+use Rattle.k_parse_steps.specs.Sources.{begin_source}
 use Rattle.k_parse.specs.declared.fault.ParseFault.TheVariants as fault
 use Rattle.k_parse.proofs.FirstWrong.{first_wrong}
 use Rattle.k_parse.proofs.RunSound.{tree_sound}

@@ -1,6 +1,7 @@
+-- Believed with the theorem on the top call.
 -- Which token of a list is the first wrong one.
 use Rattle.std.specs.Prelude.{ℕ, ◌≡◌, ◌≤◌, List, [], ◌∷◌, ◌++◌, map}
-use Rattle.k_steps.specs.Types.{Token}
+use Rattle.k_parse_steps.specs.Types.{Token}
 use Rattle.k_parse.specs.declared.fault.ParseFault.{ParseFault}
 use Rattle.k_tree.specs.declared.tree.unit.Unit as source
 use Rattle.k_tree.specs.Nesting.{nesting}

@@ -1,3 +1,4 @@
+-- Believed with a public law.
 -- What is true of the reading of whole token lists, and of the answers that a list may have.
 use Rattle.std.specs.Prelude.{ℕ, ◌≡◌, ◌≤◌, List, Result, map, Some, Ok, Err}
 use Rattle.k_tree.specs.declared.tree.unit.Unit as source
@@ -7,8 +8,8 @@ use Rattle.k_tree.specs.Nesting.{nesting}
 use Rattle.k_tree.specs.Places.{Placed}
 use Rattle.k_tree.specs.Ranked.{RankedUnit}
 use Rattle.k_tree.specs.Spelling.{spelling}
-use Rattle.k_steps.specs.Types.{Token}
-use Rattle.k_steps.specs.Sources.{begin_source}
+use Rattle.k_parse_steps.specs.Types.{Token}
+use Rattle.k_parse_steps.specs.Sources.{begin_source}
 use Rattle.k_parse.specs.declared.fault.ParseFault.{ParseFault}
 use Rattle.k_parse.specs.Beginnings.{IsFirstWrong}
 use Rattle.k_parse.specs.Runs.{runs}

@@ -1,6 +1,7 @@
+-- Believed with the theorem on the top call.
 -- What a token list is read to: the one tree that it spells, or the refusal of a list that spells none within the limits.
 use Rattle.std.specs.Prelude.{ℕ, ◌≡◌, ◌≤◌, ◌<◌, List, Result, Ok, Err}
-use Rattle.k_steps.specs.Types.{Token}
+use Rattle.k_parse_steps.specs.Types.{Token}
 use Rattle.k_parse.specs.declared.fault.ParseFault.{ParseFault}
 use Rattle.k_tree.specs.declared.tree.unit.Unit as source
 use Rattle.k_tree.specs.Bare.{bare}

@@ -1,13 +1,14 @@
+-- Believed with a public law.
 -- How a whole token list is read: to the tree at its end, or to the first token that can't stand.
 use Rattle.std.specs.Prelude.{ℕ, cond, nat_le, List, [], ◌∷◌, Option, Some, None, Ok, Err}
 use Rattle.std.specs.declared.result.Result.{Result}
-use Rattle.k_steps.specs.Types.{Place, Token, Sourced}
-use Rattle.k_steps.specs.declared.source.Source.{Source}
+use Rattle.k_parse_steps.specs.Types.{Place, Token, Sourced}
+use Rattle.k_parse_steps.specs.declared.source.Source.{Source}
 use Rattle.k_parse.specs.declared.fault.ParseFault.{ParseFault}
 use Rattle.k_tree.specs.declared.tree.unit.Unit as source
-use Rattle.k_steps.specs.declared.turn.Turn.TheVariants as turn
+use Rattle.k_parse_steps.specs.declared.turn.Turn.TheVariants as turn
 use Rattle.k_parse.specs.declared.fault.ParseFault.TheVariants as fault
-use Rattle.k_steps.specs.Sources.{feed_source}
+use Rattle.k_parse_steps.specs.Sources.{feed_source}
 
 -- what comes of a list, where it has an end
 abbrev pub Outcome : Type 0

@@ -2,15 +2,16 @@
 ghost use Rattle.std.specs.Prelude.{◌≡◌, ◌⊎◌, IfOk, IfErr, Some, Ok, Err};
 ghost use Rattle.k_tree.specs.Closed.{EndsOnce};
 ghost use Rattle.k_parse.specs.Runs.{runs};
-ghost use Rattle.k_steps.specs.Sources.{begin_source};
+ghost use Rattle.k_parse_steps.specs.Sources.{begin_source};
 ghost use Rattle.k_parse.specs.Parse.{IsParse, IsOne, IsOnly, nesting_limit};
 
 use crate::fault::ParseFault;
 use k_num::{NoMemory, Seq};
-use k_statement::source::{begin_source, feed_source};
-use k_steps::source::Sourced;
-use k_steps::turn::Turn;
-use k_tree::{Token, Unit, nodes};
+use k_parse_statements::source::{begin_source, feed_source};
+use k_parse_steps::source::Sourced;
+use k_parse_steps::turn::Turn;
+use k_tree::{Token, Unit};
+use k_tree_nodes::nodes;
 use std::alloc::Global;
 
 /// The greatest nesting of a tree, in levels.

@@ -1,13 +1,13 @@
 -- The table of jumps still fits behind each turn.
 use Rattle.std.proofs.Common.{ℕ, ◌≡◌, List, ◌∷◌, Result, Ok, Err, sym, subst}
 use Rattle.std.specs.Prelude.{OnOk}
-use Rattle.k_typed.specs.declared.tree.unit.TFunc.{TFunc}
-use Rattle.k_evaluation.specs.declared.jumps.Jumps.{Jumps}
+use Rattle.k_types_meaning.specs.declared.tree.unit.TFunc.{TFunc}
+use Rattle.k_marks_meaning.specs.declared.jumps.Jumps.{Jumps}
 use Rattle.k_evaluation.specs.States.{Program}
 use Rattle.k_world.specs.declared.answer.Stop.{Stop}
-use Rattle.k_listing.specs.declared.frame.Caller.{Caller}
-use Rattle.k_pending.specs.declared.given.Given.{Given}
-use Rattle.k_running.specs.Noted.{FitsFunctions}
+use Rattle.k_plain_state.specs.declared.frame.Caller.{Caller}
+use Rattle.k_plain_tasks.specs.declared.given.Given.{Given}
+use Rattle.k_plain_statements.specs.Noted.{FitsFunctions}
 use Rattle.k_plain.specs.declared.frame.Frame.{Frame}
 use Rattle.k_plain.specs.declared.frame.Machine.{Machine}
 use Rattle.k_plain.specs.declared.machine.Turn.{Turn}

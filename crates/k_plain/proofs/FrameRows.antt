@@ -1,9 +1,9 @@
 -- A call is entered, and its caller waits in a frame.
 use Rattle.std.proofs.Common.{ℕ, zero, suc, ◌≡◌, ◌∙◌, ◌-◌, Bool, true, false, if◌then◌else◌, List, [], ◌∷◌, slice_get, Option, Some, None, Result, Err, refl, sym, ap}
 use Rattle.k_num.specs.declared.place.Place.{Place}
-use Rattle.k_code.specs.declared.ending.End.TheVariants.{Trapped}
-use Rattle.k_code.specs.declared.ending.Trap.TheVariants.{StackOverflow}
-use Rattle.k_typed.specs.declared.tree.unit.TFunc.{TFunc}
+use Rattle.k_ending.specs.declared.ending.End.TheVariants.{Trapped}
+use Rattle.k_ending.specs.declared.ending.Trap.TheVariants.{StackOverflow}
+use Rattle.k_types_meaning.specs.declared.tree.unit.TFunc.{TFunc}
 use Rattle.k_world.specs.declared.answer.Stop.{Stop}
 use Rattle.k_world.specs.declared.answer.Stop.TheVariants as stop
 use Rattle.k_world.specs.declared.value.Held.{Held}
@@ -12,17 +12,17 @@ use Rattle.k_evaluation.specs.Calls.{back_to, calls, calls_operation, entered, e
 use Rattle.k_evaluation.specs.Meanings.{nothing}
 use Rattle.k_evaluation.specs.Expressions.{Calls}
 use Rattle.k_evaluation.specs.States.{Program, State, Outcome, Goes, Stops, Part, follow, traps}
-use Rattle.k_pending.specs.declared.given.Given.{Given}
-use Rattle.k_pending.specs.declared.given.Given.TheVariants as given
-use Rattle.k_pending.specs.Givens.{gives_operand, gives_result}
-use Rattle.k_listing.specs.declared.frame.Caller.{Caller}
-use Rattle.k_listing.specs.Arounds.{program_of}
-use Rattle.k_listing.specs.Comes.{Comes}
-use Rattle.k_listing.specs.Frames.{caller_of}
-use Rattle.k_running.specs.declared.task.Waiting.{Waiting}
-use Rattle.k_running.specs.Noted.{Tabled, tabled_of}
-use Rattle.k_running.specs.Parts.{called}
-use Rattle.k_running.specs.Resumes.{Resumes, resumes}
+use Rattle.k_plain_tasks.specs.declared.given.Given.{Given}
+use Rattle.k_plain_tasks.specs.declared.given.Given.TheVariants as given
+use Rattle.k_plain_tasks.specs.Givens.{gives_operand, gives_result}
+use Rattle.k_plain_state.specs.declared.frame.Caller.{Caller}
+use Rattle.k_plain_state.specs.Arounds.{program_of}
+use Rattle.k_plain_state.specs.Comes.{Comes}
+use Rattle.k_plain_state.specs.Frames.{caller_of}
+use Rattle.k_plain_statements.specs.declared.task.Waiting.{Waiting}
+use Rattle.k_plain_statements.specs.Noted.{Tabled, tabled_of}
+use Rattle.k_plain_statements.specs.Parts.{called}
+use Rattle.k_plain_statements.specs.Resumes.{Resumes, resumes}
 use Rattle.k_plain.specs.declared.frame.Frame.{Frame}
 use Rattle.k_plain.specs.declared.frame.Machine.{Machine}
 use Rattle.k_plain.specs.Behind.{behind_all, goes}

@@ -1,27 +1,26 @@
 -- The whole run: main is called behind the objects and strings, and what is left is listed.
 use Rattle.std.proofs.Common.{ℕ, ◌≡◌, ◌∙◌, List, [], Option, Some, Result, Ok, Err, refl, sym, ap, subst}
-use Rattle.k_code.specs.declared.ending.End.{End}
-use Rattle.k_code.specs.declared.ending.End.TheVariants.{Returned}
-use Rattle.k_typed.specs.declared.tree.unit.TFunc.{TFunc}
+use Rattle.k_ending.specs.declared.ending.End.{End}
+use Rattle.k_ending.specs.declared.ending.End.TheVariants.{Returned}
+use Rattle.k_types_meaning.specs.declared.tree.unit.TFunc.{TFunc}
 use Rattle.k_world.specs.declared.answer.Stop.{Stop}
 use Rattle.k_world.specs.declared.answer.Stop.TheVariants as stop
 use Rattle.k_world.specs.declared.value.Held.{Held}
 use Rattle.k_world.specs.Worlds.{World}
 use Rattle.k_evaluation.specs.Calls.{calls, entered, runs}
-use Rattle.k_evaluation.specs.Runs.{ended, exit_of, initial, run, runs_main, whole}
+use Rattle.k_evaluation.specs.Runs.{ended, exit_of, initial, listing_of, run, runs_main, whole}
 use Rattle.k_evaluation.specs.States.{Program, State, Outcome, Goes, Stops, follow}
-use Rattle.k_listing.specs.Arounds.{program_of}
-use Rattle.k_listing.specs.Comes.{Comes, listed}
-use Rattle.k_pending.specs.declared.given.Given.{Given}
-use Rattle.k_pending.specs.declared.task.Task.{Task}
-use Rattle.k_pending.specs.Givens.{gives_result}
-use Rattle.k_running.specs.declared.task.Waiting.{Waiting}
-use Rattle.k_running.specs.declared.setting.Setting.{Setting}
-use Rattle.k_running.specs.Noted.{Tabled, tabled_of}
-use Rattle.k_running.specs.Parts.{called}
-use Rattle.k_running.specs.Resumes.{Resumes, resumes}
+use Rattle.k_plain_state.specs.Arounds.{program_of}
+use Rattle.k_plain_state.specs.Comes.{Comes, listed}
+use Rattle.k_plain_tasks.specs.declared.given.Given.{Given}
+use Rattle.k_plain_tasks.specs.declared.task.Task.{Task}
+use Rattle.k_plain_tasks.specs.Givens.{gives_result}
+use Rattle.k_plain_statements.specs.declared.task.Waiting.{Waiting}
+use Rattle.k_plain_statements.specs.declared.setting.Setting.{Setting}
+use Rattle.k_plain_statements.specs.Noted.{Tabled, tabled_of}
+use Rattle.k_plain_statements.specs.Parts.{called}
+use Rattle.k_plain_statements.specs.Resumes.{Resumes, resumes}
 use Rattle.k_plain.specs.Behind.{behind_all, goes}
-use Rattle.k_plain.specs.Starts.{listing_of}
 
 -- what main gives is what the run ends with
 main_as : (w : Tabled) (o : Outcome (Option Held)) → follow (follow o gives_result) (resumes w (behind_all []) []) ≡ o

@@ -6,17 +6,17 @@ use Rattle.k_world.specs.declared.value.Held.{Held}
 use Rattle.k_evaluation.specs.declared.operand.Operand.{Operand}
 use Rattle.k_evaluation.specs.Calls.{as_operand}
 use Rattle.k_evaluation.specs.States.{State, Outcome, Goes, follow}
-use Rattle.k_listing.specs.Arounds.{within_of}
-use Rattle.k_listing.specs.Frames.{restored}
-use Rattle.k_pending.specs.declared.given.Given.{Given}
-use Rattle.k_pending.specs.declared.given.Given.TheVariants as given
-use Rattle.k_pending.specs.declared.task.Task.{Task}
-use Rattle.k_pending.specs.Leads.{Leads}
-use Rattle.k_pending.specs.Tasks.{works}
-use Rattle.k_running.specs.declared.setting.Setting.{Setting}
-use Rattle.k_running.specs.declared.task.Waiting.{Waiting}
-use Rattle.k_running.specs.Noted.{tabled_of}
-use Rattle.k_running.specs.Resumes.{Resumes, resumes}
+use Rattle.k_plain_state.specs.Arounds.{within_of}
+use Rattle.k_plain_state.specs.Frames.{restored}
+use Rattle.k_plain_tasks.specs.declared.given.Given.{Given}
+use Rattle.k_plain_tasks.specs.declared.given.Given.TheVariants as given
+use Rattle.k_plain_tasks.specs.declared.task.Task.{Task}
+use Rattle.k_plain_tasks.specs.Leads.{Leads}
+use Rattle.k_plain_tasks.specs.Tasks.{works}
+use Rattle.k_plain_statements.specs.declared.setting.Setting.{Setting}
+use Rattle.k_plain_statements.specs.declared.task.Waiting.{Waiting}
+use Rattle.k_plain_statements.specs.Noted.{tabled_of}
+use Rattle.k_plain_statements.specs.Resumes.{Resumes, resumes}
 use Rattle.k_plain.specs.declared.frame.Frame.{Frame}
 use Rattle.k_plain.specs.declared.frame.Machine.{Machine}
 use Rattle.k_plain.specs.declared.machine.Turn.{Turn}

@@ -1,18 +1,19 @@
+-- For contracts between crates: nobody has to believe it.
 -- What comes behind a call: the calls that wait for it.
 use Rattle.std.specs.Prelude.{List, [], ◌∷◌, Option, None}
 use Rattle.k_world.specs.declared.value.Held.{Held}
 use Rattle.k_evaluation.specs.Calls.{as_operand}
 use Rattle.k_evaluation.specs.States.{Outcome, Goes, Part}
-use Rattle.k_listing.specs.Arounds.{within_of}
-use Rattle.k_listing.specs.Frames.{restored}
-use Rattle.k_pending.specs.declared.given.Given.{Given}
-use Rattle.k_pending.specs.declared.given.Given.TheVariants as given
-use Rattle.k_pending.specs.declared.task.Task.{Task}
-use Rattle.k_pending.specs.Leads.{performs}
-use Rattle.k_running.specs.declared.task.Waiting.{Waiting}
-use Rattle.k_running.specs.declared.setting.Setting.{Setting}
-use Rattle.k_running.specs.Noted.{tabled_of}
-use Rattle.k_running.specs.Resumes.{resumes}
+use Rattle.k_plain_state.specs.Arounds.{within_of}
+use Rattle.k_plain_state.specs.Frames.{restored}
+use Rattle.k_plain_tasks.specs.declared.given.Given.{Given}
+use Rattle.k_plain_tasks.specs.declared.given.Given.TheVariants as given
+use Rattle.k_plain_tasks.specs.declared.task.Task.{Task}
+use Rattle.k_plain_tasks.specs.Leads.{performs}
+use Rattle.k_plain_statements.specs.declared.task.Waiting.{Waiting}
+use Rattle.k_plain_statements.specs.declared.setting.Setting.{Setting}
+use Rattle.k_plain_statements.specs.Noted.{tabled_of}
+use Rattle.k_plain_statements.specs.Resumes.{resumes}
 use Rattle.k_plain.specs.declared.frame.Frame.{Frame}
 use Rattle.k_plain.specs.declared.frame.Machine.{Machine}
 

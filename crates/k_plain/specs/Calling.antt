@@ -1,14 +1,15 @@
+-- For contracts between crates: nobody has to believe it.
 -- How a call is entered, and what its caller waits with.
 use Rattle.std.specs.Prelude.{ℕ, zero, suc, ◌≡◌, ◌-◌, List, [], ◌∷◌, Option, slice_get}
 use Rattle.k_num.specs.declared.place.Place.{Place}
-use Rattle.k_code.specs.declared.ending.Trap.TheVariants.{StackOverflow}
-use Rattle.k_typed.specs.declared.tree.unit.TFunc.{TFunc}
+use Rattle.k_ending.specs.declared.ending.Trap.TheVariants.{StackOverflow}
+use Rattle.k_types_meaning.specs.declared.tree.unit.TFunc.{TFunc}
 use Rattle.k_world.specs.declared.value.Held.{Held}
 use Rattle.k_evaluation.specs.declared.operand.Operand.{Operand}
 use Rattle.k_evaluation.specs.Calls.{calls, enters_number}
 use Rattle.k_evaluation.specs.States.{Program, Part, traps}
-use Rattle.k_listing.specs.declared.frame.Caller.{Caller}
-use Rattle.k_listing.specs.Arounds.{program_of}
+use Rattle.k_plain_state.specs.declared.frame.Caller.{Caller}
+use Rattle.k_plain_state.specs.Arounds.{program_of}
 use Rattle.k_plain.specs.declared.frame.Frame.{Frame}
 use Rattle.k_plain.specs.declared.frame.Machine.{Machine}
 

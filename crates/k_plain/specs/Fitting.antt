@@ -1,7 +1,8 @@
+-- For contracts between crates: nobody has to believe it.
 -- The table of jumps fits the functions of the source, for the call that runs and for each that waits.
 use Rattle.std.specs.Prelude.{List, [], ◌∷◌}
-use Rattle.k_running.specs.declared.setting.Setting.{Setting}
-use Rattle.k_running.specs.Noted.{FitsFunctions}
+use Rattle.k_plain_statements.specs.declared.setting.Setting.{Setting}
+use Rattle.k_plain_statements.specs.Noted.{FitsFunctions}
 use Rattle.k_plain.specs.declared.frame.Frame.{Frame}
 use Rattle.k_plain.specs.declared.frame.Machine.{Machine}
 use Rattle.k_plain.specs.declared.machine.Turn.{Turn}

@@ -1,10 +1,11 @@
+-- For contracts between crates: nobody has to believe it.
 -- What a turn of a run leads to.
 use Rattle.std.specs.Prelude.{◌≡◌, Option, Result, Ok, Err}
 use Rattle.k_world.specs.declared.answer.Stop.{Stop}
 use Rattle.k_world.specs.declared.answer.Stop.TheVariants as stop
 use Rattle.k_world.specs.declared.value.Held.{Held}
 use Rattle.k_evaluation.specs.States.{Outcome, Goes, Stops}
-use Rattle.k_pending.specs.declared.given.Given.{Given}
+use Rattle.k_plain_tasks.specs.declared.given.Given.{Given}
 use Rattle.k_plain.specs.declared.machine.Turn.{Turn}
 use Rattle.k_plain.specs.declared.machine.Turn.TheVariants as turn
 use Rattle.k_plain.specs.declared.frame.Machine.{Machine}

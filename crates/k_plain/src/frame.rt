@@ -4,9 +4,10 @@ ghost use Rattle.k_evaluation.specs.Calls.{as_operand as as_operand_meant};
 ghost use Rattle.k_plain.specs.Behind.{machine_back, result_in};
 
 use k_evaluation::Operand;
-use k_listing::{Caller, Stack};
-use k_pending::{Given, Task};
-use k_running::{Runner, Setting, Waiting};
+use k_num::Stack;
+use k_plain_state::Caller;
+use k_plain_statements::{Runner, Setting, Waiting};
+use k_plain_tasks::{Given, Task};
 use k_world::{Held, Value};
 use std::mem;
 

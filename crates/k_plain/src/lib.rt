@@ -6,5 +6,5 @@ mod frame;
 mod machine;
 mod program;
 
-pub use k_code::Listing;
+pub use k_ending::Listing;
 pub use program::plain;

@@ -3,11 +3,11 @@ ghost use Rattle.std.specs.Prelude.{◌≡◌, [], ◌∷◌, OnOk};
 ghost use Rattle.k_plain.specs.Behind.{goes, going};
 ghost use Rattle.k_plain.specs.Fitting.{Fitting, NextFits};
 ghost use Rattle.k_plain.specs.Steps.{Steps, Turns, as_turn};
-ghost use Rattle.k_listing.specs.Comes.{Comes};
+ghost use Rattle.k_plain_state.specs.Comes.{Comes};
 
 use crate::frame::{Machine, as_operand, into_result};
-use k_pending::{Given, Task, step_assignment, step_branch, step_call, step_value};
-use k_running::Waiting;
+use k_plain_statements::Waiting;
+use k_plain_tasks::{Given, Task, step_assignment, step_branch, step_call, step_value};
 use k_world::{Held, Stop};
 
 /// What a turn leads to.

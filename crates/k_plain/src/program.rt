@@ -1,22 +1,21 @@
 //! The run of a source.
 ghost use Rattle.std.specs.Prelude.{◌≡◌, Some, IfOk};
-ghost use Rattle.k_code.specs.declared.ending.End.TheVariants.{Returned};
-ghost use Rattle.k_evaluation.specs.Runs.{exit_of as exit_meant, int_of as int_meant, run as run_meant, runs_main, whole};
-ghost use Rattle.k_plain.specs.Starts.{IsFresh, listing_of};
-ghost use Rattle.k_listing.specs.Arounds.{program_of};
-ghost use Rattle.k_listing.specs.Comes.{Comes, listed};
-ghost use Rattle.k_running.specs.Noted.{FitsAll, FitsFunctions};
+ghost use Rattle.k_ending.specs.declared.ending.End.TheVariants.{Returned};
+ghost use Rattle.k_evaluation.specs.Runs.{exit_of as exit_meant, int_of as int_meant, listing_of, run as run_meant, runs_main, whole};
+ghost use Rattle.k_plain.specs.Starts.{IsFresh};
+ghost use Rattle.k_plain_state.specs.Arounds.{program_of};
+ghost use Rattle.k_plain_state.specs.Comes.{Comes, listed};
+ghost use Rattle.k_plain_statements.specs.Noted.{FitsAll, FitsFunctions};
 
 use crate::call::function_at;
 use crate::frame::Machine;
-use k_code::{End, Listing};
-use k_evaluation::Jumps;
-use k_listing::{Around, Evaluator, Stack};
-use k_marks::Marks;
-use k_num::{Kind, NoMemory, Seq, convert};
+use k_ending::{End, Listing};
+use k_marks_meaning::{Jumps, Marks};
+use k_num::{Kind, NoMemory, Seq, Stack, convert};
 use k_optab::Latencies;
-use k_running::{Runner, Setting, table_of};
-use k_typed::{TFunc, TUnit};
+use k_plain_state::{Around, Evaluator};
+use k_plain_statements::{Runner, Setting, table_of};
+use k_types_meaning::{TFunc, TUnit};
 use k_world::{Held, Stop, Value};
 use std::alloc::Global;
 

@@ -10,7 +10,8 @@ use Rattle.k_plan.specs.declared.advice.Pick.{Pick}
 use Rattle.k_selfpar.specs.declared.context.Context.{Context}
 use Rattle.k_plan.specs.declared.limits.Limits.{Limits}
 use Rattle.k_plan.specs.Best.{AreBest, CanSum, best, best_choice, given}
-use Rattle.k_plan.specs.Choices.{Choice, root_work, total_from}
+use Rattle.k_plan.specs.Choices.{Choice, total_from}
+use Rattle.k_selfpar.specs.Contexts.{root_work}
 use Rattle.k_plan.specs.Plan.{CanPlan, IsAdvice, pick_of, picks_from, works_under}
 use Rattle.k_plan.specs.Saving.{saving}
 use Rattle.k_plan.proofs.Attained.{total_of_best}

@@ -5,7 +5,8 @@ use Rattle.std.proofs.lemmas.Bool.{cases_eq, cond-true, cond-false, cond_both, n
 use Rattle.k_selfpar.specs.declared.context.Context.{Context}
 use Rattle.k_plan.specs.declared.limits.Limits.{Limits}
 use Rattle.k_plan.specs.Best.{best, best_choice, given, taken, takes}
-use Rattle.k_plan.specs.Choices.{Choice, root_work, total}
+use Rattle.k_plan.specs.Choices.{Choice, total}
+use Rattle.k_selfpar.specs.Contexts.{root_work}
 use Rattle.k_plan.specs.Plan.{CanPlan}
 use Rattle.k_plan.specs.Saving.{passes, saving}
 use Rattle.k_plan.proofs.Above.{AreBehind, are_behind, covered, covered_by_parent, first_is_free}

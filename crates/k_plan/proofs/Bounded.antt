@@ -6,7 +6,8 @@ use Rattle.std.proofs.lemmas.Option.{same_Some}
 use Rattle.k_selfpar.specs.declared.context.Context.{Context}
 use Rattle.k_plan.specs.declared.limits.Limits.{Limits}
 use Rattle.k_plan.specs.Best.{best, given}
-use Rattle.k_plan.specs.Choices.{Choice, IsAbove, IsChoice, next, root_work, total}
+use Rattle.k_plan.specs.Choices.{Choice, IsAbove, IsChoice, next, total}
+use Rattle.k_selfpar.specs.Contexts.{root_work}
 use Rattle.k_plan.specs.Plan.{CanPlan, behind_root, works_under}
 use Rattle.k_plan.specs.Saving.{passes, saving}
 use Rattle.k_plan.proofs.Above.{above_goes_on}

@@ -6,7 +6,7 @@ use Rattle.k_plan.specs.declared.advice.Pick.{Pick}
 use Rattle.k_selfpar.specs.declared.context.Context.{Context}
 use Rattle.k_plan.specs.declared.limits.Limits.{Limits}
 use Rattle.k_plan.specs.Best.{AreBest, best_below, best_choice, is_free, taken, takes, takes_some, with_pick}
-use Rattle.k_plan.specs.Choices.{root_work}
+use Rattle.k_selfpar.specs.Contexts.{root_work}
 use Rattle.k_plan.specs.Plan.{CanPlan, behind_root, pick_of, picks_from}
 use Rattle.k_plan.proofs.Above.{are_behind, covered, covered_by_parent, first_is_free}
 use Rattle.k_plan.proofs.Summing.{place_behind}

@@ -4,7 +4,7 @@ use Rattle.std.proofs.lemmas.Option.{none-some, same_Some}
 use Rattle.k_selfpar.specs.declared.context.Context.{Context}
 use Rattle.k_plan.specs.declared.limits.Limits.{Limits}
 use Rattle.k_plan.specs.Best.{best, given, taken, takes, takes_some}
-use Rattle.k_plan.specs.Choices.{root_work}
+use Rattle.k_selfpar.specs.Contexts.{root_work}
 use Rattle.k_plan.specs.Plan.{ParentsComeFirst, StandBehindParents, behind_root}
 use Rattle.k_plan.proofs.Given.{given_other}
 

@@ -6,7 +6,8 @@ use Rattle.std.proofs.lemmas.Option.{slice_get_within, none-some, same_Some}
 use Rattle.k_selfpar.specs.declared.context.Context.{Context}
 use Rattle.k_plan.specs.declared.limits.Limits.{Limits}
 use Rattle.k_plan.specs.Best.{best, best_below, best_choice, given, taken, takes, takes_some}
-use Rattle.k_plan.specs.Choices.{Choice, IsAbove, IsChoice, IsPassing, root_work, total}
+use Rattle.k_plan.specs.Choices.{Choice, IsAbove, IsChoice, IsPassing, total}
+use Rattle.k_selfpar.specs.Contexts.{root_work}
 use Rattle.k_plan.specs.Plan.{CanPlan, IsPlan}
 use Rattle.k_plan.specs.Saving.{passes, saving}
 use Rattle.k_plan.proofs.Above.{AreBehind, are_behind, covered, covered_from_above, covers}

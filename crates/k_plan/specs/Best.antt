@@ -1,9 +1,10 @@
+-- For contracts between crates: nobody has to believe it.
 -- The greatest totals below contexts, from the last context to the first.
 use Rattle.std.specs.Prelude.{ℕ, zero, suc, ◌+◌, ◌^◌, ◌<◌, ◌≡◌, ◌==◌, ◌&&◌, ◌||◌, Bool, true, false, nat_le, max, not, List, [], ◌∷◌, ◌++◌, length, Option, Some, None, slice_get, slice_index_or, if◌then◌else◌}
 use Rattle.k_selfpar.specs.declared.context.Context.{Context}
 use Rattle.k_plan.specs.declared.limits.Limits.{Limits}
 use Rattle.k_plan.specs.declared.advice.Pick.{Pick}
-use Rattle.k_plan.specs.Choices.{root_work}
+use Rattle.k_selfpar.specs.Contexts.{root_work}
 use Rattle.k_plan.specs.Plan.{StandBehindParents, behind_root, pick_of}
 use Rattle.k_plan.specs.Saving.{passes, saving}
 

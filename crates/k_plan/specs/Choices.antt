@@ -1,13 +1,10 @@
+-- Believed with the theorem on the top call.
 -- Choices of loops.
 use Rattle.std.specs.Prelude.{ℕ, ◌+◌, ◌≡◌, ◌<◌, Bool, IsTrue, List, [], ◌∷◌, Some, slice_get, if◌then◌else◌}
+use Rattle.k_selfpar.specs.Contexts.{root_work}
 use Rattle.k_selfpar.specs.declared.context.Context.{Context}
 use Rattle.k_plan.specs.declared.limits.Limits.{Limits}
 use Rattle.k_plan.specs.Saving.{passes, saving}
-
--- the work of the root, the first context
-abbrev pub root_work : List Context → ℕ
-root_work [] = 0
-root_work (root ∷ contexts) = root.work
 
 -- context a stands above context k: it is k's parent, or stands above that; the root has none above it
 pub data IsAbove (contexts : List Context) : ℕ → ℕ → Type 0 where

@@ -1,10 +1,12 @@
+-- Believed with a public law.
 -- What holds of plans: the statements of the laws.
 use Rattle.std.specs.Prelude.{ℕ, ◌*◌, ◌≡◌, ◌<◌, ◌≤◌, List, sum_by}
 use Rattle.std.specs.Int.{div_ceil}
 use Rattle.k_plan.specs.declared.advice.Advice.{Advice}
 use Rattle.k_selfpar.specs.declared.context.Context.{Context}
 use Rattle.k_plan.specs.declared.limits.Limits.{Limits}
-use Rattle.k_plan.specs.Choices.{Choice, IsChoice, root_work, total}
+use Rattle.k_plan.specs.Choices.{Choice, IsChoice, total}
+use Rattle.k_selfpar.specs.Contexts.{root_work}
 use Rattle.k_plan.specs.Plan.{CanPlan, IsAdvice, IsPlan}
 
 -- contexts that have a plan have one

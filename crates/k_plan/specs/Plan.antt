@@ -1,10 +1,12 @@
+-- Believed with the theorem on the top call.
 -- *Plan*: the one choice of loops that saves the most.
 use Rattle.std.specs.Prelude.{ℕ, ◌+◌, ◌≡◌, ◌≤◌, IsTrue, List, [], ◌∷◌, Some, slice_get, if◌then◌else◌}
 use Rattle.k_plan.specs.declared.advice.Advice.{Advice}
 use Rattle.k_plan.specs.declared.advice.Pick.{Pick}
 use Rattle.k_selfpar.specs.declared.context.Context.{Context}
 use Rattle.k_plan.specs.declared.limits.Limits.{Limits}
-use Rattle.k_plan.specs.Choices.{Choice, IsAbove, IsChoice, root_work, total}
+use Rattle.k_plan.specs.Choices.{Choice, IsAbove, IsChoice, total}
+use Rattle.k_selfpar.specs.Contexts.{root_work}
 use Rattle.k_plan.specs.Saving.{is_doall, passes, saving}
 pub use Rattle.k_selfpar.specs.Nested.{CanPlan, ParentsComeFirst, StandBehindParents, behind_root, works_under}
 

@@ -1,10 +1,14 @@
+-- Believed with the theorem on the top call.
 -- What a loop saves, and which loops are worth making parallel.
 use Rattle.std.specs.Prelude.{ℕ, ◌-◌, ◌*◌, Bool, true, false, ◌&&◌, nat_lt, nat_le, if◌then◌else◌}
 use Rattle.std.specs.Int.{div_ceil}
-use Rattle.k_optab.specs.declared.region.RegionKind.{RegionKind}
-use Rattle.k_optab.specs.declared.region.RegionKind.TheVariants.{Func, Loop, Body}
+use Rattle.k_optab.specs.Regions.{is_loop}
 use Rattle.k_selfpar.specs.declared.context.Context.{Context}
 use Rattle.k_plan.specs.declared.limits.Limits.{Limits}
+
+-- what a loop must reach: a self-parallelism of 5, and savings of one thousandth of the work where its turns look independent, else of 30
+abbrev pub standard_limits : Limits
+standard_limits = record { sp = 5; doall = 1; doacross = 30 }
 
 -- what a loop saves: its work less its work divided by its self-parallelism, rounded up; nothing where that is below 1
 abbrev pub saving : Context → ℕ
@@ -13,12 +17,6 @@ saving c = if nat_lt c.sp.0 c.sp.1 then 0 else c.work - div_ceil (c.work * c.sp.
 -- a loop's turns look independent: its self-parallelism is at least three quarters of its turns for each instance
 abbrev pub is_doall : Context → Bool
 is_doall c = nat_lt 0 c.turns && nat_le (3 * (c.sp.1 * c.turns)) (4 * (c.sp.0 * c.instances))
-
--- a region is a loop
-abbrev pub is_loop : RegionKind → Bool
-is_loop Func = false
-is_loop Loop = true
-is_loop Body = false
 
 -- the thousandths of the root's work that a loop has to save
 abbrev pub threshold : Limits → Context → ℕ

@@ -1,5 +1,6 @@
 //! What a loop must reach to be worth making parallel.
 ghost use Rattle.std.specs.Prelude.{◌≡◌};
+ghost use Rattle.k_plan.specs.Saving.{standard_limits};
 
 /// What a loop must reach to be worth making parallel.
 #[derive(Clone, Copy, Debug, PartialEq, Eq)]
@@ -12,11 +13,9 @@ pub struct Limits {
     pub doacross: u64,
 }
 
-/// The limits of the paper: a self-parallelism of 5, one thousandth of the work for independent turns, and 30 thousandths for others.
+/// The standard limits: a self-parallelism of 5, one thousandth of the work for independent turns, and 30 thousandths for others.
 pub fn standard_limits() -> Limits
-    ensures sp { result.sp ≡ 5 }
-    ensures doall { result.doall ≡ 1 }
-    ensures doacross { result.doacross ≡ 30 }
+    ensures { result ≡ standard_limits }
 {
     Limits {
         sp: 5,

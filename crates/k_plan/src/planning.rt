@@ -1,7 +1,7 @@
 //! The plan: one pass from the last context to the first finds the best totals below each, and one back marks the picks.
 ghost use Rattle.std.specs.Prelude.{◌≡◌, ◌+◌, ◌≤◌, ◌<◌, ◌^◌, length, replicate, All, OnOk, IfOk};
 ghost use Rattle.k_plan.specs.Best.{AreBest, CanSum, best, best_choice, is_free, takes, with_pick};
-ghost use Rattle.k_plan.specs.Choices.{root_work};
+ghost use Rattle.k_selfpar.specs.Contexts.{root_work};
 ghost use Rattle.k_plan.specs.Plan.{CanPlan, IsAdvice, behind_root, picks_from};
 
 use crate::advice::{Advice, Pick};

@@ -1,21 +1,9 @@
 //! What a loop saves, and whether it is worth making parallel.
 ghost use Rattle.std.specs.Prelude.{◌≡◌, ◌*◌, ◌≤◌, ◌<◌, ◌^◌, nat_le};
-ghost use Rattle.k_plan.specs.Saving.{is_doall, is_loop, passes, saving, threshold};
+ghost use Rattle.k_plan.specs.Saving.{is_doall, passes, saving, threshold};
 
 use crate::limits::Limits;
-use k_optab::RegionKind;
 use k_selfpar::Context;
-
-/// Whether a region is a loop.
-fn is_loop(kind: RegionKind) -> bool
-    ensures { result ≡ is_loop kind }
-{
-    match kind {
-        RegionKind::Func => false,
-        RegionKind::Loop => true,
-        RegionKind::Body => false,
-    }
-}
 
 /// What a loop saves: its work less its work divided by its self-parallelism, rounded up.
 pub(crate) fn saving(context: &Context) -> u64
@@ -78,5 +66,5 @@ pub(crate) fn passes(context: &Context, limits: &Limits, run_work: u64) -> bool
 {
     let wanted = product(run_work, threshold(context, limits));
     let saved = 1000 * u128::from(saving(context));
-    is_loop(context.kind) && is_parallel(context, limits) && saved >= wanted
+    context.kind.is_loop() && is_parallel(context, limits) && saved >= wanted
 }

@@ -10,7 +10,7 @@ use Rattle.k_optab.specs.Events.{operations}
 use Rattle.k_optab.specs.Instances.{Balanced, nothing}
 use Rattle.k_optab.specs.Latencies.{latency}
 use Rattle.k_optab.proofs.Trees.{operations-append}
-use Rattle.k_code.specs.declared.ending.Trap.{Trap}
+use Rattle.k_ending.specs.declared.ending.Trap.{Trap}
 use Rattle.k_mem.specs.declared.start.Start.{Start}
 use Rattle.k_mem.specs.Memory.{Memory}
 use Rattle.k_mem.specs.Calls.{push_of}

@@ -6,23 +6,23 @@ use Rattle.k_num.specs.declared.place.Place.{Place}
 use Rattle.k_num.specs.declared.numbers.Kind.{Kind}
 use Rattle.k_num.specs.declared.numbers.Bin.TheVariants as bin
 use Rattle.k_optab.specs.declared.class.Class.TheVariants as class
-use Rattle.k_code.specs.declared.ending.Trap.TheVariants.{StackOverflow, FallOff}
-use Rattle.k_typed.specs.declared.types.TType.{TType}
-use Rattle.k_typed.specs.declared.types.TType.TheVariants as ttype
-use Rattle.k_typed.specs.declared.tree.declaration.TDeclarator.{TDeclarator}
-use Rattle.k_typed.specs.declared.tree.declaration.TInit.{TInit}
-use Rattle.k_typed.specs.declared.tree.declaration.TInit.TheVariants as init
-use Rattle.k_typed.specs.declared.tree.declaration.TItem.{TItem}
-use Rattle.k_typed.specs.declared.tree.declaration.TItem.TheVariants as item
-use Rattle.k_typed.specs.declared.tree.expression.TExpr.{TExpr}
-use Rattle.k_typed.specs.declared.tree.statement.Spot.{Spot}
-use Rattle.k_typed.specs.declared.tree.statement.TFirst.{TFirst}
-use Rattle.k_typed.specs.declared.tree.statement.TFirst.TheVariants as first
-use Rattle.k_typed.specs.declared.tree.statement.TPart.{TPart, fold-TPart, fold-roll-TPart, map-TPart, roll-TPart}
-use Rattle.k_typed.specs.declared.tree.statement.TPart.TheOpen.{TPart-F, TStmt-F}
-use Rattle.k_typed.specs.declared.tree.statement.TStmt.{TStmt, fold-roll-TStmt, ind-TStmt, map-TStmt, roll-TStmt}
-use Rattle.k_typed.specs.declared.tree.unit.TFunc.{TFunc}
-use Rattle.k_typed.specs.declared.tree.unit.TVariable.{TVariable}
+use Rattle.k_ending.specs.declared.ending.Trap.TheVariants.{StackOverflow, FallOff}
+use Rattle.k_types_meaning.specs.declared.types.TType.{TType}
+use Rattle.k_types_meaning.specs.declared.types.TType.TheVariants as ttype
+use Rattle.k_types_meaning.specs.declared.tree.declaration.TDeclarator.{TDeclarator}
+use Rattle.k_types_meaning.specs.declared.tree.declaration.TInit.{TInit}
+use Rattle.k_types_meaning.specs.declared.tree.declaration.TInit.TheVariants as init
+use Rattle.k_types_meaning.specs.declared.tree.declaration.TItem.{TItem}
+use Rattle.k_types_meaning.specs.declared.tree.declaration.TItem.TheVariants as item
+use Rattle.k_types_meaning.specs.declared.tree.expression.TExpr.{TExpr}
+use Rattle.k_types_meaning.specs.declared.tree.statement.Spot.{Spot}
+use Rattle.k_types_meaning.specs.declared.tree.statement.TFirst.{TFirst}
+use Rattle.k_types_meaning.specs.declared.tree.statement.TFirst.TheVariants as first
+use Rattle.k_types_meaning.specs.declared.tree.statement.TPart.{TPart, fold-TPart, fold-roll-TPart, map-TPart, roll-TPart}
+use Rattle.k_types_meaning.specs.declared.tree.statement.TPart.TheOpen.{TPart-F, TStmt-F}
+use Rattle.k_types_meaning.specs.declared.tree.statement.TStmt.{TStmt, fold-roll-TStmt, ind-TStmt, map-TStmt, roll-TStmt}
+use Rattle.k_types_meaning.specs.declared.tree.unit.TFunc.{TFunc}
+use Rattle.k_types_meaning.specs.declared.tree.unit.TVariable.{TVariable}
 use Rattle.k_mem.specs.declared.start.Start.TheVariants.{Unset}
 use Rattle.k_world.specs.declared.act.Act.TheVariants as act
 use Rattle.k_world.specs.declared.value.Held.{Held}
@@ -35,7 +35,7 @@ use Rattle.k_evaluation.specs.declared.flow.Flow.{Flow}
 use Rattle.k_evaluation.specs.declared.flow.Flow.TheVariants.{Normal, Broke, Continued, Returned}
 use Rattle.k_evaluation.specs.States.{Program, State, Outcome, Goes, Stops, Part, follow, ◌>>=◌, gives, traps, read, sets, control, settles, region}
 use Rattle.k_evaluation.specs.Objects.{makes_object, fills, block}
-use Rattle.k_evaluation.specs.Jumps.{is_left}
+use Rattle.k_marks_meaning.specs.Jumps.{is_left}
 use Rattle.k_evaluation.specs.Meanings.{tests, holds}
 use Rattle.k_evaluation.specs.Assignments.{writes}
 use Rattle.k_evaluation.specs.Expressions.{Calls}
@@ -43,12 +43,12 @@ use Rattle.k_evaluation.specs.Flows.{Doing, Within, means, drops, tests_at, goes
 use Rattle.k_evaluation.specs.Loops.{LoopParts, Turn, Again, Ends, turn_of, resets, starts, stays_behind_body, stays_behind_loop, step_or_end, behind_body, turn, turn_if, turns, all_turns, begins, inside_loop, loop, loop_region, test_or_one, step_or_none, loop_parts, source_loop, while_loop, do_loop}
 use Rattle.k_evaluation.specs.Declarations.{stores, initialises, begins_register, values_from, element_of, stores_item, stores_items, begins_object, begins_variable, declares_by, elements_of, declares, declares_all, starts_with}
 use Rattle.k_evaluation.specs.Switches.{PartDoing, ACase, ADefault, AStatement, statements_of, behind_default, has_case, selects, chooses, behind_switch, runs_chosen, switches, switch_jumps, switch}
-use Rattle.k_evaluation.specs.Statements.{expression, empty, compound, does_or_none, chosen_arm, if_jumps, if_else, for_loop, break, continue, returns_moved, returned, return, declaration, does_step, part_step, does}
+use Rattle.k_evaluation.specs.Statements.{expression, empty, compound, does_or_none, chosen_arm, if_jumps, if_else, for_loop, break, continue, returns_moved, returns_value, return, declaration, does_step, part_step, does}
 use Rattle.k_evaluation.specs.Calls.{serves_by, serves, falls_off, at_end, result_of, function_region, within, body, runs, is_too_large, entered, back_to, enters_function, enters_number, calls_operation, calls}
 use Rattle.k_optab.specs.declared.event.Event.{Event}
 use Rattle.k_optab.specs.Instances.{Balanced}
 use Rattle.k_regions.specs.declared.loops.LoopAt.{LoopAt}
-use Rattle.k_regions.specs.Regions.{Found, find, find_part, loops_of, loops_of_all}
+use Rattle.k_regions.specs.Regions.{Located, find, find_part, loops_of, loops_of_all}
 use Rattle.k_regions.specs.Regions as regions
 use Rattle.k_regions.proofs.Added.{Policy, Added, AddsUp, all_free, on_credit, pays, to_spare, spared, spent_behind, none_added, weaker, Leaves, Spends, Adds, leaves_from, then_spends, then_adds, more_spends, credited, between_spends, gives_adds, traps_adds, sets_adds, control_adds, settles_adds, settled_spends, region_spends, block_spends, makes_object_adds, fills_adds, makes_spends, makes_adds, computes_adds}
 use Rattle.k_regions.proofs.Rows.{MeaningAdds, CallsAdd, writes_adds, eval_adds}
@@ -366,7 +366,7 @@ module _ (P : Policy) where
     unfolding continue
     continue_adds = gives_adds P Continued
 
-    returned_adds : (place : Place) (e : Option TExpr) → Adds P (returned here place e)
+    returned_adds : (place : Place) (e : Option TExpr) → Adds P (returns_value here place e)
     returned_adds place None = gives_adds P (Returned None)
     returned_adds place (Some e) =
         then_adds P ((means here e).value true) (returns_moved program place) ((means_adds e).value true)
@@ -415,12 +415,12 @@ module _ (P : Policy) where
     -- the same of the layers of a tree
     abbrev PartLayer : TPart-F TPart TStmt → Type 0
     PartLayer z =
-        let loops : List LoopAt = (regions.part_step (map-TPart TPart TStmt Found Found find_part find z)).loops in
+        let loops : List LoopAt = (regions.part_step (map-TPart TPart TStmt Located Located find_part find z)).loops in
         LoopsHold function loops → PartAdds (spent loops) (part_step (map-TPart TPart TStmt PartDoing Doing part_does (does here) z))
 
     abbrev StmtLayer : TStmt-F TPart TStmt → Type 0
     StmtLayer z =
-        let loops : List LoopAt = (regions.stmt_step (map-TStmt TPart TStmt Found Found find_part find z)).loops in
+        let loops : List LoopAt = (regions.stmt_step (map-TStmt TPart TStmt Located Located find_part find z)).loops in
         LoopsHold function loops → DoingAdds (spent loops) (does_step here (map-TStmt TPart TStmt PartDoing Doing part_does (does here) z))
 
     part_by : (y : TPart-F ((p : TPart) × OfPart p) ((s : TStmt) × OfStmt s)) → PartLayer (map-TPart _ _ TPart TStmt (λ (x : (p : TPart) × OfPart p). x.0) (λ (x : (s : TStmt) × OfStmt s). x.0) y)
@@ -472,12 +472,12 @@ module _ (P : Policy) where
         ind-TStmt OfPart OfStmt
         (λ x y is.
         subst (λ (p : PartDoing). LoopsHold function (find_part (roll-TPart x)).loops → PartAdds (spent (find_part (roll-TPart x)).loops) p) (sym (fold-roll-TPart PartDoing Doing part_step (does_step here) x))
-        (subst (λ (f : Found). LoopsHold function f.loops → PartAdds (spent f.loops) (part_step (map-TPart TPart TStmt PartDoing Doing part_does (does here) x)))
-        (sym (fold-roll-TPart Found Found regions.part_step regions.stmt_step x)) (subst PartLayer is (part_by y))))
+        (subst (λ (f : Located). LoopsHold function f.loops → PartAdds (spent f.loops) (part_step (map-TPart TPart TStmt PartDoing Doing part_does (does here) x)))
+        (sym (fold-roll-TPart Located Located regions.part_step regions.stmt_step x)) (subst PartLayer is (part_by y))))
         (λ x y is.
         subst (λ (d : Doing). LoopsHold function (find (roll-TStmt x)).loops → DoingAdds (spent (find (roll-TStmt x)).loops) d) (sym (fold-roll-TStmt PartDoing Doing part_step (does_step here) x))
-        (subst (λ (f : Found). LoopsHold function f.loops → DoingAdds (spent f.loops) (does_step here (map-TStmt TPart TStmt PartDoing Doing part_does (does here) x)))
-        (sym (fold-roll-TStmt Found Found regions.part_step regions.stmt_step x)) (subst StmtLayer is (stmt_by y))))
+        (subst (λ (f : Located). LoopsHold function f.loops → DoingAdds (spent f.loops) (does_step here (map-TStmt TPart TStmt PartDoing Doing part_does (does here) x)))
+        (sym (fold-roll-TStmt Located Located regions.part_step regions.stmt_step x)) (subst StmtLayer is (stmt_by y))))
 
     all_statements : (list : List TStmt) → LoopsHold function (loops_of_all (map find list)) → AllAdd (spent (loops_of_all (map find list))) (map (does here) list)
     all_statements [] h = tt

@@ -20,6 +20,6 @@ pub enter_few : RunsEnterFew
 unfolding run
 enter_few unit program input budget typed none =
     let it = has_run unit program input budget typed none in
-    let regions : List Region = regions_of unit program.unit in
+    let regions : List Region = regions_of program.unit in
     let paid = (ended_allowed (theirs regions) (function_region program.unit.main it.main) (whole program (initial input budget)) it.leaves).paid in
     within_budget (length regions) (entries (run program input budget).events) (length (operations (run program input budget).events)) budget paid (kept_budget program input budget)

@@ -4,7 +4,6 @@ pub mod Counts
 pub mod Entered
 pub mod Entries
 pub mod Few
-pub mod Fine
 pub mod Functions
 pub mod Listed
 pub mod Names

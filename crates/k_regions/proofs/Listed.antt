@@ -1,22 +1,22 @@
 -- The loops that are found in statements are those that are numbered, in the same order: expressions have none.
 use Rattle.std.proofs.Common.{◌≡◌, ℕ, List, [], ◌∷◌, ◌++◌, map, Option, Some, None, refl, sym, ◌∙◌, subst, ap}
 use Rattle.std.proofs.lemmas.List.{append-nil, map-append}
-use Rattle.k_typed.specs.declared.tree.declaration.TDeclarator.{TDeclarator}
-use Rattle.k_typed.specs.declared.tree.declaration.TInit.{TInit}
-use Rattle.k_typed.specs.declared.tree.declaration.TInit.TheVariants as init
-use Rattle.k_typed.specs.declared.tree.declaration.TItem.{TItem}
-use Rattle.k_typed.specs.declared.tree.declaration.TItem.TheVariants as item
-use Rattle.k_typed.specs.declared.tree.expression.TExpr.{TExpr, fold-roll-TExpr, ind-TExpr, map-TExpr}
-use Rattle.k_typed.specs.declared.tree.expression.TExpr.TheOpen.{TExpr-F}
-use Rattle.k_typed.specs.declared.tree.statement.TFirst.{TFirst}
-use Rattle.k_typed.specs.declared.tree.statement.TFirst.TheVariants as first
-use Rattle.k_typed.specs.declared.tree.statement.TPart.{TPart, fold-TPart, fold-roll-TPart, map-TPart}
-use Rattle.k_typed.specs.declared.tree.statement.TPart.TheOpen.{TPart-F, TStmt-F}
-use Rattle.k_typed.specs.declared.tree.statement.TStmt.{TStmt, fold-roll-TStmt, ind-TStmt, map-TStmt}
-use Rattle.k_typed.specs.declared.tree.unit.TFunc.{TFunc}
-use Rattle.k_typed.specs.Numbered.{Numbers, declared_numbers, expr_numbers, expr_numbers_step, first_numbers, function_numbers, init_numbers, item_numbers, listed, option_numbers, part_numbers_step, stmt_numbers, stmt_numbers_step}
+use Rattle.k_types_meaning.specs.declared.tree.declaration.TDeclarator.{TDeclarator}
+use Rattle.k_types_meaning.specs.declared.tree.declaration.TInit.{TInit}
+use Rattle.k_types_meaning.specs.declared.tree.declaration.TInit.TheVariants as init
+use Rattle.k_types_meaning.specs.declared.tree.declaration.TItem.{TItem}
+use Rattle.k_types_meaning.specs.declared.tree.declaration.TItem.TheVariants as item
+use Rattle.k_types_meaning.specs.declared.tree.expression.TExpr.{TExpr, fold-roll-TExpr, ind-TExpr, map-TExpr}
+use Rattle.k_types_meaning.specs.declared.tree.expression.TExpr.TheOpen.{TExpr-F}
+use Rattle.k_types_meaning.specs.declared.tree.statement.TFirst.{TFirst}
+use Rattle.k_types_meaning.specs.declared.tree.statement.TFirst.TheVariants as first
+use Rattle.k_types_meaning.specs.declared.tree.statement.TPart.{TPart, fold-TPart, fold-roll-TPart, map-TPart}
+use Rattle.k_types_meaning.specs.declared.tree.statement.TPart.TheOpen.{TPart-F, TStmt-F}
+use Rattle.k_types_meaning.specs.declared.tree.statement.TStmt.{TStmt, fold-roll-TStmt, ind-TStmt, map-TStmt}
+use Rattle.k_types_meaning.specs.declared.tree.unit.TFunc.{TFunc}
+use Rattle.k_types_meaning.specs.Numbered.{Numbers, declared_numbers, expr_numbers, expr_numbers_step, first_numbers, function_numbers, init_numbers, item_numbers, listed, option_numbers, part_numbers_step, stmt_numbers, stmt_numbers_step}
 use Rattle.k_regions.specs.declared.loops.LoopAt.{LoopAt}
-use Rattle.k_regions.specs.Regions.{Found, find, find_part, loops_of, loops_of_all, part_step, stmt_step}
+use Rattle.k_regions.specs.Regions.{Located, find, find_part, loops_of, loops_of_all, part_step, stmt_step}
 
 none_both : {A : Type 0} (xs ys : List A) → xs ≡ [] → ys ≡ [] → xs ++ ys ≡ []
 none_both {A} xs ys h k = ap (λ (e : List A). e ++ ys) h ∙ k
@@ -117,12 +117,12 @@ OfStmt s = map number_of (find s).loops ≡ (stmt_numbers s).loops
 
 abbrev PartLayer : TPart-F TPart TStmt → Type 0
 PartLayer z =
-    map number_of (part_step (map-TPart TPart TStmt Found Found find_part find z)).loops
+    map number_of (part_step (map-TPart TPart TStmt Located Located find_part find z)).loops
     ≡ (part_numbers_step (map-TPart TPart TStmt Numbers Numbers part_numbers stmt_numbers z)).loops
 
 abbrev StmtLayer : TStmt-F TPart TStmt → Type 0
 StmtLayer z =
-    map number_of (stmt_step (map-TStmt TPart TStmt Found Found find_part find z)).loops
+    map number_of (stmt_step (map-TStmt TPart TStmt Located Located find_part find z)).loops
     ≡ (stmt_numbers_step (map-TStmt TPart TStmt Numbers Numbers part_numbers stmt_numbers z)).loops
 
 -- what is found in two parts, one behind the other
@@ -192,10 +192,10 @@ stmt_listed : (s : TStmt) → map number_of (find s).loops ≡ (stmt_numbers s).
 stmt_listed =
     ind-TStmt OfPart OfStmt
     (λ x y is.
-    ap (λ (f : Found). map number_of f.loops) (fold-roll-TPart Found Found part_step stmt_step x) ∙ subst PartLayer is (part_by y)
+    ap (λ (f : Located). map number_of f.loops) (fold-roll-TPart Located Located part_step stmt_step x) ∙ subst PartLayer is (part_by y)
     ∙ ap (λ (n : Numbers). n.loops) (sym (fold-roll-TPart Numbers Numbers part_numbers_step stmt_numbers_step x)))
     (λ x y is.
-    ap (λ (f : Found). map number_of f.loops) (fold-roll-TStmt Found Found part_step stmt_step x) ∙ subst StmtLayer is (stmt_by y)
+    ap (λ (f : Located). map number_of f.loops) (fold-roll-TStmt Located Located part_step stmt_step x) ∙ subst StmtLayer is (stmt_by y)
     ∙ ap (λ (n : Numbers). n.loops) (sym (fold-roll-TStmt Numbers Numbers part_numbers_step stmt_numbers_step x)))
 
 stmts_listed : (list : List TStmt) → map number_of (loops_of_all (map find list)) ≡ (listed (map stmt_numbers list)).loops

@@ -1,45 +1,21 @@
--- The functions of a source and of its typed tree, and their names: as many of the one as of the other, and main among them.
+-- Main is among the functions of a typed source without faults.
 use Rattle.std.proofs.Common.{◌≡◌, ℕ, zero, suc, ◌+◌, Bool, true, false, List, [], ◌∷◌, ◌++◌, map, length, slice_get, Some, refl, sym, ◌∙◌, subst, ap, drop, ◌≤◌, arith}
 use Rattle.std.specs.Prelude.{◌&&◌, ◌||◌, if◌then◌else◌, codes}
 use Rattle.std.specs.Cmp.Lexicographic.{same_text}
 use Rattle.std.specs.Str.{bytes_eq}
-use Rattle.std.proofs.lemmas.List.{append-nil, drop_all, length-map}
-use Rattle.std.proofs.lemmas.Option.{none-some}
-use Rattle.k_optab.specs.declared.region.Region.{Region}
+use Rattle.std.proofs.lemmas.Option.{none-some, same_Some}
 use Rattle.k_tree.specs.declared.tree.unit.Item.{Item}
 use Rattle.k_tree.specs.declared.tree.unit.Item.TheVariants as item
 use Rattle.k_tree.specs.declared.tree.unit.Unit as source
-use Rattle.k_typed.specs.declared.fault.TypeFault.TheVariants as fault
-use Rattle.k_typed.specs.declared.tree.unit.TFunc.{TFunc}
-use Rattle.k_typed.specs.declared.tree.unit.TUnit.{TUnit}
-use Rattle.k_typed.specs.Bare.{IsTyped}
-use Rattle.k_typed.specs.Functions.{has_none, params_of, result_type}
-use Rattle.k_typed.specs.Made.{faults_of}
-use Rattle.k_typed.specs.Names.{place_in}
-use Rattle.k_typed.specs.Numbered.{IsNumbered}
-use Rattle.k_typed.specs.Units.{all_names, call_faults, defined_by, defined_in, faults, has_main, is_int, main_faults, unit_placed}
-use Rattle.k_regions.specs.Regions.{regions_in}
-use Rattle.k_regions.proofs.Functions.{function_shape, functions_seen, items_seen}
-
-seen_length : (items : List Item) → length (items_seen items) ≡ length (all_names (map defined_in items))
-seen_length [] = refl
-seen_length (item.Function p head body close ∷ items) = ap suc (seen_length items)
-seen_length (item.Prototype p head ∷ items) = seen_length items
-seen_length (item.Objects p specs list ∷ items) = seen_length items
-
--- what is known of a typed tree
-pub record IsKnown (unit : source.Unit) (typed : TUnit) : Type 0 where
-  pub numbered : IsNumbered typed
-  pub named : length typed.functions ≡ length (defined_by unit)
-  pub main : typed.main ≡ place_in (defined_by unit) (codes "main")
-
-pub typed_known : (unit : source.Unit) (typed : TUnit) → IsTyped unit typed → IsKnown unit typed
-unfolding IsTyped
-typed_known unit typed h = record {
-  numbered = h.3;
-  named = sym (length-map typed.functions function_shape) ∙ ap length (functions_seen unit typed h) ∙ seen_length unit.items;
-  main = ap (λ (u : TUnit). u.main) h.2;
-}
+use Rattle.k_types_meaning.specs.declared.fault.TypeFault.TheVariants as fault
+use Rattle.k_types_meaning.specs.declared.tree.unit.TFunc.{TFunc}
+use Rattle.k_types_meaning.specs.declared.tree.unit.TUnit.{TUnit}
+use Rattle.k_types_meaning.specs.Bare.{IsTyped}
+use Rattle.k_types_meaning.specs.Functions.{has_none, params_of, result_type}
+use Rattle.k_types_meaning.specs.Made.{faults_of}
+use Rattle.k_types_meaning.specs.Names.{place_in}
+use Rattle.k_types_meaning.specs.Units.{all_names, call_faults, defined_by, defined_in, faults, has_main, is_int, main_faults, unit_placed}
+use Rattle.k_regions.proofs.Functions.{functions_named, name_of}
 
 -- MAIN
 second_nil : {A : Type 0} (xs ys : List A) → xs ++ ys ≡ [] → ys ≡ []
@@ -77,28 +53,17 @@ main_placed (item.Function p head body close ∷ items) h =
 main_placed (item.Prototype p head ∷ items) h = main_placed items h
 main_placed (item.Objects p specs list ∷ items) h = main_placed items h
 
--- the name at main's number
-pub main_named : (unit : source.Unit) (typed : TUnit) → IsTyped unit typed → faults unit ≡ [] → slice_get (defined_by unit) typed.main ≡ Some (codes "main")
-main_named unit typed h none =
-    ap (slice_get (defined_by unit)) (typed_known unit typed h).main ∙ main_placed unit.items (main_there unit none)
+-- an item of a list that gives this
+given_by : {A B : Type 0} (f : A → B) (xs : List A) (n : ℕ) (y : B) → slice_get (map f xs) n ≡ Some y → (x : A) × (slice_get xs n ≡ Some x) × (f x ≡ y)
+given_by f [] n y h = absurd (none-some y h)
+given_by f (x ∷ xs) zero y h = (x, refl, same_Some (f x) y h)
+given_by f (x ∷ xs) (suc n) y h = given_by f xs n y h
 
--- a list has something at each place before its end
-pub there_before : {A B : Type 0} (xs : List A) (ys : List B) (n : ℕ) (y : B) → length xs ≡ length ys → slice_get ys n ≡ Some y → (x : A) × (slice_get xs n ≡ Some x)
-there_before [] [] n y same h = absurd (none-some y h)
-there_before [] (z ∷ ys) n y same h = absurd (omega (arith, same))
-there_before (x ∷ xs) [] n y same h = absurd (none-some y h)
-there_before (x ∷ xs) (z ∷ ys) zero y same h = (x, refl)
-there_before (x ∷ xs) (z ∷ ys) (suc n) y same h = there_before xs ys n y (let e : length xs ≡ length ys = omega (arith, same) in e) h
-
--- functions without names have no regions
-none_named : (fs : List TFunc) → regions_in fs [] ≡ []
-none_named [] = refl
-none_named (f ∷ fs) = refl
-
--- the regions so far are all where no item is left
-pub at_end : (fs : List TFunc) (items : List Item) (i : ℕ) (so_far all : List Region) → length items ≤ i
-    → so_far ++ regions_in fs (all_names (map defined_in (drop i items))) ≡ all → so_far ≡ all
-at_end fs items i so_far all past leads =
-    let none : regions_in fs (all_names (map defined_in (drop i items))) ≡ [] =
-    ap (λ (rest : List Item). regions_in fs (all_names (map defined_in rest))) (drop_all i items past) ∙ none_named fs in
-    sym (ap (λ (rest : List Region). so_far ++ rest) none ∙ append-nil so_far) ∙ leads
+-- the function of main's number has this name
+pub main_found : (unit : source.Unit) (typed : TUnit) → IsTyped unit typed → faults unit ≡ []
+    → (f : TFunc) × (slice_get typed.functions typed.main ≡ Some f) × (name_of f ≡ codes "main")
+unfolding IsTyped
+main_found unit typed h none =
+    given_by name_of typed.functions typed.main (codes "main")
+    (ap (λ (names : List (List ℕ)). slice_get names typed.main) (functions_named unit typed h)
+    ∙ ap (λ (u : TUnit). slice_get (defined_by unit) u.main) h.2 ∙ main_placed unit.items (main_there unit none))

@@ -3,19 +3,15 @@ use Rattle.std.proofs.Common.{◌≡◌, ℕ, zero, suc, ◌+◌, ◌*◌, ◌�
 use Rattle.std.proofs.lemmas.List.{length-append, length-map}
 use Rattle.std.proofs.lemmas.Option.{none-some, same_Some}
 use Rattle.k_optab.specs.declared.region.Region.{Region}
-use Rattle.k_tree.specs.declared.tree.unit.Unit as source
-use Rattle.k_typed.specs.declared.tree.unit.TFunc.{TFunc}
-use Rattle.k_typed.specs.declared.tree.unit.TUnit.{TUnit}
-use Rattle.k_typed.specs.Numbered.{LoopsBefore, function_numbers, functions_numbers, numbers_from}
-use Rattle.k_typed.specs.Bare.{IsTyped}
-use Rattle.k_typed.specs.Units.{defined_by}
+use Rattle.k_types_meaning.specs.declared.tree.unit.TFunc.{TFunc}
+use Rattle.k_types_meaning.specs.declared.tree.unit.TUnit.{TUnit}
+use Rattle.k_types_meaning.specs.Numbered.{IsNumbered, LoopsBefore, function_numbers, functions_numbers, numbers_from}
 use Rattle.k_evaluation.specs.Calls.{function_region}
 use Rattle.k_evaluation.specs.Loops.{loop_region}
 use Rattle.k_regions.specs.declared.loops.LoopAt.{LoopAt}
 use Rattle.k_regions.specs.Laws.{AreItsRegions, RegionsHaveTheirNumbers, ThereAreNoOthers}
 use Rattle.k_regions.specs.Regions.{body_itself, function_itself, loop_itself, loops_of, regions_in, regions_of, regions_of_loops}
 use Rattle.k_regions.proofs.Listed.{function_listed, number_of}
-use Rattle.k_regions.proofs.Names.{typed_known}
 
 -- LISTS
 pub at_front : {A : Type 0} (xs ys : List A) (k : ℕ) (x : A) → slice_get xs k ≡ Some x → slice_get (xs ++ ys) k ≡ Some x
@@ -74,46 +70,42 @@ loop_at name (x ∷ loops) (suc k) l (suc (suc p)) h is =
     let rest = loop_at name loops k l p h (let e : p ≡ 2 * k = omega (arith, is) in e) in record { itself = rest.itself; body = rest.body }
 
 -- THE REGIONS OF FUNCTIONS, where so many loops and functions come before these
-record Placed (regions : List Region) (names : List (List ℕ)) (c n : ℕ) (f : TFunc) : Type 0 where
-  name : List ℕ
-  named : slice_get names n ≡ Some name
+record Placed (regions : List Region) (c n : ℕ) (f : TFunc) : Type 0 where
   between : ℕ
   before : f.loops ≡ c + between
-  itself : slice_get regions (n + 2 * between) ≡ Some (function_itself name f)
-  loops : (k : ℕ) (l : LoopAt) → slice_get (loops_of f) k ≡ Some l → (l.number ≡ f.loops + k) × StandsAt regions (n + 1 + 2 * (between + k)) name l
+  itself : slice_get regions (n + 2 * between) ≡ Some (function_itself f)
+  loops : (k : ℕ) (l : LoopAt) → slice_get (loops_of f) k ≡ Some l → (l.number ≡ f.loops + k) × StandsAt regions (n + 1 + 2 * (between + k)) f.name l
 
 listed_length : (f : TFunc) → length (loops_of f) ≡ length (function_numbers f).loops
 listed_length f = sym (length-map (loops_of f) number_of) ∙ ap length (function_listed f)
 
 -- the first function
-module _ (f : TFunc) (fs : List TFunc) (name : List ℕ) (names : List (List ℕ)) where
+module _ (f : TFunc) (fs : List TFunc) where
   abbrev own : List Region
-  own = regions_of_loops name (loops_of f)
+  own = regions_of_loops f.name (loops_of f)
 
   abbrev rest : List Region
-  rest = regions_in fs names
+  rest = regions_in fs
 
-  stands_first : (p : ℕ) (l : LoopAt) → StandsAt own p name l → StandsAt (own ++ rest) p name l
+  stands_first : (p : ℕ) (l : LoopAt) → StandsAt own p f.name l → StandsAt (own ++ rest) p f.name l
   stands_first p l h = record {
-    itself = at_front own rest p (loop_itself name l) h.itself;
-    body = at_front own rest (suc p) (body_itself name l) h.body;
+    itself = at_front own rest p (loop_itself f.name l) h.itself;
+    body = at_front own rest (suc p) (body_itself f.name l) h.body;
   }
 
   first_loop : (c : ℕ) → f.loops ≡ c → Counts c (function_numbers f).loops → (k : ℕ) (l : LoopAt) → slice_get (loops_of f) k ≡ Some l
-      → (l.number ≡ f.loops + k) × StandsAt (regions_in (f ∷ fs) (name ∷ names)) (0 + 1 + 2 * (0 + k)) name l
+      → (l.number ≡ f.loops + k) × StandsAt (regions_in (f ∷ fs)) (0 + 1 + 2 * (0 + k)) f.name l
   first_loop c here counts k l is =
       let at : slice_get (function_numbers f).loops k ≡ Some l.number = subst (λ (ns : List ℕ). slice_get ns k ≡ Some l.number) (function_listed f) (mapped number_of (loops_of f) k l is) in
       let number : l.number ≡ c + k = counts k l.number at in
-      let stands : StandsAt (own ++ rest) (2 * k) name l = stands_first (2 * k) l (loop_at name (loops_of f) k l (2 * k) is refl) in (
+      let stands : StandsAt (own ++ rest) (2 * k) f.name l = stands_first (2 * k) l (loop_at f.name (loops_of f) k l (2 * k) is refl) in (
         omega (arith, number, here),
-        subst (λ (p : ℕ). StandsAt (regions_in (f ∷ fs) (name ∷ names)) p name l) (let e : suc (2 * k) ≡ 0 + 1 + 2 * (0 + k) = omega arith in e)
+        subst (λ (p : ℕ). StandsAt (regions_in (f ∷ fs)) p f.name l) (let e : suc (2 * k) ≡ 0 + 1 + 2 * (0 + k) = omega arith in e)
             (record { itself = stands.itself; body = stands.body }),
       )
 
-  first_placed : (c : ℕ) → f.loops ≡ c → Counts c (function_numbers f).loops → Placed (regions_in (f ∷ fs) (name ∷ names)) (name ∷ names) c 0 f
+  first_placed : (c : ℕ) → f.loops ≡ c → Counts c (function_numbers f).loops → Placed (regions_in (f ∷ fs)) c 0 f
   first_placed c here counts = record {
-    name = name;
-    named = refl;
     between = 0;
     before = omega (arith, here);
     itself = refl;
@@ -121,18 +113,16 @@ module _ (f : TFunc) (fs : List TFunc) (name : List ℕ) (names : List (List ℕ
   }
 
   -- what stands behind the regions of the first function
-  later : (p q : ℕ) → p ≡ suc (2 * length (function_numbers f).loops + q) → slice_get (regions_in (f ∷ fs) (name ∷ names)) p ≡ slice_get rest q
+  later : (p q : ℕ) → p ≡ suc (2 * length (function_numbers f).loops + q) → slice_get (regions_in (f ∷ fs)) p ≡ slice_get rest q
   later p q is =
-      let many : length own ≡ 2 * length (function_numbers f).loops = loops_length name (loops_of f) ∙ ap (λ (n : ℕ). 2 * n) (listed_length f) in
+      let many : length own ≡ 2 * length (function_numbers f).loops = loops_length f.name (loops_of f) ∙ ap (λ (n : ℕ). 2 * n) (listed_length f) in
       let place : p ≡ suc (length own + q) = omega (arith, many, is) in
-      ap (slice_get (regions_in (f ∷ fs) (name ∷ names))) place ∙ behind own rest q
+      ap (slice_get (regions_in (f ∷ fs))) place ∙ behind own rest q
 
-  later_placed : (c n : ℕ) (g : TFunc) → Placed rest names (c + length (function_numbers f).loops) n g → Placed (regions_in (f ∷ fs) (name ∷ names)) (name ∷ names) c (suc n) g
+  later_placed : (c n : ℕ) (g : TFunc) → Placed rest (c + length (function_numbers f).loops) n g → Placed (regions_in (f ∷ fs)) c (suc n) g
   later_placed c n g h =
       let m : ℕ = length (function_numbers f).loops in
       let there : g.loops ≡ c + m + h.between = h.before in record {
-        name = h.name;
-        named = h.named;
         between = m + h.between;
         before = omega (arith, there);
         itself = later (suc n + 2 * (m + h.between)) (n + 2 * h.between) (let e : suc n + 2 * (m + h.between) ≡ suc (2 * m + (n + 2 * h.between)) = omega arith in e) ∙ h.itself;
@@ -148,24 +138,20 @@ module _ (f : TFunc) (fs : List TFunc) (name : List ℕ) (names : List (List ℕ
             );
       }
 
-all_placed : (fs : List TFunc) (names : List (List ℕ)) (c : ℕ) → length fs ≡ length names → LoopsBefore c fs → Counts c (functions_numbers fs).loops → (n : ℕ) (g : TFunc)
-    → slice_get fs n ≡ Some g → Placed (regions_in fs names) names c n g
-all_placed [] names c same before counts n g is = absurd (none-some g is)
-all_placed (f ∷ fs) [] c same before counts n g is = absurd (omega (arith, same))
-all_placed (f ∷ fs) (name ∷ names) c same before counts zero g is =
-    subst (Placed (regions_in (f ∷ fs) (name ∷ names)) (name ∷ names) c 0) (same_Some f g is)
-    (first_placed f fs name names c before.0 (counts_first c (function_numbers f).loops (functions_numbers fs).loops counts))
-all_placed (f ∷ fs) (name ∷ names) c same before counts (suc n) g is =
-    later_placed f fs name names c n g
-    (all_placed fs names (c + length (function_numbers f).loops) (let e : length fs ≡ length names = omega (arith, same) in e) before.1
-    (counts_second c (function_numbers f).loops (functions_numbers fs).loops counts) n g is)
+all_placed : (fs : List TFunc) (c : ℕ) → LoopsBefore c fs → Counts c (functions_numbers fs).loops → (n : ℕ) (g : TFunc)
+    → slice_get fs n ≡ Some g → Placed (regions_in fs) c n g
+all_placed [] c before counts n g is = absurd (none-some g is)
+all_placed (f ∷ fs) c before counts zero g is =
+    subst (Placed (regions_in (f ∷ fs)) c 0) (same_Some f g is)
+    (first_placed f fs c before.0 (counts_first c (function_numbers f).loops (functions_numbers fs).loops counts))
+all_placed (f ∷ fs) c before counts (suc n) g is =
+    later_placed f fs c n g
+    (all_placed fs (c + length (function_numbers f).loops) before.1 (counts_second c (function_numbers f).loops (functions_numbers fs).loops counts) n g is)
 
 -- THE LAWS
-its_regions : (regions : List Region) (names : List (List ℕ)) (n : ℕ) (f : TFunc) → Placed regions names 0 n f → AreItsRegions names regions n f
-its_regions regions names n f h =
+its_regions : (regions : List Region) (n : ℕ) (f : TFunc) → Placed regions 0 n f → AreItsRegions regions n f
+its_regions regions n f h =
     let before : f.loops ≡ 0 + h.between = h.before in record {
-      name = h.name;
-      named = h.named;
       itself = ap (slice_get regions) (let e : function_region n f ≡ n + 2 * h.between = omega (arith, before) in e) ∙ h.itself;
       listed = function_listed f;
       loops = λ k l is.
@@ -178,46 +164,39 @@ its_regions regions names n f h =
 
 pub have_numbers : RegionsHaveTheirNumbers
 unfolding regions_of
-have_numbers unit typed h n f is =
-    let known = typed_known unit typed h in
+have_numbers typed h n f is =
     let loops : List ℕ = (functions_numbers typed.functions).loops in
-    its_regions (regions_of unit typed) (defined_by unit) n f
-    (all_placed typed.functions (defined_by unit) 0 known.named known.numbered.6 (subst (Counts 0) (sym known.numbered.2) (counted 0 (length loops))) n f is)
+    its_regions (regions_of typed) n f (all_placed typed.functions 0 h.6 (subst (Counts 0) (sym h.2) (counted 0 (length loops))) n f is)
 
-in_length : (fs : List TFunc) (names : List (List ℕ)) → length fs ≡ length names → length (regions_in fs names) ≡ length fs + 2 * length (functions_numbers fs).loops
-in_length [] names same = refl
-in_length (f ∷ fs) [] same = absurd (omega (arith, same))
-in_length (f ∷ fs) (name ∷ names) same =
-    let own : List Region = regions_of_loops name (loops_of f) in
-    let both : length (own ++ regions_in fs names) ≡ length own + length (regions_in fs names) = length-append own (regions_in fs names) in
-    let first : length own ≡ 2 * length (function_numbers f).loops = loops_length name (loops_of f) ∙ ap (λ (n : ℕ). 2 * n) (listed_length f) in
-    let rest : length (regions_in fs names) ≡ length fs + 2 * length (functions_numbers fs).loops = in_length fs names (let e : length fs ≡ length names = omega (arith, same) in e) in
+in_length : (fs : List TFunc) → length (regions_in fs) ≡ length fs + 2 * length (functions_numbers fs).loops
+in_length [] = refl
+in_length (f ∷ fs) =
+    let own : List Region = regions_of_loops f.name (loops_of f) in
+    let both : length (own ++ regions_in fs) ≡ length own + length (regions_in fs) = length-append own (regions_in fs) in
+    let first : length own ≡ 2 * length (function_numbers f).loops = loops_length f.name (loops_of f) ∙ ap (λ (n : ℕ). 2 * n) (listed_length f) in
+    let rest : length (regions_in fs) ≡ length fs + 2 * length (functions_numbers fs).loops = in_length fs in
     let loops : length ((function_numbers f).loops ++ (functions_numbers fs).loops) ≡ length (function_numbers f).loops + length (functions_numbers fs).loops =
     length-append (function_numbers f).loops (functions_numbers fs).loops in
     omega (arith, both, first, rest, loops)
 
 pub no_others : ThereAreNoOthers
 unfolding regions_of
-no_others unit typed h =
-    let known = typed_known unit typed h in
-    in_length typed.functions (defined_by unit) known.named ∙ ap (λ (n : ℕ). length typed.functions + 2 * n) (sym known.numbered.5)
+no_others typed h = in_length typed.functions ∙ ap (λ (n : ℕ). length typed.functions + 2 * n) (sym h.5)
 
 -- the region of a function and those of its loops are no more than all
-first_length : (g : TFunc) (name : List ℕ) (rest : List Region) → length (regions_of_loops name (loops_of g) ++ rest) ≡ 2 * length (loops_of g) + length rest
-first_length g name rest = length-append (regions_of_loops name (loops_of g)) rest ∙ ap (λ (m : ℕ). m + length rest) (loops_length name (loops_of g))
+first_length : (g : TFunc) (rest : List Region) → length (regions_of_loops g.name (loops_of g) ++ rest) ≡ 2 * length (loops_of g) + length rest
+first_length g rest = length-append (regions_of_loops g.name (loops_of g)) rest ∙ ap (λ (m : ℕ). m + length rest) (loops_length g.name (loops_of g))
 
-fits_in : (fs : List TFunc) (names : List (List ℕ)) (n : ℕ) (f : TFunc) → length fs ≡ length names → slice_get fs n ≡ Some f → 1 + 2 * length (loops_of f) ≤ length (regions_in fs names)
-fits_in [] names n f same is = absurd (none-some f is)
-fits_in (g ∷ fs) [] n f same is = absurd (omega (arith, same))
-fits_in (g ∷ fs) (name ∷ names) zero f same is =
-    let all : length (regions_of_loops name (loops_of g) ++ regions_in fs names) ≡ 2 * length (loops_of g) + length (regions_in fs names) = first_length g name (regions_in fs names) in
-    subst (λ (h : TFunc). 1 + 2 * length (loops_of h) ≤ length (regions_in (g ∷ fs) (name ∷ names))) (same_Some g f is) (omega (arith, all))
-fits_in (g ∷ fs) (name ∷ names) (suc n) f same is =
-    let all : length (regions_of_loops name (loops_of g) ++ regions_in fs names) ≡ 2 * length (loops_of g) + length (regions_in fs names) = first_length g name (regions_in fs names) in
-    let rest : 1 + 2 * length (loops_of f) ≤ length (regions_in fs names) = fits_in fs names n f (let e : length fs ≡ length names = omega (arith, same) in e) is in
+fits_in : (fs : List TFunc) (n : ℕ) (f : TFunc) → slice_get fs n ≡ Some f → 1 + 2 * length (loops_of f) ≤ length (regions_in fs)
+fits_in [] n f is = absurd (none-some f is)
+fits_in (g ∷ fs) zero f is =
+    let all : length (regions_of_loops g.name (loops_of g) ++ regions_in fs) ≡ 2 * length (loops_of g) + length (regions_in fs) = first_length g (regions_in fs) in
+    subst (λ (h : TFunc). 1 + 2 * length (loops_of h) ≤ length (regions_in (g ∷ fs))) (same_Some g f is) (omega (arith, all))
+fits_in (g ∷ fs) (suc n) f is =
+    let all : length (regions_of_loops g.name (loops_of g) ++ regions_in fs) ≡ 2 * length (loops_of g) + length (regions_in fs) = first_length g (regions_in fs) in
+    let rest : 1 + 2 * length (loops_of f) ≤ length (regions_in fs) = fits_in fs n f is in
     omega (arith, all, rest)
 
-pub function_fits : (unit : source.Unit) (typed : TUnit) → IsTyped unit typed → (n : ℕ) (f : TFunc) → slice_get typed.functions n ≡ Some f
-    → 1 + 2 * length (loops_of f) ≤ length (regions_of unit typed)
+pub function_fits : (typed : TUnit) (n : ℕ) (f : TFunc) → slice_get typed.functions n ≡ Some f → 1 + 2 * length (loops_of f) ≤ length (regions_of typed)
 unfolding regions_of
-function_fits unit typed h n f is = fits_in typed.functions (defined_by unit) n f (typed_known unit typed h).named is
+function_fits typed n f is = fits_in typed.functions n f is

@@ -8,14 +8,13 @@ use Rattle.k_tree.specs.declared.tokens.TokenKind.{TokenKind}
 use Rattle.k_tree.specs.declared.tokens.TokenKind.TheVariants as token
 use Rattle.k_tree.specs.declared.tree.unit.Unit as source
 use Rattle.k_tree.specs.Places.{Placed}
-use Rattle.k_typed.specs.declared.tree.unit.TFunc.{TFunc}
-use Rattle.k_typed.specs.declared.tree.unit.TUnit.{TUnit}
-use Rattle.k_typed.specs.Bare.{IsTyped}
-use Rattle.k_typed.specs.Units.{defined_by}
+use Rattle.k_types_meaning.specs.declared.tree.unit.TFunc.{TFunc}
+use Rattle.k_types_meaning.specs.declared.tree.unit.TUnit.{TUnit}
+use Rattle.k_types_meaning.specs.Bare.{IsTyped}
 use Rattle.k_regions.specs.declared.loops.LoopAt.{LoopAt}
 use Rattle.k_regions.specs.Laws.{HasTheKind, HasThePlace, RegionsComeOfTokens}
 use Rattle.k_regions.specs.Regions.{loops_of, regions_in, regions_of, regions_of_loops}
-use Rattle.k_regions.proofs.Functions.{function_shape, functions_seen}
+use Rattle.k_regions.proofs.Functions.{function_shape, functions_named, functions_seen, name_of}
 use Rattle.k_regions.proofs.Seen.{pair_of}
 use Rattle.k_regions.proofs.Standing.{AreTokens, LoopsGood, NamesGood, ShapesGood, source_good}
 
@@ -38,19 +37,19 @@ module _ (IsPlace : Place → Type 0) (IsKind : TokenKind → Type 0) where
   loops_right name [] rest one h k = k
   loops_right name (l ∷ loops) rest one h k = ((h.0.0, one), ((h.0.1, one), loops_right name loops rest one h.1 k))
 
-  functions_right : (fs : List TFunc) (names : List (List ℕ)) → ShapesGood IsPlace IsKind (map function_shape fs) → NamesGood IsPlace IsKind names → EachRight (regions_in fs names)
-  functions_right [] names h k = tt
-  functions_right (f ∷ fs) [] h k = tt
-  functions_right (f ∷ fs) (name ∷ names) h k = ((h.0.0, k.0), loops_right name (loops_of f) (regions_in fs names) k.0 h.0.1 (functions_right fs names h.1 k.1))
+  functions_right : (fs : List TFunc) → ShapesGood IsPlace IsKind (map function_shape fs) → NamesGood IsPlace IsKind (map name_of fs) → EachRight (regions_in fs)
+  functions_right [] h k = tt
+  functions_right (f ∷ fs) h k = ((h.0.0, k.0), loops_right f.name (loops_of f) (regions_in fs) k.0 h.0.1 (functions_right fs h.1 k.1))
 
   -- each region of a source, of whose tokens that holds
   pub regions_right : (unit : source.Unit) (typed : TUnit) (tokens : List Token) → Placed unit tokens → AreTokens IsPlace IsKind tokens → IsTyped unit typed
-      → (n : ℕ) (r : Region) → slice_get (regions_of unit typed) n ≡ Some r → IsRight r
+      → (n : ℕ) (r : Region) → slice_get (regions_of typed) n ≡ Some r → IsRight r
   unfolding regions_of
   regions_right unit typed tokens placed good is =
       let right = source_good IsPlace IsKind unit tokens placed good in
-      at_number (regions_in typed.functions (defined_by unit))
-      (functions_right typed.functions (defined_by unit) (subst (ShapesGood IsPlace IsKind) (sym (functions_seen unit typed is)) right.0) right.1)
+      at_number (regions_in typed.functions)
+      (functions_right typed.functions (subst (ShapesGood IsPlace IsKind) (sym (functions_seen unit typed is)) right.0)
+      (subst (NamesGood IsPlace IsKind) (sym (functions_named unit typed is)) right.1))
 
 pub come_of_tokens : RegionsComeOfTokens
 come_of_tokens unit typed tokens placed is n r at =

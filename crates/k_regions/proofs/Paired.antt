@@ -6,17 +6,17 @@ use Rattle.k_optab.specs.declared.region.RegionKind.{RegionKind}
 use Rattle.k_optab.specs.declared.region.RegionKind.TheVariants.{Func, Loop, Body}
 use Rattle.k_tree.specs.declared.tree.unit.Unit as source
 use Rattle.k_tree.specs.Count.{unit_count}
-use Rattle.k_typed.specs.declared.tree.unit.TFunc.{TFunc}
-use Rattle.k_typed.specs.declared.tree.unit.TUnit.{TUnit}
-use Rattle.k_typed.specs.Bare.{IsTyped}
-use Rattle.k_typed.specs.Units.{defined_by, faults}
-use Rattle.k_lines.specs.Files.{ArePaired}
-use Rattle.k_lines.specs.Lines.{IsAmongPlaces, IsClosed, IsRegion, MayStand, StandsBehind}
+use Rattle.k_types_meaning.specs.declared.tree.unit.TFunc.{TFunc}
+use Rattle.k_types_meaning.specs.declared.tree.unit.TUnit.{TUnit}
+use Rattle.k_types_meaning.specs.Bare.{IsTyped}
+use Rattle.k_types_meaning.specs.Units.{faults}
+use Rattle.k_dict_saved.specs.Files.{ArePaired}
+use Rattle.k_dict_saved.specs.Lines.{IsAmongPlaces, IsClosed, IsRegion, MayStand, StandsBehind}
 use Rattle.k_regions.specs.declared.loops.LoopAt.{LoopAt}
 use Rattle.k_regions.specs.Regions.{body_itself, function_itself, loop_itself, loops_of, regions_in, regions_of, regions_of_loops}
 use Rattle.k_regions.specs.Saving.{IsRightKind, RegionsCanBeSaved}
 use Rattle.k_regions.proofs.Few.{are_few}
-use Rattle.k_regions.proofs.Names.{main_named, there_before, typed_known}
+use Rattle.k_regions.proofs.Names.{main_found}
 use Rattle.k_regions.proofs.Numbers.{below_length, have_numbers}
 use Rattle.k_regions.proofs.Origins.{IsRight, regions_right}
 
@@ -54,24 +54,24 @@ loops_paired last name [] rest closed k = k last closed
 loops_paired last name (l ∷ loops) rest closed k =
     (may_stand last (loop_itself name l) closed loop_no_body, ((refl, refl), loops_paired (Some (body_itself name l)) name loops rest body_no_loop k))
 
-functions_paired : (last : Option Region) (fs : List TFunc) (names : List (List ℕ)) → IsClosed last → ArePaired last (regions_in fs names)
-functions_paired last [] names closed = closed
-functions_paired last (f ∷ fs) [] closed = closed
-functions_paired last (f ∷ fs) (name ∷ names) closed = (
-  may_stand last (function_itself name f) closed func_no_body,
-  loops_paired (Some (function_itself name f)) name (loops_of f) (regions_in fs names) func_no_loop (λ other h. functions_paired other fs names h),
+functions_paired : (last : Option Region) (fs : List TFunc) → IsClosed last → ArePaired last (regions_in fs)
+functions_paired last [] closed = closed
+functions_paired last (f ∷ fs) closed = (
+  may_stand last (function_itself f) closed func_no_body,
+  loops_paired (Some (function_itself f)) f.name (loops_of f) (regions_in fs) func_no_loop (λ other h. functions_paired other fs h),
 )
 
-all_paired : (unit : source.Unit) (typed : TUnit) → ArePaired None (regions_of unit typed)
+all_paired : (typed : TUnit) → ArePaired None (regions_of typed)
 unfolding regions_of
-all_paired unit typed = functions_paired None typed.functions (defined_by unit) tt
+all_paired typed = functions_paired None typed.functions tt
 
 -- main is one of them
-some_there : (unit : source.Unit) (typed : TUnit) → IsTyped unit typed → faults unit ≡ [] → 1 ≤ length (regions_of unit typed)
+some_there : (unit : source.Unit) (typed : TUnit) → IsTyped unit typed → faults unit ≡ [] → 1 ≤ length (regions_of typed)
+unfolding IsTyped
 some_there unit typed is none =
-    let main : (f : TFunc) × (slice_get typed.functions typed.main ≡ Some f) = there_before typed.functions (defined_by unit) typed.main _ (typed_known unit typed is).named (main_named unit typed is none) in
-    let low = below_length (regions_of unit typed) _ _ (have_numbers unit typed is typed.main main.0 main.1).itself in
-    least _ (length (regions_of unit typed)) low
+    let main = main_found unit typed is none in
+    let low = below_length (regions_of typed) _ _ (have_numbers typed is.3 typed.main main.0 main.1).itself in
+    least _ (length (regions_of typed)) low
   where
     least : (n count : ℕ) → n < count → 1 ≤ count
     least n count h = omega (arith, h)
@@ -82,7 +82,7 @@ twice length_is count h k = omega (arith, h, k)
 pub can_be_saved : RegionsCanBeSaved
 can_be_saved unit typed tokens placed few right is none = record {
   some = some_there unit typed is none;
-  few = twice (length (regions_of unit typed)) (unit_count unit) (are_few unit typed is) few;
+  few = twice (length (regions_of typed)) (unit_count unit) (are_few unit typed is) few;
   each = λ n r at. region_right r (regions_right IsPlace IsRightKind unit typed tokens placed (λ m t there. (((right m t there).line, (right m t there).column), (right m t there).kind)) is n r at);
-  paired = all_paired unit typed;
+  paired = all_paired typed;
 }

@@ -6,15 +6,15 @@ use Rattle.k_num.specs.declared.numbers.Bin.TheVariants as bin
 use Rattle.k_num.specs.declared.numbers.Kind.{Kind}
 use Rattle.k_num.specs.declared.numbers.Un.{Un}
 use Rattle.k_optab.specs.declared.class.Class.TheVariants as class
-use Rattle.k_typed.specs.declared.types.TType.{TType}
-use Rattle.k_typed.specs.declared.types.TType.TheVariants as ttype
-use Rattle.k_typed.specs.declared.tree.expression.Change.{Change}
-use Rattle.k_typed.specs.declared.tree.expression.Change.TheVariants as change
-use Rattle.k_typed.specs.declared.tree.expression.Node.{Node}
-use Rattle.k_typed.specs.declared.tree.expression.TExpr.{TExpr, fold-roll-TExpr, ind-TExpr, map-TExpr}
-use Rattle.k_typed.specs.declared.tree.expression.TExpr.TheOpen.{TExpr-F}
-use Rattle.k_typed.specs.declared.tree.unit.TVariable.{TVariable}
-use Rattle.k_typed.specs.Types.{same_kind}
+use Rattle.k_types_meaning.specs.declared.types.TType.{TType}
+use Rattle.k_types_meaning.specs.declared.types.TType.TheVariants as ttype
+use Rattle.k_types_meaning.specs.declared.tree.expression.Change.{Change}
+use Rattle.k_types_meaning.specs.declared.tree.expression.Change.TheVariants as change
+use Rattle.k_types_meaning.specs.declared.tree.expression.Node.{Node}
+use Rattle.k_types_meaning.specs.declared.tree.expression.TExpr.{TExpr, fold-roll-TExpr, ind-TExpr, map-TExpr}
+use Rattle.k_types_meaning.specs.declared.tree.expression.TExpr.TheOpen.{TExpr-F}
+use Rattle.k_types_meaning.specs.declared.tree.unit.TVariable.{TVariable}
+use Rattle.k_types_meaning.specs.Types.{same_kind}
 use Rattle.k_world.specs.declared.act.Act.TheVariants as act
 use Rattle.k_world.specs.declared.act.Out.TheVariants as out
 use Rattle.k_world.specs.declared.value.Held.{Held}
@@ -30,7 +30,7 @@ use Rattle.k_evaluation.specs.Operators.{plus, unary, convert, cast, binary, com
 use Rattle.k_evaluation.specs.Assignments.{assign, assign_by, pre, post, writes, old_value, converts_between, converts_side, converts_back, changed, changes, changes_old, one, after_old}
 use Rattle.k_evaluation.specs.Library.{getchar, putchar, puts, printf, chunk_of}
 use Rattle.k_evaluation.specs.Expressions.{Calls, call, eval_step, eval}
-use Rattle.k_typed.specs.declared.tree.expression.Piece.{Piece}
+use Rattle.k_types_meaning.specs.declared.tree.expression.Piece.{Piece}
 use Rattle.k_regions.proofs.Added.{Policy, Adds, then_adds, gives_adds, sets_adds, settled_adds, makes_adds, computes_adds, still_adds}
 
 module _ (P : Policy) where

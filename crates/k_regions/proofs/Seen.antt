@@ -12,26 +12,26 @@ use Rattle.k_tree.specs.declared.tree.statement.First.{First}
 use Rattle.k_tree.specs.declared.tree.statement.Part.{Part, fold-Part, fold-roll-Part, map-Part}
 use Rattle.k_tree.specs.declared.tree.statement.Part.TheOpen.{Part-F, Stmt-F}
 use Rattle.k_tree.specs.declared.tree.statement.Stmt.{Stmt, fold-Stmt, fold-roll-Stmt, ind-Stmt, map-Stmt}
-use Rattle.k_typed.specs.declared.fault.TypeFault.TheVariants as fault
-use Rattle.k_typed.specs.declared.tree.expression.TExpr.{TExpr}
-use Rattle.k_typed.specs.declared.tree.statement.TFirst.{TFirst}
-use Rattle.k_typed.specs.declared.tree.statement.TPart.{TPart}
-use Rattle.k_typed.specs.declared.tree.statement.TPart.TheVariants as typed_part
-use Rattle.k_typed.specs.declared.tree.statement.TStmt.{TStmt}
-use Rattle.k_typed.specs.declared.tree.statement.TStmt.TheVariants as typed
-use Rattle.k_typed.specs.declared.types.CType.{CType}
-use Rattle.k_typed.specs.declared.types.CType.TheVariants as ctype
-use Rattle.k_typed.specs.Constants.{constant}
-use Rattle.k_typed.specs.Conversions.{Typed, in_kind, passed}
-use Rattle.k_typed.specs.Declarations.{saying}
-use Rattle.k_typed.specs.Folds.{done_Expr, done_Empty, done_Block, done_alone, done_else, done_While, done_DoWhile, done_For, done_Switch, done_Break, done_Continue, done_Return, done_Declare, part_Case, part_Default, part_Does}
-use Rattle.k_typed.specs.Made.{Fine, refused}
-use Rattle.k_typed.specs.Statements.{Around, Judged, Known, Labels, Statement, SwitchPart, at_known, behind, block_rule, break_rule, case_made, case_rule, condition, conditioned, continue_rule, declare_all, declare_rule, default_rule, do_rule, does_rule, each_in, else_judged, empty_rule, expr_rule, first_judged, for_behind, for_condition, for_made, for_rule, if_made, if_rule, in_order, inside_loop, inside_switch, is_among, judge_body, judge_stmt, kind_or_int, no_labels, opened, option_judged, option_tree, part_step, parts_in_order, return_nothing, return_rule, returned, spot, stmt_step, switch_rule, switched, while_rule}
-use Rattle.k_typed.specs.Types.{number_kind}
+use Rattle.k_types_meaning.specs.declared.fault.TypeFault.TheVariants as fault
+use Rattle.k_types_meaning.specs.declared.tree.expression.TExpr.{TExpr}
+use Rattle.k_types_meaning.specs.declared.tree.statement.TFirst.{TFirst}
+use Rattle.k_types_meaning.specs.declared.tree.statement.TPart.{TPart}
+use Rattle.k_types_meaning.specs.declared.tree.statement.TPart.TheVariants as typed_part
+use Rattle.k_types_meaning.specs.declared.tree.statement.TStmt.{TStmt}
+use Rattle.k_types_meaning.specs.declared.tree.statement.TStmt.TheVariants as typed
+use Rattle.k_types_meaning.specs.declared.types.CType.{CType}
+use Rattle.k_types_meaning.specs.declared.types.CType.TheVariants as ctype
+use Rattle.k_types_meaning.specs.Constants.{constant}
+use Rattle.k_types_meaning.specs.Conversions.{Typed, in_kind, passed}
+use Rattle.k_types_meaning.specs.Declarations.{saying}
+use Rattle.k_types_meaning.proofs.Folds.{done_Expr, done_Empty, done_Block, done_alone, done_else, done_While, done_DoWhile, done_For, done_Switch, done_Break, done_Continue, done_Return, done_Declare, part_Case, part_Default, part_Does}
+use Rattle.k_types_meaning.specs.Made.{Fine, refused}
+use Rattle.k_types_meaning.specs.Statements.{Around, Judged, Known, Labels, Statement, SwitchPart, at_known, behind, block_rule, break_rule, case_made, case_rule, condition, conditioned, continue_rule, declare_all, declare_rule, default_rule, do_rule, does_rule, each_in, else_judged, empty_rule, expr_rule, first_judged, for_behind, for_condition, for_made, for_rule, if_made, if_rule, in_order, inside_loop, inside_switch, is_among, judge_body, judge_stmt, kind_or_int, no_labels, opened, option_judged, option_tree, part_step, parts_in_order, return_nothing, return_rule, return_made, spot, stmt_step, switch_rule, switched, while_rule}
+use Rattle.k_types_meaning.specs.Types.{number_kind}
 use Rattle.k_regions.specs.declared.loops.LoopAt.{LoopAt}
 use Rattle.k_regions.specs.Regions as regions
-use Rattle.k_regions.specs.Regions.{Found, find, find_part, loops_of_all}
-use Rattle.k_regions.proofs.Fine.{IfFine, Anything, anything, cond_has, then_has, both_has, three_has, four_has}
+use Rattle.k_regions.specs.Regions.{Located, find, find_part, loops_of_all}
+use Rattle.k_types_meaning.proofs.Fine.{IfFine, Anything, anything, cond_has, then_has, both_has, three_has, four_has}
 
 -- where a loop and its body stand
 abbrev pub Pair : Type 0
@@ -45,7 +45,7 @@ pub record Shape : Type 0 where
 abbrev pub pair_of : LoopAt → Pair
 pair_of l = (l.place, l.body)
 
-abbrev pub shape_of : Found → Shape
+abbrev pub shape_of : Located → Shape
 shape_of f = record { place = f.place; loops = map pair_of f.loops }
 
 abbrev pub all_loops : List Shape → List Pair
@@ -149,18 +149,18 @@ expr_follows : (p : Place) (e : Expr) → Follows (shaped p []) (expr_rule p e)
 unfolding expr_rule
 expr_follows p e around known =
     then_has Anything (λ (t : TStmt). stmt_shape t ≡ shaped p []) (at_known known e) (λ v. Fine (typed.Expr (spot p) v.tree)) (anything (at_known known e))
-    (λ v h. ap shape_of (done_Expr Found Found regions.part_step regions.stmt_step (spot p) v.tree))
+    (λ v h. ap shape_of (done_Expr Located Located regions.part_step regions.stmt_step (spot p) v.tree))
 
 empty_follows : (p : Place) → Follows (shaped p []) (empty_rule p)
 unfolding empty_rule
-empty_follows p around known = ap shape_of (done_Empty Found Found regions.part_step regions.stmt_step (spot p))
+empty_follows p around known = ap shape_of (done_Empty Located Located regions.part_step regions.stmt_step (spot p))
 
 block_follows : (p : Place) (fs : List Shape) (ss : List Statement) → AllFollow fs ss → Follows (shaped p (all_loops fs)) (block_rule p ss)
 unfolding block_rule
 block_follows p fs ss all around known =
     then_has (HaveShapes fs) (λ (t : TStmt). stmt_shape t ≡ shaped p (all_loops fs)) (in_order (opened known) (each_in around ss)).made (λ trees. Fine (typed.Block (spot p) trees))
     (in_order_follow around fs ss all (opened known))
-    (λ trees h. ap shape_of (done_Block Found Found regions.part_step regions.stmt_step (spot p) trees) ∙ ap (shaped p) (all_shapes trees ∙ ap all_loops h))
+    (λ trees h. ap shape_of (done_Block Located Located regions.part_step regions.stmt_step (spot p) trees) ∙ ap (shaped p) (all_shapes trees ∙ ap all_loops h))
 
 -- an `if`
 abbrev OrNone : Option Shape → Option TStmt → Type 0
@@ -173,12 +173,12 @@ if_made_has : (p : Place) (f : Shape) (g : Option Shape) (v : Typed) (a : TStmt)
     → IfFine (λ (t : TStmt). stmt_shape t ≡ shaped p (f.loops ++ loops_or_none g)) (if_made p v a b)
 if_made_has p f None v a None k j =
     conditioned_has (λ (t : TStmt). stmt_shape t ≡ shaped p (f.loops ++ [])) p (number_kind v.of) (typed.If (spot p) v.tree a None)
-    (ap shape_of (done_alone Found Found regions.part_step regions.stmt_step (spot p) v.tree a) ∙ ap (shaped p) (map-append pair_of (find a).loops [] ∙ ap (λ (s : Shape). s.loops ++ []) k))
+    (ap shape_of (done_alone Located Located regions.part_step regions.stmt_step (spot p) v.tree a) ∙ ap (shaped p) (map-append pair_of (find a).loops [] ∙ ap (λ (s : Shape). s.loops ++ []) k))
 if_made_has p f None v a (Some b) k j = absurd j
 if_made_has p f (Some g) v a None k j = absurd j
 if_made_has p f (Some g) v a (Some b) k j =
     conditioned_has (λ (t : TStmt). stmt_shape t ≡ shaped p (f.loops ++ g.loops)) p (number_kind v.of) (typed.If (spot p) v.tree a (Some b))
-    (ap shape_of (done_else Found Found regions.part_step regions.stmt_step (spot p) v.tree a b)
+    (ap shape_of (done_else Located Located regions.part_step regions.stmt_step (spot p) v.tree a b)
     ∙ ap (shaped p) (map-append pair_of (find a).loops (find b).loops ∙ (λ i. (k i).loops ++ (j i).loops)))
 
 abbrev ElseFollows : Option Shape → Option Statement → Type 0
@@ -209,7 +209,7 @@ while_follows p test f s h around known =
     (s (inside_loop around) (behind known (at_known known test))).made (λ v t. condition p v (typed.While (spot p) 0 v.tree t)) (anything (at_known known test))
     (h (inside_loop around) (behind known (at_known known test)))
     (λ v t k j. conditioned_has (λ (x : TStmt). stmt_shape x ≡ loop_shaped p f) p (number_kind v.of) (typed.While (spot p) 0 v.tree t)
-    (ap shape_of (done_While Found Found regions.part_step regions.stmt_step (spot p) 0 v.tree t) ∙ ap (loop_shaped p) j))
+    (ap shape_of (done_While Located Located regions.part_step regions.stmt_step (spot p) 0 v.tree t) ∙ ap (loop_shaped p) j))
 
 do_follows : (p : Place) (f : Shape) (s : Statement) (test : Expr) → Follows f s → Follows (loop_shaped p f) (do_rule p s test)
 unfolding do_rule
@@ -218,7 +218,7 @@ do_follows p f s test h around known =
     (at_known (s (inside_loop around) known).after test) (λ t v. condition p v (typed.DoWhile (spot p) 0 t v.tree)) (h (inside_loop around) known)
     (anything (at_known (s (inside_loop around) known).after test))
     (λ t v j k. conditioned_has (λ (x : TStmt). stmt_shape x ≡ loop_shaped p f) p (number_kind v.of) (typed.DoWhile (spot p) 0 t v.tree)
-    (ap shape_of (done_DoWhile Found Found regions.part_step regions.stmt_step (spot p) 0 t v.tree) ∙ ap (loop_shaped p) j))
+    (ap shape_of (done_DoWhile Located Located regions.part_step regions.stmt_step (spot p) 0 t v.tree) ∙ ap (loop_shaped p) j))
 
 for_made_has : (p : Place) (f : Shape) (start : TFirst) (test step : Option Typed) (s : TStmt) → stmt_shape s ≡ f
     → IfFine (λ (t : TStmt). stmt_shape t ≡ loop_shaped p f) (for_made p start test step s)
@@ -228,7 +228,7 @@ for_made_has p f start test step s h = by test
     tree o = typed.For (spot p) 0 start (option_tree o) (option_tree step) s
 
     shape : (o : Option Typed) → stmt_shape (tree o) ≡ loop_shaped p f
-    shape o = ap shape_of (done_For Found Found regions.part_step regions.stmt_step (spot p) 0 start (option_tree o) (option_tree step) s) ∙ ap (loop_shaped p) h
+    shape o = ap shape_of (done_For Located Located regions.part_step regions.stmt_step (spot p) 0 start (option_tree o) (option_tree step) s) ∙ ap (loop_shaped p) h
 
     by : (o : Option Typed) → IfFine (λ (t : TStmt). stmt_shape t ≡ loop_shaped p f) (for_condition p o (tree o))
     by None = shape None
@@ -251,18 +251,18 @@ break_follows : (p : Place) → Follows (shaped p []) (break_rule p)
 unfolding break_rule
 break_follows p around known =
     cond_has (λ (t : TStmt). stmt_shape t ≡ shaped p []) (around.in_loop || around.in_switch) (Fine (typed.Break (spot p))) (refused (fault.JumpOutside p))
-    (ap shape_of (done_Break Found Found regions.part_step regions.stmt_step (spot p))) tt
+    (ap shape_of (done_Break Located Located regions.part_step regions.stmt_step (spot p))) tt
 
 continue_follows : (p : Place) → Follows (shaped p []) (continue_rule p)
 unfolding continue_rule
 continue_follows p around known =
     cond_has (λ (t : TStmt). stmt_shape t ≡ shaped p []) around.in_loop (Fine (typed.Continue (spot p))) (refused (fault.JumpOutside p))
-    (ap shape_of (done_Continue Found Found regions.part_step regions.stmt_step (spot p))) tt
+    (ap shape_of (done_Continue Located Located regions.part_step regions.stmt_step (spot p))) tt
 
 return_shape : (p : Place) (o : Option TExpr) → stmt_shape (typed.Return (spot p) o) ≡ shaped p []
-return_shape p o = ap shape_of (done_Return Found Found regions.part_step regions.stmt_step (spot p) o)
+return_shape p o = ap shape_of (done_Return Located Located regions.part_step regions.stmt_step (spot p) o)
 
-returned_has : (p : Place) (o : Option TExpr) → IfFine (λ (t : TStmt). stmt_shape t ≡ shaped p []) (returned p o)
+returned_has : (p : Place) (o : Option TExpr) → IfFine (λ (t : TStmt). stmt_shape t ≡ shaped p []) (return_made p o)
 returned_has p None = tt
 returned_has p (Some e) = return_shape p (Some e)
 
@@ -276,14 +276,14 @@ return_follows : (p : Place) (e : Option Expr) → Follows (shaped p []) (return
 unfolding return_rule
 return_follows p None around known = return_nothing_has p around.result
 return_follows p (Some e) around known =
-    then_has Anything (λ (t : TStmt). stmt_shape t ≡ shaped p []) (at_known known e) (λ v. returned p (passed around.result v)) (anything (at_known known e))
+    then_has Anything (λ (t : TStmt). stmt_shape t ≡ shaped p []) (at_known known e) (λ v. return_made p (passed around.result v)) (anything (at_known known e))
     (λ v h. returned_has p (passed around.result v))
 
 declaration_follows : (p : Place) (specs : List Word) (list : List Declarator) → Follows (shaped p []) (declare_rule p specs list)
 unfolding declare_rule
 declaration_follows p specs list around known =
     then_has Anything (λ (t : TStmt). stmt_shape t ≡ shaped p []) (declare_all (saying false specs) known list).made (λ ds. Fine (typed.Declare (spot p) ds))
-    (anything (declare_all (saying false specs) known list).made) (λ ds h. ap shape_of (done_Declare Found Found regions.part_step regions.stmt_step (spot p) ds))
+    (anything (declare_all (saying false specs) known list).made) (λ ds h. ap shape_of (done_Declare Located Located regions.part_step regions.stmt_step (spot p) ds))
 
 -- a `switch`
 parts_in_order_follow : (around : Around) (kind : Kind) (labels : Labels) (known : Known) (fs : List Shape) (ps : List SwitchPart) → PartsFollow fs ps
@@ -300,7 +300,7 @@ switched_has : (p : Place) (fs : List Shape) (v : Typed) (parts : List TPart) (k
     → IfFine (λ (t : TStmt). stmt_shape t ≡ shaped p (all_loops fs)) (switched p v parts k)
 switched_has p fs v parts None all = tt
 switched_has p fs v parts (Some kind) all =
-    ap shape_of (done_Switch Found Found regions.part_step regions.stmt_step (spot p) (promoted kind) (in_kind kind (promoted kind) v.tree) parts)
+    ap shape_of (done_Switch Located Located regions.part_step regions.stmt_step (spot p) (promoted kind) (in_kind kind (promoted kind) v.tree) parts)
     ∙ ap (shaped p) (all_part_shapes parts ∙ ap all_loops all)
 
 switch_follows : (p : Place) (on : Expr) (fs : List Shape) (ps : List SwitchPart) → PartsFollow fs ps → Follows (shaped p (all_loops fs)) (switch_rule p on ps)
@@ -316,7 +316,7 @@ case_made_has : (p : Place) (kind : Kind) (labels : Labels) (o : Option ℤ) →
 case_made_has p kind labels None = tt
 case_made_has p kind labels (Some z) =
     cond_has (λ (t : TPart). part_shape t ≡ shaped p []) (is_among labels.cases (converted kind z)) (refused (fault.CaseAgain p)) (Fine (typed_part.Case p (converted kind z))) tt
-    (ap shape_of (part_Case Found Found regions.part_step regions.stmt_step p (converted kind z)))
+    (ap shape_of (part_Case Located Located regions.part_step regions.stmt_step p (converted kind z)))
 
 case_follows : (p : Place) (e : Expr) → PartFollows (shaped p []) (case_rule p e)
 unfolding case_rule
@@ -328,13 +328,13 @@ default_follows : (p : Place) → PartFollows (shaped p []) (default_rule p)
 unfolding default_rule
 default_follows p around kind labels known =
     cond_has (λ (t : TPart). part_shape t ≡ shaped p []) labels.defaulted (refused (fault.CaseAgain p)) (Fine (typed_part.Default p)) tt
-    (ap shape_of (part_Default Found Found regions.part_step regions.stmt_step p))
+    (ap shape_of (part_Default Located Located regions.part_step regions.stmt_step p))
 
 does_follows : (p : Place) (f : Shape) (s : Statement) → Follows f s → PartFollows (shaped p f.loops) (does_rule p s)
 unfolding does_rule
 does_follows p f s h around kind labels known =
     then_has (λ (t : TStmt). stmt_shape t ≡ f) (λ (t : TPart). part_shape t ≡ shaped p f.loops) (s around known).made (λ t. Fine (typed_part.Does p t)) (h around known)
-    (λ t k. ap shape_of (part_Does Found Found regions.part_step regions.stmt_step p t) ∙ ap (λ (g : Shape). shaped p g.loops) k)
+    (λ t k. ap shape_of (part_Does Located Located regions.part_step regions.stmt_step p t) ∙ ap (λ (g : Shape). shaped p g.loops) k)
 
 -- A STATEMENT
 abbrev judge_part : Part → SwitchPart

@@ -15,7 +15,7 @@ use Rattle.k_tree.specs.declared.tree.unit.Item.TheVariants as item
 use Rattle.k_tree.specs.declared.tree.unit.Unit as source
 use Rattle.k_tree.specs.Places.{Piece, Pieces, Placed, Stand, at, lay_else, lay_expr, lay_for, lay_head, lay_in_parens, lay_item, lay_part, lay_part_step, lay_row, lay_stmt, lay_stmt_step, lay_stmts, lay_unit, lay_with_commas, lay_declarator, plain}
 use Rattle.k_tree.specs.Spelling.{spell_specs, spell_stars}
-use Rattle.k_typed.specs.Units.{all_names, defined_by, defined_in}
+use Rattle.k_types_meaning.specs.Units.{all_names, defined_by, defined_in}
 use Rattle.k_regions.proofs.Functions.{items_seen}
 use Rattle.k_regions.proofs.Seen.{Pair, Shape, all_loops, see, see_part, see_part_step, see_stmt_step}
 

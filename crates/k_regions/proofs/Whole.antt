@@ -12,13 +12,14 @@ use Rattle.k_optab.specs.declared.event.Event.TheVariants.{Op, Enter, Exit}
 use Rattle.k_optab.specs.declared.region.Region.{Region}
 use Rattle.k_optab.specs.Instances.{Balanced}
 use Rattle.k_tree.specs.declared.tree.unit.Unit as source
-use Rattle.k_typed.specs.declared.tree.unit.TFunc.{TFunc}
-use Rattle.k_typed.specs.declared.tree.unit.TObject.{TObject}
-use Rattle.k_typed.specs.declared.tree.unit.TString.{TString}
-use Rattle.k_typed.specs.Bare.{IsTyped}
-use Rattle.k_typed.specs.Units.{defined_by, faults}
-use Rattle.k_code.specs.declared.ending.End.{End}
-use Rattle.k_code.specs.declared.ending.End.TheVariants as ending
+use Rattle.k_types_meaning.specs.declared.tree.unit.TFunc.{TFunc}
+use Rattle.k_types_meaning.specs.declared.tree.unit.TObject.{TObject}
+use Rattle.k_types_meaning.specs.declared.tree.unit.TString.{TString}
+use Rattle.k_types_meaning.specs.Bare.{IsTyped}
+use Rattle.k_types_meaning.specs.Numbered.{IsNumbered}
+use Rattle.k_types_meaning.specs.Units.{faults}
+use Rattle.k_ending.specs.declared.ending.End.{End}
+use Rattle.k_ending.specs.declared.ending.End.TheVariants as ending
 use Rattle.k_mem.specs.declared.start.Start.TheVariants.{Zero}
 use Rattle.k_world.specs.declared.value.Held.{Held}
 use Rattle.k_world.specs.declared.value.Value.{Value}
@@ -36,7 +37,8 @@ use Rattle.k_regions.specs.Laws.{AreItsRegions, entries, HasItsRegions, Returned
 use Rattle.k_regions.specs.Regions.{function_itself, loops_of, regions_of}
 use Rattle.k_regions.proofs.Added.{Policy, ArePaid, made_of, region_paid, EachEntered, each_both, Leaves, Stays, IsStill, then_still, gives_still, makes_object_still, makes_string_still, fills_still}
 use Rattle.k_regions.proofs.Entered.{LoopsHold, ProgramHolds, inside, main_adds}
-use Rattle.k_regions.proofs.Names.{main_named, there_before, typed_known}
+use Rattle.k_regions.proofs.Functions.{name_of}
+use Rattle.k_regions.proofs.Names.{main_found}
 use Rattle.k_regions.proofs.Numbers.{below_length, function_fits, have_numbers}
 
 -- THE START makes no event
@@ -142,28 +144,30 @@ loops_below regions n name (l ∷ loops) few each = (
   loops_below regions n name loops (omega (arith, few)) (λ k. each (suc k)),
 )
 
-program_below : (unit : source.Unit) (program : Program) → IsTyped unit program.unit → ProgramHolds (theirs (regions_of unit program.unit)) program
-program_below unit program typed n f is =
-    let regions : List Region = regions_of unit program.unit in
-    let its : AreItsRegions (defined_by unit) regions n f = have_numbers unit program.unit typed n f is in
-    let few : 1 + 2 * length (loops_of f) ≤ length regions = function_fits unit program.unit typed n f is in
-    (below_length regions (function_region n f) _ its.itself, loops_below regions n its.name (loops_of f) (omega (arith, few)) its.loops, few)
+program_below : (program : Program) → IsNumbered program.unit → ProgramHolds (theirs (regions_of program.unit)) program
+program_below program numbered n f is =
+    let regions : List Region = regions_of program.unit in
+    let its : AreItsRegions regions n f = have_numbers program.unit numbered n f is in
+    let few : 1 + 2 * length (loops_of f) ≤ length regions = function_fits program.unit n f is in
+    (below_length regions (function_region n f) _ its.itself, loops_below regions n f.name (loops_of f) (omega (arith, few)) its.loops, few)
 
 -- THE LAWS
 -- main, and what comes of its run
-pub record HasRun (unit : source.Unit) (program : Program) (input : List ℕ) (budget : ℕ) : Type 0 where
+pub record HasRun (program : Program) (input : List ℕ) (budget : ℕ) : Type 0 where
   pub main : TFunc
+  pub named : name_of main ≡ codes "main"
   pub there : slice_get program.unit.functions program.unit.main ≡ Some main
-  pub leaves : MainLeaves (theirs (regions_of unit program.unit)) (function_region program.unit.main main) (whole program (initial input budget))
+  pub leaves : MainLeaves (theirs (regions_of program.unit)) (function_region program.unit.main main) (whole program (initial input budget))
 
-pub has_run : (unit : source.Unit) (program : Program) (input : List ℕ) (budget : ℕ) → IsTyped unit program.unit → faults unit ≡ [] → HasRun unit program input budget
+pub has_run : (unit : source.Unit) (program : Program) (input : List ℕ) (budget : ℕ) → IsTyped unit program.unit → faults unit ≡ [] → HasRun program input budget
+unfolding IsTyped
 has_run unit program input budget typed none =
-    let found : (f : TFunc) × (slice_get program.unit.functions program.unit.main ≡ Some f) =
-    there_before program.unit.functions (defined_by unit) program.unit.main (codes "main") (typed_known unit program.unit typed).named (main_named unit program.unit typed none) in
+    let found = main_found unit program.unit typed none in
     record {
       main = found.0;
+      named = found.2;
       there = found.1;
-      leaves = whole_leaves (theirs (regions_of unit program.unit)) program (program_below unit program typed) found.0 found.1 input budget;
+      leaves = whole_leaves (theirs (regions_of program.unit)) program (program_below program typed.3) found.0 found.1 input budget;
     }
 
 pub ended_allowed : (P : Policy) (number : ℕ) (o : Outcome (Option Held)) → MainLeaves P number o → AreAllowed P number (ended o).events
@@ -174,8 +178,8 @@ pub enter_theirs : RunsEnterTheirRegions
 unfolding run
 enter_theirs unit program input budget typed none =
     let it = has_run unit program input budget typed none in
-    below (length (regions_of unit program.unit)) (ended (whole program (initial input budget))).events
-    (ended_allowed (theirs (regions_of unit program.unit)) (function_region program.unit.main it.main) (whole program (initial input budget)) it.leaves).each
+    below (length (regions_of program.unit)) (ended (whole program (initial input budget))).events
+    (ended_allowed (theirs (regions_of program.unit)) (function_region program.unit.main it.main) (whole program (initial input budget)) it.leaves).each
 
 instance_of : (P : Policy) (number : ℕ) (o : Outcome (Option Held)) → MainLeaves P number o → IsReturned (ended o).end → IsInstance P number (ended o).events
 instance_of P number (Goes v s) h returned = h.0
@@ -184,21 +188,21 @@ instance_of P number (Stops (ending.Trapped trap place) w) h returned = absurd r
 instance_of P number (Stops ending.OutOfSteps w) h returned = absurd returned
 
 pub are_of_main : ReturnedRunsAreOfMain
-unfolding run
+unfolding run IsTyped
 are_of_main unit program input budget typed none returned =
     let it = has_run unit program input budget typed none in
-    let regions : List Region = regions_of unit program.unit in
-    let its : AreItsRegions (defined_by unit) regions program.unit.main it.main = have_numbers unit program.unit typed program.unit.main it.main it.there in
+    let regions : List Region = regions_of program.unit in
+    let its : AreItsRegions regions program.unit.main it.main = have_numbers program.unit typed.3 program.unit.main it.main it.there in
     let one = instance_of (theirs regions) (function_region program.unit.main it.main) (whole program (initial input budget)) it.leaves returned in
     record {
       number = function_region program.unit.main it.main;
       inside = one.within;
-      main = function_itself its.name it.main;
+      main = function_itself it.main;
       whole = one.whole;
       balanced = one.balanced;
       there = its.itself;
       kind = refl;
-      func = same_Some its.name (codes "main") (sym its.named ∙ main_named unit program.unit typed none);
+      func = it.named;
     }
 
 -- the number that was returned, or something in its place
@@ -230,4 +234,4 @@ pub return_ints : ReturnedRunsGiveInts
 unfolding run
 return_ints unit program input budget exit typed none is =
     let it = has_run unit program input budget typed none in
-    exit_fits (theirs (regions_of unit program.unit)) (function_region program.unit.main it.main) (whole program (initial input budget)) exit it.leaves is
+    exit_fits (theirs (regions_of program.unit)) (function_region program.unit.main it.main) (whole program (initial input budget)) exit it.leaves is

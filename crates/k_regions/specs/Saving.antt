@@ -1,3 +1,4 @@
+-- Believed with a public law.
 -- What the regions of a source are to a saved profile.
 use Rattle.std.specs.Prelude.{ℕ, ◌≡◌, ◌≤◌, true, List, [], slice_get, Some}
 use Rattle.k_tree.specs.declared.tokens.Token.{Token}
@@ -7,11 +8,11 @@ use Rattle.k_tree.specs.declared.tree.unit.Unit as source
 use Rattle.k_tree.specs.Count.{unit_count}
 use Rattle.k_tree.specs.Places.{Placed}
 use Rattle.k_scan.specs.Names.{is_name}
-use Rattle.k_typed.specs.declared.tree.unit.TUnit.{TUnit}
-use Rattle.k_typed.specs.Bare.{IsTyped}
-use Rattle.k_typed.specs.Units.{faults}
-use Rattle.k_lines.specs.Files.{AreRegions}
-use Rattle.k_lines.specs.Lines.{IsAmongPlaces}
+use Rattle.k_types_meaning.specs.declared.tree.unit.TUnit.{TUnit}
+use Rattle.k_types_meaning.specs.Bare.{IsTyped}
+use Rattle.k_types_meaning.specs.Units.{faults}
+use Rattle.k_dict_saved.specs.Files.{AreRegions}
+use Rattle.k_dict_saved.specs.Lines.{IsAmongPlaces}
 use Rattle.k_regions.specs.Regions.{regions_of}
 
 -- where a token is a name, it is one of the language
@@ -34,4 +35,4 @@ RegionsCanBeSaved =
     → ((n : ℕ) (t : Token) → slice_get tokens n ≡ Some t → IsRightToken t)
     → IsTyped unit typed
     → faults unit ≡ []
-    → AreRegions (regions_of unit typed)
+    → AreRegions (regions_of typed)

@@ -1,11 +1,13 @@
 //! What holds of the regions of every source: each function's contract is a law, and its body does nothing.
-ghost use Rattle.k_regions.specs.Laws.{RegionsAreFew, RegionsComeOfTokens, RegionsHaveTheirNumbers, ReturnedRunsAreOfMain, ReturnedRunsGiveInts, RunsEnterFew, RunsEnterTheirRegions, ThereAreNoOthers};
+ghost use Rattle.k_regions.specs.Laws.{FunctionsHaveTheirNames, RegionsAreFew, RegionsComeOfTokens, RegionsHaveTheirNumbers, ReturnedRunsAreOfMain, ReturnedRunsGiveInts, RunsEnterFew, RunsEnterTheirRegions, ThereAreNoOthers};
 ghost use Rattle.k_regions.specs.Saving.{RegionsCanBeSaved};
 
-/// Each function, loop and body of a typed source is the region of its number, and there are no others.
+/// Each function, loop and body of a typed source is the region of its number, and there are no others. Functions have the names
+/// that the source gives them.
 pub fn regions_have_their_numbers()
     ensures each { RegionsHaveTheirNumbers }
     ensures all { ThereAreNoOthers }
+    ensures names { FunctionsHaveTheirNames }
 {}
 
 /// A source has at most twice as many regions as nodes, and each stands where a token does and has the name of one.

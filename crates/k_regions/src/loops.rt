@@ -3,7 +3,7 @@ ghost use Rattle.std.specs.Prelude.{◌≡◌, ◌++◌, map, option_map, OnOk};
 ghost use Rattle.k_regions.specs.Regions.{find, find_part, loops_if_there, loops_of_all};
 
 use k_num::{Box, NoMemory, Place, Seq};
-use k_typed::{TPart, TStmt};
+use k_types_meaning::{TPart, TStmt};
 
 /// A loop of a source: its number, and where its keyword and the first token of its body stand.
 #[derive(Clone, Copy, Debug, PartialEq, Eq)]

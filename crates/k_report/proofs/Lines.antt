@@ -6,7 +6,8 @@ use Rattle.k_optab.specs.Events.{Operation}
 use Rattle.k_dict.specs.declared.entry.Entry.{Entry}
 use Rattle.k_graph.specs.declared.tree.Instance.{Instance}
 use Rattle.k_report.specs.DictLines.{entry_line, entry_lines}
-use Rattle.k_report.specs.Graph.{AddsInstanceLines, AreInstanceLines, IsHeaviestPath, instance_line}
+use Rattle.k_report.specs.Graph.{AreInstanceLines, IsHeaviestPath, instance_line}
+use Rattle.k_report.specs.Writing.{AddsInstanceLines}
 
 -- what is left of a list from an item on
 pub drop_found : {X : Type 0} (xs : List X) (k : ℕ) (x : X) → slice_get xs k ≡ Some x → drop k xs ≡ x ∷ drop (k + 1) xs

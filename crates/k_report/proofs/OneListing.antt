@@ -8,7 +8,7 @@ use Rattle.k_optab.specs.Events.{Operation, operations}
 use Rattle.k_optab.proofs.Heaviest.{heaviest_unique, same_operation}
 use Rattle.k_graph.specs.declared.tree.Instance.{Instance}
 use Rattle.k_graph.specs.Chosen.{ChosenTo, HasNoSource, IsChosen, IsChosenSource, follows, starts}
-use Rattle.k_code.specs.declared.listing.Listing.{Listing}
+use Rattle.k_ending.specs.declared.listing.Listing.{Listing}
 use Rattle.k_report.specs.Graph.{AreInstanceLines, IsGraphText, IsHeaviestPath, IsWithin, end_line, event_lines, instance_line}
 
 -- a chosen source is no later than another

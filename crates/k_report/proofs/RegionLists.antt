@@ -6,7 +6,7 @@ use Rattle.std.proofs.lemmas.Option.{none-some, same_Some}
 use Rattle.k_optab.specs.declared.region.Region.{Region}
 use Rattle.k_selfpar.specs.declared.context.Context.{Context}
 use Rattle.k_plan.specs.Plan.{ParentsComeFirst, StandBehindParents}
-use Rattle.k_report.specs.Names.{name_text}
+use Rattle.k_text.specs.Texts.{name_text}
 use Rattle.k_report.specs.PlanLines.{loop_text, region_lists, regions_at, regions_to, with_regions}
 
 -- one list more

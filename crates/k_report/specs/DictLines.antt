@@ -1,14 +1,10 @@
+-- Believed with the theorem on the top call.
 -- The lines of a dictionary in a report.
 use Rattle.std.specs.Prelude.{ℕ, ◌+◌, List, [], ◌∷◌, ◌++◌, Option, Some, None, length, codes}
 use Rattle.std.specs.List.{flat_map}
 use Rattle.std.specs.Fmt.{decimal}
 use Rattle.k_dict.specs.declared.entry.Entry.{Entry}
-use Rattle.k_dict.specs.declared.entry.Run.{Run}
-use Rattle.k_report.specs.Names.{named_line}
-
--- a run behind a space: which entry, and how many children are of it
-abbrev pub run_text : Run → List ℕ
-run_text run = codes " " ++ decimal run.entry ++ codes "*" ++ decimal run.count
+use Rattle.k_text.specs.Texts.{named_line, run_text}
 
 -- the line of entry k
 abbrev pub entry_line : ℕ → Entry → List ℕ

@@ -1,3 +1,4 @@
+-- Believed with the theorem on the top call.
 -- *Texts*: the listing of a run's dependence graph.
 use Rattle.std.specs.Prelude.{ℕ, ℤ, ◌+◌, ◌≡◌, ◌<◌, ◌≤◌, List, [], ◌∷◌, ◌++◌, codes, if◌then◌else◌}
 use Rattle.std.specs.List.{flat_map}
@@ -12,12 +13,12 @@ use Rattle.k_optab.specs.Graph.{Heaviest}
 use Rattle.k_optab.specs.Latencies.{class_name}
 use Rattle.k_graph.specs.declared.tree.Instance.{Instance}
 use Rattle.k_graph.specs.Chosen.{IsChosen}
-use Rattle.k_code.specs.declared.ending.End.{End}
-use Rattle.k_code.specs.declared.ending.End.TheVariants.{Returned, Trapped, OutOfSteps}
-use Rattle.k_code.specs.declared.ending.Trap.{Trap}
-use Rattle.k_code.specs.Traps.{trap_name}
-use Rattle.k_code.specs.declared.listing.Listing.{Listing}
-use Rattle.k_report.specs.Names.{named_line, place_text}
+use Rattle.k_ending.specs.declared.ending.End.{End}
+use Rattle.k_ending.specs.declared.ending.End.TheVariants.{Returned, Trapped, OutOfSteps}
+use Rattle.k_ending.specs.declared.ending.Trap.{Trap}
+use Rattle.k_ending.specs.Traps.{trap_name}
+use Rattle.k_ending.specs.declared.listing.Listing.{Listing}
+use Rattle.k_text.specs.Texts.{named_line, place_text}
 
 -- a source behind a space, with a mark where the dependence is broken
 abbrev pub source_text : Src → List ℕ
@@ -82,12 +83,6 @@ abbrev pub AreInstanceLines : List Operation → ℕ → List Instance → List 
 AreInstanceLines ops i [] text = text ≡ []
 AreInstanceLines ops i (n ∷ tree) text =
     (nodes : List ℕ) × (later : List ℕ) × IsHeaviestPath ops n nodes × AreInstanceLines ops (i + 1) tree later × (text ≡ instance_line i n nodes ++ later)
-
--- the lines of these instances stand behind what was written
-pub record AddsInstanceLines (ops : List Operation) (tree : List Instance) (old new : List ℕ) : Type 0 where
-  pub lines : List ℕ
-  pub are : AreInstanceLines ops 0 tree lines
-  pub behind : new ≡ old ++ lines
 
 -- the last line where main returned
 abbrev pub returned_line : ℤ → List ℕ

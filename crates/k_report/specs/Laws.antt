@@ -1,8 +1,9 @@
+-- Believed with a public law.
 -- What holds of listings.
 use Rattle.std.specs.Prelude.{ℕ, ◌≡◌, List, All, length}
 use Rattle.k_optab.specs.Events.{operations}
 use Rattle.k_graph.specs.declared.tree.Instance.{Instance}
-use Rattle.k_code.specs.declared.listing.Listing.{Listing}
+use Rattle.k_ending.specs.declared.listing.Listing.{Listing}
 use Rattle.k_report.specs.Graph.{IsGraphText, IsWithin}
 
 -- a run and its tree have one listing

@@ -1,6 +1,6 @@
 pub mod DictLines
 pub mod Graph
+pub mod Writing
 pub mod Laws
-pub mod Names
 pub mod PlanLines
 pub mod Report

@@ -1,3 +1,4 @@
+-- Believed with the theorem on the top call.
 -- The lines of a plan in a report.
 use Rattle.std.specs.Prelude.{ℕ, ◌<◌, Bool, List, [], ◌∷◌, ◌++◌, Option, Some, None, length, All, codes, fold, slice_get, slice_index_or, option_and_then, if◌then◌else◌}
 use Rattle.std.specs.List.{flat_map, join_by}
@@ -6,8 +7,8 @@ use Rattle.k_optab.specs.declared.region.Region.{Region}
 use Rattle.k_plan.specs.declared.advice.Advice.{Advice}
 use Rattle.k_plan.specs.declared.advice.Pick.{Pick}
 use Rattle.k_selfpar.specs.declared.context.Context.{Context}
-use Rattle.k_plan.specs.Choices.{root_work}
-use Rattle.k_report.specs.Names.{name_text, written}
+use Rattle.k_selfpar.specs.Contexts.{root_work}
+use Rattle.k_text.specs.Texts.{name_text, written}
 
 -- list k of these lists of regions, empty where there is none
 abbrev pub regions_at : List (List ℕ) → ℕ → List ℕ
@@ -54,9 +55,13 @@ total_line saved work = codes "plan total " ++ decimal saved ++ codes " of " ++ 
 abbrev pub advice_text : List Region → List Context → Advice → List ℕ
 advice_text regions contexts advice = flat_map (pick_line regions contexts) advice.picks ++ total_line advice.total (root_work contexts)
 
+-- the line where there are too many contexts for a plan
+abbrev pub wide_line : List ℕ
+wide_line = codes "plan: over 65536 contexts\n"
+
 -- the lines of a plan, or one line where there are too many contexts for one
 abbrev pub plan_text : List Region → List Context → Option Advice → List ℕ
-plan_text regions contexts None = codes "plan: over 65536 contexts\n"
+plan_text regions contexts None = wide_line
 plan_text regions contexts (Some advice) = advice_text regions contexts advice
 
 -- each pick names a context

@@ -1,19 +1,20 @@
+-- Believed with the theorem on the top call.
 -- *Texts*: the report of a run.
 use Rattle.std.specs.Prelude.{ℕ, ℤ, List, ◌++◌, Option, codes, slice_get}
 use Rattle.std.specs.List.{flat_map}
-use Rattle.std.specs.Fmt.{decimal, signed_decimal}
+use Rattle.std.specs.Fmt.{decimal}
 use Rattle.k_optab.specs.declared.region.Region.{Region}
 use Rattle.k_dict.specs.declared.entry.Entry.{Entry}
 use Rattle.k_selfpar.specs.declared.row.Row.{Row}
 use Rattle.k_plan.specs.declared.advice.Advice.{Advice}
 use Rattle.k_selfpar.specs.declared.context.Context.{Context}
-use Rattle.k_report.specs.Names.{kind_text, name_text, written}
+use Rattle.k_text.specs.Texts.{head_text, region_text, written}
 use Rattle.k_report.specs.DictLines.{dict_text}
 use Rattle.k_report.specs.PlanLines.{plan_text}
 
 -- the first lines: what main returned, and how many operations were made
-abbrev pub head_text : ℤ → ℕ → List ℕ
-head_text exit ops = codes "== kremlin ==\nexit " ++ signed_decimal exit ++ codes "\nops " ++ decimal ops ++ codes "\n"
+abbrev pub title_text : ℤ → ℕ → List ℕ
+title_text exit ops = head_text (codes "== kremlin ==\n") exit ops
 
 -- the numbers of a row: instances, work, path, and self-parallelism as a fraction
 abbrev pub numbers_text : Row → List ℕ
@@ -23,7 +24,7 @@ numbers_text row =
 
 -- the line of a row of this region
 abbrev pub row_text : Row → Region → List ℕ
-row_text row region = kind_text region.kind ++ codes " " ++ name_text region ++ numbers_text row
+row_text row region = region_text region ++ numbers_text row
 
 -- the line of a row, which names a region of the list
 abbrev pub row_line : List Region → Row → List ℕ
@@ -32,8 +33,12 @@ row_line regions row = written (row_text row) (slice_get regions row.region)
 -- the report: the first lines, a line for each row, the dictionary where it is asked for, and the plan
 abbrev pub report_text : List Region → ℤ → ℕ → List Row → Option (List Entry) → List Context → Option Advice → List ℕ
 report_text regions exit ops rows dict contexts plan =
-    head_text exit ops ++ flat_map (row_line regions) rows ++ dict_text dict ++ plan_text regions contexts plan
+    title_text exit ops ++ flat_map (row_line regions) rows ++ dict_text dict ++ plan_text regions contexts plan
+
+-- the line where the dictionary is over its limits
+abbrev pub large_line : List ℕ
+large_line = codes "profile: over the dictionary's limits\n"
 
 -- the report where the dictionary is over its limits
 abbrev pub large_text : ℤ → ℕ → List ℕ
-large_text exit ops = head_text exit ops ++ codes "profile: over the dictionary's limits\n"
+large_text exit ops = title_text exit ops ++ large_line

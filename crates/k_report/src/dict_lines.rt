@@ -1,30 +1,11 @@
 //! The lines of a dictionary.
 ghost use Rattle.std.specs.Prelude.{◌≡◌, ◌++◌, OnOk};
-ghost use Rattle.std.specs.List.{flat_map};
 ghost use Rattle.std.specs.Option.{option_copied};
-ghost use Rattle.k_report.specs.DictLines.{dict_text, entry_line, entry_lines, run_text};
+ghost use Rattle.k_report.specs.DictLines.{dict_text, entry_line, entry_lines};
 
-use crate::writing::{push, push_line, push_named, push_number};
-use k_dict::{Dict, Entry, Run};
+use k_dict::{Dict, Entry};
 use k_num::NoMemory;
-
-/// A run behind a space.
-fn push_run(text: &mut Vec<u8>, run: Run) -> Result<(), NoMemory>
-    ensures { OnOk result (text.new.items ≡ text.old.items ++ run_text run) }
-{
-    push_named(text, " ", run.entry)?;
-    push_named(text, "*", run.count)
-}
-
-/// Runs, each behind a space.
-fn push_runs(text: &mut Vec<u8>, runs: &[Run]) -> Result<(), NoMemory>
-    ensures { OnOk result (text.new.items ≡ text.old.items ++ flat_map run_text runs.now) }
-{
-    for run in runs {
-        push_run(text, *run)?;
-    }
-    Ok(())
-}
+use k_text::{push, push_line, push_named, push_number, push_runs};
 
 /// The line of an entry.
 fn push_entry(text: &mut Vec<u8>, number: u32, entry: &Entry) -> Result<(), NoMemory>

@@ -3,9 +3,9 @@ ghost use Rattle.std.specs.Prelude.{◌≡◌, ◌+◌, ◌<◌, ◌^◌, ◌++�
 ghost use Rattle.std.specs.List.{flat_map};
 ghost use Rattle.k_report.specs.Graph.{event_line, event_lines, made_with, op_line, source_text, sources_text};
 
-use crate::writing::{push, push_line, push_named, push_place};
 use k_num::{NoMemory, Place};
 use k_optab::{Class, Event, Src, name as class_name};
+use k_text::{push, push_line, push_named, push_place};
 
 /// A source behind a space.
 fn push_source(text: &mut Vec<u8>, src: Src) -> Result<(), NoMemory>

@@ -5,10 +5,10 @@ ghost use Rattle.k_report.specs.Graph.{IsGraphText, IsWithin, end_line, returned
 
 use crate::event_lines::push_events;
 use crate::instance_lines::push_instances;
-use crate::writing::{push, push_line, push_place};
-use k_code::{End, Listing, Trap, name as trap_name};
+use k_ending::{End, Listing, Trap, name as trap_name};
 use k_graph::Tree;
 use k_num::{NoMemory, Place};
+use k_text::{push, push_line, push_place};
 use std::alloc::Global;
 
 /// The last line of a run that returned.

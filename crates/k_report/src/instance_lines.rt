@@ -2,12 +2,13 @@
 ghost use Rattle.std.specs.Prelude.{◌≡◌, ◌<◌, ◌≤◌, ◌^◌, ◌++◌, All, IfOk, OnOk, length};
 ghost use Rattle.std.specs.List.{flat_map};
 ghost use Rattle.k_optab.specs.Events.{SourcesAreEarlier, made_before, operations, total_latency};
-ghost use Rattle.k_report.specs.Graph.{AddsInstanceLines, IsHeaviestPath, IsWithin, instance_line, node_text, nodes_text};
+ghost use Rattle.k_report.specs.Graph.{IsHeaviestPath, IsWithin, instance_line, node_text, nodes_text};
+ghost use Rattle.k_report.specs.Writing.{AddsInstanceLines};
 
-use crate::writing::{push, push_named};
 use k_graph::{Instance, heaviest_from, place_of};
 use k_num::{NoMemory, Seq};
 use k_optab::Event;
+use k_text::{push, push_named};
 use std::alloc::Global;
 
 /// A place among events, and how many operations stand before it.

@@ -9,7 +9,7 @@ pub mod laws;
 mod plan_lines;
 mod regions;
 mod report_lines;
-mod writing;
 
 pub use graph_lines::graph_text;
-pub use report_lines::{report, report_large};
+pub use plan_lines::wide_line;
+pub use report_lines::{large_line, report, report_large};

@@ -2,16 +2,15 @@
 ghost use Rattle.std.specs.Prelude.{◌≡◌, ◌<◌, ◌++◌, All, IfOk, OnOk, length};
 ghost use Rattle.std.specs.List.{flat_map};
 ghost use Rattle.std.specs.Option.{ForSome, option_copied};
-ghost use Rattle.k_plan.specs.Choices.{root_work};
 ghost use Rattle.k_plan.specs.Plan.{ParentsComeFirst};
-ghost use Rattle.k_report.specs.PlanLines.{NamesContexts, advice_text, doall_text, loop_text, pick_line, plan_text, regions_text, regions_to, total_line};
+ghost use Rattle.k_report.specs.PlanLines.{NamesContexts, advice_text, doall_text, loop_text, pick_line, plan_text, regions_text, regions_to, total_line, wide_line};
 
-use crate::regions::{push_name, region_at};
-use crate::writing::{push, push_named, push_number};
+use crate::regions::region_at;
 use k_num::NoMemory;
 use k_optab::Region;
 use k_plan::{Advice, Pick};
-use k_selfpar::Context;
+use k_selfpar::{Context, root_work};
+use k_text::{push, push_name, push_named, push_number};
 use std::alloc::Global;
 
 /// The numbers of the regions from the root to a context.
@@ -134,16 +133,6 @@ fn push_total(text: &mut Vec<u8>, saved: u64, work: u64) -> Result<(), NoMemory>
     push(text, "\n")
 }
 
-/// The work of the root.
-fn root_work(contexts: &[Context]) -> u64
-    ensures { result ≡ root_work contexts.now }
-{
-    match contexts.split_first() {
-        Some((root, _)) => root.work,
-        None => 0,
-    }
-}
-
 /// The lines of a plan.
 fn push_advice(
     alloc: Global,
@@ -161,6 +150,13 @@ fn push_advice(
     push_total(text, advice.total, root_work(contexts))
 }
 
+/// The line where there are too many contexts for a plan.
+pub fn wide_line() -> &'static str
+    ensures { result.now ≡ wide_line }
+{
+    "plan: over 65536 contexts\n"
+}
+
 /// The lines of a plan, or the one line where there are too many contexts for one.
 pub(crate) fn push_plan(
     alloc: Global,
@@ -175,7 +171,7 @@ pub(crate) fn push_plan(
     ensures { OnOk result (text.new.items ≡ text.old.items ++ plan_text regions.now contexts.now (option_copied plan.entry)) }
 {
     match plan {
-        None => push(text, "plan: over 65536 contexts\n"),
+        None => push(text, wide_line()),
         Some(advice) => push_advice(alloc, text, regions, contexts, advice),
     }
 }

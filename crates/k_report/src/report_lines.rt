@@ -4,27 +4,18 @@ ghost use Rattle.std.specs.List.{flat_map};
 ghost use Rattle.std.specs.Option.{ForSome, option_copied};
 ghost use Rattle.k_plan.specs.Plan.{ParentsComeFirst};
 ghost use Rattle.k_report.specs.PlanLines.{NamesContexts};
-ghost use Rattle.k_report.specs.Report.{head_text, large_text, numbers_text, report_text, row_line, row_text};
+ghost use Rattle.k_report.specs.Report.{large_line, large_text, numbers_text, report_text, row_line, row_text};
 
 use crate::dict_lines::push_dict;
 use crate::plan_lines::push_plan;
-use crate::regions::{kind_name, push_name, region_at};
-use crate::writing::{push, push_named};
+use crate::regions::region_at;
 use k_dict::Dict;
 use k_num::{NoMemory, Seq};
 use k_optab::Region;
 use k_plan::Advice;
 use k_selfpar::{ContextList, Row};
+use k_text::{push, push_head, push_named, push_region};
 use std::alloc::Global;
-
-/// The first lines.
-fn push_head(text: &mut Vec<u8>, exit: i32, ops: u64) -> Result<(), NoMemory>
-    ensures { OnOk result (text.new.items ≡ text.old.items ++ head_text exit ops) }
-{
-    push_named(text, "== kremlin ==\nexit ", exit)?;
-    push_named(text, "\nops ", ops)?;
-    push(text, "\n")
-}
 
 /// The numbers of a row.
 fn push_numbers(text: &mut Vec<u8>, row: &Row) -> Result<(), NoMemory>
@@ -42,9 +33,7 @@ fn push_numbers(text: &mut Vec<u8>, row: &Row) -> Result<(), NoMemory>
 fn push_row_of(text: &mut Vec<u8>, row: &Row, region: &Region) -> Result<(), NoMemory>
     ensures { OnOk result (text.new.items ≡ text.old.items ++ row_text row.now region.now) }
 {
-    push(text, kind_name(region.kind))?;
-    push(text, " ")?;
-    push_name(text, region)?;
+    push_region(text, region)?;
     push_numbers(text, row)
 }
 
@@ -87,11 +76,18 @@ pub fn report(
 {
     let regions = regions.as_slice();
     let mut text = Vec::new(alloc);
-    push_head(&mut text, exit, ops)?;
+    push_head(&mut text, "== kremlin ==\n", exit, ops)?;
     push_rows(&mut text, regions, rows.as_slice())?;
     push_dict(&mut text, dict)?;
     push_plan(alloc, &mut text, regions, contexts.as_slice(), plan)?;
     Ok(text)
+}
+
+/// The line where the dictionary is over its limits.
+pub fn large_line() -> &'static str
+    ensures { result.now ≡ large_line }
+{
+    "profile: over the dictionary's limits\n"
 }
 
 /// The report of a run that ended by a return, where its dictionary is over its limits.
@@ -99,7 +95,7 @@ pub fn report_large(alloc: Global, exit: i32, ops: u64) -> Result<Vec<u8>, NoMem
     ensures { IfOk result (λ text. text.items ≡ large_text exit ops) }
 {
     let mut text = Vec::new(alloc);
-    push_head(&mut text, exit, ops)?;
-    push(&mut text, "profile: over the dictionary's limits\n")?;
+    push_head(&mut text, "== kremlin ==\n", exit, ops)?;
+    push(&mut text, large_line())?;
     Ok(text)
 }

@@ -1,3 +1,4 @@
+-- Believed with a public law.
 -- What is taken off the front of a text, and what stood there: the statements of the laws.
 use Rattle.std.specs.Prelude.{ℕ, ℤ, ◌^◌, ◌<◌, ◌≡◌, true, List, ◌++◌, Some, FitsSigned}
 use Rattle.std.specs.Int.{w32}

@@ -1,3 +1,4 @@
+-- Believed with the theorem on the top call.
 -- Names at the front of a text (C17 6.4.2.1), which are no keywords (C17 6.4.1).
 use Rattle.std.specs.Prelude.{ℕ, suc, ◌≡◌, Bool, true, false, ◌&&◌, ◌||◌, not, List, [], ◌∷◌, Option, Some, None, nat_eq, nat_le, ◌==◌, if◌then◌else◌, take, drop, codes}
 use Rattle.std.specs.Cmp.Lexicographic.{pointwise}

@@ -1,3 +1,4 @@
+-- Believed with the theorem on the top call.
 -- Numbers in decimal at the front of a text.
 
 use Rattle.std.specs.Prelude.{ℕ, ℤ, pos, negsuc, ◌+◌, ◌-◌, ◌*◌, ◌≡◌, Bool, false, ◌&&◌, List, [], ◌∷◌, Option, Some, None, nat_le, nat_lt, ◌==◌, if◌then◌else◌, option_and_then}

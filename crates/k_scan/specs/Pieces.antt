@@ -1,3 +1,4 @@
+-- Believed with a public law.
 -- A piece at the front of a text.
 use Rattle.std.specs.Prelude.{ℕ, ◌≡◌, List, [], ◌∷◌, Option, Some, None, ◌==◌, if◌then◌else◌}
 

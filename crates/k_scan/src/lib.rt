@@ -12,6 +12,3 @@ pub use names::name;
 pub use numbers::number;
 pub use signs::signed;
 pub use words::word;
-
-#[cfg(test)]
-mod tests;

@@ -262,7 +262,7 @@ has_gcd (suc fuel) a (suc b) lt =
     let r = has_gcd fuel (suc b) (a % suc b) (omega arith) in (r.0, IsGcd-from_mod a (suc b) r.0 r.1)
 
 -- and so a ratio in lowest terms
-has_ratio : (a b : ℕ) → (num : ℕ) × (den : ℕ) × IsRatio a b num den
+pub has_ratio : (a b : ℕ) → (num : ℕ) × (den : ℕ) × IsRatio a b num den
 has_ratio a zero = (1, 1, inl (refl, refl, refl))
 has_ratio a (suc b) = let r = has_gcd (suc (suc b)) a (suc b) (omega arith) in (a / r.0, suc b / r.0, quotients_ratio a (suc b) r.0 (omega arith) r.1)
 

@@ -1,9 +1,10 @@
+-- Believed with the theorem on the top call.
 -- *Contexts*: the instances of a tree, grouped by their lists of regions from the root.
 use Rattle.std.specs.Prelude.{ℕ, ◌+◌, ◌≡◌, ◌<◌, ◌≤◌, ◌==◌, ◌&&◌, Bool, true, false, if◌then◌else◌, List, [], ◌∷◌, ◌++◌, length, All, Option, Some, None, slice_get, option_map, Result, Ok, Err}
 use Rattle.k_optab.specs.declared.node.Node.{Node}
 use Rattle.k_optab.specs.declared.region.Region.{Region}
 use Rattle.k_optab.specs.declared.region.RegionKind.{RegionKind}
-use Rattle.k_optab.specs.declared.region.RegionKind.TheVariants.{Func, Loop, Body}
+use Rattle.k_optab.specs.Regions.{is_body, is_loop}
 use Rattle.k_dict.specs.Trees.{Forest, Tree, alone, bare, grown, list_of}
 use Rattle.k_selfpar.specs.Ratio.{IsRatio}
 use Rattle.k_selfpar.specs.Sums.{one, outer, outer_paths, outer_works, serial_in}
@@ -35,18 +36,6 @@ children_of (grown label inner later) = with_beside inner (children_of later)
 abbrev pub NoneBelow : ℕ → Forest → Type 0
 NoneBelow region bare = Unit {0}
 NoneBelow region (grown label inner later) = (region ≤ label.region) × NoneBelow region later
-
--- the kind is that of a loop
-abbrev pub is_loop : RegionKind → Bool
-is_loop Func = false
-is_loop Loop = true
-is_loop Body = false
-
--- the kind is that of a body
-abbrev pub is_body : RegionKind → Bool
-is_body Func = false
-is_body Loop = false
-is_body Body = true
 
 -- there is such a region, and its kind passes a test
 abbrev pub has_kind : (RegionKind → Bool) → Option Region → Bool
@@ -97,3 +86,8 @@ GivesContexts regions nodes (Err Memory) = Unit {0}
 -- no self-parallelism of these contexts is below 1
 abbrev pub ContextsAreAtLeastOne : List Context → Type 0
 ContextsAreAtLeastOne contexts = All (λ (c : Context). c.sp.1 ≤ c.sp.0) contexts
+
+-- the work of the root, the first context
+abbrev pub root_work : List Context → ℕ
+root_work [] = 0
+root_work (root ∷ contexts) = root.work

@@ -1,3 +1,4 @@
+-- For contracts between crates: nobody has to believe it.
 -- How often each entry of a dictionary occurs in a tree, and what follows for sums over the tree.
 use Rattle.std.specs.Prelude.{ℕ, ◌+◌, ◌*◌, ◌^◌, ◌<◌, ◌≡◌, List, [], ◌∷◌, length, Some, slice_get, slice_index_or, slice_set}
 use Rattle.k_dict.specs.declared.entry.Entry.{Entry}

@@ -1,3 +1,4 @@
+-- For contracts between crates: nobody has to believe it.
 -- What stands between the items of a dictionary and the contexts of the tree that it stands for.
 use Rattle.std.specs.Prelude.{ℕ, ◌+◌, ◌*◌, ◌^◌, ◌≡◌, ◌<◌, ◌≤◌, if◌then◌else◌, List, [], ◌∷◌, ◌++◌, length, Some, slice_get, option_map, Result, Ok, Err}
 use Rattle.k_optab.specs.declared.region.Region.{Region}

@@ -1,3 +1,4 @@
+-- For contracts between crates: nobody has to believe it.
 -- Instances of one entry, counted together, and what they come to.
 use Rattle.std.specs.Prelude.{ℕ, ◌+◌, ◌*◌, ◌<◌, ◌≤◌, ◌≡◌, ◌==◌, nat_lt, if◌then◌else◌, List, [], ◌∷◌, length, filter, All, Some, slice_get}
 use Rattle.k_dict.specs.declared.entry.Entry.{Entry}

@@ -1,3 +1,4 @@
+-- Believed with the theorem on the top call.
 -- Contexts that have a plan.
 use Rattle.std.specs.Prelude.{ℕ, ◌+◌, ◌^◌, ◌≡◌, ◌<◌, ◌≤◌, ◌==◌, List, [], ◌∷◌, length, Some, slice_get, if◌then◌else◌}
 use Rattle.k_selfpar.specs.declared.context.Context.{Context}

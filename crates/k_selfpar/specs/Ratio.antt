@@ -1,3 +1,4 @@
+-- Believed with the theorem on the top call.
 -- Ratios in lowest terms.
 use Rattle.std.specs.Prelude.{ℕ, ◌≡◌, ◌*◌, ◌^◌, ◌<◌, ◌⊎◌}
 use Rattle.std.specs.Ordering.{nat_cmp}

@@ -1,3 +1,4 @@
+-- Believed with the theorem on the top call.
 -- *Rows*: what the instances of each region of a tree come to together (Garcia, Jeon, Louie, Taylor, PLDI 2011).
 use Rattle.std.specs.Prelude.{ℕ, ◌≡◌, ◌<◌, ◌≤◌, ◌==◌, List, length, filter, Some, slice_get}
 use Rattle.k_optab.specs.declared.node.Node.{Node}

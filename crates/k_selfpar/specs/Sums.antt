@@ -1,3 +1,4 @@
+-- Believed with the theorem on the top call.
 -- Sums over the instances of a forest, and over the entries of a dictionary that they have.
 use Rattle.std.specs.Prelude.{ℕ, ◌+◌, ◌-◌, ◌^◌, ◌<◌, ◌≤◌, ◌==◌, if◌then◌else◌, List, length}
 use Rattle.k_selfpar.specs.declared.sums.Sums.{Sums}

@@ -1,7 +1,9 @@
 //! Contexts: the instances of a run's tree, grouped by their list of regions from the root.
+ghost use Rattle.std.specs.Prelude.{◌≡◌};
+ghost use Rattle.k_selfpar.specs.Contexts.{root_work};
 
 use crate::Frac;
-use k_num::Seq;
+use k_num::{NoMemory, Seq};
 use k_optab::RegionKind;
 
 /// The instances with one list of regions from the root, together.
@@ -35,4 +37,25 @@ pub enum ContextFault {
     Wide,
     /// No memory was found.
     Memory,
+}
+
+impl From<NoMemory> for ContextFault {
+    ghost use Rattle.std.specs.Prelude.{◌≡◌};
+    ghost use Rattle.k_selfpar.specs.declared.context.ContextFault.TheVariants.{Memory};
+
+    ghost from_gives = { λ _ fault. fault ≡ Memory };
+
+    fn from(_error: NoMemory) -> ContextFault {
+        ContextFault::Memory
+    }
+}
+
+/// The work of the root, the first of contexts; 0 where there is none.
+pub fn root_work(contexts: &[Context]) -> u64
+    ensures { result ≡ root_work contexts.now }
+{
+    match contexts.first() {
+        None => 0,
+        Some(root) => root.work,
+    }
 }

@@ -4,7 +4,7 @@ ghost use Rattle.std.specs.Prelude.{◌≡◌, ◌≤◌, ◌<◌, ◌+◌, ◌*
 ghost use Rattle.k_dict.specs.Entries.{AreInterned, AreRuns, expansion};
 ghost use Rattle.k_dict.specs.Rules.{AreProfile, NameRegions};
 ghost use Rattle.k_dict.specs.Tallies.{total as count_all};
-ghost use Rattle.k_selfpar.specs.Contexts.{ContextsAreAtLeastOne, GivesContexts, has_turns, is_body, is_loop};
+ghost use Rattle.k_selfpar.specs.Contexts.{ContextsAreAtLeastOne, GivesContexts, has_turns};
 ghost use Rattle.k_selfpar.specs.Grouping.{AddsContexts, AreChildren, Fits, IsContextOf, item_for, tallied};
 ghost use Rattle.k_selfpar.specs.Items.{AreItems, Rise, items_in, total, totals};
 ghost use Rattle.k_selfpar.specs.Nested.{CanPlan};
@@ -16,7 +16,7 @@ use crate::item::{Item, item_of, sort_by_region, split_region};
 use crate::sums::sums_of;
 use k_dict::{Dict, Run, Tally};
 use k_num::{NoMemory, Seq};
-use k_optab::{Region, RegionKind};
+use k_optab::Region;
 use std::alloc::Global;
 
 /// The greatest number of contexts.
@@ -72,20 +72,6 @@ fn children_of(alloc: Global, dict: &Dict, items: &[Item]) -> Result<Vec<Item>, 
     Ok(children)
 }
 
-/// Whether a kind is that of a loop.
-fn is_loop(kind: RegionKind) -> bool
-    ensures { result ≡ is_loop kind }
-{
-    kind == RegionKind::Loop
-}
-
-/// Whether a kind is that of a body.
-fn is_body(kind: RegionKind) -> bool
-    ensures { result ≡ is_body kind }
-{
-    kind == RegionKind::Body
-}
-
 /// Whether a region is a loop, and the next one its body.
 fn has_turns(regions: &[Region], region: usize) -> bool
     requires { region < length regions.now }
@@ -93,7 +79,7 @@ fn has_turns(regions: &[Region], region: usize) -> bool
 {
     match regions.get(region + 1) {
         None => false,
-        Some(next) => is_loop(regions[region].kind) && is_body(next.kind),
+        Some(next) => regions[region].kind.is_loop() && next.kind.is_body(),
     }
 }
 
@@ -173,24 +159,11 @@ fn add_contexts(
         if number == MOST_CONTEXTS {
             return Err(ContextFault::Wide);
         }
-        let children = match children_of(alloc, dict, group) {
-            Ok(children) => children,
-            Err(NoMemory) => return Err(ContextFault::Memory),
-        };
-        let context = context_of(dict, regions, parent, region, group, children.as_slice());
-        if let Err(NoMemory) = contexts.push(context) {
-            return Err(ContextFault::Memory);
-        }
-        if let Err(fault) = add_contexts(
-            alloc,
-            dict,
-            regions,
-            number as u32,
-            children.as_slice(),
-            contexts,
-        ) {
-            return Err(fault);
-        }
+        let children = children_of(alloc, dict, group)?;
+        let below = children.as_slice();
+        let context = context_of(dict, regions, parent, region, group, below);
+        contexts.push(context)?;
+        add_contexts(alloc, dict, regions, number as u32, below, contexts)?;
         rest = later;
     }
     Ok(())

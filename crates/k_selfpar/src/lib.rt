@@ -13,7 +13,7 @@ mod row;
 mod sums;
 mod tree_rows;
 
-pub use context::{Context, ContextFault, ContextList};
+pub use context::{Context, ContextFault, ContextList, root_work};
 pub use fraction::Frac;
 pub use grouping::contexts;
 pub use row::Row;

@@ -26,7 +26,7 @@ struct Children {
 }
 
 /// The paths and the works of children together.
-fn children_of(dict: &Dict, runs: &[Run]) -> Children
+fn sums_of_children(dict: &Dict, runs: &[Run]) -> Children
     requires runs { AreRuns 0 (length dict.now) runs.now }
     requires paths { weighed (path_at dict.now) runs.now < 2 ^ 62 }
     requires works { weighed (work_at dict.now) runs.now < 2 ^ 62 }
@@ -53,7 +53,7 @@ fn serial(dict: &Dict, number: u32) -> u64
     ensures { result ≡ own_of serial_in dict.now number }
 {
     let entry = dict.entry(number);
-    let children = children_of(dict, entry.runs.as_slice());
+    let children = sums_of_children(dict, entry.runs.as_slice());
     children.paths + (entry.work - children.works)
 }
 

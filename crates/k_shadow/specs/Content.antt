@@ -1,3 +1,4 @@
+-- For contracts between crates: nobody has to believe it.
 -- *Shadow content*: what is seen of a shadow, and what each call makes of it.
 use Rattle.std.specs.Prelude.{ℕ, ◌+◌, ◌-◌, ◌%◌, ◌^◌, ◌==◌, ◌&&◌, max, nat_lt, nat_le, if◌then◌else◌, List, [], ◌∷◌, ◌++◌, length, take, map, slice_index_or}
 

@@ -1,3 +1,4 @@
+-- For contracts between crates: nobody has to believe it.
 -- What a list of maps stands for.
 use Rattle.std.specs.Prelude.{ℕ, ◌-◌, ◌<◌, List, ◌++◌, length, map, replicate, slice_index_or, unwrap_or, IsSome}
 use Rattle.std.specs.Ordering.{nat_cmp}

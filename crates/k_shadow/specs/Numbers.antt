@@ -1,3 +1,4 @@
+-- For contracts between crates: nobody has to believe it.
 -- The numbers of the instances that are open at the live levels.
 use Rattle.std.specs.Prelude.{ℕ, ◌+◌, ◌-◌, ◌≤◌, ◌<◌, List, [], ◌∷◌, ◌++◌, length, take}
 

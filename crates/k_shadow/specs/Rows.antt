@@ -1,3 +1,4 @@
+-- For contracts between crates: nobody has to believe it.
 -- One stamp for each location: the last instance number that was given when the location was last written. Instances
 -- nest and a write goes to all live levels, so a level's time is live exactly where the level's instance began no
 -- later than that write.

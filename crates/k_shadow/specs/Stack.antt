@@ -1,3 +1,4 @@
+-- For contracts between crates: nobody has to believe it.
 -- What is seen of a control stack.
 use Rattle.std.specs.Prelude.{◌≡◌, ℕ, ◌+◌, ◌-◌, Bool, List, [], ◌∷◌, ◌++◌, length, take, map}
 

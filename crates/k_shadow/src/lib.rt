@@ -8,8 +8,6 @@ mod maps;
 mod row;
 mod shadow;
 mod steps;
-#[cfg(test)]
-mod tests;
 mod times;
 mod versions;
 

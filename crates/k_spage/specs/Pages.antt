@@ -1,3 +1,4 @@
+-- For contracts between crates: nobody has to believe it.
 -- Rows in pages of 256 locations, which a table names.
 use Rattle.std.specs.Prelude.{Vec, ◌≡◌, ◌≢◌, ℕ, ◌/◌, ◌%◌, ◌≤◌, List, [], length, count_by, Option, Some, None, is_some, slice_index_or}
 use Rattle.k_shadow.specs.declared.row.Row.{Row}

@@ -1,3 +1,4 @@
+-- For contracts between crates: nobody has to believe it.
 -- Which pages a paged shadow has.
 use Rattle.std.specs.Prelude.{◌≡◌, ℕ, ◌+◌, ◌-◌, ◌/◌, ◌<◌, ◌≤◌, zero, suc, Bool, is_some, IsSome, if◌then◌else◌}
 use Rattle.k_shadow.specs.Content.{Content}

@@ -3,7 +3,5 @@
 
 mod pages;
 mod shadow_pages;
-#[cfg(test)]
-mod tests;
 
 pub use shadow_pages::ShadowPages;

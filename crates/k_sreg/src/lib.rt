@@ -3,7 +3,5 @@
 
 mod rows;
 mod shadow_regs;
-#[cfg(test)]
-mod tests;
 
 pub use shadow_regs::ShadowRegs;

@@ -21,12 +21,12 @@ use Rattle.k_tree.specs.declared.tree.statement.Stmt.TheVariants as stmt
 use Rattle.k_tree.specs.declared.tree.unit.Item.{Item}
 use Rattle.k_tree.specs.declared.tree.unit.Item.TheVariants as item
 use Rattle.k_tree.specs.declared.tree.unit.Unit as source
-use Rattle.k_tree.specs.Folds.{init_One, init_List, stmt_Expr, stmt_Empty, stmt_Block, if_alone as if_alone_folds, if_else as if_else_folds, stmt_While, stmt_DoWhile, stmt_For, stmt_Switch, part_Case, part_Default, part_Does, stmt_Break, stmt_Continue, stmt_Return, stmt_Declare}
+use Rattle.k_tree.proofs.Folds.{init_One, init_List, stmt_Expr, stmt_Empty, stmt_Block, if_alone as if_alone_folds, if_else as if_else_folds, stmt_While, stmt_DoWhile, stmt_For, stmt_Switch, part_Case, part_Default, part_Does, stmt_Break, stmt_Continue, stmt_Return, stmt_Declare}
 use Rattle.k_tree.specs.Count.{init_count, initialised_count, declarator_count, declarators_count, param_count, params_count, first_count, stmt_count, part_count, item_count, unit_count}
 use Rattle.k_tree.specs.Spelling.{spell_init, spell_initialised, spell_declarator, spell_declaration, spell_param, spell_params, spell_specs, spell_first, spell_stmt, spell_stmts, spell_switched, spell_item, spelling}
 use Rattle.k_tree.specs.Ranked.{RankedInit, RankedInits, one, braces, no_inits, more_inits, RankedDeclarator, RankedDeclaration, RankedParam, RankedParams, RankedFirst, RankedStmt, RankedParts, value, empty, block, if_alone, if_else, while_loop, do_loop, for_loop, switch_stmt, RankedSwitch, no_labels, case_label, default_label, does, break_loop, continue_loop, return_value, no_parts, statement, declaration, RankedItem, RankedUnit, Specs}
 use Rattle.k_tree.specs.Count.{expr_count, option_count, dims_count}
-use Rattle.k_tree.specs.Folds.{expr_Assign, expr_Binary, expr_Call, expr_Cast, expr_Char, expr_Comma, expr_Cond, expr_Index, expr_Name, expr_Number, expr_Paren, expr_Post, expr_Pre, expr_SizeofExpr, expr_SizeofType, expr_Str, expr_Unary}
+use Rattle.k_tree.proofs.Folds.{expr_Assign, expr_Binary, expr_Call, expr_Cast, expr_Char, expr_Comma, expr_Cond, expr_Index, expr_Name, expr_Number, expr_Paren, expr_Post, expr_Pre, expr_SizeofExpr, expr_SizeofType, expr_Str, expr_Unary}
 use Rattle.k_tree.specs.Spelling.{Spelled, spell_expr, with_commas, behind_commas, spell_option, spell_dim, spell_dims, in_row}
 use Rattle.k_tree.specs.Ranked.{Ranked, RankedArgs, IfGiven, RankedDims, no_args, more_args, comma, assignment, conditional, binary, cast, unary, prefix, sizeof_expr, sizeof_type, index, postfix, call, name, number, character, string, paren}
 

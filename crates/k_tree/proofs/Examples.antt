@@ -5,7 +5,7 @@ use Rattle.std.specs.Prelude.{pos}
 use Rattle.k_num.specs.declared.numbers.Kind.TheVariants as kind
 use Rattle.k_tree.specs.Bare.{nowhere}
 use Rattle.k_tree.specs.Count.{unit_count}
-use Rattle.k_tree.specs.Folds.{folds}
+use Rattle.k_tree.proofs.Folds.{folds}
 use Rattle.k_tree.specs.Nesting.{nesting}
 use Rattle.k_tree.specs.Spelling.{spell_stmt}
 use Rattle.k_tree.specs.Ranked.{RankedStmt, ends_open, value, empty, block, if_alone, if_else, while_loop, do_loop, for_loop, switch_stmt, break_loop, continue_loop, return_value}

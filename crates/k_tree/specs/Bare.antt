@@ -1,3 +1,4 @@
+-- Believed with the theorem on the top call.
 -- Trees without their places: two trees are equal up to places where these are equal.
 use Rattle.std.specs.Prelude.{List, map, Option, Some, None}
 use Rattle.k_num.specs.declared.place.Place.{Place}

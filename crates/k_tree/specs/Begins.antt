@@ -1,3 +1,4 @@
+-- Believed with a public law.
 -- The tokens that can begin an expression, a statement and a part of a block.
 use Rattle.std.specs.Prelude.{Bool, true, false, ◌||◌, IsTrue, List, [], ◌∷◌}
 use Rattle.k_tree.specs.declared.tokens.TokenKind.{TokenKind}

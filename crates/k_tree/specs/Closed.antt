@@ -1,3 +1,4 @@
+-- Believed with a public law.
 -- Token lists that end once.
 use Rattle.std.specs.Prelude.{◌≡◌, ◌≢◌, List, [], ◌∷◌}
 use Rattle.k_tree.specs.declared.tokens.Token.{Token}

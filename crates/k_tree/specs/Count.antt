@@ -1,3 +1,4 @@
+-- Believed with the theorem on the top call.
 -- Node counts: how many items, parameters, declarators, initialisers, statements, parts of a `switch` and expressions a tree has.
 use Rattle.std.specs.Prelude.{ℕ, ◌+◌, List, map, sum, Option, Some, None}
 use Rattle.k_tree.specs.declared.tree.expression.Expr.{Expr, fold-Expr}

@@ -1,3 +1,4 @@
+-- Believed with a public law.
 -- Laws of ranked trees, as statements.
 use Rattle.std.specs.Prelude.{ℕ, ◌≡◌, ◌≢◌, ◌≤◌, ◌*◌, IsTrue, IsFalse, [], length}
 use Rattle.k_tree.specs.declared.tokens.TokenKind.TheVariants as token

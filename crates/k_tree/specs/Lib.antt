@@ -2,7 +2,6 @@ pub mod Bare
 pub mod Begins
 pub mod Closed
 pub mod Count
-pub mod Folds
 pub mod Laws
 pub mod Literals
 pub mod Nesting

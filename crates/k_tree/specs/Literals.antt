@@ -1,3 +1,4 @@
+-- Believed with a public law.
 -- The literals of tokens and of trees, by the tokens that spell them (C17 6.4.4, 6.4.5).
 use Rattle.std.specs.Prelude.{ℕ, ◌≤◌, IsTrue, map, sum, length, All, pos}
 use Rattle.k_num.specs.Kind.{is_held}

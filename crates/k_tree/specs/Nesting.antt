@@ -1,3 +1,4 @@
+-- Believed with the theorem on the top call.
 -- Nesting: the most initialisers, statements and expressions that lie one in another, from an item down to a node.
 use Rattle.std.specs.Prelude.{ℕ, ◌+◌, max, List, [], ◌∷◌, map, Option, Some, None}
 use Rattle.k_tree.specs.declared.tree.expression.Expr.{Expr, fold-Expr}

@@ -1,3 +1,4 @@
+-- Believed with the theorem on the top call.
 -- The operators that marks are.
 use Rattle.std.specs.Prelude.{Option, Some, None}
 use Rattle.k_num.specs.declared.numbers.Bin.{Bin}

@@ -1,3 +1,4 @@
+-- Believed with the theorem on the top call.
 -- Places: at which token of its spelling each node of a tree stands (C17 6.5 to 6.9 for the spelling).
 use Rattle.std.specs.Prelude.{◌≡◌, List, [], ◌∷◌, ◌++◌, map, Option, Some, None, All}
 use Rattle.k_num.specs.declared.place.Place.{Place}

@@ -1,3 +1,4 @@
+-- Believed with a public law.
 -- The rank of an expression, by its form alone (C17 6.5).
 use Rattle.std.specs.Prelude.{ℕ, Option, Some, None}
 use Rattle.k_tree.specs.declared.tree.expression.Expr.{Expr, fold-Expr}

@@ -1,3 +1,4 @@
+-- Believed with the theorem on the top call.
 -- Ranked trees: those that the grammar gives (C17 6.5 to 6.9). `Ranked k e` says that e has one of the forms
 -- of C17 6.5 at rank k or a higher one. The ranks go from 0, the comma, to 16, what needs no parentheses.
 use Rattle.std.specs.Prelude.{ℕ, ◌≡◌, ◌≢◌, ◌+◌, ◌≤◌, Bool, true, false, IsTrue, List, [], ◌∷◌, Option, Some, None, All}

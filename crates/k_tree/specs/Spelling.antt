@@ -1,3 +1,4 @@
+-- Believed with the theorem on the top call.
 -- Spelling: the tokens that a tree stands for, construct by construct (C17 6.5 to 6.9).
 use Rattle.std.specs.Prelude.{ℕ, Bool, true, false, List, [], ◌∷◌, ◌++◌, map, Option, Some, None}
 use Rattle.k_tree.specs.declared.tokens.TokenKind.{TokenKind}

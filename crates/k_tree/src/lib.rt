@@ -1,16 +1,12 @@
 //! The syntax of a source: its tokens, and trees of syntax with parentheses kept.
 #![tactic(auto)]
 
-mod count;
 pub mod laws;
 mod operators;
-mod spelling;
 mod tokens;
 mod tree;
 
-pub use count::unit::{item_nodes, nodes};
 pub use operators::{compound_operator_of, operator_of};
-pub use spelling::unit::spell;
 pub use tokens::mark::Mark;
 pub use tokens::word::Word;
 pub use tokens::{Token, TokenKind};

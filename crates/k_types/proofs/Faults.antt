@@ -1,9 +1,9 @@
 -- The first fault of a part is that of what it stands in.
 use Rattle.std.proofs.Common.{◌≡◌, ◌⊎◌, inl, inr, refl, subst, List, [], ◌∷◌, ◌++◌}
-use Rattle.k_typed.specs.declared.fault.TypeFault.{TypeFault}
-use Rattle.k_typed.specs.Made.{Made, Fine, Faulty, both, then_made, faults_of, StartsWith}
-use Rattle.k_typing.specs.Views.{Refuses}
-use Rattle.k_judging.specs.Arguments.{made_before}
+use Rattle.k_types_meaning.specs.declared.fault.TypeFault.{TypeFault}
+use Rattle.k_types_meaning.specs.Made.{Made, Fine, Faulty, both, then_made, faults_of, StartsWith}
+use Rattle.k_types_rules.specs.Views.{Refuses}
+use Rattle.k_types_expressions.specs.Arguments.{made_before}
 use Rattle.k_types.specs.Results.{IsFirstFault}
 
 -- nothing is refused of what is made but for want of memory

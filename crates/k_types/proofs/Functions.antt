@@ -3,24 +3,24 @@ use Rattle.std.proofs.Common.{ℕ, ◌≡◌, refl, sym, ap, ◌∙◌, subst, B
 use Rattle.k_num.specs.declared.place.Place.{Place}
 use Rattle.k_tree.specs.declared.tree.statement.Stmt.{Stmt}
 use Rattle.k_tree.specs.declared.tree.unit.Head.{Head}
-use Rattle.k_typed.specs.declared.fault.TypeFault.{TypeFault}
-use Rattle.k_typed.specs.declared.names.Signature.{Signature}
-use Rattle.k_typed.specs.declared.tree.statement.TStmt.{TStmt}
-use Rattle.k_typed.specs.declared.tree.unit.TFunc.{TFunc}
-use Rattle.k_typed.specs.declared.types.CType.{CType}
-use Rattle.k_typed.specs.declared.names.Meaning.TheVariants as meaning
-use Rattle.k_typed.specs.Declarations.{entered, type_or_int}
-use Rattle.k_typed.specs.Functions.{body_names, function_body, function_judged, function_made, function_tree, head_params, in_function, meaning_here, names_behind_head, params_of, prototype_judged, result_type, signature}
-use Rattle.k_typed.specs.Made.{Made, Fine, both, then_made}
-use Rattle.k_typed.specs.Names.{Names, meaning_of}
-use Rattle.k_typed.specs.Statements.{Judged, Known, judge_body}
-use Rattle.k_typing.specs.Views.{Refuses}
-use Rattle.k_names.specs.Scoping.{outside}
-use Rattle.k_blocks.specs.Results.{Runs}
+use Rattle.k_types_meaning.specs.declared.fault.TypeFault.{TypeFault}
+use Rattle.k_types_meaning.specs.declared.names.Signature.{Signature}
+use Rattle.k_types_meaning.specs.declared.tree.statement.TStmt.{TStmt}
+use Rattle.k_types_meaning.specs.declared.tree.unit.TFunc.{TFunc}
+use Rattle.k_types_meaning.specs.declared.types.CType.{CType}
+use Rattle.k_types_meaning.specs.declared.names.Meaning.TheVariants as meaning
+use Rattle.k_types_meaning.specs.Declarations.{entered, type_or_int}
+use Rattle.k_types_meaning.specs.Functions.{body_names, function_body, function_judged, function_made, function_tree, head_params, in_function, meaning_here, names_behind_head, params_of, prototype_judged, result_type, signature}
+use Rattle.k_types_meaning.specs.Made.{Made, Fine, both, then_made}
+use Rattle.k_types_meaning.specs.Names.{Names, meaning_of}
+use Rattle.k_types_meaning.specs.Statements.{Judged, Known, judge_body}
+use Rattle.k_types_rules.specs.Views.{Refuses}
+use Rattle.k_types_names.specs.Scoping.{outside}
+use Rattle.k_types_statements.specs.Results.{Runs}
 use Rattle.k_types.specs.declared.standing.Standing.{Standing}
 use Rattle.k_types.specs.Functions.{Declares, GivesFunction, entered_function, variables_named}
 use Rattle.k_types.specs.Heads.{HasHead, IsFile}
-use Rattle.k_types.specs.Results.{Makes}
+use Rattle.k_types.specs.Results.{MakesOrRefuses}
 use Rattle.k_types.specs.Standings.{standing_made}
 use Rattle.k_types.proofs.Faults.{refuses_first, refuses_second, refuses_then}
 use Rattle.k_types.proofs.Heads.{entered_body, head_outside, here_is, outside_named}
@@ -95,11 +95,11 @@ module _ (defined : List (List ℕ)) (again : Bool) (names closed : Names) (head
       ∙ ap (λ g. function_made p head.name g again (result_type head) (meaning_here names head.name)) signed))
 
   -- it may
-  pub may_stand : (p : Place) → ((g : Signature) → Makes (Ok tt) g (standing_made standing p head.name g)) → stands defined again names p head again ≡ Fine (signature defined names head)
+  pub may_stand : (p : Place) → ((g : Signature) → MakesOrRefuses (Ok tt) g (standing_made standing p head.name g)) → stands defined again names p head again ≡ Fine (signature defined names head)
   may_stand p makes = sym (stands_so p) ∙ (makes f ∙ ap (λ (g : Signature). Fine g) signed)
 
   -- it may not
-  pub may_not_stand : (p : Place) (e : TypeFault) → ((g : Signature) → Makes (Err e) g (standing_made standing p head.name g)) → Refuses e (stands defined again names p head again)
+  pub may_not_stand : (p : Place) (e : TypeFault) → ((g : Signature) → MakesOrRefuses (Err e) g (standing_made standing p head.name g)) → Refuses e (stands defined again names p head again)
   may_not_stand p e makes = subst (Refuses e) (stands_so p) (makes f)
 
 -- a prototype, by whether it may be declared
@@ -109,7 +109,7 @@ module _ (defined : List (List ℕ)) (names closed : Names) (p : Place) (head : 
   closed_is : closed ≡ names
   closed_is = closes ∙ (ap (λ (k : Known). outside k.names) has.after ∙ head_outside false names head)
 
-  pub prototype_declares : (result : Result (Unit {0}) TypeFault) (left : Names) → ((g : Signature) → Makes result g (standing_made standing p head.name g))
+  pub prototype_declares : (result : Result (Unit {0}) TypeFault) (left : Names) → ((g : Signature) → MakesOrRefuses result g (standing_made standing p head.name g))
       → left ≡ entered head.name (meaning.Function f) closed → Declares result left (prototype_judged defined names p head) (names_behind_head defined names head)
   prototype_declares (Ok done) left makes is = (
     signature defined names head,
@@ -145,12 +145,12 @@ module _ (defined : List (List ℕ)) (again : Bool) (names : Names) (p : Place) 
     block_made : (block defined again names p head body close).made ≡ Fine trees
     block_made = sym (ap (λ (j : Judged (List TStmt)). j.made) block_is) ∙ runs.0
 
-    pub standing_refuses : (e : TypeFault) → ((g : Signature) → Makes (Err e) g (standing_made standing p head.name g)) → Refuses e (function_judged defined again names p head body close)
+    pub standing_refuses : (e : TypeFault) → ((g : Signature) → MakesOrRefuses (Err e) g (standing_made standing p head.name g)) → Refuses e (function_judged defined again names p head body close)
     standing_refuses e makes =
         function_stands defined again names p head body close e has.types trees has.made block_made
         (may_not_stand defined again names closed head f standing file closed_to has.signed stand p e makes)
 
-    pub definition_gives : (tree : TFunc) (left : Names) → left ≡ outside behind.names → ((g : Signature) → Makes (Ok tt) g (standing_made standing p head.name g))
+    pub definition_gives : (tree : TFunc) (left : Names) → left ≡ outside behind.names → ((g : Signature) → MakesOrRefuses (Ok tt) g (standing_made standing p head.name g))
         → tree ≡ function_tree p head body close (type_or_int (result_type head)) (length (params_of head.params)) behind trees
         → GivesFunction (Ok tree) left (function_judged defined again names p head body close) (names_behind_head defined names head)
     definition_gives tree left leaves makes is = (

@@ -2,17 +2,17 @@
 use Rattle.std.proofs.Common.{ℕ, ◌+◌, ◌≡◌, refl, sym, ap, ◌∙◌, subst, arith, Bool, true, false, List, [], ◌∷◌, ◌++◌, length, append_assoc, append-nil, length-append, Option, Some, None, Ok}
 use Rattle.k_tree.specs.declared.tree.declaration.Param.{Param}
 use Rattle.k_tree.specs.declared.tree.unit.Head.{Head}
-use Rattle.k_typed.specs.declared.names.Meaning.{Meaning}
-use Rattle.k_typed.specs.declared.names.Meaning.TheVariants as meaning
-use Rattle.k_typed.specs.declared.names.Signature.{Signature}
-use Rattle.k_typed.specs.declared.types.CType.{CType}
-use Rattle.k_typed.specs.Declarations.{entered, type_or_int}
-use Rattle.k_typed.specs.Functions.{behind_param, body_names, entered_option, head_params, meaning_here, names_behind_head, param_fixed, param_judged, params_in_order, params_of, result_type, signature, type_of_param, variable_types, within_function}
-use Rattle.k_typed.specs.Names.{Names, Scope, library, meaning_in, meaning_of, or_meaning, place_in}
-use Rattle.k_typed.specs.Statements.{Judged, Known, Variable}
-use Rattle.k_typed.specs.declared.fault.TypeFault.{TypeFault}
-use Rattle.k_typing.specs.Views.{Refuses}
-use Rattle.k_names.specs.Scoping.{outside}
+use Rattle.k_types_meaning.specs.declared.names.Meaning.{Meaning}
+use Rattle.k_types_meaning.specs.declared.names.Meaning.TheVariants as meaning
+use Rattle.k_types_meaning.specs.declared.names.Signature.{Signature}
+use Rattle.k_types_meaning.specs.declared.types.CType.{CType}
+use Rattle.k_types_meaning.specs.Declarations.{entered, type_or_int}
+use Rattle.k_types_meaning.specs.Functions.{behind_param, body_names, entered_option, head_params, meaning_here, names_behind_head, param_fixed, param_judged, params_in_order, params_of, result_type, signature, type_of_param, variable_types, within_function}
+use Rattle.k_types_meaning.specs.Names.{Names, Scope, library, meaning_in, meaning_of, or_meaning, place_in}
+use Rattle.k_types_meaning.specs.Statements.{Judged, Known, Variable}
+use Rattle.k_types_meaning.specs.declared.fault.TypeFault.{TypeFault}
+use Rattle.k_types_rules.specs.Views.{Refuses}
+use Rattle.k_types_names.specs.Scoping.{outside}
 use Rattle.k_types.specs.Functions.{entered_function, variables_named}
 use Rattle.k_types.specs.Heads.{HasHead, IsFile}
 use Rattle.k_types.specs.Parameters.{GoesAll}

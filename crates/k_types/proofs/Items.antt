@@ -9,22 +9,22 @@ use Rattle.k_tree.specs.declared.tree.statement.Stmt.{Stmt}
 use Rattle.k_tree.specs.declared.tree.unit.Head.{Head}
 use Rattle.k_tree.specs.declared.tree.unit.Item.{Item}
 use Rattle.k_tree.specs.declared.tree.unit.Item.TheVariants as item
-use Rattle.k_typed.specs.declared.fault.TypeFault.{TypeFault}
-use Rattle.k_typed.specs.declared.names.Signature.{Signature}
-use Rattle.k_typed.specs.declared.tree.unit.TFunc.{TFunc}
-use Rattle.k_typed.specs.declared.tree.unit.TObject.{TObject}
+use Rattle.k_types_meaning.specs.declared.fault.TypeFault.{TypeFault}
+use Rattle.k_types_meaning.specs.declared.names.Signature.{Signature}
+use Rattle.k_types_meaning.specs.declared.tree.unit.TFunc.{TFunc}
+use Rattle.k_types_meaning.specs.declared.tree.unit.TObject.{TObject}
 use Rattle.k_tree.specs.declared.tokens.word.Word.{Word}
-use Rattle.k_typed.specs.Declarations.{Saying, saying}
-use Rattle.k_typed.specs.Functions.{function_judged, names_behind_head, prototype_judged}
-use Rattle.k_typed.specs.Made.{Made, Fine, Faulty, both, then_made}
-use Rattle.k_typed.specs.Names.{Names}
-use Rattle.k_typed.specs.Units.{FileKnown, Parts, Placed, all_names, defined_in, is_name, item_placed, items_placed, object_placed, objects_placed, parts_of_both}
-use Rattle.k_typing.specs.Views.{Refuses}
-use Rattle.k_declaring.specs.Results.{PlacesAll}
+use Rattle.k_types_meaning.specs.Declarations.{Saying, saying}
+use Rattle.k_types_meaning.specs.Functions.{function_judged, names_behind_head, prototype_judged}
+use Rattle.k_types_meaning.specs.Made.{Made, Fine, Faulty, both, then_made}
+use Rattle.k_types_meaning.specs.Names.{Names}
+use Rattle.k_types_meaning.specs.Units.{FileKnown, Parts, Placed, all_names, defined_in, is_name, item_placed, items_placed, object_placed, objects_placed, parts_of_both}
+use Rattle.k_types_rules.specs.Views.{Refuses}
+use Rattle.k_types_declarations.specs.Results.{PlacesObjects}
 use Rattle.k_types.specs.declared.item.File.{File}
 use Rattle.k_types.specs.Heads.{IsFile}
 use Rattle.k_types.specs.Functions.{Declares, GivesFunction}
-use Rattle.k_types.specs.Items.{GivesParts, Places, known_in}
+use Rattle.k_types.specs.Items.{GivesParts, PlacesItems, known_in}
 use Rattle.k_types.proofs.Faults.{refuses_first, refuses_then}
 use Rattle.k_types.proofs.Heads.{file_entered}
 use Rattle.k_types.proofs.Rests.{rest_from, nothing_from}
@@ -52,7 +52,7 @@ module _ (defined : List (List ℕ)) (older newer : File) (head : Head) (file : 
   pub function_placed : (p : Place) (body : List Stmt) (close : Place) (f : TFunc) (rest : List (List ℕ)) → drop (length older.functions) defined ≡ head.name ∷ rest
       → function_judged defined (is_name (take (length older.functions) defined) head.name) older.known.names p head body close ≡ Fine f
       → newer.known.names ≡ names_behind_head defined older.known.names head → newer.objects ≡ older.objects → newer.functions ≡ older.functions ++ f ∷ []
-      → Places defined (head.name ∷ []) older newer (item_placed defined (known_in defined older) (item.Function p head body close))
+      → PlacesItems defined (head.name ∷ []) older newer (item_placed defined (known_in defined older) (item.Function p head body close))
   function_placed p body close f rest next made names objects functions =
       let count : length newer.functions ≡ length older.functions + 1 = ap length functions ∙ length-append older.functions (f ∷ []) in
       record {
@@ -71,7 +71,7 @@ module _ (defined : List (List ℕ)) (older newer : File) (head : Head) (file : 
 
   pub prototype_placed : (p : Place) (f : Signature) → prototype_judged defined older.known.names p head ≡ Fine f
       → newer.known.names ≡ names_behind_head defined older.known.names head → newer.objects ≡ older.objects → newer.functions ≡ older.functions
-      → Places defined [] older newer (item_placed defined (known_in defined older) (item.Prototype p head))
+      → PlacesItems defined [] older newer (item_placed defined (known_in defined older) (item.Prototype p head))
   prototype_placed p f made names objects functions =
       let count : length newer.functions ≡ length older.functions + 0 = ap length functions ∙ omega arith in
       record {
@@ -91,11 +91,11 @@ objects_file s known (d ∷ ds) file = objects_file s (object_placed s known d).
 
 pub objects_are_placed : (defined : List (List ℕ)) (older newer : File) (s : Saying) (p : Place) (list : List Declarator) (placed : Placed)
     → placed ≡ objects_placed s (known_in defined older) list → IsFile older.known.names → newer.functions ≡ older.functions
-    → PlacesAll (Ok tt) older.objects newer.objects newer.known.names (take (length older.functions) defined) (objects_placed s (known_in defined older) list)
-    → Places defined [] older newer placed
+    → PlacesObjects (Ok tt) older.objects newer.objects newer.known.names (take (length older.functions) defined) (objects_placed s (known_in defined older) list)
+    → PlacesItems defined [] older newer placed
 objects_are_placed defined older newer s p list placed is file functions (objects, made, more, after) =
     let count : length newer.functions ≡ length older.functions + 0 = ap length functions ∙ omega arith in
-    subst (Places defined [] older newer) (sym is)
+    subst (PlacesItems defined [] older newer) (sym is)
     (record {
       parts = record { objects = objects; functions = [] };
       made = made;
@@ -112,7 +112,7 @@ pub function_gives : (defined : List (List ℕ)) (older newer : File) (p : Place
     → again ≡ is_name (take count defined) head.name → count ≡ length older.functions
     → GivesFunction (Ok f) newer.known.names (function_judged defined again older.known.names p head body close) (names_behind_head defined older.known.names head)
     → newer.objects ≡ older.objects → newer.functions ≡ older.functions ++ f ∷ []
-    → Places defined (head.name ∷ []) older newer (item_placed defined (known_in defined older) (item.Function p head body close))
+    → PlacesItems defined (head.name ∷ []) older newer (item_placed defined (known_in defined older) (item.Function p head body close))
 function_gives defined older newer p head body close again count f file (rest, next) again_is count_is (made, names) objects functions =
     function_placed defined older newer head file p body close f rest next
     ((λ i. function_judged defined ((sym (again_is ∙ ap (λ n. is_name (take n defined) head.name) count_is)) i) older.known.names p head body close) ∙ made)
@@ -134,7 +134,7 @@ pub prototype_gives : (defined : List (List ℕ)) (older newer : File) (p : Plac
     → newer.objects ≡ older.objects → newer.functions ≡ older.functions
     → GivesParts result defined (defined_in i) older newer (item_placed defined (known_in defined older) i)
 prototype_gives defined older newer p head i (Ok done) is file (f, made, names) objects functions =
-    subst (λ (j : Item). Places defined (defined_in j) older newer (item_placed defined (known_in defined older) j)) (sym is)
+    subst (λ (j : Item). PlacesItems defined (defined_in j) older newer (item_placed defined (known_in defined older) j)) (sym is)
     (prototype_placed defined older newer head file p f made names objects functions)
 prototype_gives defined older newer p head i (Err e) is file refuses objects functions =
     subst (λ (j : Item). Refuses e (item_placed defined (known_in defined older) j).made) (sym is)
@@ -143,11 +143,11 @@ prototype_gives defined older newer p head i (Err e) is file refuses objects fun
 -- file objects that are declared, as an item
 pub objects_give : (defined : List (List ℕ)) (older newer : File) (p : Place) (specs : List Word) (list : List Declarator) (i : Item) (s : Saying) (result : Result (Unit {0}) TypeFault)
     → i ≡ item.Objects p specs list → s ≡ saying true specs → IsFile older.known.names → newer.functions ≡ older.functions
-    → ((functions : List (List ℕ)) → PlacesAll result older.objects newer.objects newer.known.names functions
+    → ((functions : List (List ℕ)) → PlacesObjects result older.objects newer.objects newer.known.names functions
     (objects_placed s (record { names = older.known.names; objects = length older.objects; functions = functions }) list))
     → GivesParts result defined (defined_in i) older newer (item_placed defined (known_in defined older) i)
 objects_give defined older newer p specs list i s (Ok done) is says file functions placed =
-    subst (λ (j : Item). Places defined (defined_in j) older newer (item_placed defined (known_in defined older) j)) (sym is)
+    subst (λ (j : Item). PlacesItems defined (defined_in j) older newer (item_placed defined (known_in defined older) j)) (sym is)
     (objects_are_placed defined older newer s p list (item_placed defined (known_in defined older) (item.Objects p specs list))
     (ap (λ t. objects_placed t (known_in defined older) list) (sym says)) file functions (placed (take (length older.functions) defined)))
 objects_give defined older newer p specs list i s (Err e) is says file functions placed =
@@ -224,7 +224,7 @@ module _ (defined : List (List ℕ)) (older now : File) (n : ℕ) (items : List 
       omega (arith, all, sums)
 
   -- one more was judged
-  pub items_more : (newer : File) → Places defined (defined_in i) now newer (item_placed defined (known_in defined now) i) → ItemsSoFar defined older newer (n + 1) items
+  pub items_more : (newer : File) → PlacesItems defined (defined_in i) now newer (item_placed defined (known_in defined now) i) → ItemsSoFar defined older newer (n + 1) items
   unfolding joined_parts
   items_more newer placed =
       let here = item_placed defined (known_in defined now) i in
@@ -265,7 +265,7 @@ module _ (defined : List (List ℕ)) (older now : File) (n : ℕ) (items : List 
 
 -- all were judged
 pub items_end : (defined : List (List ℕ)) (older now : File) (n : ℕ) (items : List Item) → ItemsSoFar defined older now n items → length items ≤ n
-    → Places defined (all_names (map defined_in items)) older now (items_placed defined (known_in defined older) items)
+    → PlacesItems defined (all_names (map defined_in items)) older now (items_placed defined (known_in defined older) items)
 items_end defined older now n items sofar end =
     let nothing : drop n items ≡ [] = nothing_from items n end in
     let all : items_placed defined (known_in defined older) items ≡ record { made = Fine sofar.parts; after = known_in defined now } =

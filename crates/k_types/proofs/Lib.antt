@@ -1,9 +1,3 @@
-pub mod BareExpressions
-pub mod BareInitialisers
-pub mod BareMade
-pub mod BareNodes
-pub mod BareStatements
-pub mod BareUnits
 pub mod Faults
 pub mod Functions
 pub mod Heads

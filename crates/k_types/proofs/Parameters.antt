@@ -2,25 +2,25 @@
 use Rattle.std.proofs.Common.{ℕ, ◌+◌, ◌<◌, ◌≤◌, ◌≡◌, refl, sym, ap, ◌∙◌, subst, arith, Bool, true, false, cond, List, [], ◌∷◌, ◌++◌, length, drop, get_or, append_assoc, append-nil, length-append, Option, Some, None, Ok, Err, Result}
 use Rattle.std.specs.Prelude.{is_some, not, ◌&&◌, ◌||◌}
 use Rattle.k_tree.specs.declared.tree.declaration.Param.{Param}
-use Rattle.k_typed.specs.declared.fault.TypeFault.{TypeFault}
-use Rattle.k_typed.specs.declared.fault.TypeFault.TheVariants as fault
-use Rattle.k_typed.specs.declared.types.CType.{CType}
-use Rattle.k_typed.specs.declared.names.Meaning.TheVariants as meaning
-use Rattle.k_typed.specs.Declarations.{type_or_int}
-use Rattle.k_typed.specs.Dimensions.{Size, Sizes, dimensions, param_sizes}
-use Rattle.k_typed.specs.Functions.{entered_option, name_or_nothing, option_twice, param_dims, param_fixed, param_judged, params_in_order, sized_param, sizes_or_none, sizes_taken}
-use Rattle.k_typed.specs.Made.{Made, Fine, Faulty, both, refused, then_made}
-use Rattle.k_typed.specs.Names.{Names}
-use Rattle.k_typed.specs.Statements.{Judged, Known, judged_before}
-use Rattle.k_typing.specs.Views.{Refuses}
-use Rattle.k_judging.specs.Arguments.{made_before}
+use Rattle.k_types_meaning.specs.declared.fault.TypeFault.{TypeFault}
+use Rattle.k_types_meaning.specs.declared.fault.TypeFault.TheVariants as fault
+use Rattle.k_types_meaning.specs.declared.types.CType.{CType}
+use Rattle.k_types_meaning.specs.declared.names.Meaning.TheVariants as meaning
+use Rattle.k_types_meaning.specs.Declarations.{type_or_int}
+use Rattle.k_types_meaning.specs.Dimensions.{Size, Sizes, dimensions, param_sizes}
+use Rattle.k_types_meaning.specs.Functions.{entered_option, name_or_nothing, option_twice, param_dims, param_fixed, param_judged, params_in_order, sized_param, sizes_or_none, sizes_taken}
+use Rattle.k_types_meaning.specs.Made.{Made, Fine, Faulty, both, refused, then_made}
+use Rattle.k_types_meaning.specs.Names.{Names}
+use Rattle.k_types_meaning.specs.Statements.{Judged, Known, judged_before}
+use Rattle.k_types_rules.specs.Views.{Refuses}
+use Rattle.k_types_expressions.specs.Arguments.{made_before}
 use Rattle.k_types.specs.Parameters.{GoesAll, GoesOn, behind_variable, tested, type_with}
-use Rattle.k_types.specs.Results.{Makes}
+use Rattle.k_types.specs.Results.{MakesOrRefuses}
 use Rattle.k_types.proofs.Faults.{refuses_first, refuses_behind}
 use Rattle.k_types.proofs.Rests.{rest_from, nothing_from}
 
 -- a part was judged, and this is known behind it
-goes_on : (result : Result (Unit {0}) TypeFault) (of : CType) (newer : Known) (j : Judged CType) → Makes result of j.made → newer ≡ j.after → GoesOn result newer j
+goes_on : (result : Result (Unit {0}) TypeFault) (of : CType) (newer : Known) (j : Judged CType) → MakesOrRefuses result of j.made → newer ≡ j.after → GoesOn result newer j
 goes_on (Ok done) of newer j made after = (of, made, after)
 goes_on (Err f) of newer j refuses after = refuses
 
@@ -53,7 +53,7 @@ module _ (defines : Bool) (known : Known) (p : Param) where
       → of ≡ type_or_int (type_with p (sizes_or_none (param_sizes sizes)))
       → twice ≡ option_twice known.names p.name → typed ≡ (is_some (type_with p []) && (not defines || is_some p.name)) → fits ≡ is_some (param_sizes sizes)
       → newer ≡ behind_variable (record known { taken = known.taken ++ taken }) p of
-      → ((a : CType) → Makes result a (tested twice typed fits p a))
+      → ((a : CType) → MakesOrRefuses result a (tested twice typed fits p a))
       → GoesOn result newer (param_judged defines known p)
   unfolding param_judged
   param_goes result newer sizes taken of twice typed fits judged of_is twice_is typed_is fits_is after makes =
@@ -64,7 +64,7 @@ module _ (defines : Bool) (known : Known) (p : Param) where
       (cond (is_some (type_with p []) && (not defines || is_some p.name)) m (refused (fault.Kinds p.place)))) (sized_is p (type_by (Fine found)) (param_sizes sizes)) in
       subst (λ m. GoesOn result newer (record { made = made_by m; after = after_by m })) (sym judged)
       (goes_on result (type_by (Fine found)) newer (record { made = made_by (Fine found); after = after_by (Fine found) })
-      (subst (Makes result (type_by (Fine found))) made (makes (type_by (Fine found))))
+      (subst (MakesOrRefuses result (type_by (Fine found))) made (makes (type_by (Fine found))))
       (after ∙ ap (λ a. behind_variable (record known { taken = known.taken ++ taken }) p a) of_is))
 
 -- what parameters come to behind some of these types

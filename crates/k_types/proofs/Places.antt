@@ -4,8 +4,8 @@ use Rattle.std.specs.Prelude.{◌||◌, is_some, nat_lt}
 use Rattle.std.specs.Cmp.Lexicographic.{same_text, nat_list_eq_equiv}
 use Rattle.std.specs.Map.{update}
 use Rattle.std.specs.Str.{bytes_eq}
-use Rattle.k_typed.specs.Names.{place_in}
-use Rattle.k_typed.specs.Units.{is_name}
+use Rattle.k_types_meaning.specs.Names.{place_in}
+use Rattle.k_types_meaning.specs.Units.{is_name}
 use Rattle.k_types.specs.Defined.{IsIndexed, or_place, place_of, placed}
 
 -- a place, and this number where there is none

@@ -2,20 +2,20 @@
 use Rattle.std.proofs.Common.{ℕ, ◌≡◌, refl, sym, ap, ◌∙◌, subst, inl, inr, List, [], ◌∷◌, ◌++◌, length, map, drop, take, Ok, Err}
 use Rattle.std.specs.Prelude.{codes}
 use Rattle.k_tree.specs.declared.tree.unit.Unit as source
-use Rattle.k_typed.specs.declared.fault.TypeFault.{TypeFault}
-use Rattle.k_typed.specs.declared.tree.unit.TUnit.{TUnit}
-use Rattle.k_typed.specs.Bare.{IsTyped, bare_unit}
-use Rattle.k_typed.specs.Made.{Made, Fine, faults_of}
-use Rattle.k_typed.specs.Numbered.{IsNumbered}
-use Rattle.k_typed.specs.declared.tree.unit.TFunc.{TFunc}
-use Rattle.k_typed.specs.Names.{place_in}
-use Rattle.k_typed.specs.Units.{Parts, Placed, all_names, call_faults, defined_by, defined_in, faults, items_placed, main_faults, nothing_known, tree_of_parts, unit_placed}
-use Rattle.k_typing.specs.Views.{Refuses}
+use Rattle.k_types_meaning.specs.declared.fault.TypeFault.{TypeFault}
+use Rattle.k_types_meaning.specs.declared.tree.unit.TUnit.{TUnit}
+use Rattle.k_types_meaning.specs.Bare.{IsTyped, bare_unit}
+use Rattle.k_types_meaning.specs.Made.{Made, Fine, faults_of}
+use Rattle.k_types_meaning.specs.Numbered.{IsNumbered}
+use Rattle.k_types_meaning.specs.declared.tree.unit.TFunc.{TFunc}
+use Rattle.k_types_meaning.specs.Names.{place_in}
+use Rattle.k_types_meaning.specs.Units.{Parts, Placed, all_names, call_faults, defined_by, defined_in, faults, items_placed, main_faults, nothing_known, tree_of_parts, unit_placed}
+use Rattle.k_types_rules.specs.Views.{Refuses}
 use Rattle.k_types.specs.declared.item.File.{File}
-use Rattle.k_types.specs.Items.{IsNew, Places, known_in}
+use Rattle.k_types.specs.Items.{IsNew, PlacesItems, known_in}
 use Rattle.k_types.specs.Results.{IsFirstFault, Tests}
 use Rattle.k_types.specs.Sources.{GivesTree}
-use Rattle.k_types.proofs.BareUnits.{tree_bare}
+use Rattle.k_types_bare.proofs.Units.{tree_bare}
 use Rattle.k_types.proofs.Faults.{first_made, first_of_more}
 
 -- what is known at the start
@@ -58,7 +58,7 @@ module _ (unit : source.Unit) where
 
 -- the tree of a source whose items were judged from the start
 pub items_give : (unit : source.Unit) (defined : List (List ℕ)) (older newer : File) (tree : TUnit) → defined ≡ defined_by unit → IsNew older
-    → Places defined (all_names (map defined_in unit.items)) older newer (items_placed defined (known_in defined older) unit.items)
+    → PlacesItems defined (all_names (map defined_in unit.items)) older newer (items_placed defined (known_in defined older) unit.items)
     → tree ≡ record { objects = newer.objects; strings = []; functions = newer.functions; main = place_in defined (codes "main"); nodes = 0; loops = 0 }
     → GivesTree (Ok tree) unit
 items_give unit defined older newer tree same new placed is =

@@ -1,3 +1,4 @@
+-- For contracts between crates: nobody has to believe it.
 -- The places of names in a list, as they are kept.
 use Rattle.std.specs.Prelude.{ℕ, suc, ◌≡◌, if◌then◌else◌, List, [], ◌∷◌, Option, Some, None, option_map}
 use Rattle.std.specs.Map.{update}

@@ -1,17 +1,18 @@
+-- For contracts between crates: nobody has to believe it.
 -- Functions as they are judged.
 use Rattle.std.specs.Prelude.{◌≡◌, ℕ, ◌+◌, List, [], ◌∷◌, Result, Ok, Err}
 use Rattle.k_tree.specs.declared.tree.declaration.Param.{Param}
 use Rattle.k_tree.specs.declared.tree.unit.Head.{Head}
-use Rattle.k_typed.specs.declared.fault.TypeFault.{TypeFault}
-use Rattle.k_typed.specs.declared.names.Meaning.TheVariants as meaning
-use Rattle.k_typed.specs.declared.names.Signature.{Signature}
-use Rattle.k_typed.specs.declared.tree.unit.TFunc.{TFunc}
-use Rattle.k_typed.specs.Declarations.{entered}
-use Rattle.k_typed.specs.Functions.{entered_option, param_fixed, params_of}
-use Rattle.k_typed.specs.Made.{Made, Fine}
-use Rattle.k_typed.specs.Names.{Names}
-use Rattle.k_typed.specs.Statements.{Known, Variable}
-use Rattle.k_typing.specs.Views.{Refuses}
+use Rattle.k_types_meaning.specs.declared.fault.TypeFault.{TypeFault}
+use Rattle.k_types_meaning.specs.declared.names.Meaning.TheVariants as meaning
+use Rattle.k_types_meaning.specs.declared.names.Signature.{Signature}
+use Rattle.k_types_meaning.specs.declared.tree.unit.TFunc.{TFunc}
+use Rattle.k_types_meaning.specs.Declarations.{entered}
+use Rattle.k_types_meaning.specs.Functions.{entered_option, param_fixed, params_of}
+use Rattle.k_types_meaning.specs.Made.{Made, Fine}
+use Rattle.k_types_meaning.specs.Names.{Names}
+use Rattle.k_types_meaning.specs.Statements.{Known, Variable}
+use Rattle.k_types_rules.specs.Views.{Refuses}
 
 -- parameters are declared as variables from this number on, which have these types
 abbrev pub variables_named : ℕ → List Param → List Variable → Names → Names

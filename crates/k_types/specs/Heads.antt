@@ -1,14 +1,15 @@
+-- For contracts between crates: nobody has to believe it.
 -- What judging the head of a function gives.
 use Rattle.std.specs.Prelude.{◌≡◌, ℕ, Bool, List, [], ◌∷◌, length, Result, Ok, Err}
 use Rattle.k_tree.specs.declared.tree.unit.Head.{Head}
-use Rattle.k_typed.specs.declared.fault.TypeFault.{TypeFault}
-use Rattle.k_typed.specs.declared.names.Signature.{Signature}
-use Rattle.k_typed.specs.declared.types.CType.{CType}
-use Rattle.k_typed.specs.Functions.{head_params, params_of, signature}
-use Rattle.k_typed.specs.Made.{Fine}
-use Rattle.k_typed.specs.Names.{Names, Scope, library}
-use Rattle.k_typed.specs.Statements.{Known}
-use Rattle.k_typing.specs.Views.{Refuses}
+use Rattle.k_types_meaning.specs.declared.fault.TypeFault.{TypeFault}
+use Rattle.k_types_meaning.specs.declared.names.Signature.{Signature}
+use Rattle.k_types_meaning.specs.declared.types.CType.{CType}
+use Rattle.k_types_meaning.specs.Functions.{head_params, params_of, signature}
+use Rattle.k_types_meaning.specs.Made.{Fine}
+use Rattle.k_types_meaning.specs.Names.{Names, Scope, library}
+use Rattle.k_types_meaning.specs.Statements.{Known}
+use Rattle.k_types_rules.specs.Views.{Refuses}
 
 -- The parameters of a head have no fault, its function has this signature, and this is known behind the parameters.
 pub record HasHead (f : Signature) (defines : Bool) (defined : List (List ℕ)) (names : Names) (head : Head) (newer : Known) : Type 0 where

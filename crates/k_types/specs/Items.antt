@@ -1,10 +1,11 @@
+-- For contracts between crates: nobody has to believe it.
 -- What the items of a source come to, as it is kept.
 use Rattle.std.specs.Prelude.{◌≡◌, ◌+◌, ℕ, List, [], ◌∷◌, ◌++◌, length, take, Result, Ok, Err}
-use Rattle.k_typed.specs.declared.fault.TypeFault.{TypeFault}
-use Rattle.k_typed.specs.Made.{Fine}
-use Rattle.k_typed.specs.Names.{library}
-use Rattle.k_typed.specs.Units.{FileKnown, Parts, Placed}
-use Rattle.k_typing.specs.Views.{Refuses}
+use Rattle.k_types_meaning.specs.declared.fault.TypeFault.{TypeFault}
+use Rattle.k_types_meaning.specs.Made.{Fine}
+use Rattle.k_types_meaning.specs.Names.{library}
+use Rattle.k_types_meaning.specs.Units.{FileKnown, Parts, Placed}
+use Rattle.k_types_rules.specs.Views.{Refuses}
 use Rattle.k_types.specs.declared.item.File.{File}
 use Rattle.k_types.specs.Heads.{IsFile}
 
@@ -20,7 +21,7 @@ pub record IsNew (file : File) : Type 0 where
   pub functions : file.functions ≡ []
 
 -- Items that define functions of these names have no fault, what they come to was put behind the older parts, and this is known behind them.
-pub record Places (defined names : List (List ℕ)) (older newer : File) (placed : Placed) : Type 0 where
+pub record PlacesItems (defined names : List (List ℕ)) (older newer : File) (placed : Placed) : Type 0 where
   pub parts : Parts
   pub made : placed.made ≡ Fine parts
   pub objects : newer.objects ≡ older.objects ++ parts.objects
@@ -31,5 +32,5 @@ pub record Places (defined names : List (List ℕ)) (older newer : File) (placed
 
 -- items were judged; or they have a fault first
 abbrev pub GivesParts : Result (Unit {0}) TypeFault → List (List ℕ) → List (List ℕ) → File → File → Placed → Type 0
-GivesParts (Ok done) defined names older newer placed = Places defined names older newer placed
+GivesParts (Ok done) defined names older newer placed = PlacesItems defined names older newer placed
 GivesParts (Err f) defined names older newer placed = Refuses f placed.made

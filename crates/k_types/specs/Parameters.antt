@@ -1,15 +1,16 @@
+-- For contracts between crates: nobody has to believe it.
 -- Parameters as they are judged.
 use Rattle.std.specs.Prelude.{◌≡◌, ℕ, Bool, if◌then◌else◌, List, [], ◌∷◌, ◌++◌, length, Option, Result, Ok, Err}
 use Rattle.k_tree.specs.declared.tree.declaration.Param.{Param}
-use Rattle.k_typed.specs.declared.fault.TypeFault.{TypeFault}
-use Rattle.k_typed.specs.declared.fault.TypeFault.TheVariants as fault
-use Rattle.k_typed.specs.declared.names.Meaning.TheVariants as meaning
-use Rattle.k_typed.specs.declared.types.CType.{CType}
-use Rattle.k_typed.specs.Functions.{entered_option, local_base, name_or_nothing, param_fixed, param_type}
-use Rattle.k_typed.specs.Made.{Made, Fine, refused}
-use Rattle.k_typed.specs.Specifiers.{says_const}
-use Rattle.k_typed.specs.Statements.{Judged, Known}
-use Rattle.k_typing.specs.Views.{Refuses}
+use Rattle.k_types_meaning.specs.declared.fault.TypeFault.{TypeFault}
+use Rattle.k_types_meaning.specs.declared.fault.TypeFault.TheVariants as fault
+use Rattle.k_types_meaning.specs.declared.names.Meaning.TheVariants as meaning
+use Rattle.k_types_meaning.specs.declared.types.CType.{CType}
+use Rattle.k_types_meaning.specs.Functions.{entered_option, local_base, name_or_nothing, param_fixed, param_type}
+use Rattle.k_types_meaning.specs.Made.{Made, Fine, refused}
+use Rattle.k_types_meaning.specs.Specifiers.{says_const}
+use Rattle.k_types_meaning.specs.Statements.{Judged, Known}
+use Rattle.k_types_rules.specs.Views.{Refuses}
 
 -- C17 6.7.6.3p7: the type of a parameter by the sizes behind the first
 abbrev pub type_with : Param → List ℕ → Option CType

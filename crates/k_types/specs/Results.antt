@@ -1,10 +1,11 @@
+-- For contracts between crates: nobody has to believe it.
 -- What the functions of this crate give.
 use Rattle.std.specs.Prelude.{◌≡◌, ℕ, List, [], ◌⊎◌, Result, Ok, Err}
 use Rattle.k_num.specs.declared.place.Place.{Place}
-use Rattle.k_typed.specs.declared.fault.TypeFault.{TypeFault}
-use Rattle.k_typed.specs.declared.fault.TypeFault.TheVariants as fault
-use Rattle.k_typed.specs.Made.{Made, Fine, StartsWith}
-use Rattle.k_typing.specs.Views.{Refuses}
+use Rattle.k_types_meaning.specs.declared.fault.TypeFault.{TypeFault}
+use Rattle.k_types_meaning.specs.declared.fault.TypeFault.TheVariants as fault
+use Rattle.k_types_meaning.specs.Made.{Made, Fine, StartsWith}
+use Rattle.k_types_rules.specs.Views.{Refuses}
 
 -- The fault is the first of these, or want of memory.
 abbrev pub IsFirstFault : TypeFault → List TypeFault → Type 0
@@ -19,11 +20,7 @@ Tests (Err f) fs = IsFirstFault f fs
 abbrev pub IsUndefined : TypeFault → Place → List ℕ → Type 0
 IsUndefined f p x = (f ≡ fault.Memory) ⊎ (f ≡ fault.NotDefined x p)
 
--- The fault is that of a name that is declared again, or want of memory.
-abbrev pub IsTwice : TypeFault → Place → List ℕ → Type 0
-IsTwice f p x = (f ≡ fault.Memory) ⊎ (f ≡ fault.Twice x p)
-
 -- this is made, or the fault is the first; want of memory agrees with all
-abbrev pub Makes : {A : Type 0} → Result (Unit {0}) TypeFault → A → Made A → Type 0
-Makes (Ok done) a m = m ≡ Fine a
-Makes (Err f) a m = Refuses f m
+abbrev pub MakesOrRefuses : {A : Type 0} → Result (Unit {0}) TypeFault → A → Made A → Type 0
+MakesOrRefuses (Ok done) a m = m ≡ Fine a
+MakesOrRefuses (Err f) a m = Refuses f m

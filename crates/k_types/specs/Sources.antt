@@ -1,11 +1,12 @@
+-- For contracts between crates: nobody has to believe it.
 -- What judging the items of a source gives.
 use Rattle.std.specs.Prelude.{◌≡◌, Result, Ok, Err}
 use Rattle.k_tree.specs.declared.tree.unit.Unit as source
-use Rattle.k_typed.specs.declared.fault.TypeFault.{TypeFault}
-use Rattle.k_typed.specs.declared.tree.unit.TUnit.{TUnit}
-use Rattle.k_typed.specs.Made.{Fine}
-use Rattle.k_typed.specs.Units.{Parts, tree_of_parts, unit_placed}
-use Rattle.k_typing.specs.Views.{Refuses}
+use Rattle.k_types_meaning.specs.declared.fault.TypeFault.{TypeFault}
+use Rattle.k_types_meaning.specs.declared.tree.unit.TUnit.{TUnit}
+use Rattle.k_types_meaning.specs.Made.{Fine}
+use Rattle.k_types_meaning.specs.Units.{Parts, tree_of_parts, unit_placed}
+use Rattle.k_types_rules.specs.Views.{Refuses}
 
 -- the items of a source have no fault, and come to this tree; or they have a fault first
 abbrev pub GivesTree : Result TUnit TypeFault → source.Unit → Type 0

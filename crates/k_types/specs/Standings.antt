@@ -1,9 +1,10 @@
+-- For contracts between crates: nobody has to believe it.
 -- Whether a function may be declared at file scope, as it is kept and as it is made.
 use Rattle.std.specs.Prelude.{ℕ, List}
 use Rattle.k_num.specs.declared.place.Place.{Place}
-use Rattle.k_typed.specs.declared.fault.TypeFault.TheVariants as fault
-use Rattle.k_typed.specs.declared.names.Signature.{Signature}
-use Rattle.k_typed.specs.Made.{Made, Fine, refused}
+use Rattle.k_types_meaning.specs.declared.fault.TypeFault.TheVariants as fault
+use Rattle.k_types_meaning.specs.declared.names.Signature.{Signature}
+use Rattle.k_types_meaning.specs.Made.{Made, Fine, refused}
 use Rattle.k_types.specs.declared.standing.Standing.{Standing}
 use Rattle.k_types.specs.declared.standing.Standing.TheVariants as standing
 

@@ -2,8 +2,8 @@
 ghost use Rattle.std.specs.Prelude.{◌≡◌, ◌++◌, [], ◌∷◌, take, IfOk, OnOk};
 ghost use Rattle.std.specs.BTreeMap.{get_by_text};
 ghost use Rattle.std.specs.String.{string_bytes};
-ghost use Rattle.k_typed.specs.Names.{place_in};
-ghost use Rattle.k_typed.specs.Units as rules;
+ghost use Rattle.k_types_meaning.specs.Names.{place_in};
+ghost use Rattle.k_types_meaning.specs.Units as rules;
 ghost use Rattle.k_types.specs.Defined.{IsIndexed, placed};
 
 use k_num::{NoMemory, Seq, Text};

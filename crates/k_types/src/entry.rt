@@ -1,12 +1,12 @@
 //! The function where a program starts (C17 5.1.2.2.1).
 ghost use Rattle.std.specs.Prelude.{◌≡◌};
-ghost use Rattle.k_typed.specs.Functions.{has_none, params_of};
-ghost use Rattle.k_typed.specs.Units as rules;
+ghost use Rattle.k_types_meaning.specs.Functions.{has_none, params_of};
+ghost use Rattle.k_types_meaning.specs.Units as rules;
 ghost use Rattle.k_types.specs.Results.{Tests};
 
 use crate::signature::is_int;
 use k_tree::{Head, Item, Params, Unit};
-use k_typed::TypeFault;
+use k_types_meaning::TypeFault;
 use std::alloc::Global;
 
 /// A source that defines no function main of result `int` and without parameters has a fault at its end.

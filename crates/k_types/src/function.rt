@@ -1,13 +1,13 @@
 //! Definitions of functions (C17 6.9.1).
 ghost use Rattle.std.specs.Prelude.{◌≡◌, length, IfOk, OnOk};
-ghost use Rattle.k_blocks.specs.Results.{Runs};
-ghost use Rattle.k_declaring.specs.Results.{seen};
+ghost use Rattle.k_types_statements.specs.Results.{Runs};
+ghost use Rattle.k_types_declarations.specs.Results.{seen};
 ghost use Rattle.k_tree.specs.Count.{item_count};
 ghost use Rattle.k_tree.specs.declared.tree.unit.Item.TheVariants as item;
-ghost use Rattle.k_typed.specs.Declarations.{type_or_int};
-ghost use Rattle.k_typed.specs.Functions as rules;
-ghost use Rattle.k_typed.specs.Statements as statements;
-ghost use Rattle.k_typed.specs.Types as types;
+ghost use Rattle.k_types_meaning.specs.Declarations.{type_or_int};
+ghost use Rattle.k_types_meaning.specs.Functions as rules;
+ghost use Rattle.k_types_meaning.specs.Statements as statements;
+ghost use Rattle.k_types_meaning.specs.Types as types;
 ghost use Rattle.k_types.specs.Functions.{GivesFunction, entered_function, variables_named};
 ghost use Rattle.k_types.specs.Heads.{IsFile};
 
@@ -16,13 +16,13 @@ use crate::head::{judge_head, name_function, standing_of};
 use crate::parameter::{name_variable, params_of};
 use crate::signature::result_or_int;
 use crate::variables::variables_of;
-use k_blocks::{Around, judge_body};
-use k_declaring::{Known, Variable};
-use k_names::Scopes;
-use k_num::{NoMemory, Place, Seq};
+use k_num::{NoMemory, Place, Seq, Text};
 use k_tree::{Head, Param, Stmt};
-use k_typed::{Signature, TFunc, TStmt, TType, TypeFault};
-use k_typing::{lent, told};
+use k_types_declarations::{Known, Variable};
+use k_types_meaning::{Signature, TFunc, TStmt, TType, TypeFault};
+use k_types_names::Scopes;
+use k_types_rules::{lent, told};
+use k_types_statements::{Around, judge_body};
 use std::alloc::Global;
 
 /// A definition of a function, lent, with the count of its nodes.
@@ -140,7 +140,9 @@ fn tree_of(
     };
     let result = told_result(alloc, definition.head)?;
     let variables = variables_of(alloc, known.taken.as_slice(), known.variables.as_slice())?;
+    let name = Text::copy_of(alloc, definition.head.name.as_str())?;
     Ok(TFunc {
+        name,
         place: definition.head.name_place,
         close: definition.close,
         nodes: definition.nodes,

@@ -1,11 +1,11 @@
 //! The heads of functions (C17 6.7.6.3): their parameters, and the signature that their names are declared with.
 ghost use Rattle.std.specs.Prelude.{◌≡◌, ℕ, List, OnOk};
 ghost use Rattle.k_num.specs.declared.place.Place.{Place};
-ghost use Rattle.k_declaring.specs.Results.{seen};
-ghost use Rattle.k_typed.specs.declared.names.Meaning.TheVariants as meaning;
-ghost use Rattle.k_typed.specs.Declarations.{entered};
-ghost use Rattle.k_typed.specs.Functions as rules;
-ghost use Rattle.k_typed.specs.Names.{meaning_of};
+ghost use Rattle.k_types_declarations.specs.Results.{seen};
+ghost use Rattle.k_types_meaning.specs.declared.names.Meaning.TheVariants as meaning;
+ghost use Rattle.k_types_meaning.specs.Declarations.{entered};
+ghost use Rattle.k_types_meaning.specs.Functions as rules;
+ghost use Rattle.k_types_meaning.specs.Names.{meaning_of};
 ghost use Rattle.k_types.specs.Heads.{GivesHead};
 ghost use Rattle.k_types.specs.Standings.{standing_made};
 
@@ -13,11 +13,11 @@ use crate::defined::Defined;
 use crate::parameter::{judge_params, params_of};
 use crate::signature::{result_or_int, result_type, types_of};
 use crate::standing::{Standing, redeclared};
-use k_declaring::Known;
-use k_names::Scopes;
 use k_num::{NoMemory, Seq};
 use k_tree::Head;
-use k_typed::{Meaning, Signature, TypeFault};
+use k_types_declarations::Known;
+use k_types_meaning::{Meaning, Signature, TypeFault};
+use k_types_names::Scopes;
 use std::alloc::Global;
 use std::mem;
 

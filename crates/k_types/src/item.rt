@@ -2,18 +2,20 @@
 ghost use Rattle.std.specs.Prelude.{◌≡◌, ◌≤◌, ◌++◌, ℕ, List, [], ◌∷◌, drop, length, map, sum, IfOk};
 ghost use Rattle.k_tree.specs.Count.{item_count};
 ghost use Rattle.k_tree.specs.declared.tree.unit.Item.TheVariants as items;
-ghost use Rattle.k_typed.specs.Units as rules;
+ghost use Rattle.k_types_meaning.specs.Units as rules;
 ghost use Rattle.k_types.specs.Heads.{IsFile};
 ghost use Rattle.k_types.specs.Items.{IsNew, GivesParts, known_in};
 
 use crate::defined::Defined;
 use crate::function::{Definition, function};
 use crate::prototype::prototype;
-use k_declaring::{Known, Saying, declare_objects};
-use k_names::Scopes;
 use k_num::{NoMemory, Seq};
-use k_tree::{Item, item_nodes};
-use k_typed::{TFunc, TObject, TypeFault};
+use k_tree::Item;
+use k_tree_nodes::item_nodes;
+use k_types_declarations::{Known, declare_objects};
+use k_types_meaning::{TFunc, TObject, TypeFault};
+use k_types_names::Scopes;
+use k_types_objects::Saying;
 use std::alloc::Global;
 
 /// What is known at a place between the items of a source, and what the items so far come to.

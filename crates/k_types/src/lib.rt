@@ -14,7 +14,7 @@ mod standing;
 mod undefined;
 mod variables;
 
-pub use k_typed::{
+pub use k_types_meaning::{
     Change, Node, Piece, Spot, TDeclarator, TExpr, TFirst, TFunc, TInit, TItem, TObject, TPart,
     TStmt, TString, TType, TUnit, TVariable, Target, TypeFault, Written,
 };

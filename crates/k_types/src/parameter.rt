@@ -1,19 +1,20 @@
 //! The parameters of functions (C17 6.7.6.3).
 ghost use Rattle.std.specs.Prelude.{◌≡◌, ◌&&◌, ◌||◌, not, [], is_some, length, IfOk, OnOk};
-ghost use Rattle.k_declaring.specs.Results.{seen};
-ghost use Rattle.k_typed.specs.declared.names.Meaning.TheVariants as meaning;
-ghost use Rattle.k_typed.specs.declared.types.CType.{CType};
-ghost use Rattle.k_typed.specs.Declarations.{object_fixed, object_type, type_or_int};
-ghost use Rattle.k_typed.specs.Functions as rules;
+ghost use Rattle.k_types_declarations.specs.Results.{seen};
+ghost use Rattle.k_types_meaning.specs.declared.names.Meaning.TheVariants as meaning;
+ghost use Rattle.k_types_meaning.specs.declared.types.CType.{CType};
+ghost use Rattle.k_types_meaning.specs.Declarations.{object_fixed, object_type, type_or_int};
+ghost use Rattle.k_types_meaning.specs.Functions as rules;
 ghost use Rattle.k_types.specs.Parameters.{GoesAll, GoesOn, behind_variable, tested, type_with};
-ghost use Rattle.k_types.specs.Results.{Makes};
+ghost use Rattle.k_types.specs.Results.{MakesOrRefuses};
 
 use crate::standing::twice;
-use k_declaring::{Known, Variable, copied_type, dimensions, param_sizes};
-use k_names::{Scopes, base_of, says_const, says_static};
 use k_num::{Kind, NoMemory, Seq, Text};
 use k_tree::{Param, Params, Word};
-use k_typed::{Base, CType, Element, Meaning, TypeFault};
+use k_types_declarations::{Known, Variable, dimensions};
+use k_types_meaning::{Base, CType, Element, Meaning, TypeFault};
+use k_types_names::{Scopes, base_of, says_const, says_static};
+use k_types_objects::{copied_type, param_sizes};
 use std::alloc::Global;
 
 /// The parameters between the parentheses of a head.
@@ -43,7 +44,7 @@ pub(crate) fn judge_params(
 }
 
 /// Judges a parameter, which is the next variable.
-#[tactic(auto, unfolding(k_typed::specs::Functions::param_judged))]
+#[tactic(auto, unfolding(k_types_meaning::specs::Functions::param_judged))]
 fn judge_param(
     alloc: Global,
     defines: bool,
@@ -245,7 +246,7 @@ fn test_param(
     typed: bool,
     fits: bool,
 ) -> Result<(), TypeFault>
-    ensures { (of : CType) → Makes result of (tested stands_there typed fits param.now of) }
+    ensures { (of : CType) → MakesOrRefuses result of (tested stands_there typed fits param.now of) }
 {
     if stands_there {
         return Err(twice(alloc, param.place, name_or_nothing(&param.name)));

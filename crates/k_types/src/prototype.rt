@@ -1,14 +1,14 @@
 //! Prototypes (C17 6.7.6.3).
-ghost use Rattle.k_typed.specs.Functions as rules;
+ghost use Rattle.k_types_meaning.specs.Functions as rules;
 ghost use Rattle.k_types.specs.Heads.{IsFile};
 ghost use Rattle.k_types.specs.Functions.{Declares};
 
 use crate::defined::Defined;
 use crate::head::{judge_head, name_function, standing_of};
-use k_declaring::Known;
 use k_num::Place;
 use k_tree::Head;
-use k_typed::TypeFault;
+use k_types_declarations::Known;
+use k_types_meaning::TypeFault;
 use std::alloc::Global;
 
 /// A prototype: its parameters are judged, then its name and type. The name is known behind it.

@@ -1,15 +1,16 @@
 //! The types of functions (C17 6.7.6.3): their results, their parameters, and when two of them are equal.
 ghost use Rattle.std.specs.Prelude.{◌≡◌, IfOk};
-ghost use Rattle.k_typed.specs.Declarations.{type_or_int};
-ghost use Rattle.k_typed.specs.Functions as rules;
-ghost use Rattle.k_typed.specs.Units as units;
+ghost use Rattle.k_types_meaning.specs.Declarations.{type_or_int};
+ghost use Rattle.k_types_meaning.specs.Functions as rules;
+ghost use Rattle.k_types_meaning.specs.Units as units;
 
-use k_declaring::{Variable, copied_type};
-use k_names::{base_of, says_const, starred};
 use k_num::{Kind, NoMemory, Seq};
 use k_tree::Head;
-use k_typed::{CType, Signature};
-use k_typing::{are_equal, lent_element};
+use k_types_declarations::Variable;
+use k_types_meaning::{CType, Signature};
+use k_types_names::{base_of, says_const, starred};
+use k_types_objects::copied_type;
+use k_types_rules::{are_equal, lent_element};
 use std::alloc::Global;
 
 /// The type of a function's result, if what its specifiers and stars name is one.

@@ -1,8 +1,8 @@
 //! The typing of a source as a whole (C17 6.9).
 ghost use Rattle.std.specs.Prelude.{◌≡◌, ◌≤◌, [], IfErr, IfOk, OnOk};
 ghost use Rattle.k_tree.specs.Count.{unit_count};
-ghost use Rattle.k_typed.specs.Bare.{IsTyped};
-ghost use Rattle.k_typed.specs.Units as rules;
+ghost use Rattle.k_types_meaning.specs.Bare.{IsTyped};
+ghost use Rattle.k_types_meaning.specs.Units as rules;
 ghost use Rattle.k_types.specs.Results.{IsFirstFault};
 ghost use Rattle.k_types.specs.Sources.{GivesTree};
 
@@ -11,9 +11,9 @@ use crate::entry::test_main;
 use crate::item::{File, place_items};
 use crate::undefined::test_calls;
 use k_num::Seq;
-use k_numbering::number;
 use k_tree::Unit;
-use k_typed::{TUnit, TypeFault};
+use k_types_meaning::{TUnit, TypeFault};
+use k_types_numbers::number;
 use std::alloc::Global;
 
 /// The typed tree of a source, or its first fault: items are judged in text order, then come the calls of functions

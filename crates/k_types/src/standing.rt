@@ -1,14 +1,15 @@
 //! Whether a function may be declared at file scope (C17 6.7p3, 6.7.6.3p15, 6.9p3).
 ghost use Rattle.std.specs.Prelude.{◌≡◌, ℕ, List, Some, None, false, option_copied};
 ghost use Rattle.k_num.specs.declared.place.Place.{Place};
-ghost use Rattle.k_typed.specs.declared.names.Signature.{Signature};
-ghost use Rattle.k_typed.specs.Functions as rules;
-ghost use Rattle.k_types.specs.Results.{IsTwice, Makes};
+ghost use Rattle.k_types_meaning.specs.declared.names.Signature.{Signature};
+ghost use Rattle.k_types_meaning.specs.Functions as rules;
+ghost use Rattle.k_types.specs.Results.{MakesOrRefuses};
+ghost use Rattle.k_types_declarations.specs.Objects.{IsTwice};
 ghost use Rattle.k_types.specs.Standings.{standing_made};
 
 use crate::signature::is_same_signature;
 use k_num::{Place, Text};
-use k_typed::{CType, Meaning, Signature, TypeFault};
+use k_types_meaning::{CType, Meaning, Signature, TypeFault};
 use std::alloc::Global;
 
 /// Whether a function may be declared where it is.
@@ -25,7 +26,7 @@ pub(crate) enum Standing {
 impl Standing {
     /// The fault of a function that may not be declared.
     pub(crate) fn test(self, alloc: Global, place: Place, name: &str) -> Result<(), TypeFault>
-        ensures { (f : Signature) → Makes result f (standing_made self place name.now f) }
+        ensures { (f : Signature) → MakesOrRefuses result f (standing_made self place name.now f) }
     {
         match self {
             Standing::Stands => Ok(()),

@@ -1,15 +1,16 @@
 //! The calls of functions that neither the source nor the library defines (C17 6.9p5).
 ghost use Rattle.std.specs.Prelude.{◌≡◌, ◌||◌, is_some, map};
-ghost use Rattle.k_calls.specs.Calls.{seen};
-ghost use Rattle.k_typed.specs.Names.{library, meaning_in};
-ghost use Rattle.k_typed.specs.Units as rules;
+ghost use Rattle.k_types_calls.specs.Noting.{seen};
+ghost use Rattle.k_types_meaning.specs.Names.{library, meaning_in};
+ghost use Rattle.k_types_meaning.specs.Units as rules;
 ghost use Rattle.k_types.specs.Results.{Tests, IsUndefined};
 
 use crate::defined::Defined;
-use k_calls::{Call, calls_of};
 use k_num::{Place, Text};
 use k_tree::Unit;
-use k_typed::TypeFault;
+use k_types_calls::{Call, calls_of};
+use k_types_meaning::TypeFault;
+use k_types_names::is_library;
 use std::alloc::Global;
 
 /// The first call of a source whose function neither the source nor the library defines is a fault.
@@ -38,13 +39,6 @@ fn is_defined(defined: &Defined, name: &str) -> bool
     ensures { result ≡ (rules.is_name defined.now name.now || is_some (meaning_in library name.now)) }
 {
     defined.has(name) || is_library(name)
-}
-
-/// Whether a library function has this name.
-fn is_library(name: &str) -> bool
-    ensures { result ≡ is_some (meaning_in library name.now) }
-{
-    "getchar" == name || "putchar" == name || "puts" == name || "printf" == name
 }
 
 /// The fault of a call of a function that is not defined.

@@ -2,14 +2,14 @@
 //! a register, and all others are objects (C17 6.2.4, 6.5.3.2).
 ghost use Rattle.std.specs.Prelude.{◌≡◌, ◌*◌, ℕ, nat_eq, IfOk, OnOk};
 ghost use Rattle.std.specs.HashSet.{contains};
-ghost use Rattle.k_typed.specs.Functions as rules;
-ghost use Rattle.k_typed.specs.Types.{elements};
+ghost use Rattle.k_types_meaning.specs.Functions as rules;
+ghost use Rattle.k_types_meaning.specs.Types.{elements};
 ghost use Rattle.k_types.specs.Variables.{variable_told};
 
-use k_declaring::Variable;
 use k_num::{NoMemory, Seq};
-use k_typed::{CType, Element, TVariable};
-use k_typing::{count, lent, told};
+use k_types_declarations::Variable;
+use k_types_meaning::{CType, Element, TVariable};
+use k_types_rules::{count, lent, told};
 use std::alloc::Global;
 use std::collections::HashSet;
 

@@ -1,3 +1,4 @@
+-- Believed with the theorem on the top call.
 -- *Texts on the program itself*, and the words that ask for them.
 use Rattle.std.specs.Prelude.{ℕ, Bool, ◌||◌, if◌then◌else◌, List, [], ◌∷◌, codes, nat_eq, Option, Some, None}
 use Rattle.std.specs.List.{concat}

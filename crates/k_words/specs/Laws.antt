@@ -1,3 +1,4 @@
+-- Believed with a public law.
 -- What holds of answers.
 use Rattle.std.specs.Prelude.{ℕ, ◌≡◌, ◌≢◌, List, Result, Err}
 use Rattle.k_words.specs.declared.job.Job.{Job}

@@ -1,3 +1,4 @@
+-- Believed with the theorem on the top call.
 -- *Options*: what a word is by itself behind a command's file.
 use Rattle.std.specs.Prelude.{ℕ, Bool, true, false, ◌==◌, nat_eq, if◌then◌else◌, List, [], length, drop, codes, Option, Some, None, is_some, option_map, option_and_then}
 use Rattle.std.specs.List.{starts_with}
@@ -67,6 +68,14 @@ most_steps Demo = 1000000000
 -- the greatest depth
 abbrev pub most_depth : ℕ
 most_depth = 32
+
+-- how many operations `run` makes at most where it is not told, and `demo`
+abbrev pub standard_steps : ℕ
+standard_steps = 100000000
+
+-- below which depth instances are tracked where a command is not told
+abbrev pub standard_depth : ℕ
+standard_depth = 24
 
 -- the value is one that the option may have
 abbrev pub is_value : Command → Setting → List ℕ → Bool

@@ -1,3 +1,4 @@
+-- Believed with the theorem on the top call.
 -- *Options of a command*: what the words behind its file give, and what is wrong with each of them.
 use Rattle.std.specs.Prelude.{ℕ, ◌+◌, ◌<◌, ◌≡◌, ◌==◌, Bool, true, false, if◌then◌else◌, List, [], ◌∷◌, take, map, slice_get, Option, Some, None, is_some, option_map, option_and_then, string_bytes, String}
 use Rattle.std.specs.declared.alloc.Global.{Global}

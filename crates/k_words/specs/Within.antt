@@ -1,3 +1,4 @@
+-- Believed with a public law.
 -- The limits of the numbers that are asked for.
 use Rattle.std.specs.Prelude.{ℕ, ◌≤◌, List, Ok}
 use Rattle.k_words.specs.declared.job.Job.{Job}

@@ -1,3 +1,4 @@
+-- Believed with the theorem on the top call.
 -- *Words*: what the words of the command line ask for, and the first of them that is wrong.
 use Rattle.std.specs.Prelude.{ℕ, zero, suc, ◌+◌, ◌≡◌, Bool, true, if◌then◌else◌, List, [], ◌∷◌, codes, nat_eq, slice_get, Option, Some, None, is_some, unwrap_or, option_map, option_and_then, Result, Ok, Err}
 use Rattle.std.specs.List.{starts_with}
@@ -9,6 +10,7 @@ use Rattle.k_words.specs.declared.option.Command.TheVariants.{Run, Graph, Show, 
 use Rattle.k_words.specs.declared.usage.Usage.{Usage}
 use Rattle.k_words.specs.declared.usage.Usage.TheVariants.{NoCommand, UnknownWord, BadNumber, Twice, NoFile, Memory}
 use Rattle.k_words.specs.Number.{number_within}
+use Rattle.k_words.specs.Setting.{standard_depth, standard_steps}
 use Rattle.k_words.specs.Settings.{Given, IsFirst, given, settings_fault}
 
 -- the word can't name a file: it is empty or begins with --
@@ -86,11 +88,11 @@ fault_at (command ∷ words) (suc k) = fault_behind (command_of command) words k
 
 -- what `run` with this file and these options asks for
 abbrev pub run_of : List ℕ → Given → Job
-run_of file g = job.Run file (unwrap_or g.steps 100000000) (unwrap_or g.depth 24) g.latency g.dict g.save
+run_of file g = job.Run file (unwrap_or g.steps standard_steps) (unwrap_or g.depth standard_depth) g.latency g.dict g.save
 
 -- what `graph` with this file and these options asks for
 abbrev pub graph_of : List ℕ → Given → Job
-graph_of file g = job.Graph file (unwrap_or g.steps 200000) (unwrap_or g.depth 24) g.latency
+graph_of file g = job.Graph file (unwrap_or g.steps 200000) (unwrap_or g.depth standard_depth) g.latency
 
 -- what `show` with this file and these options asks for
 abbrev pub show_of : List ℕ → Given → Job

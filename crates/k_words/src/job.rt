@@ -4,7 +4,7 @@ ghost use Rattle.k_words.specs.Settings.{IsFirst, seen, seen_words};
 ghost use Rattle.k_words.specs.Words.{Answers, IsAnswer, ReadsFile, command_of, demo_fault, demo_job, file_fault, graph_job, is_no_file, run_job, show_job};
 
 use crate::number::number_within;
-use crate::option::Command;
+use crate::option::{Command, STANDARD_DEPTH, STANDARD_STEPS};
 use crate::settings::{Settings, read_settings};
 use crate::usage::Usage;
 use k_num::{NoMemory, Text};
@@ -86,8 +86,8 @@ fn run_job(alloc: Global, arguments: &[String]) -> Result<Job, Usage>
     };
     Ok(Job::Run {
         file: Text::copy_of(alloc, file)?,
-        steps: settings.steps.unwrap_or(100_000_000),
-        depth: settings.depth.unwrap_or(24),
+        steps: settings.steps.unwrap_or(STANDARD_STEPS),
+        depth: settings.depth.unwrap_or(STANDARD_DEPTH),
         latency: copy_of_name(alloc, settings.latency)?,
         dict: settings.dict,
         save: copy_of_name(alloc, settings.save)?,
@@ -105,7 +105,7 @@ fn graph_job(alloc: Global, arguments: &[String]) -> Result<Job, Usage>
     Ok(Job::Graph {
         file: Text::copy_of(alloc, file)?,
         steps: settings.steps.unwrap_or(200_000),
-        depth: settings.depth.unwrap_or(24),
+        depth: settings.depth.unwrap_or(STANDARD_DEPTH),
         latency: copy_of_name(alloc, settings.latency)?,
     })
 }
@@ -181,6 +181,3 @@ fn copy_of_name(alloc: Global, name: Option<&str>) -> Result<Option<Text>, NoMem
         Some(name) => Ok(Some(Text::copy_of(alloc, name)?)),
     }
 }
-
-#[cfg(test)]
-mod tests;

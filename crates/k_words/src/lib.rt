@@ -11,4 +11,5 @@ mod usage;
 
 pub use about::{Asked, asked_for, help, version};
 pub use job::{Job, words};
+pub use option::{STANDARD_DEPTH, STANDARD_STEPS};
 pub use usage::Usage;

@@ -90,6 +90,12 @@ fn is_taken(command: Command, setting: Setting) -> bool
     }
 }
 
+/// How many operations `run` makes at most where it is not told, and `demo`.
+pub const STANDARD_STEPS: u64 = 100_000_000;
+
+/// Instances of depths below this are tracked where a command is not told.
+pub const STANDARD_DEPTH: u32 = 24;
+
 /// How many operations a command's run may make at most.
 pub(crate) fn most_steps(command: Command) -> u64
     ensures { result ≡ most_steps command }

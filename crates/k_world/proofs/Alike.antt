@@ -3,8 +3,8 @@ use Rattle.std.proofs.Common.{◌≡◌, ℕ, ◌+◌, ◌-◌, List, [], ◌∷
 use Rattle.k_num.specs.declared.place.Place.{Place}
 use Rattle.k_optab.specs.declared.class.Class.{Class}
 use Rattle.k_optab.specs.declared.event.Event.{Event}
-use Rattle.k_code.specs.declared.ending.End.TheVariants.{Trapped, OutOfSteps}
-use Rattle.k_code.specs.declared.ending.Trap.TheVariants.{Uninit}
+use Rattle.k_ending.specs.declared.ending.End.TheVariants.{Trapped, OutOfSteps}
+use Rattle.k_ending.specs.declared.ending.Trap.TheVariants.{Uninit}
 use Rattle.k_world.specs.declared.act.Act.{Act}
 use Rattle.k_world.specs.declared.value.Read.{Read}
 use Rattle.k_world.specs.declared.value.Value.{Value}

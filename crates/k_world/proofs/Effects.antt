@@ -5,7 +5,7 @@ use Rattle.std.proofs.Math.ListN.{length-set}
 use Rattle.k_num.specs.declared.numbers.Bin.{Bin}
 use Rattle.k_num.specs.declared.numbers.Kind.{Kind}
 use Rattle.k_optab.specs.declared.event.Event.{Event}
-use Rattle.k_code.specs.declared.ending.Trap.{Trap}
+use Rattle.k_ending.specs.declared.ending.Trap.{Trap}
 use Rattle.k_mem.specs.declared.pointer.Pointer.{Pointer}
 use Rattle.k_mem.specs.Memory.{Object, Memory, live_elements}
 use Rattle.k_mem.specs.Calls.{rewritten, with_value, stored}

@@ -4,7 +4,7 @@ use Rattle.std.specs.Prelude.{codes}
 use Rattle.std.specs.Fmt.{digits, signed_decimal}
 use Rattle.k_num.specs.declared.numbers.Kind.TheVariants.{U8, U64}
 use Rattle.k_num.specs.Kind.{remainder}
-use Rattle.k_code.specs.declared.ending.Trap.TheVariants.{Uninit}
+use Rattle.k_ending.specs.declared.ending.Trap.TheVariants.{Uninit}
 use Rattle.k_mem.specs.declared.pointer.Pointer.{Pointer}
 use Rattle.k_world.specs.declared.act.Chunk.TheVariants.{Bytes, Byte, Decimal, Hex}
 use Rattle.k_world.specs.declared.act.Out.TheVariants as out

@@ -4,9 +4,9 @@ use Rattle.k_num.specs.declared.place.Place.{Place}
 use Rattle.k_optab.specs.declared.class.Class.{Class}
 use Rattle.k_optab.specs.declared.event.Event.{Event}
 use Rattle.k_optab.specs.declared.event.Event.TheVariants.{Op}
-use Rattle.k_code.specs.declared.ending.End.TheVariants.{Trapped, OutOfSteps}
-use Rattle.k_code.specs.declared.ending.Trap.{Trap}
-use Rattle.k_code.specs.declared.ending.Trap.TheVariants.{Uninit}
+use Rattle.k_ending.specs.declared.ending.End.TheVariants.{Trapped, OutOfSteps}
+use Rattle.k_ending.specs.declared.ending.Trap.{Trap}
+use Rattle.k_ending.specs.declared.ending.Trap.TheVariants.{Uninit}
 use Rattle.k_world.specs.declared.act.Act.{Act}
 use Rattle.k_world.specs.declared.answer.Done.{Done}
 use Rattle.k_world.specs.declared.answer.Performed.{Performed}

@@ -8,10 +8,10 @@ use Rattle.k_optab.specs.declared.event.Event.TheVariants.{Op}
 use Rattle.k_optab.specs.declared.event.Src.{Src}
 use Rattle.k_optab.specs.Events.{Operation, operations, SourcesAreEarlier, AreBefore, total_latency}
 use Rattle.k_optab.proofs.Trees.{operations-append}
-use Rattle.k_code.specs.declared.ending.End.{End}
-use Rattle.k_code.specs.declared.ending.End.TheVariants.{Trapped, OutOfSteps}
-use Rattle.k_code.specs.declared.ending.Trap.{Trap}
-use Rattle.k_code.specs.declared.ending.Trap.TheVariants.{Uninit}
+use Rattle.k_ending.specs.declared.ending.End.{End}
+use Rattle.k_ending.specs.declared.ending.End.TheVariants.{Trapped, OutOfSteps}
+use Rattle.k_ending.specs.declared.ending.Trap.{Trap}
+use Rattle.k_ending.specs.declared.ending.Trap.TheVariants.{Uninit}
 use Rattle.k_mem.specs.declared.pointer.Pointer.{Pointer}
 use Rattle.k_mem.specs.Memory.{Memory}
 use Rattle.k_world.specs.declared.act.Act.{Act}

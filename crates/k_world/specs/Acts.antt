@@ -1,3 +1,4 @@
+-- Believed with the theorem on the top call.
 -- What each act does with the values of its operands: its value or its trap, its effect, and the operands that the construct does not
 -- write.
 use Rattle.std.specs.Prelude.{ℕ, zero, suc, Bool, true, false, not, ℤ, pos, neg_ℤ, ◌*ℤ◌, int_lt, int_le, int_div, List, [], ◌∷◌, ◌++◌, length, slice_get, slice_set, Option, Some, None, Result, Ok, Err}
@@ -15,9 +16,9 @@ use Rattle.k_mem.specs.declared.fault.MemTrap.{MemTrap}
 use Rattle.k_mem.specs.declared.fault.MemTrap.TheVariants as mem
 use Rattle.k_mem.specs.Memory.{Memory}
 use Rattle.k_mem.specs.Calls.{load_of, store_of, stored, shift_of, order_of, same_of}
-use Rattle.k_code.specs.declared.ending.Trap.{Trap}
-use Rattle.k_code.specs.declared.ending.Trap.TheVariants as trap
-use Rattle.k_code.specs.Traps.{trap_of}
+use Rattle.k_ending.specs.declared.ending.Trap.{Trap}
+use Rattle.k_ending.specs.declared.ending.Trap.TheVariants as trap
+use Rattle.k_ending.specs.Traps.{trap_of}
 use Rattle.k_world.specs.declared.act.Act.{Act}
 use Rattle.k_world.specs.declared.act.Act.TheVariants as act
 use Rattle.k_world.specs.declared.act.Chunk.{Chunk}

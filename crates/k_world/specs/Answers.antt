@@ -1,11 +1,12 @@
+-- For contracts between crates: nobody has to believe it.
 -- What the calls on a running program's own state answer: the operations of the definition, with the event told apart.
 use Rattle.std.specs.Prelude.{ℕ, ◌≡◌, ◌^◌, if◌then◌else◌, ℤ, pos, neg_ℤ, int_lt, List, [], ◌∷◌, ◌++◌, Option, Some, None, Result, Ok, Err}
 use Rattle.k_num.specs.declared.place.Place.{Place}
 use Rattle.k_optab.specs.declared.class.Class.{Class}
 use Rattle.k_optab.specs.declared.event.Event.{Event}
 use Rattle.k_optab.specs.declared.event.Event.TheVariants.{Op}
-use Rattle.k_code.specs.declared.ending.End.TheVariants.{Trapped}
-use Rattle.k_code.specs.declared.ending.Trap.{Trap}
+use Rattle.k_ending.specs.declared.ending.End.TheVariants.{Trapped}
+use Rattle.k_ending.specs.declared.ending.Trap.{Trap}
 use Rattle.k_world.specs.declared.act.Act.{Act}
 use Rattle.k_world.specs.declared.act.Act.TheVariants as act
 use Rattle.k_world.specs.declared.act.ActRef.{ActRef}

@@ -1,3 +1,4 @@
+-- Believed with the theorem on the top call.
 -- What changes a world without an operation: objects are made and set, and die (C17 6.2.4). No operation gave what they set.
 use Rattle.std.specs.Prelude.{ℕ, ◌+◌, ℤ, List, ◌++◌, take, drop, replicate, Option, Some, None, Result, Ok, Err}
 use Rattle.k_mem.specs.declared.fault.MemTrap.{MemTrap}

@@ -1,6 +1,7 @@
 pub mod Acts
 pub mod Answers
 pub mod Changes
+pub mod Classes
 pub mod Operands
 pub mod Operations
 pub mod WorldLaws

@@ -1,3 +1,4 @@
+-- Believed with the theorem on the top call.
 -- The operands of an operation, as it reads them: whether each is set, their values, and their sources.
 use Rattle.std.specs.Prelude.{ℕ, Bool, true, false, ◌&&◌, List, [], ◌∷◌, Option, Some, None}
 use Rattle.k_optab.specs.declared.event.Src.{Src}

@@ -1,12 +1,13 @@
+-- Believed with the theorem on the top call.
 -- How an operation is made. Evaluation and flat code make none in any other way.
 use Rattle.std.specs.Prelude.{ℕ, ◌+◌, ◌-◌, nat_eq, if◌then◌else◌, List, [], ◌∷◌, ◌++◌, Some, Ok, Err}
 use Rattle.k_num.specs.declared.place.Place.{Place}
 use Rattle.k_optab.specs.declared.class.Class.{Class}
 use Rattle.k_optab.specs.declared.event.Event.{Event}
 use Rattle.k_optab.specs.declared.event.Event.TheVariants.{Op}
-use Rattle.k_code.specs.declared.ending.End.{End}
-use Rattle.k_code.specs.declared.ending.End.TheVariants.{Trapped, OutOfSteps}
-use Rattle.k_code.specs.declared.ending.Trap.TheVariants.{Uninit}
+use Rattle.k_ending.specs.declared.ending.End.{End}
+use Rattle.k_ending.specs.declared.ending.End.TheVariants.{Trapped, OutOfSteps}
+use Rattle.k_ending.specs.declared.ending.Trap.TheVariants.{Uninit}
 use Rattle.k_world.specs.declared.act.Act.{Act}
 use Rattle.k_world.specs.declared.value.Held.{Held}
 use Rattle.k_world.specs.declared.value.Read.{Read}

@@ -1,3 +1,4 @@
+-- Believed with a public law.
 -- What every world keeps, whatever operations are made.
 use Rattle.std.specs.Prelude.{ℕ, ◌≡◌, ◌≢◌, ◌+◌, ◌*◌, ◌<◌, ◌≤◌, List, [], ◌∷◌, ◌++◌, length, Option, Some, None}
 use Rattle.k_num.specs.declared.place.Place.{Place}
@@ -6,8 +7,8 @@ use Rattle.k_optab.specs.declared.event.Event.{Event}
 use Rattle.k_optab.specs.declared.event.Event.TheVariants.{Op}
 use Rattle.k_optab.specs.declared.event.Src.{Src}
 use Rattle.k_optab.specs.Events.{operations, SourcesAreEarlier, total_latency}
-use Rattle.k_code.specs.declared.ending.End.{End}
-use Rattle.k_code.specs.declared.ending.End.TheVariants.{Returned, Trapped, OutOfSteps}
+use Rattle.k_ending.specs.declared.ending.End.{End}
+use Rattle.k_ending.specs.declared.ending.End.TheVariants.{Returned, Trapped, OutOfSteps}
 use Rattle.k_world.specs.declared.act.Act.{Act}
 use Rattle.k_world.specs.declared.act.Act.TheVariants as act
 use Rattle.k_world.specs.declared.value.Held.{Held}

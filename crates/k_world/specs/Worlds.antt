@@ -1,3 +1,4 @@
+-- Believed with the theorem on the top call.
 -- The world that operations act on.
 use Rattle.std.specs.Prelude.{ℕ, ◌≡◌, List, [], length, Option, None}
 use Rattle.k_optab.specs.declared.event.Event.{Event}

@@ -1,7 +1,7 @@
 //! What an operation answers.
 
 use crate::{Held, Value};
-use k_code::{End, Trap};
+use k_ending::{End, Trap};
 use k_num::NoMemory;
 use std::alloc::AllocError;
 

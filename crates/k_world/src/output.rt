@@ -12,7 +12,7 @@ use crate::answer::Refusal;
 use crate::operands::first_number;
 use crate::{Chunk, Out, Read, Value};
 use itoa::Buffer;
-use k_code::Trap;
+use k_ending::Trap;
 use k_num::NoMemory;
 use std::alloc::Global;
 

@@ -9,7 +9,7 @@ ghost use Rattle.k_world.specs.Answers.{near};
 use crate::operands::{pointer_and_number, two_pointers};
 use crate::works::{trap_of_memory, truth};
 use crate::{Read, Value};
-use k_code::Trap;
+use k_ending::Trap;
 use k_mem::{MemTrap, Objects, Pointer};
 use k_num::Bin;
 

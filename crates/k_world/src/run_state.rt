@@ -13,7 +13,7 @@ use crate::operands::{are_set, one_pointer, pointer_and_number};
 use crate::pointers::{compare, difference, offset};
 use crate::works::{binary, convert_to, move_one, test, trap_of_memory, unary};
 use crate::{ActRef, Held, Out, Read, Value, output};
-use k_code::{End, Trap};
+use k_ending::{End, Trap};
 use k_mem::Objects;
 use k_num::Place;
 use std::alloc::Global;
@@ -328,6 +328,3 @@ fn behind_byte(input: &[u8]) -> &[u8]
         [] => input,
     }
 }
-
-#[cfg(test)]
-mod tests;

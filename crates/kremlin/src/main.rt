@@ -4,7 +4,7 @@
 
 use k_edge::{HostFiles, Sink, StdSink, StdSource};
 use k_num::NoMemory;
-use k_whole::kremlin;
+use k_top::kremlin;
 use std::env;
 use std::io::ErrorKind;
 use std::process::ExitCode;

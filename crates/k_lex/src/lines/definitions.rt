@@ -1,17 +1,18 @@
 //! `#define`: the bodies of new macros, and of known ones.
 ghost use Rattle.std.specs.Prelude.{◌≡◌, ◌<◌, [], ◌∷◌, length, Ok, IsTrue, OnOk};
-ghost use Rattle.k_lex.specs.Bytes as bytes;
-ghost use Rattle.k_lex.specs.Macros as macros;
+ghost use Rattle.k_lex_pieces.specs.Bytes as bytes;
+ghost use Rattle.k_lex_macros.specs.Macros as macros;
 ghost use Rattle.k_lex.specs.Lines as spec;
 ghost use Rattle.k_lex.specs.Shown.{shown, Sound, IsReadable};
-ghost use Rattle.k_lex.specs.Outcome.{Gives};
+ghost use Rattle.k_lex_pieces.specs.Outcome.{Gives};
 
 use super::{Again, Mode, State};
-use crate::fault::{Refusal, Stop};
-use crate::macros::{Lexeme, is_named};
-use crate::pieces::Piece;
-use crate::tokens::{copy_of_bytes, refusal, token_of};
-use crate::words::word_of;
+use crate::tokens::{refusal, token_of};
+use k_lex_macros::copies::copy_of_bytes;
+use k_lex_macros::macros::{Lexeme, is_named};
+use k_lex_pieces::fault::{Refusal, Stop};
+use k_lex_pieces::pieces::Piece;
+use k_lex_pieces::words::word_of;
 use k_num::{Place, Seq};
 use k_tree::TokenKind;
 use std::alloc::Global;

@@ -1,15 +1,15 @@
 //! `#include`: a header's name, and what stands behind it.
 ghost use Rattle.std.specs.Prelude.{◌≡◌, ◌||◌, [], ◌∷◌, OnOk};
-ghost use Rattle.k_lex.specs.Bytes as bytes;
+ghost use Rattle.k_lex_pieces.specs.Bytes as bytes;
 ghost use Rattle.k_lex.specs.Lines as spec;
 ghost use Rattle.k_lex.specs.Shown.{shown, Sound};
-ghost use Rattle.k_lex.specs.Outcome.{Gives};
+ghost use Rattle.k_lex_pieces.specs.Outcome.{Gives};
 
 use super::{Directive, Mode, State};
-use crate::fault::{Refusal, Stop};
-use crate::headers::{Header, add_new, breaks_order, changes, header_of, macros_of};
-use crate::pieces::Piece;
 use crate::tokens::refusal;
+use k_lex_macros::headers::{Header, add_new, breaks_order, changes, header_of, macros_of};
+use k_lex_pieces::fault::{Refusal, Stop};
+use k_lex_pieces::pieces::Piece;
 use k_num::Place;
 use std::alloc::Global;
 

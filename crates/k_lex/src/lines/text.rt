@@ -1,15 +1,16 @@
 //! What a piece does outside of directives: tokens, and the uses of macros.
-ghost use Rattle.std.specs.Prelude.{◌≡◌, ◌<◌, ◌≤◌, [], ◌∷◌, length, OnOk};
-ghost use Rattle.k_lex.specs.Macros as macros;
+ghost use Rattle.std.specs.Prelude.{◌≡◌, ◌<◌, [], ◌∷◌, OnOk};
+ghost use Rattle.k_lex_macros.specs.Macros as macros;
+ghost use Rattle.k_lex_macros.specs.Table.{count_of};
 ghost use Rattle.k_lex.specs.Lines as spec;
 ghost use Rattle.k_lex.specs.Shown.{shown, Sound, IsReadable};
-ghost use Rattle.k_lex.specs.Outcome.{Gives};
+ghost use Rattle.k_lex_pieces.specs.Outcome.{Gives};
 
 use super::{Mode, State};
-use crate::fault::{Refusal, Stop};
-use crate::pieces::Piece;
 use crate::tokens::{refusal, token_of};
-use crate::words::is_same;
+use k_lex_pieces::fault::{Refusal, Stop};
+use k_lex_pieces::pieces::Piece;
+use k_lex_pieces::words::is_same;
 use k_num::Place;
 use k_tree::{Token, TokenKind};
 use std::alloc::Global;
@@ -40,7 +41,7 @@ fn add_one(state: &mut State, place: Place, what: TokenKind, size: usize) -> Res
 /// Adds the tokens of the macro of this number.
 fn add_macro(alloc: Global, state: &mut State, place: Place, number: usize) -> Result<(), Stop>
     requires sound { Sound state.old }
-    requires there { number < length state.old.macros.list.items }
+    requires there { number < count_of state.old.macros }
     ensures gives { Gives (λ _. shown state.new) result (spec.add place (macros.full_at (macros.fulls (shown state.old).macros) number) (shown state.old)) }
     ensures sound { OnOk result (Sound state.new) }
 {

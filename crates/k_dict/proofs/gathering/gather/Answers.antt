@@ -4,7 +4,7 @@ use Rattle.k_dict.specs.Gathering.{LeadsTo, gathered}
 use Rattle.k_dict.proofs.Gathered.{gathers_is}
 use Rattle.k_dict.proofs.gathering.gather.Goals as goal
 
-pub returns : goal.returns
-returns c =
+pub returns-clause-answer : goal.returns-clause-answer
+returns-clause-answer c =
     let P : List Node → Type 0 = λ nodes. LeadsTo c.gather_all.result (gathered nodes) in
-    gathers_is c.args.nodes.now c.gather_all.result c.requires (subst P c.as_slice.ensures c.gather_all.ensures)
+    gathers_is c.args.nodes.now c.gather_all.result c.requires (subst P c.as_slice.ensures c.gather_all.ensures.leads)

@@ -1,4 +1,4 @@
-use Rattle.k_lex.proofs.NameLaws.{name_utf8}
+use Rattle.k_lex_pieces.proofs.NameLaws.{name_utf8}
 use Rattle.k_lex.proofs.tokens.name_of.Goals as goal
 
 pub unreachable-requires : goal.unreachable-requires

@@ -1,5 +1,5 @@
 use Rattle.std.proofs.Common.{◌≡◌, ◌++◌, map, drop}
-use Rattle.k_marks.specs.Contents.{inside, part_inside, row}
+use Rattle.k_marks_meaning.specs.Contents.{inside, part_inside, row}
 use Rattle.k_marks.specs.Found.{seen}
 use Rattle.k_marks.proofs.found.+statements.Given as goal
 

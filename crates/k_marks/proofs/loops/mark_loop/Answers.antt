@@ -1,5 +1,5 @@
 use Rattle.std.proofs.Common.{◌≡◌, ◌∙◌}
-use Rattle.k_marks.specs.Loops.{loop_uses, is_counted}
+use Rattle.k_marks_meaning.specs.Loops.{loop_uses, is_counted}
 use Rattle.k_marks.specs.Found.{seen}
 use Rattle.k_marks.proofs.LoopLaws.{if_fresh, if_sized, counted_is, if_counted, if_broken}
 use Rattle.k_marks.proofs.loops.mark_loop.Goals as goal

@@ -1,5 +1,5 @@
 use Rattle.std.proofs.Common.{◌≡◌, ◌++◌, drop}
-use Rattle.k_marks.specs.Uses.{declares}
+use Rattle.k_marks_meaning.specs.Uses.{declares}
 use Rattle.k_marks.proofs.loops.note_declares.Given as goal
 
 abbrev pub invariant-loop-declarator : goal.invariant-loop-declarator

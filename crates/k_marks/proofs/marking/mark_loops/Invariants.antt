@@ -1,5 +1,5 @@
 use Rattle.std.proofs.Common.{◌≡◌, ◌+◌, ◌++◌, length, map, drop}
-use Rattle.k_marks.specs.Loops.{is_counted, broken_by_all}
+use Rattle.k_marks_meaning.specs.Loops.{is_counted, broken_by_all}
 use Rattle.k_marks.specs.Found.{seen}
 use Rattle.k_marks.specs.Known.{IsFresh}
 use Rattle.k_marks.proofs.marking.mark_loops.Given as goal

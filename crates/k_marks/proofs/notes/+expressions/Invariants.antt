@@ -1,5 +1,5 @@
 use Rattle.std.proofs.Common.{◌≡◌, ◌++◌, map, drop}
-use Rattle.k_marks.specs.Uses.{in_order, used}
+use Rattle.k_marks_meaning.specs.Uses.{in_order, used}
 use Rattle.k_marks.proofs.notes.+expressions.Given as goal
 
 abbrev pub invariant-note_args-loop-arg : goal.invariant-note_args-loop-arg

@@ -1,5 +1,5 @@
 use Rattle.std.proofs.Common.{◌≡◌, ◌++◌, map, drop}
-use Rattle.k_marks.specs.Uses.{all_uses, item_uses}
+use Rattle.k_marks_meaning.specs.Uses.{all_uses, item_uses}
 use Rattle.k_marks.proofs.notes.note_items.Given as goal
 
 abbrev pub invariant-loop-item : goal.invariant-loop-item

@@ -1,5 +1,5 @@
 use Rattle.std.proofs.Common.{◌≡◌, ◌++◌, map, drop}
-use Rattle.k_marks.specs.Contents.{inside, part_inside, row}
+use Rattle.k_marks_meaning.specs.Contents.{inside, part_inside, row}
 use Rattle.k_marks.proofs.statements.+statements.Given as goal
 
 abbrev pub invariant-note_stmts-loop-stmt : goal.invariant-note_stmts-loop-stmt

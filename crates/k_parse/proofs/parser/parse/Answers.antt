@@ -1,7 +1,7 @@
 use Rattle.std.proofs.Common.{◌≡◌, ◌≤◌, ◌*◌, ◌∙◌, length, Err, ap, sym, inr, rules, arith}
 use Rattle.k_tree.specs.Count.{unit_count}
 use Rattle.k_parse.specs.Runs.{runs}
-use Rattle.k_steps.specs.Sources.{begin_source}
+use Rattle.k_parse_steps.specs.Sources.{begin_source}
 use Rattle.k_parse.specs.Parse.{IsTreeOf, nesting_limit}
 use Rattle.k_parse.proofs.Trees.{few_nodes, only_tree, one_tree}
 use Rattle.k_parse.proofs.Whole.{tree_read, err_refused}

@@ -1,7 +1,7 @@
 use Rattle.std.proofs.Common.{◌≡◌, ◌∙◌, inr, sym, arith}
-use Rattle.k_steps.specs.Sources.{begin_source, feed_source}
+use Rattle.k_parse_steps.specs.Sources.{begin_source, feed_source}
 use Rattle.k_parse.specs.Runs.{runs}
-use Rattle.k_steps.specs.declared.turn.Turn.TheVariants as turn
+use Rattle.k_parse_steps.specs.declared.turn.Turn.TheVariants as turn
 use Rattle.k_parse.specs.Parse.{nesting_limit}
 use Rattle.k_parse.proofs.LastToken.{goes_ends}
 use Rattle.k_parse.proofs.Turns.{done_leads, refused_leads, deep_leads, goes_leads}

@@ -1,7 +1,7 @@
 use Rattle.std.proofs.Common.{◌≡◌, drop}
 use Rattle.k_tree.specs.Closed.{EndsOnce}
 use Rattle.k_parse.specs.Runs.{runs}
-use Rattle.k_steps.specs.Sources.{begin_source}
+use Rattle.k_parse_steps.specs.Sources.{begin_source}
 use Rattle.k_parse.specs.Parse.{nesting_limit}
 use Rattle.k_parse.proofs.parser.read.Given as goal
 

@@ -1,6 +1,6 @@
 use Rattle.std.proofs.Common.{List, sym, subst}
-use Rattle.k_evaluation.specs.declared.jumps.Jumps.{Jumps}
-use Rattle.k_running.specs.Noted.{FitsFunctions}
+use Rattle.k_marks_meaning.specs.declared.jumps.Jumps.{Jumps}
+use Rattle.k_plain_statements.specs.Noted.{FitsFunctions}
 use Rattle.k_plain.proofs.program.plain.Goals as goal
 
 pub run_by-requires : goal.run_by-requires

@@ -1,12 +1,12 @@
 use Rattle.std.proofs.Common.{◌≡◌, ◌∙◌, Option, Err, refl, sym, ap, subst}
 use Rattle.std.specs.Result.{IfOk}
-use Rattle.k_code.specs.declared.ending.End.{End}
+use Rattle.k_ending.specs.declared.ending.End.{End}
 use Rattle.k_world.specs.declared.answer.Stop.{Stop}
 use Rattle.k_world.specs.declared.value.Held.{Held}
 use Rattle.k_evaluation.specs.Runs.{whole}
 use Rattle.k_evaluation.specs.States.{Program, State}
-use Rattle.k_code.specs.declared.listing.Listing.{Listing}
-use Rattle.k_listing.specs.Comes.{Comes, listed}
+use Rattle.k_ending.specs.declared.listing.Listing.{Listing}
+use Rattle.k_plain_state.specs.Comes.{Comes, listed}
 use Rattle.k_plain.proofs.MainRows.{run_ended, run_stopped}
 use Rattle.k_plain.proofs.program.run_by.Goals as goal
 

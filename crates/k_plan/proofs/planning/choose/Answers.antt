@@ -2,7 +2,7 @@ use Rattle.std.proofs.Common.{◌≡◌, ◌&&◌, Bool, List, length, get_or, v
 use Rattle.k_selfpar.specs.declared.context.Context.{Context}
 use Rattle.k_plan.specs.declared.limits.Limits.{Limits}
 use Rattle.k_plan.specs.Best.{AreBest, is_free, takes, with_pick}
-use Rattle.k_plan.specs.Choices.{root_work}
+use Rattle.k_selfpar.specs.Contexts.{root_work}
 use Rattle.k_plan.specs.Plan.{behind_root}
 use Rattle.k_plan.proofs.Choosing.{more_chosen, parent_within, root_small, work_small}
 use Rattle.k_plan.proofs.planning.choose.Goals as goal

@@ -1,6 +1,7 @@
 use Rattle.std.proofs.Common.{◌≡◌, ◌≤◌, ◌++◌, List, ℕ, drop, length}
 use Rattle.k_optab.specs.Events.{made_before, operations}
-use Rattle.k_report.specs.Graph.{AddsInstanceLines, AreInstanceLines}
+use Rattle.k_report.specs.Graph.{AreInstanceLines}
+use Rattle.k_report.specs.Writing.{AddsInstanceLines}
 use Rattle.k_report.proofs.instance_lines.push_instances.Given as goal
 
 abbrev pub invariant-loop-number : goal.invariant-loop-number

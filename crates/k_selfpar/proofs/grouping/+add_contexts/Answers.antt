@@ -1,7 +1,8 @@
-use Rattle.std.proofs.Common.{◌≡◌, ◌+◌, ◌<◌, ◌^◌, List, [], ◌∷◌, length, sym, ap, ◌∙◌, subst, arith, length-append}
+use Rattle.std.proofs.Common.{◌≡◌, ◌+◌, ◌<◌, ◌^◌, List, [], ◌∷◌, Result, Err, length, sym, ap, ◌∙◌, subst, rules, arith, length-append}
 use Rattle.std.proofs.lemmas.List.{nil_from_length}
-use Rattle.k_selfpar.specs.Grouping.{AreChildren, Fits, IsContextOf}
-use Rattle.k_selfpar.specs.Items.{AreItems, items_in, total, totals}
+use Rattle.k_selfpar.specs.Grouping.{AddsContexts, AreChildren, Fits}
+use Rattle.k_selfpar.specs.Items.{AreItems, total}
+use Rattle.k_selfpar.specs.declared.context.ContextFault.{ContextFault}
 use Rattle.k_selfpar.specs.declared.item.Item.{Item}
 use Rattle.k_selfpar.proofs.Grouped.{all_listed, children_few, children_fit, children_lower, err_below, fitting_small, front_fits, front_items, ok_below, region_there, wide_here}
 use Rattle.k_selfpar.proofs.Profile.{have_children}
@@ -66,8 +67,8 @@ context_of-context-requires-clause-few t c =
     c.in-Some.first.now c.in-Some.field-0-1.now c.in-Some.ensures.cases.0 c.split_region.result.0.now c.split_region.result.1.now c.split_region.ensures.whole
     c.split_region.ensures.same c.split_region.ensures.other in
     let P : List Item → Type 0 = λ l. total (λ n. 1) l < 2 ^ 64 in
-    subst P (sym c.as_slice.ensures.value)
-    (children_few c.args.dict.now c.requires.profile c.split_region.result.0.now are fits c.in-Ok.children.items c.in-Ok.ensures)
+    subst P (sym c.as_slice-below.ensures.value)
+    (children_few c.args.dict.now c.requires.profile c.split_region.result.0.now are fits c.in_ok-children.children.items c.in_ok-children.ensures)
 
 pub add_contexts-requires : goal.add_contexts-requires
 add_contexts-requires t c =
@@ -80,14 +81,14 @@ add_contexts-requires t c =
     c.in-Some.first.now c.in-Some.field-0-1.now c.in-Some.ensures.cases.0 c.split_region.result.0.now c.split_region.result.1.now c.split_region.ensures.whole
     c.split_region.ensures.same c.split_region.ensures.other in
     let P : List Item → Type 0 = λ l. AreChildren c.args.dict.now c.split_region.result.0.now l in
-    let of : AreChildren c.args.dict.now c.split_region.result.0.now c.as_slice-in-Some.result.now =
-    subst P (sym c.as_slice-in-Some.ensures.value) c.in-Ok.ensures in
+    let of : AreChildren c.args.dict.now c.split_region.result.0.now c.as_slice-below.result.now =
+    subst P (sym c.as_slice-below.ensures.value) c.in_ok-children.ensures in
     let lower = children_lower c.args.regions.now c.args.dict.now c.args.parent c.args.items.now c.loop-first.rest.now c.args.contexts.now c.loop-first.contexts c.loop-first.invariant
     c.in-Some.first.now c.in-Some.field-0-1.now c.in-Some.ensures.cases.0 c.split_region.result.0.now c.split_region.result.1.now c.split_region.ensures.whole
     c.split_region.ensures.same c.split_region.ensures.other
-    c.as_slice-in-Some.result.now of in
+    c.as_slice-below.result.now of in
     let count : length c.push.new.self ≡ length c.loop-first.contexts + 1 =
-    ap length c.in_default-push.ensures.ok ∙ length-append c.loop-first.contexts (c.context_of-context.result ∷ []) in (
+    ap length c.in_ok-push.ensures.ok ∙ length-append c.loop-first.contexts (c.context_of-context.result ∷ []) in (
       omega (arith, lower, c.decreases),
       (
         of.are,
@@ -98,7 +99,7 @@ add_contexts-requires t c =
             (
               c.requires.regions,
               (
-                children_fit c.args.dict.now c.requires.profile c.split_region.result.0.now are fits c.as_slice-in-Some.result.now of,
+                children_fit c.args.dict.now c.requires.profile c.split_region.result.0.now are fits c.as_slice-below.result.now of,
                 omega (arith, count, c.len-number.ensures, c.if-number-eq-MOST_CONTEXTS.false, c.loop-first.invariant.room),
               ),
             ),
@@ -107,34 +108,34 @@ add_contexts-requires t c =
       ),
     )
 
-pub returns-in-Err-add_contexts : goal.returns-in-Err-add_contexts
-returns-in-Err-add_contexts t c =
+pub returns-in_err-add_contexts : goal.returns-in_err-add_contexts
+returns-in_err-add_contexts t c =
+    let same : c.from_residual-in_err-add_contexts.result ≡ Err c.in_err-add_contexts.field-0.0 = first_of (search rules, grind arith, cc) in
     let P : List Item → Type 0 = λ l. AreChildren c.args.dict.now c.split_region.result.0.now l in
-    let of : AreChildren c.args.dict.now c.split_region.result.0.now c.as_slice-in-Some.result.now =
-    subst P (sym c.as_slice-in-Some.ensures.value) c.in-Ok.ensures in
-    let Q : List Item → Type 0 = λ l. IsContextOf c.args.regions.now c.args.parent c.in-Some.first.now.region (totals c.args.dict.now c.split_region.result.0.now)
-    (total (λ n. 1) (items_in (c.in-Some.first.now.region + 1) l)) c.context_of-context.result in
-    err_below c.args.regions.now c.args.dict.now c.args.parent c.args.items.now c.loop-first.rest.now c.args.contexts.now c.loop-first.contexts c.loop-first.invariant
+    let of : AreChildren c.args.dict.now c.split_region.result.0.now c.as_slice-below.result.now =
+    subst P (sym c.as_slice-below.ensures.value) c.in_ok-children.ensures in
+    let R : Result (Unit {0}) ContextFault → Type 0 =
+    λ r. AddsContexts c.args.regions.now c.args.dict.now c.args.parent c.args.items.now c.args.contexts.now r c.add_contexts.new.contexts in
+    subst R (sym same)
+    (err_below c.args.regions.now c.args.dict.now c.args.parent c.args.items.now c.loop-first.rest.now c.args.contexts.now c.loop-first.contexts c.loop-first.invariant
     c.in-Some.first.now c.in-Some.field-0-1.now c.in-Some.ensures.cases.0 c.split_region.result.0.now c.split_region.result.1.now c.split_region.ensures.whole
     c.split_region.ensures.same c.split_region.ensures.other
-    c.as_slice-in-Some.result.now of c.context_of-context.result
-    (subst Q (c.as_slice.ensures.value ∙ sym c.as_slice-in-Some.ensures.value) c.context_of-context.ensures)
+    c.as_slice-below.result.now of c.context_of-context.result
+    c.context_of-context.ensures
     c.requires.profile.interned.earlier c.requires.regions c.len-number.result c.len-number.ensures c.push.new.self c.add_contexts.new.contexts c.add_contexts.new.contexts
-    c.in_default-push.ensures.ok c.in-Err-add_contexts.fault c.in-Err-add_contexts.ensures
+    c.in_ok-push.ensures.ok c.in_err-add_contexts.field-0.0 c.in_err-add_contexts.ensures)
 
 pub loop-first-preserved : goal.loop-first-preserved
 loop-first-preserved t c =
     let P : List Item → Type 0 = λ l. AreChildren c.args.dict.now c.split_region.result.0.now l in
-    let of : AreChildren c.args.dict.now c.split_region.result.0.now c.as_slice-in-Some.result.now =
-    subst P (sym c.as_slice-in-Some.ensures.value) c.in-Ok.ensures in
-    let Q : List Item → Type 0 = λ l. IsContextOf c.args.regions.now c.args.parent c.in-Some.first.now.region (totals c.args.dict.now c.split_region.result.0.now)
-    (total (λ n. 1) (items_in (c.in-Some.first.now.region + 1) l)) c.context_of-context.result in
+    let of : AreChildren c.args.dict.now c.split_region.result.0.now c.as_slice-below.result.now =
+    subst P (sym c.as_slice-below.ensures.value) c.in_ok-children.ensures in
     ok_below c.args.regions.now c.args.dict.now c.args.parent c.args.items.now c.loop-first.rest.now c.args.contexts.now c.loop-first.contexts c.loop-first.invariant
     c.in-Some.first.now c.in-Some.field-0-1.now c.in-Some.ensures.cases.0 c.split_region.result.0.now c.split_region.result.1.now c.split_region.ensures.whole
     c.split_region.ensures.same c.split_region.ensures.other
-    c.as_slice-in-Some.result.now of c.context_of-context.result
-    (subst Q (c.as_slice.ensures.value ∙ sym c.as_slice-in-Some.ensures.value) c.context_of-context.ensures)
-    c.len-number.result c.len-number.ensures c.push.new.self c.add_contexts.new.contexts c.in_default-push.ensures.ok c.in_default-add_contexts.ensures
+    c.as_slice-below.result.now of c.context_of-context.result
+    c.context_of-context.ensures
+    c.len-number.result c.len-number.ensures c.push.new.self c.add_contexts.new.contexts c.in_ok-push.ensures.ok c.in_ok-add_contexts.ensures
 
 pub returns : goal.returns
 returns t c =

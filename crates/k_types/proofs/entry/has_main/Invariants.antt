@@ -1,5 +1,5 @@
 use Rattle.std.proofs.Common.{◌≡◌, drop}
-use Rattle.k_typed.specs.Units as rules
+use Rattle.k_types_meaning.specs.Units as rules
 use Rattle.k_types.proofs.entry.has_main.Given as goal
 
 abbrev pub invariant-loop-item : goal.invariant-loop-item

@@ -1,8 +1,8 @@
 use Rattle.std.proofs.Common.{◌≡◌, Ok, Err, sym, subst, rules, arith}
-use Rattle.k_declaring.specs.Results.{seen}
-use Rattle.k_typed.specs.Functions.{function_judged, names_behind_head}
+use Rattle.k_types_declarations.specs.Results.{seen}
+use Rattle.k_types_meaning.specs.Functions.{function_judged, names_behind_head}
 use Rattle.k_types.specs.Functions.{GivesFunction}
-use Rattle.k_types.specs.Results.{Makes}
+use Rattle.k_types.specs.Results.{MakesOrRefuses}
 use Rattle.k_types.specs.Standings.{standing_made}
 use Rattle.k_types.proofs.Functions.{block_refuses, definition_gives, function_params, standing_refuses}
 use Rattle.k_types.proofs.function.function.Goals as goal
@@ -38,7 +38,7 @@ returns-in_err-test c =
     (seen c.judge_head.new.known) (seen c.enter.new.known) c.close.new.self c.requires.file c.in_ok-signature.ensures c.close.ensures c.in_ok-enter.ensures
     c.in_ok-body.body (seen c.judge_block.new.known) c.in_ok-body.ensures c.standing_of-standing.result c.standing_of-standing.ensures
     c.in_err-test.field-0.0
-    (λ g. subst (λ x. Makes (Err c.in_err-test.field-0.0) g (standing_made c.standing_of-standing.result d.place x g)) c.as_str.ensures (c.in_err-test.ensures g)))
+    (λ g. subst (λ x. MakesOrRefuses (Err c.in_err-test.field-0.0) g (standing_made c.standing_of-standing.result d.place x g)) c.as_str.ensures (c.in_err-test.ensures g)))
 
 pub returns : goal.returns
 returns c =
@@ -47,5 +47,5 @@ returns c =
     (seen c.judge_head.new.known) (seen c.enter.new.known) c.close.new.self c.requires.file c.in_ok-signature.ensures c.close.ensures c.in_ok-enter.ensures
     c.in_ok-body.body (seen c.judge_block.new.known) c.in_ok-body.ensures c.standing_of-standing.result c.standing_of-standing.ensures
     c.in_ok-tree.tree c.close-2.new.self c.close-2.ensures
-    (λ g. subst (λ x. Makes (Ok tt) g (standing_made c.standing_of-standing.result d.place x g)) c.as_str.ensures (c.in_ok-test.ensures g))
+    (λ g. subst (λ x. MakesOrRefuses (Ok tt) g (standing_made c.standing_of-standing.result d.place x g)) c.as_str.ensures (c.in_ok-test.ensures g))
     c.in_ok-tree.ensures

@@ -1,7 +1,7 @@
 use Rattle.std.proofs.Common.{ap, ◌∙◌}
-use Rattle.k_declaring.specs.Results.{seen}
-use Rattle.k_typed.specs.Functions.{variable_types}
-use Rattle.k_typed.specs.Names.{place_in}
+use Rattle.k_types_declarations.specs.Results.{seen}
+use Rattle.k_types_meaning.specs.Functions.{variable_types}
+use Rattle.k_types_meaning.specs.Names.{place_in}
 use Rattle.k_types.proofs.Heads.{head_gives}
 use Rattle.k_types.proofs.head.judge_head.Goals as goal
 

@@ -1,5 +1,5 @@
 use Rattle.std.proofs.Common.{refl, ap, ◌∙◌, take}
-use Rattle.k_typed.specs.Units.{is_name}
+use Rattle.k_types_meaning.specs.Units.{is_name}
 use Rattle.k_types.proofs.Items.{function_gives}
 use Rattle.k_types.proofs.item.place_function.Goals as goal
 

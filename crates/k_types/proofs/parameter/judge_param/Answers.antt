@@ -1,8 +1,8 @@
 use Rattle.std.proofs.Common.{ap, ◌∙◌}
 use Rattle.std.specs.Prelude.{is_some}
-use Rattle.k_declaring.specs.Results.{seen}
-use Rattle.k_typed.specs.Declarations.{type_or_int}
-use Rattle.k_typed.specs.Functions.{sizes_or_none}
+use Rattle.k_types_declarations.specs.Results.{seen}
+use Rattle.k_types_meaning.specs.Declarations.{type_or_int}
+use Rattle.k_types_meaning.specs.Functions.{sizes_or_none}
 use Rattle.k_types.specs.Parameters.{behind_variable, type_with}
 use Rattle.k_types.proofs.Parameters.{param_goes}
 use Rattle.k_types.proofs.parameter.judge_param.Goals as goal

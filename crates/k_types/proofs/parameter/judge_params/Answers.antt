@@ -1,4 +1,4 @@
-use Rattle.k_declaring.specs.Results.{seen}
+use Rattle.k_types_declarations.specs.Results.{seen}
 use Rattle.k_types.proofs.Parameters.{params_more}
 use Rattle.k_types.proofs.parameter.judge_params.Goals as goal
 

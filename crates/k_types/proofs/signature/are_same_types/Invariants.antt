@@ -1,5 +1,5 @@
 use Rattle.std.proofs.Common.{◌≡◌, length}
-use Rattle.k_typed.specs.Functions.{same_types}
+use Rattle.k_types_meaning.specs.Functions.{same_types}
 use Rattle.k_types.proofs.signature.are_same_types.Given as goal
 
 abbrev pub invariant-loop-first : goal.invariant-loop-first

@@ -1,5 +1,5 @@
 use Rattle.std.proofs.Common.{◌≡◌, ◌++◌, drop}
-use Rattle.k_typed.specs.Functions.{variable_types}
+use Rattle.k_types_meaning.specs.Functions.{variable_types}
 use Rattle.k_types.proofs.signature.types_of.Given as goal
 
 abbrev pub invariant-loop-variable : goal.invariant-loop-variable

@@ -1,6 +1,6 @@
 use Rattle.std.proofs.Common.{◌≡◌, Err, IfErr, sym, subst, rules, arith}
-use Rattle.k_typed.specs.declared.fault.TypeFault.{TypeFault}
-use Rattle.k_typed.specs.Units.{faults}
+use Rattle.k_types_meaning.specs.declared.fault.TypeFault.{TypeFault}
+use Rattle.k_types_meaning.specs.Units.{faults}
 use Rattle.k_types.specs.Results.{IsFirstFault}
 use Rattle.k_types.proofs.Sources.{calls_refused, is_typed, items_refused, main_refused, no_faults}
 use Rattle.k_types.proofs.source.check.Goals as goal

@@ -1,6 +1,6 @@
 use Rattle.std.proofs.Common.{◌≡◌, map, drop}
-use Rattle.k_typed.specs.Units.{all_faults, undefined_call}
-use Rattle.k_calls.specs.Calls.{seen}
+use Rattle.k_types_meaning.specs.Units.{all_faults, undefined_call}
+use Rattle.k_types_calls.specs.Noting.{seen}
 use Rattle.k_types.proofs.undefined.test_each.Given as goal
 
 abbrev pub invariant-loop-call : goal.invariant-loop-call

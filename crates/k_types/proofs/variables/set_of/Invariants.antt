@@ -1,7 +1,7 @@
 use Rattle.std.proofs.Common.{◌≡◌, ℕ, Bool, drop, nat_eq}
 use Rattle.std.specs.Prelude.{◌||◌}
 use Rattle.std.specs.HashSet.{contains}
-use Rattle.k_typed.specs.Functions.{has_number}
+use Rattle.k_types_meaning.specs.Functions.{has_number}
 use Rattle.k_types.proofs.variables.set_of.Given as goal
 
 abbrev pub invariant-loop-number : goal.invariant-loop-number

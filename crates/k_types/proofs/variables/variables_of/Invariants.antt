@@ -1,5 +1,5 @@
 use Rattle.std.proofs.Common.{◌≡◌, ◌++◌, drop, length}
-use Rattle.k_typed.specs.Functions.{variables_from}
+use Rattle.k_types_meaning.specs.Functions.{variables_from}
 use Rattle.k_types.proofs.variables.variables_of.Given as goal
 
 abbrev pub invariant-loop-index : goal.invariant-loop-index

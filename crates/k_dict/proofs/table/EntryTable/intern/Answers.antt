@@ -1,6 +1,4 @@
 use Rattle.std.proofs.Common.{ap, ◌∙◌, sym, subst, List, length, refl}
-use Rattle.k_dict.specs.Interning.{CanIntern}
-use Rattle.k_dict.specs.declared.entry.Entry.{Entry}
 use Rattle.k_dict.proofs.Pushes.{found_number, absent, too_many, added, added_last}
 use Rattle.k_dict.proofs.table.EntryTable.intern.Goals as goal
 
@@ -14,21 +12,21 @@ returns-then-len-eq-MOST_ENTRIES-clause-answer c = (
   refl,
 )
 
-pub returns-then-runs-gt-MOST_RUNS-clause-answer : goal.returns-then-runs-gt-MOST_RUNS-clause-answer
-returns-then-runs-gt-MOST_RUNS-clause-answer c =
+pub returns-then-runs-gt-MOST_RUNS_TOGETHER-clause-answer : goal.returns-then-runs-gt-MOST_RUNS_TOGETHER-clause-answer
+returns-then-runs-gt-MOST_RUNS_TOGETHER-clause-answer c =
     let many = too_many c.self.inside.entries.keys c.args.self.now c.args.entry c.self.inside.runs c.len.result c.self.view_is c.self.invariant.1
-    c.self.invariant.0 c.len.ensures (λ e. c.if-len-eq-MOST_ENTRIES.false (c.len-2.ensures.len ∙ e)) c.if-runs-gt-MOST_RUNS.true in
+    c.self.invariant.0 c.len.ensures (λ e. c.if-len-eq-MOST_ENTRIES.false (c.len-2.ensures.len ∙ e)) c.if-runs-gt-MOST_RUNS_TOGETHER.true in
     (absent c.self.inside.entries.keys c.args.self.now c.args.entry c.self.view_is c.in_default.ensures.found, many.0, many.1, refl)
 
 pub invariant_of-self : goal.invariant_of-self
 invariant_of-self c =
     added c.self.inside.entries.keys c.insert_full.new.self.keys c.args.entry c.self.inside.runs c.len.result c.self.invariant.1 c.self.invariant.0
-    c.len.ensures c.in_default.ensures.found (λ e. c.if-len-eq-MOST_ENTRIES.false (c.len-2.ensures.len ∙ e)) c.if-runs-gt-MOST_RUNS.false c.in-Ok.ensures.keys
+    c.len.ensures c.in_default.ensures.found (λ e. c.if-len-eq-MOST_ENTRIES.false (c.len-2.ensures.len ∙ e)) c.if-runs-gt-MOST_RUNS_TOGETHER.false c.in-Ok.ensures.keys
 
 pub returns-in-Ok-clause-distinct : goal.returns-in-Ok-clause-distinct
 returns-in-Ok-clause-distinct c =
     (added c.self.inside.entries.keys c.insert_full.new.self.keys c.args.entry c.self.inside.runs c.len.result c.self.invariant.1 c.self.invariant.0
-    c.len.ensures c.in_default.ensures.found (λ e. c.if-len-eq-MOST_ENTRIES.false (c.len-2.ensures.len ∙ e)) c.if-runs-gt-MOST_RUNS.false c.in-Ok.ensures.keys).1
+    c.len.ensures c.in_default.ensures.found (λ e. c.if-len-eq-MOST_ENTRIES.false (c.len-2.ensures.len ∙ e)) c.if-runs-gt-MOST_RUNS_TOGETHER.false c.in-Ok.ensures.keys).1
 
 pub returns-in-Ok-clause-answer : goal.returns-in-Ok-clause-answer
 returns-in-Ok-clause-answer c =

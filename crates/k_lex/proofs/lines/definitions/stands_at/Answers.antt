@@ -1,7 +1,7 @@
 use Rattle.std.proofs.Common.{◌≡◌, get_or, sym, ap, ◌∙◌}
-use Rattle.k_lex.specs.declared.macros.Lexeme.{Lexeme}
-use Rattle.k_lex.specs.Macros.{same_kind}
-use Rattle.k_lex.proofs.MacroLaws
+use Rattle.k_lex_macros.specs.declared.macros.Lexeme.{Lexeme}
+use Rattle.k_lex_macros.specs.Macros.{same_kind}
+use Rattle.k_lex_macros.proofs.MacroLaws
 use Rattle.k_lex.proofs.lines.definitions.stands_at.Goals as goal
 
 pub returns-then-at-body-clause-found : goal.returns-then-at-body-clause-found

@@ -1,9 +1,9 @@
 use Rattle.std.proofs.Common.{◌∙◌, sym, ap, ◌-◌, arith}
-use Rattle.k_running.proofs.FitLaws.{function_fits}
+use Rattle.k_plain_statements.proofs.FitLaws.{function_fits}
 use Rattle.k_plain.proofs.FrameRows.{entering_function, entering_none, entering_nothing}
 use Rattle.k_plain.proofs.TurnRows.{steps_from}
 use Rattle.k_plain.specs.Behind.{goes}
-use Rattle.k_listing.specs.Arounds.{program_of}
+use Rattle.k_plain_state.specs.Arounds.{program_of}
 use Rattle.std.specs.Option.{option_copied}
 use Rattle.k_plain.proofs.frame.Machine.behind_operation.Goals as goal
 

@@ -2,7 +2,7 @@ use Rattle.std.proofs.Common.{◌∙◌, sym, ap, List}
 use Rattle.k_plain.proofs.FitRows.{next_fits}
 use Rattle.k_plain.proofs.TurnRows.{steps_from, turned_by, turns_from}
 use Rattle.k_plain.specs.Behind.{goes, going}
-use Rattle.k_running.specs.declared.task.Waiting.{Waiting}
+use Rattle.k_plain_statements.specs.declared.task.Waiting.{Waiting}
 use Rattle.k_plain.proofs.frame.Machine.below.Goals as goal
 
 pub returns-in-Some-clause-steps : goal.returns-in-Some-clause-steps

@@ -1,7 +1,7 @@
 use Rattle.std.proofs.Common.{◌≡◌, ◌∙◌, ◌∷◌, arith, rules, sym, ap, subst, Result, Err, List, Option}
 use Rattle.k_world.specs.declared.answer.Stop.{Stop}
-use Rattle.k_pending.specs.declared.given.Given.{Given}
-use Rattle.k_pending.specs.declared.task.Task.TheVariants as task
+use Rattle.k_plain_tasks.specs.declared.given.Given.{Given}
+use Rattle.k_plain_tasks.specs.declared.task.Task.TheVariants as task
 use Rattle.k_plain.specs.declared.frame.Machine.{Machine}
 use Rattle.k_plain.specs.Steps.{Steps}
 use Rattle.k_evaluation.specs.Calls.{calls_operation}
@@ -10,9 +10,9 @@ use Rattle.k_evaluation.specs.declared.operand.Operand.{Operand}
 use Rattle.k_plain.proofs.FrameRows.{call_ended, call_made}
 use Rattle.k_plain.proofs.TurnRows.{steps_from}
 use Rattle.k_plain.specs.Behind.{goes}
-use Rattle.k_listing.specs.Arounds.{program_of}
-use Rattle.k_listing.specs.Comes.{Comes}
-use Rattle.k_pending.specs.Givens.{gives_operand, list_in}
+use Rattle.k_plain_state.specs.Arounds.{program_of}
+use Rattle.k_plain_state.specs.Comes.{Comes}
+use Rattle.k_plain_tasks.specs.Givens.{gives_operand, list_in}
 use Rattle.k_world.specs.declared.value.Held.{Held}
 use Rattle.k_plain.proofs.frame.Machine.call.Goals as goal
 

@@ -1,11 +1,11 @@
 use Rattle.std.proofs.Common.{◌∙◌, List, refl, sym, subst, ◌-◌}
-use Rattle.k_evaluation.specs.declared.jumps.Jumps.{Jumps}
-use Rattle.k_running.specs.Noted.{FitsAll}
+use Rattle.k_marks_meaning.specs.declared.jumps.Jumps.{Jumps}
+use Rattle.k_plain_statements.specs.Noted.{FitsAll}
 use Rattle.k_plain.specs.Fitting.{Fitting}
 use Rattle.k_plain.proofs.FitRows.{called_fits, on_ok}
 use Rattle.k_evaluation.specs.Calls.{calls}
 use Rattle.k_plain.proofs.FrameRows.{called_in, overflowed}
-use Rattle.k_listing.specs.Arounds.{program_of}
+use Rattle.k_plain_state.specs.Arounds.{program_of}
 use Rattle.k_plain.proofs.frame.Machine.enter.Goals as goal
 
 pub returns-then-is_too_large-clause-steps : goal.returns-then-is_too_large-clause-steps

@@ -2,9 +2,9 @@ use Rattle.std.proofs.Common.{◌≡◌, List, Option, Some, Result, Err, arith,
 use Rattle.k_world.specs.declared.answer.Stop.{Stop}
 use Rattle.k_world.specs.declared.value.Held.{Held}
 use Rattle.k_evaluation.specs.Runs.{runs_main}
-use Rattle.k_listing.specs.Arounds.{program_of}
-use Rattle.k_running.specs.declared.setting.Setting.{Setting}
-use Rattle.k_listing.specs.Comes.{Comes}
+use Rattle.k_plain_state.specs.Arounds.{program_of}
+use Rattle.k_plain_statements.specs.declared.setting.Setting.{Setting}
+use Rattle.k_plain_state.specs.Comes.{Comes}
 use Rattle.k_plain.specs.declared.frame.Frame.{Frame}
 use Rattle.k_plain.specs.Behind.{goes}
 use Rattle.k_plain.specs.Fitting.{AllFitting}

@@ -3,12 +3,12 @@ use Rattle.k_plain.proofs.TurnRows.{resumed, steps_from}
 use Rattle.k_evaluation.specs.States.{Outcome, follow}
 use Rattle.k_plain.specs.declared.frame.Machine.{Machine}
 use Rattle.k_plain.specs.Behind.{behind_all, goes}
-use Rattle.k_running.specs.Noted.{tabled_of}
+use Rattle.k_plain_statements.specs.Noted.{tabled_of}
 use Rattle.k_plain.specs.Fitting.{Fitting}
 use Rattle.k_plain.proofs.FitRows.{on_ok}
-use Rattle.k_pending.specs.declared.task.Task.{Task}
-use Rattle.k_pending.specs.declared.given.Given.{Given}
-use Rattle.k_running.specs.Resumes.{resumes, resumes_one}
+use Rattle.k_plain_tasks.specs.declared.task.Task.{Task}
+use Rattle.k_plain_tasks.specs.declared.given.Given.{Given}
+use Rattle.k_plain_statements.specs.Resumes.{resumes, resumes_one}
 use Rattle.k_plain.proofs.frame.Machine.resume.Goals as goal
 
 pub returns-clause-steps : goal.returns-clause-steps

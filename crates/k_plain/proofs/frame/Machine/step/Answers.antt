@@ -4,8 +4,8 @@ use Rattle.k_plain.proofs.FitRows.{on_ok}
 use Rattle.k_plain.proofs.TurnRows.{stepped}
 use Rattle.k_plain.specs.Behind.{goes}
 use Rattle.k_plain.specs.Steps.{Steps}
-use Rattle.k_pending.specs.declared.task.Task.{Task}
-use Rattle.k_pending.specs.declared.task.Task.TheVariants as task
+use Rattle.k_plain_tasks.specs.declared.task.Task.{Task}
+use Rattle.k_plain_tasks.specs.declared.task.Task.TheVariants as task
 use Rattle.k_plain.proofs.frame.Machine.step.Goals as goal
 
 pub returns-in-OfValue-clause-steps : goal.returns-in-OfValue-clause-steps

@@ -1,6 +1,6 @@
 use Rattle.std.proofs.Common.{◌∙◌, sym, ap}
 use Rattle.std.specs.Option.{option_copied}
-use Rattle.k_running.proofs.FitLaws.{function_fits}
+use Rattle.k_plain_statements.proofs.FitLaws.{function_fits}
 use Rattle.k_plain.proofs.frame.Machine.whole.Goals as goal
 
 pub main-requires-clause-fresh : goal.main-requires-clause-fresh

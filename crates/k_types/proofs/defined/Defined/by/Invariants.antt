@@ -1,6 +1,6 @@
 use Rattle.std.proofs.Common.{◌≡◌, ◌++◌, map, drop}
 use Rattle.std.specs.BTreeMap.{get_by_text}
-use Rattle.k_typed.specs.Units.{all_names, defined_in}
+use Rattle.k_types_meaning.specs.Units.{all_names, defined_in}
 use Rattle.k_types.specs.Defined.{IsIndexed}
 use Rattle.k_types.proofs.defined.Defined.by.Given as goal
 

@@ -1,6 +1,6 @@
 use Rattle.std.proofs.Common.{ap, ◌∙◌}
 use Rattle.std.specs.Prelude.{is_some}
-use Rattle.k_typed.specs.Units.{is_name}
+use Rattle.k_types_meaning.specs.Units.{is_name}
 use Rattle.k_types.proofs.Places.{there_is}
 use Rattle.k_types.proofs.defined.Defined.has.Goals as goal
 

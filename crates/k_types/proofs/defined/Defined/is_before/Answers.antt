@@ -1,5 +1,5 @@
 use Rattle.std.proofs.Common.{ap, ◌∙◌, take}
-use Rattle.k_typed.specs.Units.{is_name}
+use Rattle.k_types_meaning.specs.Units.{is_name}
 use Rattle.k_types.proofs.Places.{before_is, is_below}
 use Rattle.k_types.proofs.defined.Defined.is_before.Goals as goal
 

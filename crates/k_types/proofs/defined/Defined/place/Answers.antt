@@ -1,5 +1,5 @@
 use Rattle.std.proofs.Common.{ap, ◌∙◌, length}
-use Rattle.k_typed.specs.Names.{place_in}
+use Rattle.k_types_meaning.specs.Names.{place_in}
 use Rattle.k_types.proofs.Places.{place_is, place_or}
 use Rattle.k_types.proofs.defined.Defined.place.Goals as goal
 

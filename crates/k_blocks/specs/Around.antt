@@ -1,8 +1,0 @@
--- What lies around a statement, with its type lent.
-use Rattle.k_typed.specs.Statements as statements
-use Rattle.k_typing.specs.Views.{type_of}
-use Rattle.k_blocks.specs.declared.around.Around.{Around}
-
--- what lies around a statement
-abbrev pub around_of : Around → statements.Around
-around_of a = record { in_loop = a.in_loop; in_switch = a.in_switch; result = type_of a.result }

@@ -1,5 +1,0 @@
-use Rattle.k_declaring.proofs.SizesLaws.{Judges}
-use Rattle.k_declaring.proofs.dimension.dimensions.Given as goal
-
-abbrev pub invariant-loop-dim : goal.invariant-loop-dim
-invariant-loop-dim l = Judges l.names l.dim-items l.dim-index l.list l.fn.taken l.taken

@@ -1,6 +1,0 @@
-pub mod Braces
-pub mod Distances
-pub mod Objects
-pub mod Products
-pub mod Results
-pub mod Sizes

@@ -1,0 +1,5 @@
+use Rattle.k_dict_saved.proofs.Profiles as profiles
+use Rattle.k_dict_saved.proofs.laws.read_of_old.Goals as goal
+
+pub returns : goal.returns
+returns c = record { same = profiles.read_of_old; migrated = profiles.read_migrated; one = profiles.one_old }

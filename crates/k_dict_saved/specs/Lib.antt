@@ -1,0 +1,13 @@
+pub mod Extents
+pub mod FileText
+pub mod Files
+pub mod Formats
+pub mod Laws
+pub mod LineLaws
+pub mod Lines
+pub mod Migration
+pub mod Order
+pub mod Profile
+pub mod Reading
+pub mod SavedText
+pub mod Syntax

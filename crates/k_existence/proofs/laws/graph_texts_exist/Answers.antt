@@ -1,5 +1,0 @@
-use Rattle.k_existence.proofs.GraphTexts.{graph_text_exists}
-use Rattle.k_existence.proofs.laws.graph_texts_exist.Goals as goal
-
-pub returns : goal.returns
-returns c = graph_text_exists

@@ -1,5 +1,0 @@
-use Rattle.k_existence.proofs.Parsed.{lists_are_read}
-use Rattle.k_existence.proofs.laws.lists_are_read.Goals as goal
-
-pub returns : goal.returns
-returns c = lists_are_read

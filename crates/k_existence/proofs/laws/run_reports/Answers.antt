@@ -1,7 +1,0 @@
-use Rattle.k_existence.proofs.RunReports.{run_reports_exist}
-use Rattle.k_existence.proofs.ReportParts.{contexts_exist, plans_exist}
-use Rattle.k_existence.proofs.RowsOfTrees.{rows_exist}
-use Rattle.k_existence.proofs.laws.run_reports.Goals as goal
-
-pub returns : goal.returns
-returns c = run_reports_exist rows_exist contexts_exist plans_exist

@@ -1,5 +1,0 @@
-use Rattle.k_existence.proofs.Words.{words_are_answered}
-use Rattle.k_existence.proofs.laws.words.Goals as goal
-
-pub returns : goal.returns
-returns c = words_are_answered

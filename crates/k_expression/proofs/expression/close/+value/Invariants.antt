@@ -1,5 +1,0 @@
-use Rattle.std.proofs.Common.{length}
-use Rattle.k_expression.proofs.expression.close.+value.Given as goal
-
-abbrev pub decreases-value : goal.decreases-value
-decreases-value l = length l.opens

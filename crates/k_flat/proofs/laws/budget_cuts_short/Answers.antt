@@ -1,5 +1,0 @@
-use Rattle.k_flat.proofs.Cutting.{budget_cuts_short}
-use Rattle.k_flat.proofs.laws.budget_cuts_short.Goals as goal
-
-pub returns : goal.returns
-returns c = budget_cuts_short

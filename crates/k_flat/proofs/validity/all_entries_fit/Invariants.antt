@@ -1,5 +1,0 @@
-use Rattle.k_flat.specs.Checking.{EntriesFit}
-use Rattle.k_flat.proofs.validity.all_entries_fit.Given as goal
-
-abbrev pub invariant-loop-entry : goal.invariant-loop-entry
-invariant-loop-entry l = EntriesFit l.code l.entry

@@ -1,6 +1,0 @@
-use Rattle.std.proofs.Common.{◌≡◌, drop}
-use Rattle.k_flat.specs.Checking.{all_numbers_fit}
-use Rattle.k_flat.proofs.validity.all_numbers_fit.Given as goal
-
-abbrev pub invariant-loop-func : goal.invariant-loop-func
-invariant-loop-func l = all_numbers_fit l.code (drop l.func-index l.funcs) ≡ all_numbers_fit l.code l.funcs

@@ -1,6 +1,0 @@
-use Rattle.std.proofs.Common.{◌≡◌, ◌∷◌, replicate, Some, None}
-use Rattle.k_flat.specs.Balances.{nothing_open}
-use Rattle.k_flat.proofs.validity.balances.at_entry.Given as goal
-
-abbrev pub invariant-loop-k : goal.invariant-loop-k
-invariant-loop-k l = l.list.items ≡ Some nothing_open ∷ replicate l.k None

@@ -1,6 +1,0 @@
-use Rattle.std.proofs.Common.{◌≡◌, drop}
-use Rattle.k_flat.specs.Checking.{marked}
-use Rattle.k_flat.proofs.validity.extents.mark_each.Given as goal
-
-abbrev pub invariant-loop-func : goal.invariant-loop-func
-invariant-loop-func l = marked (drop l.func-index l.funcs) l.marks ≡ marked l.funcs l.fn.marks

@@ -1,6 +1,0 @@
-use Rattle.std.proofs.Common.{◌≡◌, map, drop}
-use Rattle.k_getchar.specs.Calls.{any, calls}
-use Rattle.k_getchar.proofs.expressions.+expressions.Given as goal
-
-abbrev pub invariant-args_call-loop-arg : goal.invariant-args_call-loop-arg
-invariant-args_call-loop-arg l = any (map calls (drop l.arg-index l.arg-items)) ≡ any (map calls l.args)

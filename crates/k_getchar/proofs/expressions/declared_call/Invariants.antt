@@ -1,6 +1,0 @@
-use Rattle.std.proofs.Common.{◌≡◌, map, drop}
-use Rattle.k_getchar.specs.Calls.{any, declarator_calls}
-use Rattle.k_getchar.proofs.expressions.declared_call.Given as goal
-
-abbrev pub invariant-loop-declarator : goal.invariant-loop-declarator
-invariant-loop-declarator l = any (map declarator_calls (drop l.declarator-index l.declarator-items)) ≡ any (map declarator_calls l.list)

@@ -1,6 +1,0 @@
-use Rattle.std.proofs.Common.{◌≡◌, take, map}
-use Rattle.k_lex.specs.Headers.{lexeme_of}
-use Rattle.k_lex.proofs.headers.body_of.Given as goal
-
-abbrev pub invariant-loop-part : goal.invariant-loop-part
-invariant-loop-part l = l.body ≡ map lexeme_of (take l.part-index l.parts)

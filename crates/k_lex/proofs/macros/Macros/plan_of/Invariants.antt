@@ -1,6 +1,0 @@
-use Rattle.std.proofs.Common.{take}
-use Rattle.k_lex.specs.Table.{IsNewPlan}
-use Rattle.k_lex.proofs.macros.Macros.plan_of.Given as goal
-
-abbrev pub invariant-loop-at : goal.invariant-loop-at
-invariant-loop-at l = IsNewPlan l.self l.body l.plan (take l.at l.body)

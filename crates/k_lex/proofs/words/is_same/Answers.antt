@@ -1,6 +1,0 @@
-use Rattle.std.proofs.Common.{◌∙◌}
-use Rattle.k_lex.proofs.Tables.{same_pointwise}
-use Rattle.k_lex.proofs.words.is_same.Goals as goal
-
-pub returns : goal.returns
-returns c = c.eq.ensures ∙ same_pointwise c.args.a.now c.args.b.now

@@ -1,0 +1,4 @@
+pub mod Headers
+pub mod Macros
+pub mod Steps
+pub mod Table

@@ -1,6 +1,0 @@
-use Rattle.k_lines.proofs.Files.{first_wrong_is_one}
-use Rattle.k_lines.proofs.Made.{no_file_wrong}
-use Rattle.k_lines.proofs.laws.first_wrong_line.Goals as goal
-
-pub returns : goal.returns
-returns c = record { one = first_wrong_is_one; none = no_file_wrong }

@@ -1,5 +1,0 @@
-use Rattle.k_lines.proofs.Made.{one_text}
-use Rattle.k_lines.proofs.laws.text_of_one.Goals as goal
-
-pub returns : goal.returns
-returns c = one_text

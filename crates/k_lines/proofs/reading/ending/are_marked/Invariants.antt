@@ -1,9 +1,0 @@
-use Rattle.std.proofs.Common.{◌≡◌, length}
-use Rattle.k_lines.specs.Reading.{are_marked}
-use Rattle.k_lines.proofs.reading.ending.are_marked.Given as goal
-
-abbrev pub invariant-loop-mark : goal.invariant-loop-mark
-invariant-loop-mark l = are_marked l.rest ≡ are_marked l.marks
-
-abbrev pub decreases-loop-mark : goal.decreases-loop-mark
-decreases-loop-mark l = length l.rest

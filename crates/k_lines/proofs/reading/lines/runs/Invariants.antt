@@ -1,7 +1,0 @@
-use Rattle.std.proofs.Common.{◌≡◌, ◌-◌}
-use Rattle.k_lines.specs.Syntax.{runs_at}
-use Rattle.k_lines.proofs.ReadingRuns.{with_front}
-use Rattle.k_lines.proofs.reading.lines.runs.Given as goal
-
-abbrev pub invariant-loop : goal.invariant-loop
-invariant-loop l = with_front l.runs (runs_at l.high (1048576 - l.counter) l.rest) ≡ runs_at l.high 1048576 l.text

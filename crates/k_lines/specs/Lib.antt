@@ -1,9 +1,0 @@
-pub mod Extents
-pub mod FileText
-pub mod Files
-pub mod Formats
-pub mod Laws
-pub mod Lines
-pub mod Order
-pub mod Reading
-pub mod Syntax

@@ -1,0 +1,10 @@
+pub mod Closed
+pub mod Contributions
+pub mod Counted
+pub mod Ended
+pub mod Frames
+pub mod Laws
+pub mod Reduced
+pub mod Standing
+pub mod Turns
+pub mod Typing

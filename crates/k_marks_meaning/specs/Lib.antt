@@ -1,0 +1,6 @@
+pub mod Uses
+pub mod Reductions
+pub mod Jumps
+pub mod Loops
+pub mod Contents
+pub mod Marking

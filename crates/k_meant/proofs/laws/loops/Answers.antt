@@ -1,8 +1,0 @@
-use Rattle.k_meant.proofs.Sources.{loops_are_typed, reductions_are_typed}
-use Rattle.k_meant.proofs.laws.loops.Goals as goal
-
-pub returns-clause-counted : goal.returns-clause-counted
-returns-clause-counted c = loops_are_typed
-
-pub returns-clause-reduced : goal.returns-clause-reduced
-returns-clause-reduced c = reductions_are_typed

@@ -1,0 +1,11 @@
+pub mod Declarations
+pub mod Expressions
+pub mod Initialisers
+pub mod Level
+pub mod Operators
+pub mod Parameters
+pub mod Readings
+pub mod Sources
+pub mod Stars
+pub mod Statements
+pub mod Types

@@ -1,0 +1,117 @@
+//! The node of an expression, and operations that are known but for their operands (C17 6.5).
+ghost use Rattle.std.specs.Prelude.{◌≡◌};
+ghost use Rattle.k_plain_direct.specs.Makings.{made_on_one, made_on_two};
+ghost use Rattle.k_evaluation.specs.Flows.{Within, means};
+ghost use Rattle.k_evaluation.specs.Meanings.{scale_of as scale_meant};
+ghost use Rattle.k_plain_state.specs.Arounds.{program_of};
+ghost use Rattle.k_plain_state.specs.Comes.{Comes};
+ghost use Rattle.k_optab.specs.declared.class.Class.TheVariants.{Div, Simple};
+ghost use Rattle.k_world.specs.declared.act.ActRef.TheVariants.{Offset, PtrDistance};
+
+use k_evaluation::Operand;
+use k_num::Box;
+use k_optab::Class;
+use k_plain_state::{Around, Evaluator, Making, scale_of};
+use k_types_meaning::{Node, TExpr};
+use k_world::{ActRef, Stop};
+
+/// The node of an expression.
+#[tactic(auto, unfolding(k_evaluation::specs::Places::number, k_evaluation::specs::Places::string, k_evaluation::specs::Places::object, k_evaluation::specs::Places::variable, k_evaluation::specs::Places::index, k_evaluation::specs::Places::deref, k_evaluation::specs::Places::address, k_evaluation::specs::Places::forward, k_evaluation::specs::Places::back, k_evaluation::specs::Places::onto, k_evaluation::specs::Operators::plus, k_evaluation::specs::Operators::unary, k_evaluation::specs::Operators::convert, k_evaluation::specs::Operators::cast, k_evaluation::specs::Operators::binary, k_evaluation::specs::Operators::compare, k_evaluation::specs::Operators::distance, k_evaluation::specs::Operators::both, k_evaluation::specs::Operators::either, k_evaluation::specs::Operators::cond, k_evaluation::specs::Operators::comma, k_evaluation::specs::Assignments::assign, k_evaluation::specs::Assignments::assign_by, k_evaluation::specs::Assignments::pre, k_evaluation::specs::Assignments::post, k_evaluation::specs::Library::getchar, k_evaluation::specs::Library::putchar, k_evaluation::specs::Library::puts, k_evaluation::specs::Library::printf, k_evaluation::specs::Expressions::call))]
+pub fn node_of(e: &TExpr) -> Node
+    ensures { (w : Within) → result ≡ (means w e.now).node }
+{
+    match e {
+        TExpr::Number { node, .. }
+        | TExpr::Str { node, .. }
+        | TExpr::Object { node, .. }
+        | TExpr::Variable { node, .. }
+        | TExpr::Index { node, .. }
+        | TExpr::Call { node, .. }
+        | TExpr::Getchar { node }
+        | TExpr::Putchar { node, .. }
+        | TExpr::Puts { node, .. }
+        | TExpr::Printf { node, .. }
+        | TExpr::Post { node, .. }
+        | TExpr::Pre { node, .. }
+        | TExpr::Address { node, .. }
+        | TExpr::Deref { node, .. }
+        | TExpr::Plus { node, .. }
+        | TExpr::Unary { node, .. }
+        | TExpr::Convert { node, .. }
+        | TExpr::Cast { node, .. }
+        | TExpr::Binary { node, .. }
+        | TExpr::Both { node, .. }
+        | TExpr::Either { node, .. }
+        | TExpr::Forward { node, .. }
+        | TExpr::Onto { node, .. }
+        | TExpr::Back { node, .. }
+        | TExpr::PtrCompare { node, .. }
+        | TExpr::PtrDistance { node, .. }
+        | TExpr::Cond { node, .. }
+        | TExpr::Assign { node, .. }
+        | TExpr::AssignBy { node, .. }
+        | TExpr::Comma { node, .. } => *node,
+    }
+}
+
+/// A pointer is moved forward or back, by elements of its type.
+pub fn moving(node: Node, minus: bool) -> Making
+    ensures { result ≡ record { class = Simple; place = node.place; act = Offset minus (scale_meant node.of) } }
+{
+    Making {
+        class: Class::Simple,
+        place: node.place,
+        act: ActRef::Offset {
+            minus,
+            scale: scale_of(node.of),
+        },
+    }
+}
+
+/// The difference of two pointers, in elements of the type of the left one.
+pub fn distance(node: Node, left: &Box<TExpr>) -> Making
+    ensures { (w : Within) → result ≡ record { class = Div; place = node.place; act = PtrDistance (scale_meant (means w left.now).node.of) } }
+{
+    Making {
+        class: Class::Div,
+        place: node.place,
+        act: ActRef::PtrDistance {
+            scale: scale_of(node_of(left.get()).of),
+        },
+    }
+}
+
+/// An operation is made on one operand.
+#[inline(always)]
+pub fn compute_one<'a>(
+    state: &mut Evaluator<'a>,
+    around: &Around<'a>,
+    making: Making,
+    a: Operand,
+) -> Result<Operand, Stop>
+    ensures { Comes result (made_on_one (program_of around.now) making a state.old) state.new }
+{
+    let held = state.make_one(around, &making, a)?;
+    Ok(Operand::Holding(held))
+}
+
+/// An operation is made on two operands, or on the second and the first.
+#[inline(always)]
+pub fn make_both<'a>(
+    state: &mut Evaluator<'a>,
+    around: &Around<'a>,
+    making: Making,
+    swapped: bool,
+    a: Operand,
+    b: Operand,
+) -> Result<Operand, Stop>
+    ensures { Comes result (made_on_two (program_of around.now) making swapped a b state.old) state.new }
+{
+    if swapped {
+        let held = state.make_two(around, &making, b, a)?;
+        Ok(Operand::Holding(held))
+    } else {
+        let held = state.make_two(around, &making, a, b)?;
+        Ok(Operand::Holding(held))
+    }
+}

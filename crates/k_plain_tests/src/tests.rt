@@ -1,0 +1,20 @@
+//! Runs of sources, one file for each part of the evaluation.
+mod acts;
+mod assignments;
+mod calls;
+mod choices;
+mod conversions;
+mod declarations;
+mod examples;
+mod large;
+mod library;
+mod limits;
+mod listed;
+mod loops;
+mod memory;
+mod objects;
+mod places;
+mod switches;
+mod traps;
+mod traps_by_name;
+mod values;

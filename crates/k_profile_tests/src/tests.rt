@@ -1,8 +1,0 @@
-//! Worked examples, one file for what is tested.
-mod dictionaries;
-mod fractions;
-mod graphs;
-mod plans;
-mod profiles;
-mod reports;
-mod rows;

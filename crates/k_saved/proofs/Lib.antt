@@ -1,4 +1,0 @@
-pub mod Migrated
-pub mod Migrating
-pub mod Profiles
-pub mod Shapes

@@ -1,5 +1,0 @@
-use Rattle.k_saved.proofs.Profiles as profiles
-use Rattle.k_saved.proofs.laws.migration.Goals as goal
-
-pub returns : goal.returns
-returns c = record { one = profiles.one_migration; expands = profiles.migration_expands }

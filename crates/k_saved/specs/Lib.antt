@@ -1,4 +1,0 @@
-pub mod Laws
-pub mod Migration
-pub mod Profile
-pub mod SavedText

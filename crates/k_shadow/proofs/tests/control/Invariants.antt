@@ -1,5 +1,0 @@
-use Rattle.k_shadow.proofs.tests.control.Given as goal
-
--- the counter is of the ledger that was handed in
-abbrev pub ghosts-control_comes_back : goal.ghosts-control_comes_back
-ghosts-control_comes_back g a = record { name = a.blank.name; parts = a.blank.parts }

@@ -1,5 +1,0 @@
-//! Sources, stage by stage.
-mod conversions;
-mod marks;
-mod nodes;
-mod typed;

@@ -1,5 +1,0 @@
-use Rattle.k_spage.proofs.tests.pages.Given as goal
-
--- the counter is of the ledger that was handed in
-abbrev pub ghosts-two_pages : goal.ghosts-two_pages
-ghosts-two_pages g a = record { name = a.blank.name; parts = a.blank.parts }

@@ -1,0 +1,17 @@
+//! The top call: from the words of a command line to what a program writes and the report of its profile.
+#![tactic(auto)]
+
+mod asked;
+mod demo;
+mod graph;
+mod input;
+mod loading;
+mod output;
+mod program;
+mod reported;
+mod running;
+mod shown;
+mod summary;
+mod top;
+
+pub use top::kremlin;

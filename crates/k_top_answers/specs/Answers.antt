@@ -1,0 +1,147 @@
+-- Believed with the theorem on the top call.
+-- *Whole answer*: what `kremlin` answers to the words of its command line, where files and the input hold what they hold.
+use Rattle.std.specs.Prelude.{ℕ, ℤ, ◌≡◌, Bool, IsTrue, List, [], length, Option, Some, None, Result, Ok, Err}
+use Rattle.k_optab.specs.Latencies.{standard_latencies}
+use Rattle.k_ending.specs.declared.ending.End.{End}
+use Rattle.k_ending.specs.declared.ending.End.TheVariants.{Returned}
+use Rattle.k_evaluation.specs.Runs.{listing_of}
+use Rattle.k_gen.specs.Text.{program}
+use Rattle.k_types_calls.specs.Getchar.{calls_getchar}
+use Rattle.k_graph.specs.Listings.{IsListing}
+use Rattle.k_graph.specs.declared.tree.Instance.{Instance}
+use Rattle.k_dict_saved.specs.declared.fault.SavedFault.TheVariants.{NotSaved}
+use Rattle.k_report_profile.specs.Report.{IsReport}
+use Rattle.k_report_profile.specs.RunReport.{IsRunReport, Ran}
+use Rattle.k_regions.specs.Regions.{regions_of}
+use Rattle.k_report.specs.Graph.{IsGraphText}
+use Rattle.k_dict_saved.specs.Profile.{Reads}
+use Rattle.k_dict_saved.specs.SavedText.{saved_text}
+use Rattle.k_dict_saved.specs.declared.saved.Saved.{Saved}
+use Rattle.k_words.specs.About.{asked_for, help_text, version_text}
+use Rattle.k_words.specs.Setting.{standard_depth, standard_steps}
+use Rattle.k_words.specs.Words as words
+use Rattle.k_words.specs.declared.about.Asked.{Asked}
+use Rattle.k_words.specs.declared.about.Asked.TheVariants.{Help, Version}
+use Rattle.k_words.specs.declared.job.Job.{Job}
+use Rattle.k_words.specs.declared.job.Job.TheVariants as job
+use Rattle.k_words.specs.declared.usage.Usage.{Usage}
+use Rattle.k_words.specs.declared.usage.Usage.TheVariants as usage
+use Rattle.k_types_meaning.specs.declared.tree.unit.TUnit.{TUnit}
+use Rattle.k_top_answers.specs.declared.answer.Answer.{Answer}
+use Rattle.k_top_answers.specs.declared.answer.SavedFile.{SavedFile}
+use Rattle.k_top_answers.specs.declared.failure.Failure.{Failure}
+use Rattle.k_top_answers.specs.declared.failure.Failure.TheVariants as why
+use Rattle.k_top_answers.specs.Failures.{failure_of_end}
+use Rattle.k_top_answers.specs.Steps.{AnswersFile, AnswersProgram, AnswersRunning, AnswersSource, Outside, Running, profile_limit, run_of}
+use Rattle.k_top_answers.specs.Texts.{IsSummary, with_report}
+
+-- the call ran to its end, and saved nothing
+abbrev pub done : List ℕ → Answer
+done text = record { out = text; failure = None; saved = None }
+
+-- a refusal: nothing is put on out
+abbrev pub refusal : Failure → Answer
+refusal failure = record { out = []; failure = Some failure; saved = None }
+
+-- a run's answer where nothing is saved: what is put on out, and why the run failed, if it did
+abbrev pub ended : List ℕ → ℕ → End → Answer
+ended text steps end = record { out = text; failure = failure_of_end steps end; saved = None }
+
+-- a run from which main returned this number, of which the instances below a depth are tracked
+abbrev pub ran_of : Running → ℤ → ℕ → Ran
+ran_of r exit depth = record { exit = exit; events = (run_of r).events; regions = regions_of r.typed; depth = depth }
+
+-- the file that is saved, where one is asked for and there is a profile
+abbrev pub saved_file : Option (List ℕ) → Option Saved → Option SavedFile
+saved_file None profile = None
+saved_file (Some file) None = None
+saved_file (Some file) (Some profile) = Some (record { name = file; bytes = saved_text profile })
+
+-- RUN, where main returned: the output, the report behind it, and the profile where it is to be saved
+pub record IsReported (r : Running) (exit : ℤ) (depth : ℕ) (dict : Bool) (save : Option (List ℕ)) (answer : Answer) : Type 0 where
+  pub profile : Option Saved
+  pub report : List ℕ
+  pub is_report : IsRunReport (ran_of r exit depth) dict profile report
+  pub is : answer ≡ record { out = with_report (run_of r).output report; failure = None; saved = saved_file save profile }
+
+-- RUN, by how the run ended: where main did not return, the output so far, and nothing more
+abbrev pub AnswersRun : ℕ → Bool → Option (List ℕ) → Answer → Running → End → Type 0
+AnswersRun depth dict save answer r (Returned exit) = IsReported r exit depth dict save answer
+AnswersRun depth dict save answer r end = answer ≡ ended (run_of r).output r.steps end
+
+-- GRAPH: the listing of the run and of its instances, whatever the end
+pub record IsListed (depth : ℕ) (answer : Answer) (r : Running) : Type 0 where
+  pub tree : List Instance
+  pub text : List ℕ
+  pub is_tree : IsListing depth (run_of r).events tree
+  pub is_text : IsGraphText (listing_of (run_of r)) tree text
+  pub is : answer ≡ ended text r.steps (run_of r).end
+
+-- SHOW: the report of the profile that the bytes spell
+abbrev pub AnswersProfile : Bool → Answer → List ℕ → Result Saved ℕ → Type 0
+AnswersProfile dict answer bytes (Ok profile) = Reads bytes (Ok profile) × ((text : List ℕ) × IsReport profile dict text × (answer ≡ done text))
+AnswersProfile dict answer bytes (Err place) = Reads bytes (Err (NotSaved place)) × (answer ≡ refusal (why.Saved place))
+
+-- DEMO, by how the run of the made program ended: its summary where main returned, and else nothing
+abbrev pub AnswersMade : ℕ → ℕ → Answer → Running → End → Type 0
+AnswersMade number loops answer r (Returned exit) =
+    (text : List ℕ) × IsSummary number loops (length (run_of r).output) (ran_of r exit standard_depth) text × (answer ≡ done text)
+AnswersMade number loops answer r end = answer ≡ ended [] r.steps end
+
+-- a made program as it is run: as `run` does without options, and with no input
+abbrev pub made_running : TUnit → Running
+made_running typed = record { typed = typed; latencies = standard_latencies; input = []; steps = standard_steps }
+
+-- THE JOB decides
+abbrev pub AnswersJob : Outside → Answer → Job → Type 0
+AnswersJob outside answer (job.Run file steps depth latency dict save) =
+    AnswersRunning (λ failure. answer ≡ refusal failure) outside file latency steps (λ r. AnswersRun depth dict save answer r (run_of r).end)
+AnswersJob outside answer (job.Graph file steps depth latency) =
+    AnswersRunning (λ failure. answer ≡ refusal failure) outside file latency steps (IsListed depth answer)
+AnswersJob outside answer (job.Show file dict) =
+    AnswersFile (λ failure. answer ≡ refusal failure) outside profile_limit file (λ bytes. (read : Result Saved ℕ) × AnswersProfile dict answer bytes read)
+AnswersJob outside answer (job.Demo number loops) =
+    AnswersSource (λ failure. answer ≡ refusal failure) (λ typed. AnswersMade number loops answer (made_running typed) (run_of (made_running typed)).end)
+    (program number loops)
+
+-- THE WORDS decide: they ask for a job, or their first wrong word refuses them
+abbrev pub AnswersWords : Outside → Answer → Result Job Usage → Type 0
+AnswersWords outside answer (Err usage.Memory) = ⊥
+AnswersWords outside answer (Err fault) = answer ≡ refusal (why.Usage fault)
+AnswersWords outside answer (Ok asked) = AnswersJob outside answer asked
+
+-- words that ask for a text on the program itself get it, and others are read
+abbrev pub AnswersAsked : List (List ℕ) → Outside → Answer → Option Asked → Type 0
+AnswersAsked list outside answer (Some Help) = answer ≡ done help_text
+AnswersAsked list outside answer (Some Version) = answer ≡ done version_text
+AnswersAsked list outside answer None = (read : Result Job Usage) × words.IsAnswer list read × AnswersWords outside answer read
+
+-- THE WHOLE ANSWER to these words, where the outside holds this
+abbrev pub IsAnswer : List (List ℕ) → Outside → Answer → Type 0
+IsAnswer list outside answer = AnswersAsked list outside answer (asked_for list)
+
+-- a source file and a table make an accepted program, which calls `getchar`
+abbrev pub FilesCall : Outside → List ℕ → Option (List ℕ) → Type 0
+FilesCall outside file latency = AnswersProgram (λ failure. ⊥) outside file latency (λ latencies typed. IsTrue (calls_getchar typed))
+
+-- a job runs one
+abbrev pub JobCalls : Outside → Job → Type 0
+JobCalls outside (job.Run file steps depth latency dict save) = FilesCall outside file latency
+JobCalls outside (job.Graph file steps depth latency) = FilesCall outside file latency
+JobCalls outside (job.Show file dict) = ⊥
+JobCalls outside (job.Demo number loops) = ⊥
+
+-- THE INPUT IS ASKED FOR: the words run an accepted program that calls `getchar`
+abbrev pub CallsForInput : List (List ℕ) → Outside → Type 0
+CallsForInput list outside = (asked : Job) × words.IsAnswer list (Ok asked) × JobCalls outside asked
+
+-- a job reads a file
+abbrev pub JobLoads : Job → Type 0
+JobLoads (job.Run file steps depth latency dict save) = Unit {0}
+JobLoads (job.Graph file steps depth latency) = Unit {0}
+JobLoads (job.Show file dict) = Unit {0}
+JobLoads (job.Demo number loops) = ⊥
+
+-- A FILE IS ASKED FOR: the words are those of a job that reads one
+abbrev pub CallsForFiles : List (List ℕ) → Type 0
+CallsForFiles list = (asked : Job) × words.IsAnswer list (Ok asked) × JobLoads asked

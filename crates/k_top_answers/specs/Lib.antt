@@ -1,0 +1,7 @@
+pub mod Refusals
+pub mod Failures
+pub mod Steps
+pub mod Texts
+pub mod Answers
+pub mod Clauses
+pub mod Laws

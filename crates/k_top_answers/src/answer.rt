@@ -1,0 +1,47 @@
+//! What the call answers.
+ghost use Rattle.std.specs.Prelude.{◌≡◌};
+ghost use Rattle.k_top_answers.specs.Answers.{done, ended};
+
+use crate::failure::Failure;
+use k_ending::End;
+use k_num::{Seq, Text};
+
+/// A file that is saved.
+#[derive(Drop)]
+pub struct SavedFile {
+    pub name: Text,
+    pub bytes: Seq<u8>,
+}
+
+/// What the call answers: what is put on out, why it does not end with status 0, if it doesn't, and the file that is saved, if
+/// one is.
+#[derive(Drop)]
+pub struct Answer {
+    pub out: Seq<u8>,
+    pub failure: Option<Failure>,
+    pub saved: Option<SavedFile>,
+}
+
+impl Answer {
+    /// A text, and nothing more.
+    pub fn done(text: Vec<u8>) -> Answer
+        ensures { result ≡ done text.items }
+    {
+        Answer {
+            out: Seq::from_vec(text),
+            failure: None,
+            saved: None,
+        }
+    }
+
+    /// What a run puts on out that might make so many operations and ended so, where nothing is saved.
+    pub fn ended(out: Seq<u8>, steps: u64, end: End) -> Answer
+        ensures { result ≡ ended out steps end }
+    {
+        Answer {
+            out,
+            failure: Failure::of_end(steps, end),
+            saved: None,
+        }
+    }
+}

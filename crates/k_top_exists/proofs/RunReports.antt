@@ -1,0 +1,67 @@
+-- A profile has a report, and so has a run from which main returned, where trees have rows and contexts, and contexts have plans.
+use Rattle.std.proofs.Common.{◌≡◌, ℕ, ◌-◌, inl, inr, List, length, Option, Some, None, refl}
+use Rattle.std.proofs.lemmas.Bool.{cases_lt}
+use Rattle.k_dict.specs.Dictionary.{IsDictionary, refusal}
+use Rattle.k_dict.specs.Entries.{tree_at}
+use Rattle.k_dict.specs.Trees.{Tree}
+use Rattle.k_dict.specs.declared.dict.Which.{Which}
+use Rattle.k_dict.specs.declared.entry.Entry.{Entry}
+use Rattle.k_dict.proofs.Unique.{dictionary_exists}
+use Rattle.k_dict_saved.specs.Profile.{IsSaved}
+use Rattle.k_dict_saved.specs.declared.saved.Saved.{Saved}
+use Rattle.k_selfpar.specs.Contexts.{AreContexts}
+use Rattle.k_selfpar.specs.Rows.{AreRows}
+use Rattle.k_selfpar.specs.declared.context.Context.{Context}
+use Rattle.k_selfpar.specs.declared.row.Row.{Row}
+use Rattle.k_plan.specs.declared.advice.Advice.{Advice}
+use Rattle.k_report.specs.Report.{large_text, report_text}
+use Rattle.k_report_profile.specs.Report.{IsPlanned, asked, nodes_of_profile}
+use Rattle.k_report_profile.specs.RunReport.{IsProfileOf, IsRunReport, large, ops_of}
+use Rattle.k_report_profile.proofs.Named.{named_tree}
+use Rattle.k_report_profile.proofs.Recorded.{run_in_order, run_reported, run_saved}
+use Rattle.k_report_profile.proofs.Reported.{root_is, saved_plan}
+use Rattle.k_top_exists.specs.Profiles.{ContextsExist, PlansExist, ProfileReportsExist, ReadReportsExist, RowsExist, RunReportsExist}
+
+module _ (rows_exist : RowsExist) (contexts_exist : ContextsExist) (plans_exist : PlansExist) where
+  -- the contexts of a profile have a plan, or are too many for one
+  planned : (saved : Saved) → IsSaved saved → (contexts : List Context) → AreContexts saved.regions (nodes_of_profile saved) contexts
+      → (plan : Option Advice) × IsPlanned contexts plan
+  planned saved is contexts are = elim (cases_lt 65536 (length contexts)) [
+    | inl many ↦ (None, many)
+    | inr few ↦ (let advice = plans_exist contexts (saved_plan saved is contexts are few) in (Some advice.0, (few, advice.1)))
+  ]
+
+  pub profile_reports_exist : ProfileReportsExist
+  profile_reports_exist saved with_dict is =
+      let last : ℕ = length saved.dict - 1 in
+      let root : Tree = tree_at saved.dict last in
+      let rows : (list : List Row) × AreRows (nodes_of_profile saved) list = rows_exist root in
+      let contexts : (list : List Context) × AreContexts saved.regions (nodes_of_profile saved) list =
+      contexts_exist saved.regions root
+      (named_tree (length saved.regions) saved.dict is.profile.interned.earlier is.in_list last (root_is saved is)) in
+      let plan = planned saved is contexts.0 contexts.1 in (
+        report_text saved.regions saved.exit saved.ops rows.0 (asked with_dict saved.dict) contexts.0 plan.0,
+        record { rows = rows.0; contexts = contexts.0; plan = plan.0; are_rows = rows.1; are_contexts = contexts.1; planned = plan.1; is = refl },
+      )
+
+  pub read_reports_exist : ReadReportsExist
+  read_reports_exist bytes saved with_dict reads = profile_reports_exist saved with_dict reads.0
+
+  pub run_reports_exist : RunReportsExist
+  run_reports_exist ran nodes with_dict is_whole tree few = by (refusal 0 0 dictionary.0) refl
+    where
+      dictionary : (entries : List Entry) × IsDictionary nodes entries
+      dictionary = dictionary_exists nodes (run_in_order ran is_whole nodes tree)
+
+      -- the dictionary is within its limits, or passes one of them
+      by : (found : Option Which) → refusal 0 0 dictionary.0 ≡ found → (profile : Option Saved) × (text : List ℕ) × IsRunReport ran with_dict profile text
+      by None within =
+          let saved : Saved = record { exit = ran.exit; ops = ops_of ran; regions = ran.regions; dict = dictionary.0 } in
+          let is : IsProfileOf ran nodes saved = record { exit = refl; ops = refl; regions = refl; dict = dictionary.1; within = within } in
+          let report = profile_reports_exist saved with_dict (run_saved ran is_whole nodes tree saved is few) in
+          (Some saved, report.0, run_reported ran is_whole nodes tree saved is with_dict report.0 report.1)
+      by (Some which) passed = (
+        None,
+        large_text ran.exit (ops_of ran),
+        large nodes tree (record { entries = dictionary.0; which = which; dict = dictionary.1; passed = passed }),
+      )

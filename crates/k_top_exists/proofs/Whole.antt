@@ -1,0 +1,147 @@
+-- Each job has an answer, and so all words have one.
+use Rattle.std.proofs.Common.{ℕ, ℤ, ◌≡◌, ◌≢◌, ◌≤◌, Bool, false, refl, List, [], ◌++◌, length, Option, Some, None, Result, Ok, Err, arith, inl, inr}
+use Rattle.std.specs.Prelude.{codes}
+use Rattle.k_optab.specs.declared.node.Node.{Node}
+use Rattle.k_optab.specs.Latencies.{standard_latencies}
+use Rattle.k_optab.specs.Tree.{IsTree}
+use Rattle.k_ending.specs.declared.ending.End.{End}
+use Rattle.k_ending.specs.declared.ending.End.TheVariants as end
+use Rattle.k_gen.specs.Text.{program}
+use Rattle.k_graph.specs.Listings.{IsListing}
+use Rattle.k_graph.specs.declared.tree.Instance.{Instance}
+use Rattle.k_report.specs.Report.{large_line}
+use Rattle.k_report_profile.specs.RunReport.{IsRunReport, Ran, ops_of}
+use Rattle.k_report_profile.specs.RunReport as reports
+use Rattle.k_report.specs.Graph.{IsGraphText}
+use Rattle.k_dict_saved.specs.declared.saved.Saved.{Saved}
+use Rattle.k_words.specs.About.{asked_for, help_text, version_text}
+use Rattle.k_words.specs.Within.{IsJobWithin}
+use Rattle.k_words.specs.Words as words
+use Rattle.k_words.specs.declared.about.Asked.{Asked}
+use Rattle.k_words.specs.declared.about.Asked.TheVariants.{Help, Version}
+use Rattle.k_words.specs.declared.job.Job.{Job}
+use Rattle.k_words.specs.declared.job.Job.TheVariants as job
+use Rattle.k_words.specs.declared.usage.Usage.{Usage}
+use Rattle.k_words.specs.declared.usage.Usage.TheVariants as usage
+use Rattle.k_words.proofs.Within.{jobs_are_within}
+use Rattle.k_top_answers.specs.declared.failure.Failure.TheVariants as why
+use Rattle.k_evaluation.specs.Runs.{listing_of}
+use Rattle.k_top_answers.specs.Answers.{AnswersAsked, AnswersJob, AnswersMade, AnswersProfile, AnswersRun, AnswersWords, IsAnswer, IsListed, done, ended, made_running, ran_of, refusal, saved_file}
+use Rattle.k_top_answers.specs.Steps.{Outside, Running, profile_limit, run_of}
+use Rattle.k_top_answers.specs.Texts.{AreProfileLines, demo_line, plan_line, run_lines, tree_lines, with_report}
+use Rattle.k_top_answers.specs.Texts as texts
+use Rattle.k_top_lemmas.proofs.LatencyLemmas.{standard_bounded}
+use Rattle.k_top_lemmas.proofs.RunLemmas.{IsSound, listing_within, run_few, run_gives_int, run_sources, run_whole}
+use Rattle.k_top_lemmas.proofs.OneAnswer.{answers_are_unique}
+use Rattle.k_top_exists.specs.Files.{SpellsProfileOrIsWrong}
+use Rattle.k_top_exists.specs.Laws.{WordsHaveOneAnswer}
+use Rattle.k_top_exists.specs.Profiles.{RunReportsExist}
+use Rattle.k_top_exists.proofs.Answers.{Answered, found_answers, running_answers, source_answers}
+use Rattle.k_top_exists.proofs.GraphTexts.{graph_text_exists}
+use Rattle.k_top_exists.proofs.Listings.{listing_exists, tree_exists}
+use Rattle.k_top_exists.proofs.ReportParts.{contexts_exist, plans_exist}
+use Rattle.k_top_exists.proofs.RowsOfTrees.{rows_exist}
+use Rattle.k_top_exists.proofs.RunReports.{read_reports_exist, run_reports_exist}
+use Rattle.k_top_exists.proofs.SavedFiles.{saved_file_is_answered}
+use Rattle.k_top_exists.proofs.Words.{words_are_answered}
+
+-- a run from which main returned has a profile or none, and a report
+run_reported_so : RunReportsExist
+run_reported_so = run_reports_exist rows_exist contexts_exist plans_exist
+
+-- what a report tells of a run is told by the lines of a summary
+lines_of : (ran : Ran) (dict : Bool) (profile : Option Saved) (report : List ℕ) → IsRunReport ran dict profile report → (lines : List ℕ) × AreProfileLines ran lines
+lines_of ran dict _ _ (reports.whole nodes saved text tree is report) = (
+  tree_lines nodes report.rows ++ plan_line report.contexts report.plan,
+  texts.whole nodes saved report.rows report.contexts report.plan tree is report.are_rows report.are_contexts report.planned,
+)
+lines_of ran dict _ _ (reports.large nodes tree over) = (large_line, texts.large nodes tree over)
+
+-- the tree of a run
+tree_of : (r : Running) (depth : ℕ) → IsSound r → (nodes : List Node) × IsTree depth (run_of r).events nodes
+tree_of r depth sound = tree_exists depth (run_of r).events (run_sources r sound)
+
+-- RUN
+reported : (r : Running) (exit : ℤ) (depth : ℕ) (dict : Bool) (save : Option (List ℕ)) → IsSound r → (run_of r).end ≡ end.Returned exit → 1 ≤ depth → depth ≤ 32
+    → (profile : Option Saved) × (report : List ℕ) × IsRunReport (ran_of r exit depth) dict profile report
+    → Answered (λ a. AnswersRun depth dict save a r (end.Returned exit))
+reported r exit depth dict save sound is some tracked (profile, report, is_report) = (
+  record { out = with_report (run_of r).output report; failure = None; saved = saved_file save profile },
+  record { profile = profile; report = report; is_report = is_report; is = refl },
+)
+
+run_answers : (depth : ℕ) (dict : Bool) (save : Option (List ℕ)) (r : Running) → IsSound r → 1 ≤ depth → depth ≤ 32 → (how : End) → (run_of r).end ≡ how
+    → Answered (λ a. AnswersRun depth dict save a r how)
+run_answers depth dict save r sound some tracked (end.Returned exit) is =
+    let tree = tree_of r depth sound in
+    reported r exit depth dict save sound is some tracked
+    (run_reported_so (ran_of r exit depth) tree.0 dict (run_whole r sound exit depth is (run_gives_int r sound exit is) some tracked) tree.1 (run_few r depth tree.0 sound tree.1))
+run_answers depth dict save r sound some tracked (end.Trapped trap place) is = (ended (run_of r).output r.steps (end.Trapped trap place), refl)
+run_answers depth dict save r sound some tracked end.OutOfSteps is = (ended (run_of r).output r.steps end.OutOfSteps, refl)
+
+-- GRAPH
+listed : (depth : ℕ) (r : Running) → IsSound r → Answered (λ a. IsListed depth a r)
+listed depth r sound =
+    let tree : (tree : List Instance) × IsListing depth (run_of r).events tree = listing_exists depth (run_of r).events (run_sources r sound) in
+    let text : (text : List ℕ) × IsGraphText (listing_of (run_of r)) tree.0 text =
+    graph_text_exists (listing_of (run_of r)) tree.0 (run_sources r sound) (listing_within depth (run_of r).events tree.0 tree.1) in
+    (ended text.0 r.steps (run_of r).end, record { tree = tree.0; text = text.0; is_tree = tree.1; is_text = text.1; is = refl })
+
+-- SHOW
+by_profile : (dict : Bool) (bytes : List ℕ) → SpellsProfileOrIsWrong bytes → Answered (λ a. (read : Result Saved ℕ) × AnswersProfile dict a bytes read)
+by_profile dict bytes (inl (saved, is)) = let text = read_reports_exist rows_exist contexts_exist plans_exist bytes saved dict is in (done text.0, (Ok saved, (is, (text.0, text.1, refl))))
+by_profile dict bytes (inr (place, is)) = (refusal (why.Saved place), (Err place, (is, refl)))
+
+-- DEMO
+made_answers : (number loops : ℕ) (r : Running) → IsSound r → (how : End) → (run_of r).end ≡ how → Answered (λ a. AnswersMade number loops a r how)
+made_answers number loops r sound (end.Returned exit) is =
+    let tree = tree_of r 24 sound in
+    let report = run_reported_so (ran_of r exit 24) tree.0 false (run_whole r sound exit 24 is (run_gives_int r sound exit is) (omega arith) (omega arith)) tree.1
+    (run_few r 24 tree.0 sound tree.1) in
+    let lines = lines_of (ran_of r exit 24) false report.0 report.1 report.2 in
+    let text : List ℕ = demo_line number loops ++ run_lines (length (run_of r).output) exit (ops_of (ran_of r exit 24)) ++ lines.0 in
+    (done text, (text, record { lines = lines.0; are = lines.1; is = refl }, refl))
+made_answers number loops r sound (end.Trapped trap place) is = (ended [] r.steps (end.Trapped trap place), refl)
+made_answers number loops r sound end.OutOfSteps is = (ended [] r.steps end.OutOfSteps, refl)
+
+-- A JOB
+job_answers : (outside : Outside) (asked : Job) → IsJobWithin asked → Answered (λ a. AnswersJob outside a asked)
+job_answers outside (job.Run file steps depth latency dict save) within =
+    running_answers outside steps within.steps.at_most (λ a r. AnswersRun depth dict save a r (run_of r).end)
+    (λ r sound. run_answers depth dict save r sound within.depth.at_least within.depth.at_most (run_of r).end refl) file latency
+job_answers outside (job.Graph file steps depth latency) within =
+    let most : steps ≤ 200000 = within.steps.at_most in
+    running_answers outside steps (omega (arith, most)) (λ a r. IsListed depth a r) (listed depth) file latency
+job_answers outside (job.Show file dict) within =
+    found_answers profile_limit file (λ a bytes. (read : Result Saved ℕ) × AnswersProfile dict a bytes read)
+    (λ bytes fits. by_profile dict bytes (saved_file_is_answered bytes)) (outside.files file)
+job_answers outside (job.Demo number loops) within =
+    source_answers (λ a t. AnswersMade number loops a (made_running t) (run_of (made_running t)).end)
+    standard_latencies (standard_bounded standard_latencies refl) 100000000 (omega arith)
+    (λ t sound. made_answers number loops (made_running t) (sound []) (run_of (made_running t)).end refl) (program number loops)
+
+-- THE WORDS
+words_answer : (outside : Outside) (list : List (List ℕ)) (read : Result Job Usage) → words.IsAnswer list read → read ≢ Err usage.Memory
+    → Answered (λ a. AnswersWords outside a read)
+words_answer outside list (Ok asked) is other = job_answers outside asked (jobs_are_within list asked is)
+words_answer outside list (Err usage.Memory) is other = absurd (other refl)
+words_answer outside list (Err usage.NoCommand) is other = (refusal (why.Usage usage.NoCommand), refl)
+words_answer outside list (Err (usage.UnknownWord index)) is other = (refusal (why.Usage (usage.UnknownWord index)), refl)
+words_answer outside list (Err (usage.BadNumber index)) is other = (refusal (why.Usage (usage.BadNumber index)), refl)
+words_answer outside list (Err (usage.Twice index)) is other = (refusal (why.Usage (usage.Twice index)), refl)
+words_answer outside list (Err usage.NoFile) is other = (refusal (why.Usage usage.NoFile), refl)
+
+read_answers : (outside : Outside) (list : List (List ℕ)) → (read : Result Job Usage) × words.IsAnswer list read × (read ≢ Err usage.Memory)
+    → Answered (λ a. AnswersAsked list outside a None)
+read_answers outside list (read, is, other) =
+    let a : Answered (λ a. AnswersWords outside a read) = words_answer outside list read is other in (a.0, (read, is, a.1))
+
+asked_answers : (list : List (List ℕ)) (outside : Outside) (text : Option Asked) → Answered (λ a. AnswersAsked list outside a text)
+asked_answers list outside (Some Help) = (done help_text, refl)
+asked_answers list outside (Some Version) = (done version_text, refl)
+asked_answers list outside None = read_answers outside list (words_are_answered list)
+
+pub words_have_one_answer : WordsHaveOneAnswer
+words_have_one_answer list outside =
+    let a : Answered (λ a. IsAnswer list outside a) = asked_answers list outside (asked_for list) in
+    (a.0, record { is = a.1; alone = λ other is. answers_are_unique list outside other a.0 is a.1 })

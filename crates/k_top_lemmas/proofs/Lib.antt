@@ -1,0 +1,21 @@
+pub mod Growing
+pub mod TextLemmas
+pub mod LatencyLemmas
+pub mod RegionLemmas
+pub mod SourceLemmas
+mod StepLemmas
+pub mod ProgramLemmas
+mod Agreeing
+mod Showing
+pub mod ReadyLemmas
+pub mod RunLemmas
+pub mod Reporting
+pub mod SummaryLemmas
+pub mod DemoLemmas
+mod OneListing
+mod OneReport
+pub mod AskedLemmas
+mod Sounding
+mod OneSummary
+pub mod OneAnswer
+pub mod Keeping

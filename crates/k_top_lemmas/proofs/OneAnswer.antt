@@ -1,0 +1,113 @@
+-- Words have one answer, whatever the outside holds.
+use Rattle.std.proofs.Common.{ℕ, ◌≡◌, ◌≤◌, Bool, ap, refl, sym, subst, ◌∙◌, List, Option, Some, None, Result, Ok, Err, arith, inl, inr}
+use Rattle.k_ending.specs.declared.ending.End.{End}
+use Rattle.k_ending.specs.declared.ending.End.TheVariants as end
+use Rattle.k_dict_saved.proofs.Files.{first_wrong_is_one}
+use Rattle.k_dict_saved.specs.declared.fault.SavedFault.TheVariants.{NotSaved}
+use Rattle.k_dict_saved.specs.declared.format.Accepts.TheVariants.{Both}
+use Rattle.k_report_profile.proofs.Reported.{report_is_unique}
+use Rattle.k_dict_saved.proofs.Profiles.{one_migration, read_migrated, read_of_write}
+use Rattle.k_report_profile.specs.Report.{IsReport}
+use Rattle.k_dict_saved.specs.Profile.{Reads}
+use Rattle.k_dict_saved.specs.declared.saved.Saved.{Saved}
+use Rattle.k_words.proofs.OneAnswer.{answer_is_unique}
+use Rattle.k_words.proofs.Within.{jobs_are_within}
+use Rattle.k_words.specs.About.{asked_for}
+use Rattle.k_words.specs.Within.{IsJobWithin}
+use Rattle.k_words.specs.Words as words
+use Rattle.k_words.specs.declared.about.Asked.{Asked}
+use Rattle.k_words.specs.declared.about.Asked.TheVariants.{Help, Version}
+use Rattle.k_words.specs.declared.job.Job.{Job}
+use Rattle.k_words.specs.declared.job.Job.TheVariants as job
+use Rattle.k_words.specs.declared.usage.Usage.{Usage}
+use Rattle.k_words.specs.declared.usage.Usage.TheVariants as usage
+use Rattle.k_top_answers.specs.declared.answer.Answer.{Answer}
+use Rattle.k_top_answers.specs.declared.failure.Failure.TheVariants as why
+use Rattle.k_top_answers.specs.Answers.{AnswersAsked, AnswersJob, AnswersProfile, AnswersRun, AnswersWords, IsListed, done, refusal}
+use Rattle.k_top_answers.specs.Laws.{AnswersAreUnique}
+use Rattle.k_top_answers.specs.Steps.{Outside, Running, profile_limit, run_of}
+use Rattle.k_top_lemmas.proofs.Agreeing.{Agree, file_agrees, running_agrees}
+use Rattle.k_top_lemmas.proofs.OneListing.{one_listed}
+use Rattle.k_top_lemmas.proofs.OneReport.{one_reported}
+use Rattle.k_top_lemmas.proofs.OneSummary.{one_demo}
+use Rattle.k_top_lemmas.proofs.RunLemmas.{IsSound, run_gives_int}
+use Rattle.k_top_lemmas.proofs.Sounding.{running_sound}
+
+-- RUN
+one_run : (depth : ℕ) (dict : Bool) (save : Option (List ℕ)) (one other : Answer) (r : Running) (how : End) → (run_of r).end ≡ how → IsSound r → 1 ≤ depth → depth ≤ 32
+    → AnswersRun depth dict save one r how → AnswersRun depth dict save other r how → one ≡ other
+one_run depth dict save one other r (end.Returned exit) is sound some tracked a b =
+    one_reported r exit depth dict save one other sound is (run_gives_int r sound exit is) some tracked a b
+one_run depth dict save one other r (end.Trapped trap place) is sound some tracked a b = a ∙ sym b
+one_run depth dict save one other r end.OutOfSteps is sound some tracked a b = a ∙ sym b
+
+-- two answers that agree on a failure, or of one run
+by_run : (one other : Answer) (P Q : Running → Type 0) → ((r : Running) → P r → Q r → one ≡ other)
+    → Agree (λ failure. one ≡ refusal failure) (λ failure. other ≡ refusal failure) P Q → one ≡ other
+by_run one other P Q same (inl (failure, a, b)) = a ∙ sym b
+by_run one other P Q same (inr (r, a, b)) = same r a b
+
+-- SHOW
+spelled_same : (bytes : List ℕ) (one other : Saved) → Reads bytes (Ok one) → Reads bytes (Ok other) → one ≡ other
+spelled_same bytes one other (is, inl spelled) b = sym (read_of_write one (Ok other) is (subst (λ t. Reads t (Ok other)) spelled b))
+spelled_same bytes one other (is, inr (old, is_old, spelled, migrated)) b =
+    one_migration old one other migrated (read_migrated old (Ok other) is_old (subst (λ t. Reads t (Ok other)) spelled b))
+
+not_refused : (bytes : List ℕ) (one : Saved) (place : ℕ) → Reads bytes (Ok one) → Reads bytes (Err (NotSaved place)) → ⊥
+not_refused bytes one place (is, inl spelled) b = read_of_write one (Err (NotSaved place)) is (subst (λ t. Reads t (Err (NotSaved place))) spelled b)
+not_refused bytes one place (is, inr (old, is_old, spelled, migrated)) b =
+    read_migrated old (Err (NotSaved place)) is_old (subst (λ t. Reads t (Err (NotSaved place))) spelled b)
+
+one_profile : (dict : Bool) (one other : Answer) (bytes : List ℕ) (a b : Result Saved ℕ) → AnswersProfile dict one bytes a → AnswersProfile dict other bytes b → one ≡ other
+one_profile dict one other bytes (Ok p) (Ok q) (reads, (text, report, is)) (reads', (text', report', is')) =
+    let same : q ≡ p = sym (spelled_same bytes p q reads reads') in
+    is ∙ ap done (report_is_unique p dict text text' reads.0 report (subst (λ s. IsReport s dict text') same report')) ∙ sym is'
+one_profile dict one other bytes (Ok p) (Err place) (reads, rest) (reads', is') = absurd (not_refused bytes p place reads reads')
+one_profile dict one other bytes (Err place) (Ok q) (reads, is) (reads', rest) = absurd (not_refused bytes q place reads' reads)
+one_profile dict one other bytes (Err place) (Err place') (reads, is) (reads', is') =
+    is ∙ ap (λ n. refusal (why.Saved n)) (first_wrong_is_one Both bytes place place' reads reads') ∙ sym is'
+
+by_file : (dict : Bool) (one other : Answer) → Agree {A = List ℕ} (λ failure. one ≡ refusal failure) (λ failure. other ≡ refusal failure)
+    (λ bytes. (read : Result Saved ℕ) × AnswersProfile dict one bytes read) (λ bytes. (read : Result Saved ℕ) × AnswersProfile dict other bytes read) → one ≡ other
+by_file dict one other (inl (failure, a, b)) = a ∙ sym b
+by_file dict one other (inr (bytes, (x, a), (y, b))) = one_profile dict one other bytes x y a b
+
+one_job : (outside : Outside) (one other : Answer) (asked : Job) → IsJobWithin asked → AnswersJob outside one asked → AnswersJob outside other asked → one ≡ other
+one_job outside one other (job.Run file steps depth latency dict save) within a b =
+    by_run one other (λ r. AnswersRun depth dict save one r (run_of r).end × IsSound r) (λ r. AnswersRun depth dict save other r (run_of r).end)
+    (λ r p q. one_run depth dict save one other r (run_of r).end refl p.1 within.depth.at_least within.depth.at_most p.0 q)
+    (running_agrees (λ failure. one ≡ refusal failure) (λ failure. other ≡ refusal failure) _ _ outside steps file latency
+    (running_sound (λ failure. one ≡ refusal failure) (λ r. AnswersRun depth dict save one r (run_of r).end) outside steps within.steps.at_most file latency a) b)
+one_job outside one other (job.Graph file steps depth latency) within a b =
+    let most : steps ≤ 200000 = within.steps.at_most in
+    by_run one other (λ r. IsListed depth one r × IsSound r) (IsListed depth other) (λ r p q. one_listed depth one other r p.0 q)
+    (running_agrees (λ failure. one ≡ refusal failure) (λ failure. other ≡ refusal failure) _ _ outside steps file latency
+    (running_sound (λ failure. one ≡ refusal failure) (IsListed depth one) outside steps (omega (arith, most)) file latency a) b)
+one_job outside one other (job.Show file dict) within a b =
+    by_file dict one other (file_agrees (λ failure. one ≡ refusal failure) (λ failure. other ≡ refusal failure) _ _ outside profile_limit file a b)
+one_job outside one other (job.Demo number loops) within a b = one_demo number loops outside one other a b
+
+one_reading : (outside : Outside) (list : List (List ℕ)) (one other : Answer) (x : Result Job Usage) → words.IsAnswer list x → AnswersWords outside one x
+    → AnswersWords outside other x → one ≡ other
+one_reading outside list one other (Ok asked) is a b = one_job outside one other asked (jobs_are_within list asked is) a b
+one_reading outside list one other (Err usage.Memory) is a b = absurd a
+one_reading outside list one other (Err usage.NoCommand) is a b = a ∙ sym b
+one_reading outside list one other (Err (usage.UnknownWord index)) is a b = a ∙ sym b
+one_reading outside list one other (Err (usage.BadNumber index)) is a b = a ∙ sym b
+one_reading outside list one other (Err (usage.Twice index)) is a b = a ∙ sym b
+one_reading outside list one other (Err usage.NoFile) is a b = a ∙ sym b
+
+-- an answer is of no want of memory
+not_memory : (outside : Outside) (answer : Answer) (x : Result Job Usage) → AnswersWords outside answer x → x ≡ Err usage.Memory → ⊥
+not_memory outside answer x holds is = subst (λ r. AnswersWords outside answer r) is holds
+
+one_asked : (list : List (List ℕ)) (outside : Outside) (one other : Answer) (text : Option Asked) → AnswersAsked list outside one text
+    → AnswersAsked list outside other text → one ≡ other
+one_asked list outside one other (Some Help) a b = a ∙ sym b
+one_asked list outside one other (Some Version) a b = a ∙ sym b
+one_asked list outside one other None (x, is, a) (y, is', b) =
+    let same : y ≡ x = answer_is_unique list y x is' is (not_memory outside other y b) (not_memory outside one x a) in
+    one_reading outside list one other x is a (subst (λ r. AnswersWords outside other r) same b)
+
+pub answers_are_unique : AnswersAreUnique
+answers_are_unique list outside one other a b = one_asked list outside one other (asked_for list) a b

@@ -1,0 +1,37 @@
+-- What the report of a run is asked of, and what its summary says, in terms of the run.
+use Rattle.std.proofs.Common.{ℕ, ℤ, ◌≡◌, ◌∙◌, ◌-◌, ap, sym, subst, List, [], ◌∷◌, length, Some, slice_get}
+use Rattle.k_optab.specs.declared.event.Event.{Event}
+use Rattle.k_optab.specs.declared.node.Node.{Node}
+use Rattle.k_optab.specs.declared.region.Region.{Region}
+use Rattle.k_dict.specs.declared.entry.Entry.{Entry}
+use Rattle.k_dict.specs.Entries.{expansion}
+use Rattle.k_dict.specs.Trees.{Label, node_at}
+use Rattle.k_dict.proofs.EntryTrees.{tree_is}
+use Rattle.k_report_profile.specs.RunReport.{Ran}
+use Rattle.k_report_profile.proofs.Reported.{at_root}
+use Rattle.k_regions.specs.Regions.{regions_of}
+use Rattle.k_dict_saved.specs.declared.saved.Saved.{Saved}
+use Rattle.k_dict_saved.specs.Profile.{IsSaved}
+use Rattle.k_selfpar.specs.declared.row.Row.{Row}
+use Rattle.k_selfpar.specs.Rows.{AreRows}
+use Rattle.k_top_answers.specs.Answers.{ran_of}
+use Rattle.k_top_lemmas.specs.Parts.{IsTreeText}
+use Rattle.k_top_answers.specs.Steps.{Running, run_of}
+use Rattle.k_top_answers.specs.Texts.{tree_lines}
+
+-- what is reported is the run, where its exit, its events and its regions are these
+pub same_ran : (r : Running) (shown exit : ℤ) (depth : ℕ) (events : List Event) (regions : List Region) → shown ≡ exit → events ≡ (run_of r).events
+    → regions ≡ regions_of r.typed
+    → ◌≡◌ {A = Ran} (record { exit = shown; events = events; regions = regions; depth = depth }) (ran_of r exit depth)
+same_ran r shown exit depth events regions same_exit same_events same_regions =
+    λ i. record { exit = same_exit i; events = same_events i; regions = same_regions i; depth = depth }
+
+-- the lines on the tree of a profile are those of its last entry
+pub tree_told : (saved : Saved) (n : ℕ) (root : Entry) (rows : List Row) (text : List ℕ) → IsSaved saved → n ≡ length saved.dict
+    → slice_get saved.dict (n - 1) ≡ Some root → AreRows (expansion saved.dict (n - 1)) rows
+    → text ≡ tree_lines (record { region = root.region; work = root.work; path = root.path; depth = 0 } ∷ []) rows
+    → IsTreeText (expansion saved.dict (length saved.dict - 1)) text
+tree_told saved n root rows text is count at are lines =
+    let tree = tree_is saved.dict (n - 1) root at (is.profile.interned.earlier (n - 1) root at) in
+    let root_lines : Label → List ℕ = λ label. tree_lines (node_at 0 label ∷ []) rows in
+    subst (λ (nodes : List Node). IsTreeText nodes text) (at_root saved n count) (rows, are, lines ∙ sym (ap (λ t. root_lines t.label) tree))

@@ -1,0 +1,211 @@
+-- For contracts between crates: nobody has to believe it.
+-- What each part of the call comes to, and what it leaves. The theorem on `kremlin` speaks of none of this.
+use Rattle.std.specs.Prelude.{ℕ, ⊤, ◌≡◌, ◌≢◌, ◌≤◌, ◌⊎◌, Bool, true, false, nat_eq, List, [], ◌++◌, Option, Some, None, Result, Ok, Err, Vec}
+use Rattle.std.specs.Cmp.Lexicographic.{pointwise}
+use Rattle.std.specs.declared.alloc.Global.{Global}
+use Rattle.k_optab.specs.Latencies.{standard_latencies}
+use Rattle.k_optab.specs.TomlTable.{IsRefused, IsTold}
+use Rattle.k_optab.specs.declared.node.Node.{Node}
+use Rattle.k_optab.specs.declared.toml_table.TableFault.{TableFault}
+use Rattle.k_edge.specs.Fault.{Rose}
+use Rattle.k_edge.specs.FilesWords.{FilesState, Loads, Saves}
+use Rattle.k_edge.specs.ReadAll.{ReadsAll}
+use Rattle.k_edge.specs.SinkWords.{SinkState, Grows, GrowsInPart}
+use Rattle.k_edge.specs.SourceWords.{SourceState}
+use Rattle.k_edge.specs.declared.files.LoadFault.{LoadFault}
+use Rattle.k_edge.specs.declared.files.SaveFault.{SaveFault}
+use Rattle.k_edge.specs.declared.reading.ReadAllFault.{ReadAllFault}
+use Rattle.k_edge.specs.declared.sink.PutFault.{PutFault}
+use Rattle.k_edge.specs.declared.sink.PutFault.TheVariants as put
+use Rattle.k_tree.specs.declared.tree.unit.Unit as source
+use Rattle.k_tree.specs.Count.{unit_count}
+use Rattle.k_types_meaning.specs.Bare.{IsTyped}
+use Rattle.k_types_meaning.specs.Units.{faults}
+use Rattle.k_marks_meaning.specs.Marking.{marks_of}
+use Rattle.k_evaluation.specs.Laws.{AreAtMost}
+use Rattle.k_dict_saved.specs.Files.{AreRegions}
+use Rattle.k_dict_saved.specs.declared.fault.SavedFault.{SavedFault}
+use Rattle.k_regions.specs.Regions.{regions_of}
+use Rattle.k_dict_saved.specs.Profile.{Reads}
+use Rattle.k_dict_saved.specs.declared.saved.Saved.{Saved}
+use Rattle.k_selfpar.specs.Contexts.{AreContexts}
+use Rattle.k_selfpar.specs.Rows.{AreRows}
+use Rattle.k_selfpar.specs.declared.context.Context.{Context}
+use Rattle.k_selfpar.specs.declared.row.Row.{Row}
+use Rattle.k_plan.specs.declared.advice.Advice.{Advice}
+use Rattle.k_report.specs.Report.{large_line}
+use Rattle.k_report_profile.specs.Report.{IsPlanned, nodes_of_profile}
+use Rattle.k_top_answers.specs.declared.answer.Answer.{Answer}
+use Rattle.k_top_answers.specs.declared.answer.SavedFile.{SavedFile}
+use Rattle.k_top_answers.specs.declared.failure.Failure.{Failure}
+use Rattle.k_top_answers.specs.declared.failure.Failure.TheVariants as why
+use Rattle.k_top_lemmas.specs.declared.program.Program.{Program}
+use Rattle.k_top_lemmas.specs.declared.running.Ready.{Ready}
+use Rattle.k_top_answers.specs.Answers.{AnswersProfile, done}
+use Rattle.k_top_answers.specs.Clauses.{HoldsAfter, Told}
+use Rattle.k_top_answers.specs.Failures.{failure_line, failure_of_load, failure_of_put, failure_of_reading, failure_of_save, failure_of_saved, failure_of_table, failure_status}
+use Rattle.k_top_answers.specs.Steps.{AnswersSource, Running, file_limit, input_limit, profile_limit}
+use Rattle.k_top_answers.specs.Texts.{plan_line, tree_lines}
+
+-- the failure refuses: it is no fault of the outside and no want of memory
+abbrev pub IfRefusal : Failure → Type 0 → Type 0
+IfRefusal why.ReadFault is = Unit {0}
+IfRefusal why.WriteFault is = Unit {0}
+IfRefusal why.NoMemory is = Unit {0}
+IfRefusal failure is = is
+
+-- what loading a file comes to: its bytes, or the failure that the fault is
+abbrev pub LoadsFile : Result (Vec ℕ Global) Failure → List ℕ → ℕ → FilesState → FilesState → Type 0
+LoadsFile (Ok bytes) name limit old new = Loads (Ok bytes) name limit old new
+LoadsFile (Err failure) name limit old new = (fault : LoadFault) × (failure ≡ failure_of_load name fault) × Loads (Err fault) name limit old new
+
+-- what reading the bytes of a table comes to
+abbrev pub GivesTable : Result (List ℕ) Failure → List ℕ → Type 0
+GivesTable (Ok latencies) bytes = IsTold bytes (Ok latencies)
+GivesTable (Err failure) bytes = (fault : TableFault) × (failure ≡ failure_of_table fault) × IsRefused bytes fault
+
+-- what loading and reading a table comes to
+abbrev pub LoadsNamed : Result (List ℕ) Failure → List ℕ → FilesState → FilesState → Type 0
+LoadsNamed (Ok latencies) name old new = (bytes : Vec ℕ Global) × Loads (Ok bytes) name file_limit old new × GivesTable (Ok latencies) bytes.items
+LoadsNamed (Err failure) name old new =
+    ((bytes : Vec ℕ Global) × Loads (Ok bytes) name file_limit old new × GivesTable (Err failure) bytes.items)
+    ⊎ LoadsFile (Err failure) name file_limit old new
+
+-- what taking the standard latencies comes to
+abbrev pub TakesStandard : Result (List ℕ) Failure → FilesState → FilesState → Type 0
+TakesStandard (Ok latencies) old new = (latencies ≡ standard_latencies) × (new ≡ old)
+TakesStandard (Err failure) old new = ⊥
+
+-- what finding the latencies comes to: the standard ones, those of the source where it is the table too, or those of another file
+abbrev pub LoadsTable : Result (List ℕ) Failure → Option (List ℕ) → List ℕ → Bool → FilesState → FilesState → Type 0
+LoadsTable result None source is_source old new = TakesStandard result old new
+LoadsTable result (Some name) source true old new = GivesTable result source × (new ≡ old)
+LoadsTable result (Some name) source false old new = LoadsNamed result name old new
+
+-- a name that may be given is that of this file
+abbrev pub is_name : Option (List ℕ) → List ℕ → Bool
+is_name None file = false
+is_name (Some name) file = pointwise nat_eq name file
+
+-- a program of which laws of runs speak: an accepted source with its marks, whose regions can be saved, and latencies of at most 10,000
+pub record CanRun (p : Program) : Type 0 where
+  pub unit : source.Unit
+  pub typed : IsTyped unit p.typed
+  pub faultless : faults unit ≡ []
+  pub few : unit_count unit ≤ 262144
+  pub regions : AreRegions (regions_of p.typed)
+  pub marks : p.marks ≡ marks_of p.typed
+  pub latencies : AreAtMost 10000 p.latencies
+
+-- what reading a source comes to: a program with these latencies, or why it is refused
+abbrev pub AcceptsSource : Result Program Failure → List ℕ → Type 0
+AcceptsSource (Ok p) bytes = AnswersSource (λ failure. ⊥) (λ typed. typed ≡ p.typed) bytes
+AcceptsSource (Err failure) bytes = (failure ≡ why.NoMemory) ⊎ AnswersSource (λ other. other ≡ failure) (λ source. ⊥) bytes
+
+-- what reading the input comes to
+abbrev pub ReadsWhole : Result (Vec ℕ Global) Failure → SourceState → SourceState → Type 0
+ReadsWhole (Ok bytes) old new = ReadsAll (Ok bytes) input_limit old new
+ReadsWhole (Err failure) old new = (fault : ReadAllFault) × (failure ≡ failure_of_reading fault) × ReadsAll (Err fault) input_limit old new
+
+-- nothing is read: the input is as before, and no bytes are given
+abbrev pub ReadsNothing : Result (Vec ℕ Global) Failure → SourceState → SourceState → Type 0
+ReadsNothing (Ok bytes) old new = (bytes.items ≡ []) × (new ≡ old)
+ReadsNothing (Err failure) old new = ⊥
+
+-- the input is read where it is asked for
+abbrev pub ReadsWhere : Bool → Result (Vec ℕ Global) Failure → SourceState → SourceState → Type 0
+ReadsWhere true result old new = ReadsWhole result old new
+ReadsWhere false result old new = ReadsNothing result old new
+
+-- a program with its input, as it is run
+abbrev pub running_of : Ready → Running
+running_of r = record { typed = r.program.typed; latencies = r.program.latencies; input = r.input; steps = r.steps }
+
+-- a run of which a report and a listing can be made, with the instances below a depth
+pub record IsFit (r : Ready) (depth : ℕ) : Type 0 where
+  pub program : CanRun r.program
+  pub steps : r.steps ≤ 1000000000
+  pub some : 1 ≤ depth
+  pub tracked : depth ≤ 32
+
+-- what making the answer comes to that is a text
+abbrev pub GivesText : Result Answer Failure → List ℕ → Type 0
+GivesText (Ok answer) text = answer ≡ done text
+GivesText (Err failure) text = failure ≡ why.NoMemory
+
+-- what the report of a saved profile comes to
+abbrev pub ShowsProfile : Result Answer Failure → List ℕ → Bool → Type 0
+ShowsProfile (Ok answer) bytes dict = (profile : Saved) × AnswersProfile dict answer bytes (Ok profile)
+ShowsProfile (Err failure) bytes dict = (fault : SavedFault) × (failure ≡ failure_of_saved fault) × Reads bytes (Err fault)
+
+-- what loading a saved profile and reporting it comes to
+abbrev pub ShowsFile : Result Answer Failure → List ℕ → Bool → FilesState → FilesState → Type 0
+ShowsFile (Ok answer) file dict old new = (bytes : Vec ℕ Global) × Loads (Ok bytes) file profile_limit old new × ShowsProfile (Ok answer) bytes.items dict
+ShowsFile (Err failure) file dict old new =
+    ((bytes : Vec ℕ Global) × Loads (Ok bytes) file profile_limit old new × ShowsProfile (Err failure) bytes.items dict)
+    ⊎ LoadsFile (Err failure) file profile_limit old new
+
+-- the lines of a summary on a tree of these instances
+abbrev pub IsTreeText : List Node → List ℕ → Type 0
+IsTreeText nodes text = (rows : List Row) × AreRows nodes rows × (text ≡ tree_lines nodes rows)
+
+-- the line of a summary on the plan of these contexts
+abbrev pub IsPlanLine : List Context → List ℕ → Type 0
+IsPlanLine contexts text = (advice : Advice) × IsPlanned contexts (Some advice) × (text ≡ plan_line contexts (Some advice))
+
+-- the line of a summary on the plan of a profile
+abbrev pub IsPlanText : Saved → List ℕ → Type 0
+IsPlanText saved text =
+    (contexts : List Context) × (plan : Option Advice) × AreContexts saved.regions (nodes_of_profile saved) contexts × IsPlanned contexts plan
+    × (text ≡ plan_line contexts plan)
+
+-- the lines of a summary on a profile
+abbrev pub AreLinesOf : Saved → List ℕ → Type 0
+AreLinesOf saved text =
+    (tree : List ℕ) × (plan : List ℕ) × IsTreeText (nodes_of_profile saved) tree × IsPlanText saved plan × (text ≡ tree ++ plan)
+
+-- the lines of a summary on a profile, or that there is none
+abbrev pub AreLinesIfThere : Option Saved → List ℕ → Type 0
+AreLinesIfThere None text = text ≡ large_line
+AreLinesIfThere (Some saved) text = AreLinesOf saved text
+
+-- what putting many bytes comes to: the sink has grown by all of them, or by a prefix, and its count
+-- of faults rose exactly for a failed put, which is made only where there are bytes
+abbrev pub PutsAll : Result ⊤ PutFault → List ℕ → SinkState → SinkState → Type 0
+PutsAll (Ok done) bytes old new = Grows old.written bytes new.written × (new.faults ≡ old.faults)
+PutsAll (Err put.Failed) bytes old new = (bytes ≢ []) × GrowsInPart old.written bytes new.written × Rose old.faults new.faults
+PutsAll (Err put.Memory) bytes old new = GrowsInPart old.written bytes new.written × (new.faults ≡ old.faults)
+
+-- what saving the file of an answer comes to
+abbrev pub SavesFile : Result ⊤ Failure → Option SavedFile → FilesState → FilesState → Type 0
+SavesFile (Ok done) saved old new = HoldsAfter saved old new × (new.counts ≡ old.counts)
+SavesFile (Err failure) None old new = ⊥
+SavesFile (Err failure) (Some file) old new = (fault : SaveFault) × (failure ≡ failure_of_save fault) × Saves (Err fault) file.name file.bytes old new
+
+-- what delivering an answer comes to: its bytes are put, and then its file is saved
+abbrev pub Delivers : Result ⊤ Failure → Answer → FilesState → FilesState → SinkState → SinkState → Type 0
+Delivers (Ok done) answer files files' out out' = PutsAll (Ok tt) answer.out out out' × SavesFile (Ok tt) answer.saved files files'
+Delivers (Err failure) answer files files' out out' =
+    ((fault : PutFault) × (failure ≡ failure_of_put fault) × PutsAll (Err fault) answer.out out out' × (files' ≡ files))
+    ⊎ (PutsAll (Ok tt) answer.out out out' × SavesFile (Err failure) answer.saved files files')
+
+-- how the call ends once its answer is delivered
+abbrev pub EndsBy : Result ⊤ Failure → Option Failure → Type 0
+EndsBy (Ok done) failure = failure ≡ None
+EndsBy (Err other) failure = failure ≡ Some other
+
+-- how the call ends behind an answer, whose delivery came to that
+abbrev pub EndsAs : Result ⊤ Failure → Result ⊤ Failure → Answer → Type 0
+EndsAs result (Ok done) answer = EndsBy result answer.failure
+EndsAs result (Err failure) answer = result ≡ Err failure
+
+-- a line was put on err, and this status answered: 8 in place of the one given where memory was wanting for the put
+abbrev pub PutsLine : List ℕ → ℕ → ℕ → SinkState → SinkState → Type 0
+PutsLine line given status old new = ((status ≡ given) × Told line old new) ⊎ ((status ≡ 8) × (new ≡ old))
+
+-- what was told on err of how the call ended, and the status that was answered: 8 where memory was wanting for the line
+abbrev pub Tells : Result ⊤ Failure → ℕ → SinkState → SinkState → Type 0
+Tells (Ok done) status old new = (status ≡ 0) × (new ≡ old)
+Tells (Err failure) status old new =
+    ((status ≡ failure_status failure) × Told (failure_line failure) old new)
+    ⊎ ((status ≡ 8) × GrowsInPart old.written (failure_line why.NoMemory) new.written)

@@ -1,0 +1,243 @@
+//! Words, with the job or the fault that they are.
+
+use k_num::{NoMemory, Text};
+use k_words::{Job, Usage, words};
+use std::alloc::Global;
+use std::process::Abort;
+use std::test::Fail;
+
+/// Words, parted by spaces; two spaces stand round an empty one.
+fn list_of(alloc: Global, line: &str) -> Result<Vec<String>, NoMemory> {
+    let mut list = Vec::new(alloc);
+    if line.is_empty() {
+        return Ok(list);
+    }
+    for word in line.split(' ') {
+        list.push(String::from_str(alloc, word)?)?;
+    }
+    Ok(list)
+}
+
+/// A fault's name and index.
+fn parts(fault: Usage) -> (&'static str, u32) {
+    match fault {
+        Usage::NoCommand => ("NoCommand", 0),
+        Usage::UnknownWord(index) => ("UnknownWord", index),
+        Usage::BadNumber(index) => ("BadNumber", index),
+        Usage::Twice(index) => ("Twice", index),
+        Usage::NoFile => ("NoFile", 0),
+        Usage::Memory => ("Memory", 0),
+    }
+}
+
+/// Lines of words that are refused, each with its fault and the fault's index.
+static REFUSED: [(&str, &str, u32); 60] = [
+    ("", "NoCommand", 0),
+    ("ruN", "UnknownWord", 0),
+    ("--help", "UnknownWord", 0),
+    ("-V", "UnknownWord", 0),
+    ("run", "NoFile", 0),
+    ("graph", "NoFile", 0),
+    ("show", "NoFile", 0),
+    ("demo", "NoFile", 0),
+    ("run --dict a.c", "NoFile", 0),
+    ("run --", "NoFile", 0),
+    ("run  --steps=0", "NoFile", 0),
+    ("graph --steps=0", "NoFile", 0),
+    ("run a.c b.c", "UnknownWord", 2),
+    ("run a.c ", "UnknownWord", 2),
+    ("run a.c --dicts", "UnknownWord", 2),
+    ("run a.c --dict=1", "UnknownWord", 2),
+    ("run a.c -dict", "UnknownWord", 2),
+    ("run a.c --steps", "UnknownWord", 2),
+    ("run a.c --Steps=5", "UnknownWord", 2),
+    ("run a.c --latency=", "UnknownWord", 2),
+    ("run a.c --save=", "UnknownWord", 2),
+    ("run a.c --save", "UnknownWord", 2),
+    ("run a.c --save=x --save=", "UnknownWord", 3),
+    ("graph a.c --dict", "UnknownWord", 2),
+    ("graph a.c --save=x", "UnknownWord", 2),
+    ("graph a.c --depth=3 --dict", "UnknownWord", 3),
+    ("show p.txt --steps=5", "UnknownWord", 2),
+    ("show p.txt --depth=5", "UnknownWord", 2),
+    ("show p.txt --latency=l", "UnknownWord", 2),
+    ("show p.txt --save=q", "UnknownWord", 2),
+    ("run a.c --steps=0", "BadNumber", 2),
+    ("run a.c --steps=", "BadNumber", 2),
+    ("run a.c --steps=1000000001", "BadNumber", 2),
+    ("run a.c --steps=01", "BadNumber", 2),
+    ("run a.c --steps=+1", "BadNumber", 2),
+    ("run a.c --steps=-1", "BadNumber", 2),
+    ("run a.c --steps=1e3", "BadNumber", 2),
+    ("run a.c --steps=18446744073709551617", "BadNumber", 2),
+    ("run a.c --depth=0", "BadNumber", 2),
+    ("run a.c --depth=33", "BadNumber", 2),
+    ("run a.c --depth=4294967297", "BadNumber", 2),
+    ("graph a.c --steps=200001", "BadNumber", 2),
+    ("run a.c --dict --dict", "Twice", 3),
+    ("run a.c --steps=5 --steps=6", "Twice", 3),
+    ("run a.c --steps=5 --depth=3 --steps=x", "Twice", 4),
+    ("run a.c --latency=l --latency=m", "Twice", 3),
+    ("run a.c --save=x --dict --save=x", "Twice", 4),
+    ("run a.c --steps=5 --depth=0 --steps=x", "BadNumber", 3),
+    ("run a.c --dict --depth=0 --dict", "BadNumber", 3),
+    ("run a.c --dict --dict --depth=0", "Twice", 3),
+    (
+        "run a.c --steps=1 --depth=1 --latency=l --dict --save=s x",
+        "UnknownWord",
+        7,
+    ),
+    ("demo 1", "NoFile", 0),
+    ("demo x", "BadNumber", 1),
+    ("demo 18446744073709551616 1", "BadNumber", 1),
+    ("demo 00 1", "BadNumber", 1),
+    ("demo 1 0", "BadNumber", 2),
+    ("demo 1 2001", "BadNumber", 2),
+    ("demo 1 02 --dict", "BadNumber", 2),
+    ("demo 1 2 3", "UnknownWord", 3),
+    ("demo 1 2 --dict --dict", "UnknownWord", 3),
+];
+
+/// A line is refused so.
+fn assert_refused(rt: &impl Abort, alloc: Global, row: (&str, &str, u32)) -> Result<(), Fail> {
+    let list = list_of(alloc, row.0)?;
+    match words(alloc, list.as_slice()) {
+        Ok(job) => {
+            drop(job);
+            assert!(rt; false);
+        }
+        Err(fault) => assert_eq!(rt; parts(fault), (row.1, row.2)),
+    }
+    Ok(())
+}
+
+#[test]
+fn the_first_wrong_word_is_answered(rt: HostRuntime) -> Result<(), Fail> {
+    for row in &REFUSED {
+        assert_refused(&rt, rt.alloc(), *row)?;
+    }
+    Ok(())
+}
+
+/// A name, or an empty text.
+fn name_of(name: &Option<Text>) -> &str {
+    match name {
+        None => "",
+        Some(name) => name.as_str(),
+    }
+}
+
+/// A job in a line: its file and names, its numbers, and whether the dictionary is listed.
+fn job_parts(job: &Job) -> ([&str; 4], [u64; 2], bool) {
+    match job {
+        Job::Run {
+            file,
+            steps,
+            depth,
+            latency,
+            dict,
+            save,
+        } => (
+            ["run", file.as_str(), name_of(latency), name_of(save)],
+            [*steps, u64::from(*depth)],
+            *dict,
+        ),
+        Job::Graph {
+            file,
+            steps,
+            depth,
+            latency,
+        } => (
+            ["graph", file.as_str(), name_of(latency), ""],
+            [*steps, u64::from(*depth)],
+            false,
+        ),
+        Job::Show { file, dict } => (["show", file.as_str(), "", ""], [0, 0], *dict),
+        Job::Demo { number, loops } => (["demo", "", "", ""], [*number, u64::from(*loops)], false),
+    }
+}
+
+/// Lines of words, each with its job's names, numbers and whether the dictionary is listed.
+static ACCEPTED: [(&str, [&str; 4], [u64; 2], bool); 16] = [
+    ("run a.c", ["run", "a.c", "", ""], [100_000_000, 24], false),
+    ("run -", ["run", "-", "", ""], [100_000_000, 24], false),
+    ("run -x", ["run", "-x", "", ""], [100_000_000, 24], false),
+    (
+        "run run --dict",
+        ["run", "run", "", ""],
+        [100_000_000, 24],
+        true,
+    ),
+    ("run a.c --steps=1", ["run", "a.c", "", ""], [1, 24], false),
+    (
+        "run a.c --steps=1000000000 --depth=32",
+        ["run", "a.c", "", ""],
+        [1_000_000_000, 32],
+        false,
+    ),
+    (
+        "run a.c --depth=1",
+        ["run", "a.c", "", ""],
+        [100_000_000, 1],
+        false,
+    ),
+    (
+        "run a.c --save=p --latency=l",
+        ["run", "a.c", "l", "p"],
+        [100_000_000, 24],
+        false,
+    ),
+    (
+        "run a.c --save=--dict --latency== --dict",
+        ["run", "a.c", "=", "--dict"],
+        [100_000_000, 24],
+        true,
+    ),
+    (
+        "run a.c --save=s --dict --latency=l --depth=2 --steps=3",
+        ["run", "a.c", "l", "s"],
+        [3, 2],
+        true,
+    ),
+    ("graph a.c", ["graph", "a.c", "", ""], [200_000, 24], false),
+    (
+        "graph a.c --depth=3 --latency=l --steps=200000",
+        ["graph", "a.c", "l", ""],
+        [200_000, 3],
+        false,
+    ),
+    ("show p", ["show", "p", "", ""], [0, 0], false),
+    ("show p --dict", ["show", "p", "", ""], [0, 0], true),
+    ("demo 0 1", ["demo", "", "", ""], [0, 1], false),
+    (
+        "demo 18446744073709551615 2000",
+        ["demo", "", "", ""],
+        [18_446_744_073_709_551_615, 2_000],
+        false,
+    ),
+];
+
+/// A line asks for this job.
+fn assert_accepted(
+    rt: &impl Abort,
+    alloc: Global,
+    row: &(&str, [&str; 4], [u64; 2], bool),
+) -> Result<(), Fail> {
+    let list = list_of(alloc, row.0)?;
+    match words(alloc, list.as_slice()) {
+        Ok(job) => {
+            assert!(rt; job_parts(&job) == (row.1, row.2, row.3));
+            drop(job);
+        }
+        Err(_) => assert!(rt; false),
+    }
+    Ok(())
+}
+
+#[test]
+fn jobs_are_read(rt: HostRuntime) -> Result<(), Fail> {
+    for row in &ACCEPTED {
+        assert_accepted(&rt, rt.alloc(), row)?;
+    }
+    Ok(())
+}

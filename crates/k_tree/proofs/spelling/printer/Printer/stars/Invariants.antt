@@ -1,7 +1,0 @@
-use Rattle.std.proofs.Common.{◌≡◌, ◌++◌, drop}
-use Rattle.k_tree.specs.Spelling.{spell_stars}
-use Rattle.k_tree.proofs.spelling.printer.Printer.stars.Given as goal
-
-abbrev pub invariant-loop-constant : goal.invariant-loop-constant
-invariant-loop-constant l =
-    l.self.tokens ++ spell_stars (drop l.constant-index l.constant-items) ≡ l.fn.self.tokens ++ spell_stars l.stars

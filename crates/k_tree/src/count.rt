@@ -1,5 +1,0 @@
-//! How many nodes a tree has.
-pub mod declaration;
-pub mod expression;
-pub mod statement;
-pub mod unit;

@@ -1,0 +1,2 @@
+pub mod Getchar
+pub mod Noting

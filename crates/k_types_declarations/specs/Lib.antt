@@ -1,0 +1,4 @@
+pub mod Braces
+pub mod Objects
+pub mod Results
+pub mod Sizes

@@ -1,0 +1,15 @@
+pub mod BodiesElaborate
+pub mod CompleteStatements
+pub mod Declared
+pub mod Elaborates
+pub mod Faultless
+pub mod Filled
+pub mod FilledExpressions
+pub mod FilledStatements
+pub mod Filling
+pub mod Fine
+pub mod Folds
+pub mod FunctionsElaborate
+pub mod OneTree
+pub mod SoundStatements
+pub mod SourcesElaborate

@@ -1,0 +1,25 @@
+use Rattle.std.proofs.Common.{◌+◌, ◌*◌, max}
+use Rattle.k_types_meaning.specs.declared.tree.expression.TExpr.{TExpr, size-TExpr}
+use Rattle.k_types_meaning.specs.Bare.{bare_expr}
+use Rattle.k_types_meaning.specs.Numbered.{expr_numbers}
+use Rattle.k_types_numbers.proofs.CountingLaws.{SoFar}
+use Rattle.k_types_numbers.proofs.expression.+expressions.Given as goal
+
+abbrev pub invariant-number_exprs-loop-expr : goal.invariant-number_exprs-loop-expr
+invariant-number_exprs-loop-expr l =
+    goal.unvisited-number_exprs-loop-expr l × SoFar TExpr bare_expr expr_numbers l.initial.exprs l.exprs l.expr-index l.initial.counts l.counts
+
+abbrev pub decreases-with_operands : goal.decreases-with_operands
+decreases-with_operands l = 4 * size-TExpr l.expr
+
+abbrev pub decreases-numbered : goal.decreases-numbered
+decreases-numbered l = 4 * size-TExpr l.expr + 1
+
+abbrev pub decreases-boxed : goal.decreases-boxed
+decreases-boxed l = 4 * size-TExpr l.expr + 2
+
+abbrev pub decreases-number_exprs : goal.decreases-number_exprs
+decreases-number_exprs l = 4 * goal.size-number_exprs l + 2
+
+abbrev pub decreases-pair : goal.decreases-pair
+decreases-pair l = 4 * max (size-TExpr l.left) (size-TExpr l.right) + 3

@@ -1,0 +1,4 @@
+pub mod Distances
+pub mod KeptSizes
+pub mod ObjectTypes
+pub mod Products

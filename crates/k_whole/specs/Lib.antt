@@ -1,9 +1,0 @@
-pub mod Refusals
-pub mod Failures
-pub mod Steps
-pub mod Texts
-pub mod Answers
-pub mod Clauses
-pub mod Parts
-pub mod Phases
-pub mod Laws

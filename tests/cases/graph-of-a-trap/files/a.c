@@ -1,0 +1,1 @@
+int main(void){int x=1+2; return x/0;}

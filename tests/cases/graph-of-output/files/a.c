@@ -1,0 +1,1 @@
+int main(void){putchar('a');putchar('b');return 0;}
