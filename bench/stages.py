@@ -1,7 +1,7 @@
-"""Makes three sources and prints docs/PERFORMANCE.md's tables of the time by stage of `kremlin run`.
+"""Makes three sources and prints bench/README.md's tables of the time by stage of `kremlin run`.
 
     (cd crates/kremlin && rt run)
-    python3 docs/bench/stages.py crates/kremlin/out/kremlin /tmp/stages
+    python3 bench/stages.py crates/kremlin/out/kremlin /tmp/stages
 
 The sources are written into the folder: one of 400,000 tokens without a loop, and products of matrices of some 10 and 28 million operations. The
 program runs under gdb, which notes when the first function of each stage is entered, and lets it go on: a stop takes less than a millisecond.
@@ -14,10 +14,10 @@ import sys
 from runs import PRODUCT
 
 STAGES = [
-    ("tokens", "k_lex::pieces::piece_at"),
+    ("tokens", "k_lex_pieces::pieces::piece_at"),
     ("tree", "k_parse::parser::read"),
     ("types", "k_types::item::File::new"),
-    ("marks", "k_marks::jumps::leave"),
+    ("marks", "k_marks_jumps::walk::list_stmt"),
     ("run", "k_plain::frame::Machine::turn"),
     ("the run's listing", "k_plain::frame::Machine::into_listing"),
     ("tree of instances", "k_graph::listing::instances"),

@@ -1,7 +1,7 @@
-"""Makes sources to time the program with, and prints docs/PERFORMANCE.md's tables of reading and checking.
+"""Makes sources to time the program with, and prints bench/README.md's tables of reading and checking.
 
     (cd crates/kremlin && rt run)
-    python3 docs/bench/sources.py crates/kremlin/out/kremlin /tmp/sources
+    python3 bench/sources.py crates/kremlin/out/kremlin /tmp/sources
 
 The sources are written into the folder. An unknown name stands at the end of each, so each is refused at the end of its check. For each: the processor
 time in seconds of the run (the least of five), the same with one token too many at its end, so that it is refused before it is

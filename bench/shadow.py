@@ -1,8 +1,8 @@
-"""Times the loops of k_bench beside the same loops in C, and prints docs/PERFORMANCE.md's table.
+"""Times the loops of k_shadow_bench beside the same loops in C, and prints bench/README.md's table.
 
-    (cd crates/k_bench && rt run)
-    gcc -O2 -o /tmp/shadow docs/bench/shadow.c
-    python3 docs/bench/shadow.py crates/k_bench/out/k_bench /tmp/shadow [TURNS]
+    (cd crates/k_shadow_bench && rt run)
+    gcc -O2 -o /tmp/shadow bench/shadow.c
+    python3 bench/shadow.py crates/k_shadow_bench/out/k_shadow_bench /tmp/shadow [TURNS]
 
 Each turn runs each loop twice at each number of locations and each depth, all on one processor: with some operations, and
 with four times as many. Of each of the two the least processor time over the turns is taken, that of the turn that was

@@ -1,7 +1,7 @@
-"""Times the reading of sources of 400,000 tokens by the built program, and prints docs/PERFORMANCE.md's table.
+"""Times the reading of sources of 400,000 tokens by the built program, and prints bench/README.md's table.
 
     (cd crates/kremlin && rt run)
-    python3 docs/bench/reading.py crates/kremlin/out/kremlin FOLDER [TURNS]
+    python3 bench/reading.py crates/kremlin/out/kremlin FOLDER [TURNS]
 
 Writes each source into FOLDER, in two forms: one ends in a byte that begins no token, so that the program answers behind
 the tokens, and one in a token that can't stand there, so that it answers behind the tree. Each time is the least of the

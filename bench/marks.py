@@ -1,8 +1,8 @@
-"""Makes sources to time the marking with, and prints docs/PERFORMANCE.md's table of it.
+"""Makes sources to time the marking with, and prints bench/README.md's table of it.
 
     (cd crates/kremlin && rt run)
-    (cd crates/k_run_bench && rt run)
-    python3 docs/bench/marks.py crates/kremlin/out/kremlin crates/k_run_bench/out/k_run_bench /tmp/marks
+    (cd crates/k_plain_bench && rt run)
+    python3 bench/marks.py crates/kremlin/out/kremlin crates/k_plain_bench/out/k_plain_bench /tmp/marks
 
 The sources are written into the folder. The first program is given each with an unknown name behind it, so that it refuses it at the end of its check; the second goes on to its marks and to
 a run without operations. For each: the processor time in seconds of both (the least of five), their difference, which is the

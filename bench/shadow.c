@@ -1,6 +1,6 @@
-// The loops of `k_bench` in C: for one operation the times of two operands and of the control entry are read at each
+// The loops of `k_shadow_bench` in C: for one operation the times of two operands and of the control entry are read at each
 // live level, and their maximum is written to one location at each live level. One stamp for each location. As in
-// `k_bench`, every row and the control entry are written before the first operation: so no page is touched for the first
+// `k_shadow_bench`, every row and the control entry are written before the first operation: so no page is touched for the first
 // time while operations are timed, and the compiler does not know that the control entry has no time.
 //
 //     gcc -O2 -o shadow shadow.c && ./shadow flat 65536 8 1000000

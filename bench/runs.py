@@ -1,7 +1,7 @@
-"""Makes sources to time k_run_bench with, and prints docs/PERFORMANCE.md's tables of runs.
+"""Makes sources to time k_plain_bench with, and prints bench/README.md's tables of runs.
 
-    (cd crates/k_run_bench && rt run)
-    taskset -c 3 python3 docs/bench/runs.py crates/k_run_bench/out/k_run_bench /tmp/runs
+    (cd crates/k_plain_bench && rt run)
+    taskset -c 3 python3 bench/runs.py crates/k_plain_bench/out/k_plain_bench /tmp/runs
 
 The sources are written into the folder. For each: how it ends, its operations, the seconds of processor time of the whole program (the
 least of three runs), millions of operations a second, and its largest memory with that for each operation. Behind them, for the

@@ -1,7 +1,7 @@
-"""Makes saved profiles to time k_profile_bench with, and prints docs/PERFORMANCE.md's tables of its stages.
+"""Makes saved profiles to time k_report_bench with, and prints bench/README.md's tables of its stages.
 
-    (cd crates/k_profile_bench && rt run)
-    python3 docs/bench/profiles.py crates/k_profile_bench/out/k_profile_bench /tmp/profiles
+    (cd crates/k_report_bench && rt run)
+    python3 bench/profiles.py crates/k_report_bench/out/k_report_bench /tmp/profiles
 
 The profiles are written into the folder. For each: what each stage made, and its processor time in seconds together with the
 reading before it; then the largest memory that any of the runs had. Behind them trees of 10,000,000 instances are gathered.
