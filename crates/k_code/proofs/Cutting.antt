@@ -1,15 +1,16 @@
 -- The budget only cuts a run short.
-use Rattle.std.proofs.Common.{◌≡◌, ℕ, zero, suc, ◌+◌, ◌-◌, List, [], ◌∷◌, ◌++◌, length, map, Option, Some, None, Ok, Err, Bool, true, false, ℤ, nat_eq, refl, sym, ◌∙◌, subst, ap, arith}
+use Rattle.std.proofs.Common.{◌≡◌, ℕ, zero, suc, ◌+◌, ◌-◌, List, [], ◌∷◌, ◌++◌, length, map, Option, Some, None, Ok, Err, Bool, true, false, nat_eq, refl, sym, ◌∙◌, subst, ap, arith}
 use Rattle.std.specs.Prelude.{if◌then◌else◌, slice_get, option_map}
 use Rattle.std.proofs.lemmas.List.{append_assoc}
 use Rattle.std.proofs.lemmas.Bool.{eqb-false, ne_eqb}
+use Rattle.k_num.specs.declared.initial.Initial.{Initial}
 use Rattle.k_num.specs.declared.place.Place.{Place}
 use Rattle.k_optab.specs.declared.class.Class.{Class}
 use Rattle.k_optab.specs.declared.event.Event.{Event}
 use Rattle.k_optab.specs.declared.event.Event.TheVariants.{Op}
 use Rattle.k_ending.specs.declared.ending.End.TheVariants.{Returned, Trapped, OutOfSteps}
 use Rattle.k_ending.specs.declared.ending.Trap.TheVariants.{StackOverflow, Uninit}
-use Rattle.k_mem.specs.declared.start.Start.TheVariants.{Unset, Zero, Literal}
+use Rattle.k_mem.specs.declared.start.Start.TheVariants.{Unset, Zero}
 use Rattle.k_mem.specs.Memory.{Memory}
 use Rattle.k_mem.specs.Calls.{push_of}
 use Rattle.k_world.specs.declared.act.Act.{Act}
@@ -17,7 +18,7 @@ use Rattle.k_world.specs.declared.value.Held.{Held}
 use Rattle.k_world.specs.declared.value.Read.{Read}
 use Rattle.k_world.specs.declared.value.Value.{Value}
 use Rattle.k_world.specs.Acts.{Given, work, effect, hidden}
-use Rattle.k_world.specs.Changes.{with_elements}
+use Rattle.k_world.specs.Changes.{with_elements, with_string}
 use Rattle.k_world.specs.Operands.{are_set, values_of, sources}
 use Rattle.k_world.specs.Operations.{Made, Gives, Ends, operation, acted, counted}
 use Rattle.k_world.specs.Worlds.{World, fresh}
@@ -32,7 +33,7 @@ use Rattle.k_code.specs.declared.instruction.Do.TheVariants as act
 use Rattle.k_code.specs.declared.instruction.Home.TheVariants.{File, Local}
 use Rattle.k_code.specs.declared.instruction.Instr.{Instr}
 use Rattle.k_code.specs.Budgets.{Begins, with_left, IsCutShort, BudgetCutsShort}
-use Rattle.k_code.specs.Runs.{lent, begun_with, with_object, place_of, or_limit, with_objects, main_called, start, steps, world_of}
+use Rattle.k_code.specs.Runs.{begun_with, with_object, place_of, or_limit, with_objects, main_called, start, steps, world_of}
 use Rattle.k_code.specs.Steps.{Configuration, Waiting, Run, Going, Over, step, at_instruction, by_kind, by_operation, behind, alone, called, entered, overflows, no_value, returned, handed_back, left_by, opened, filled_with, object_at, operation_of, is_in_main, reads_of}
 use Rattle.k_code.proofs.Growing.{Grows, made_world, operation_grows, by_operation_grows, step_grows}
 use Rattle.k_code.proofs.Stepping.{over_stays}
@@ -139,7 +140,7 @@ module _ (more : ℕ) (code : Code) where
   opened_cut place c elements None = refl
   opened_cut place c elements (Some m) = refl
 
-  filled_cut : (values : List ℤ) (n : Option ℕ) (w : World) → filled_with values n (with_left more w) ≡ with_left more (filled_with values n w)
+  filled_cut : (values : List Initial) (n : Option ℕ) (w : World) → filled_with values n (with_left more w) ≡ with_left more (filled_with values n w)
   filled_cut values None w = refl
   filled_cut values (Some n) w = refl
 
@@ -205,7 +206,7 @@ module _ (more : ℕ) (code : Code) where
   elements_left count w None = refl
   elements_left count w (Some m) = refl
 
-  begun_left : (first : List ℤ) (number : ℕ) (o : Option World) → begun_with first number (option_map (with_left more) o) ≡ option_map (with_left more) (begun_with first number o)
+  begun_left : (first : List Initial) (number : ℕ) (o : Option World) → begun_with first number (option_map (with_left more) o) ≡ option_map (with_left more) (begun_with first number o)
   begun_left first number None = refl
   begun_left first number (Some w) = refl
 
@@ -213,7 +214,7 @@ module _ (more : ℕ) (code : Code) where
   unfolding with_object
   object_left (object.Plain elements first place) w =
       ap (begun_with first w.memory.made) (elements_left elements w (push_of w.memory Zero elements)) ∙ begun_left first w.memory.made (with_elements elements w (push_of w.memory Zero elements))
-  object_left (object.Literal bytes place) w = elements_left (length bytes) w (push_of w.memory (Literal (lent bytes)) (length bytes))
+  object_left (object.Literal bytes place) w = elements_left (length bytes) w (with_string w.memory bytes)
 
   limit_cut : (place : Place) (w : World) (on on' : World → Run) → ((v : World) → IsCutShort more (on v) (on' (with_left more v))) → (o : Option World)
       → IsCutShort more (or_limit place w on o) (or_limit place (with_left more w) on' (option_map (with_left more) o))

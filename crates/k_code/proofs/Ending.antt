@@ -1,13 +1,14 @@
 -- Runs of valid code: what holds before each step, and that they end.
-use Rattle.std.proofs.Common.{◌≡◌, ℕ, zero, suc, ◌+◌, ◌-◌, ◌*◌, ◌<◌, ◌≤◌, inl, inr, List, [], ◌∷◌, ◌++◌, length, Option, Some, None, ℤ, refl, sym, ◌∙◌, subst, ap, arith}
+use Rattle.std.proofs.Common.{◌≡◌, ℕ, zero, suc, ◌+◌, ◌-◌, ◌*◌, ◌<◌, ◌≤◌, inl, inr, List, [], ◌∷◌, ◌++◌, length, Option, Some, None, refl, sym, ◌∙◌, subst, ap, arith}
 use Rattle.std.specs.Prelude.{◌⊎◌, slice_get}
 use Rattle.std.proofs.lemmas.Bool.{cases_lt}
 use Rattle.std.proofs.lemmas.List.{length_push}
 use Rattle.std.proofs.lemmas.Option.{none-some}
+use Rattle.k_num.specs.declared.initial.Initial.{Initial}
 use Rattle.k_num.specs.declared.place.Place.{Place}
 use Rattle.k_ending.specs.declared.ending.End.{End}
-use Rattle.k_mem.specs.declared.start.Start.TheVariants.{Zero, Literal}
-use Rattle.k_world.specs.Changes.{object_made, object_filled}
+use Rattle.k_mem.specs.declared.start.Start.TheVariants.{Zero}
+use Rattle.k_world.specs.Changes.{object_made, string_made, object_filled}
 use Rattle.k_world.specs.Worlds.{World, fresh}
 use Rattle.k_code.specs.declared.code.Code.{Code}
 use Rattle.k_code.specs.declared.code.CodeFunc.{CodeFunc}
@@ -18,11 +19,11 @@ use Rattle.k_code.specs.Balances.{nothing_open}
 use Rattle.k_code.specs.Endings.{rest_of, ahead_of, ahead, GoesOn, CyclesMakeOperations, EndsWithin, ValidCodeEnds}
 use Rattle.k_code.specs.Stands.{opened_by, Stands, AllStand, StaysBalanced}
 use Rattle.k_code.specs.Reads.{LevelsAreRegions}
-use Rattle.k_code.specs.Runs.{lent, begun_with, with_object, place_of, or_limit, with_objects, main_called, start, steps, run_of}
+use Rattle.k_code.specs.Runs.{begun_with, with_object, place_of, or_limit, with_objects, main_called, start, steps, run_of}
 use Rattle.k_code.specs.Steps.{Waiting, Configuration, Run, Going, Over, step, entered, size_of}
 use Rattle.k_code.specs.Valid.{end_of, body_of, IsValid}
 use Rattle.k_code.proofs.Decided.{body_length}
-use Rattle.k_code.proofs.Kept.{numbers, OneMore, made_kept, filled_numbers, live_length, get_within, get_first, get_last}
+use Rattle.k_code.proofs.Kept.{numbers, OneMore, made_kept, string_kept, filled_numbers, filled_made, live_length, get_within, get_first, get_last}
 use Rattle.k_code.proofs.Levels.{levels, enter_levels}
 use Rattle.k_code.proofs.Running.{live, total_size, Sound, IsStep, step_sound}
 use Rattle.k_code.proofs.Standing.{stands_first, here_at, rest_some}
@@ -63,12 +64,12 @@ more_begun budget count w after b more =
         let last : k ≡ length (numbers w) = omega (arith, same, long) in
         get_last (numbers w) w.memory.made k last ∙ ap (λ n. Some n) (made ∙ sym same)
 
-filled_begun : (budget count : ℕ) (w : World) (n : ℕ) (values : List ℤ) → Begun budget count w → Begun budget count (object_filled w n values)
+filled_begun : (budget count : ℕ) (w : World) (n : ℕ) (values : List Initial) → Begun budget count w → Begun budget count (object_filled w n values)
 filled_begun budget count w n values b =
     let same : numbers (object_filled w n values) ≡ numbers w = filled_numbers w.memory n values in
     record {
       live = ap length same ∙ b.live;
-      made = b.made;
+      made = filled_made w.memory n values ∙ b.made;
       each = λ k h. ap (λ l. slice_get l k) same ∙ b.each k h;
       size = b.size;
       left = b.left;
@@ -80,20 +81,20 @@ abbrev IfBegun : ℕ → ℕ → Option World → Type 0
 IfBegun budget count None = Unit {0}
 IfBegun budget count (Some w) = Begun budget count w
 
-plain_begun : (budget count : ℕ) (w : World) (first : List ℤ) (number : ℕ) → Begun budget count w → (elements : ℕ) (o : Option World) → object_made w Zero elements ≡ o
+plain_begun : (budget count : ℕ) (w : World) (first : List Initial) (number : ℕ) → Begun budget count w → (elements : ℕ) (o : Option World) → object_made w Zero elements ≡ o
     → IfBegun budget (count + 1) (begun_with first number o)
 plain_begun budget count w first number b elements None e = tt
 plain_begun budget count w first number b elements (Some after) e =
     filled_begun budget (count + 1) after number first (more_begun budget count w after b (made_kept w after Zero elements e))
 
-literal_begun : (budget count : ℕ) (w : World) (bytes : List ℕ) → Begun budget count w → (o : Option World) → object_made w (Literal (lent bytes)) (length bytes) ≡ o → IfBegun budget (count + 1) o
+literal_begun : (budget count : ℕ) (w : World) (bytes : List ℕ) → Begun budget count w → (o : Option World) → string_made w bytes ≡ o → IfBegun budget (count + 1) o
 literal_begun budget count w bytes b None e = tt
-literal_begun budget count w bytes b (Some after) e = more_begun budget count w after b (made_kept w after (Literal (lent bytes)) (length bytes) e)
+literal_begun budget count w bytes b (Some after) e = more_begun budget count w after b (string_kept w after bytes e)
 
 object_begun : (budget count : ℕ) (o : CodeObject) (w : World) → Begun budget count w → IfBegun budget (count + 1) (with_object o w)
 unfolding with_object
 object_begun budget count (object.Plain elements first place) w b = plain_begun budget count w first w.memory.made b elements (object_made w Zero elements) refl
-object_begun budget count (object.Literal bytes place) w b = literal_begun budget count w bytes b (object_made w (Literal (lent bytes)) (length bytes)) refl
+object_begun budget count (object.Literal bytes place) w b = literal_begun budget count w bytes b (string_made w bytes) refl
 
 module _ (code : Code) (valid : IsValid code) where
   -- a run that goes on is sound, with so many operations left

@@ -2,6 +2,7 @@
 use Rattle.std.proofs.Common.{◌≡◌, ℕ, ◌+◌, List, [], ◌∷◌, ◌++◌, map, Option, Some, None, Result, Ok, Err, Bool, true, false, ℤ, refl, sym, ◌∙◌, ap}
 use Rattle.std.specs.Prelude.{if◌then◌else◌, slice_get, replicate}
 use Rattle.std.proofs.lemmas.List.{append_assoc, append-nil}
+use Rattle.k_num.specs.declared.initial.Initial.{Initial}
 use Rattle.k_num.specs.declared.place.Place.{Place}
 use Rattle.k_optab.specs.declared.class.Class.{Class}
 use Rattle.k_optab.specs.declared.event.Event.{Event}
@@ -137,7 +138,7 @@ opened_grows : (place : Place) (c : Configuration) (elements : ℕ) (m : Option 
 opened_grows place c elements None = grows_not c.world
 opened_grows place c elements (Some m) = record { events = same_begins c.world.events; output = same_begins c.world.output }
 
-filled_grows : (values : List ℤ) (n : Option ℕ) (w : World) → Grows w (filled_with values n w)
+filled_grows : (values : List Initial) (n : Option ℕ) (w : World) → Grows w (filled_with values n w)
 filled_grows values None w = grows_not w
 filled_grows values (Some n) w = record { events = same_begins w.events; output = same_begins w.output }
 

@@ -1,9 +1,11 @@
 -- What operations and objects leave of a world: the numbers of its live objects, its calls and what is left.
 use Rattle.std.proofs.Common.{◌≡◌, ℕ, zero, suc, ◌+◌, ◌-◌, ◌<◌, List, [], ◌∷◌, ◌++◌, length, map, take, drop, replicate, Option, Some, None, Result, Ok, Err, Bool, true, false, ℤ, nat_eq, refl, sym, ◌∙◌, subst, ap, arith}
 use Rattle.std.specs.Prelude.{if◌then◌else◌, slice_get, ◌==◌}
+use Rattle.std.specs.List.{fold}
 use Rattle.std.proofs.lemmas.Bool.{eqb-false}
 use Rattle.std.proofs.lemmas.List.{map-append, take-map, length-map}
 use Rattle.std.proofs.lemmas.Option.{none-some, same_Some}
+use Rattle.k_num.specs.declared.initial.Initial.{Initial}
 use Rattle.k_num.specs.declared.place.Place.{Place}
 use Rattle.k_optab.specs.declared.class.Class.{Class}
 use Rattle.k_ending.specs.declared.ending.Trap.{Trap}
@@ -16,7 +18,7 @@ use Rattle.k_world.specs.declared.act.Act.TheVariants as does
 use Rattle.k_world.specs.declared.value.Read.{Read}
 use Rattle.k_world.specs.declared.value.Value.{Value}
 use Rattle.k_world.specs.Acts.{hidden, effect, store_effect, output_effect, written, pointer_and_number}
-use Rattle.k_world.specs.Changes.{with_elements, object_made, objects_kept}
+use Rattle.k_world.specs.Changes.{with_elements, object_made, string_object, string_made, item_stored, memory_filled, objects_kept}
 use Rattle.k_world.specs.Operands.{sources, values_of}
 use Rattle.k_world.specs.Operations.{operation, counted}
 use Rattle.k_world.specs.WorldLaws.{WhereMade}
@@ -48,8 +50,20 @@ rewritten_numbers f n (o ∷ objects) = λ i. rewritten_number f n o i ∷ rewri
 stored_numbers : (m : Memory) (p : Pointer) (v : ℤ) → numbers_in (stored m p v) ≡ numbers_in m
 stored_numbers m p v = rewritten_numbers (with_value p.offset v) p.object m.live
 
-pub filled_numbers : (m : Memory) (n : ℕ) (values : List ℤ) → numbers_in (filled m n values) ≡ numbers_in m
-filled_numbers m n values = rewritten_numbers (with_values values) n m.live
+items_numbers : (n : ℕ) (items : List Initial) (m : Memory) → numbers_in (fold (item_stored n) m items) ≡ numbers_in m
+items_numbers n [] m = refl
+items_numbers n (i ∷ items) m =
+    items_numbers n items (item_stored n m i) ∙ stored_numbers m (record { object = n; offset = i.element }) i.number
+
+pub filled_numbers : (m : Memory) (n : ℕ) (items : List Initial) → numbers_in (memory_filled m n items) ≡ numbers_in m
+filled_numbers m n items = items_numbers n items (filled m n []) ∙ rewritten_numbers (with_values []) n m.live
+
+items_made : (n : ℕ) (items : List Initial) (m : Memory) → (fold (item_stored n) m items).made ≡ m.made
+items_made n [] m = refl
+items_made n (i ∷ items) m = items_made n items (item_stored n m i)
+
+pub filled_made : (m : Memory) (n : ℕ) (items : List Initial) → (memory_filled m n items).made ≡ m.made
+filled_made m n items = items_made n items (filled m n [])
 
 store_numbers : (number : ℕ) (s : Option (Pointer × ℤ)) (w : World) → numbers (store_effect number s w) ≡ numbers w
 store_numbers number None w = refl
@@ -116,26 +130,34 @@ pub record OneMore (before after : World) : Type 0 where
   pub left : after.left ≡ before.left
   pub events : after.events ≡ before.events
 
+-- an object with the next number is made, where there is room for it
+more_kept : (w after : World) (o : Object) (count : ℕ) → o.number ≡ w.memory.made → (full : Bool)
+    → with_elements count w (if full then None else Some (record { live = w.memory.live ++ o ∷ []; made = w.memory.made + 1 })) ≡ Some after → OneMore w after
+more_kept w after o count next true e = absurd (none-some after e)
+more_kept w after o count next false e =
+    let new : World = record w {
+      memory = record { live = w.memory.live ++ o ∷ []; made = w.memory.made + 1 };
+      origins = w.origins ++ replicate count None;
+    } in
+    let same : new ≡ after = same_Some new after e in
+    subst (λ v. OneMore w v) same (record {
+      numbers = map-append (λ (o : Object). o.number) w.memory.live (o ∷ []) ∙ ap (λ n. numbers w ++ n ∷ []) next;
+      made = refl;
+      size = refl;
+      calls = refl;
+      left = refl;
+      events = refl;
+    })
+
 -- an object that is made
 pub made_kept : (w after : World) (start : Start) (count : ℕ) → object_made w start count ≡ Some after → OneMore w after
-made_kept w after start count e = by (is_over_limit (live_elements w.memory) count w.memory.made) e
-  where
-    by : (b : Bool) → with_elements count w (if b then None else Some (record { live = w.memory.live ++ next_object w.memory start count ∷ []; made = w.memory.made + 1 })) ≡ Some after → OneMore w after
-    by true e = absurd (none-some after e)
-    by false e =
-        let new : World = record w {
-          memory = record { live = w.memory.live ++ next_object w.memory start count ∷ []; made = w.memory.made + 1 };
-          origins = w.origins ++ replicate count None;
-        } in
-        let same : new ≡ after = same_Some new after e in
-        subst (λ v. OneMore w v) same (record {
-          numbers = map-append (λ (o : Object). o.number) w.memory.live (next_object w.memory start count ∷ []);
-          made = refl;
-          size = refl;
-          calls = refl;
-          left = refl;
-          events = refl;
-        })
+made_kept w after start count e =
+    more_kept w after (next_object w.memory start count) count refl (is_over_limit (live_elements w.memory) count w.memory.made) e
+
+-- so is a string's
+pub string_kept : (w after : World) (bytes : List ℕ) → string_made w bytes ≡ Some after → OneMore w after
+string_kept w after bytes e =
+    more_kept w after (string_object w.memory bytes) (length bytes) refl (is_over_limit (live_elements w.memory) (length bytes) w.memory.made) e
 
 -- the numbers of the objects that are kept
 pub kept_numbers : (w : World) (keep : ℕ) → numbers (objects_kept w keep) ≡ take keep (numbers w)

@@ -2,6 +2,7 @@ pub mod Balanced
 pub mod Cutting
 pub mod Decided
 pub mod Ending
+pub mod Examples
 pub mod Finding
 pub mod Growing
 pub mod Kept

@@ -2,6 +2,7 @@ pub mod Balances
 pub mod Budgets
 pub mod Checking
 pub mod Endings
+pub mod Examples
 pub mod Finds
 pub mod Named
 pub mod Reads

@@ -1,7 +1,7 @@
 //! A program as flat code.
 
 use crate::Instr;
-use k_num::{Place, Seq};
+use k_num::{Initial, Place, Seq};
 use k_optab::Region;
 
 /// A program: its functions over one list of instructions, the regions that instructions enter, and the objects that are made
@@ -34,10 +34,11 @@ pub struct CodeFunc {
 /// An object that is made before the run begins.
 #[derive(Drop)]
 pub enum CodeObject {
-    /// So many elements: these numbers from the first on, and 0 beyond.
+    /// So many elements, which begin with these numbers; those that none names begin with 0. Items past the object's end are left
+    /// out.
     Plain {
         elements: u32,
-        first: Seq<i128>,
+        first: Seq<Initial>,
         place: Place,
     },
     /// A string, whose elements are its bytes as signed 8-bit numbers, and can't be written.

@@ -1,7 +1,7 @@
 //! The instructions of flat code.
 
 use crate::Out;
-use k_num::{Bin, Kind, Place, Seq, Un};
+use k_num::{Bin, Initial, Kind, Place, Seq, Un};
 use k_optab::Class;
 
 /// An operand.
@@ -138,11 +138,11 @@ pub enum Do {
     ObjectsClose {
         count: u32,
     },
-    /// The elements of the live call's object of that number hold these numbers from the first on, and 0 beyond, which no operation
-    /// gave. Numbers past the object's end are left out.
+    /// The elements of the live call's object of that number hold these numbers, and those that none names hold 0, which no operation
+    /// gave. Items past the object's end are left out.
     Fill {
         local: u32,
-        values: Seq<i128>,
+        values: Seq<Initial>,
     },
     /// The register holds nothing.
     Forget {

@@ -1,4 +1,5 @@
-//! The limit of all runs of a dictionary together. There is nothing here but a test: in a crate of its own it proves no other crate a second time.
+//! Dictionaries at their limits, and saved profiles, which are read, refused and written. There is nothing here but tests: in a crate of their
+//! own they prove no other crate a second time.
 #![tactic(auto)]
 
 #[cfg(test)]

@@ -1,42 +1,67 @@
-//! As many runs as all entries may have together, and one more.
-ghost use Rattle.std.specs.Prelude.{◌≡◌, [], IsTrue};
+//! Dictionaries, their limits, and saved profiles, one file for what is tested.
+ghost use Rattle.std.specs.Prelude.{IsTrue};
 ghost use Rattle.k_dict.specs.Entries.{AreRuns};
+ghost use Rattle.k_dict.specs.Trees.{GoDeeper, IsInOrder};
 
-use k_dict::{Dict, DictFault, Entry, Run, Which};
-use k_num::{NoMemory, Seq};
+mod entries;
+mod files;
+mod limits;
+mod saved_lines;
+
+use k_dict::{Node, Run};
+use k_num::Seq;
 use std::alloc::Global;
 use std::test::Fail;
 
-/// How many entries have no runs. Behind them stand those that name them.
-const LEAVES: u32 = 1_048_558;
+/// The nodes of a loop of six turns, of which every second one does more, as (region, work, path, depth).
+static ODD_SUM: [(u32, u64, u64, u32); 8] = [
+    (0, 35, 4, 0),
+    (1, 35, 4, 1),
+    (2, 2, 2, 2),
+    (2, 3, 3, 2),
+    (2, 2, 2, 2),
+    (2, 3, 3, 2),
+    (2, 2, 2, 2),
+    (2, 3, 3, 2),
+];
 
-/// How many entries name all of these. With 288 runs more there are 16,777,216.
-const WHOLE: u32 = 16;
-
-/// What the instances of a region without operations have in common.
-fn leaf(alloc: Global, region: u32) -> Entry
-    ensures { result.runs ≡ [] }
-{
-    Entry {
-        region,
-        work: 0,
-        path: 0,
-        runs: Seq::new(alloc),
+/// Nodes of (region, work, path, depth).
+fn nodes_of(alloc: Global, rows: &[(u32, u64, u64, u32)]) -> Result<Seq<Node>, Fail> {
+    let mut nodes = Seq::new(alloc);
+    for row in rows {
+        let (region, work, path, depth) = *row;
+        nodes.push(Node {
+            region,
+            work,
+            path,
+            depth,
+        })?;
     }
+    Ok(nodes)
 }
 
-/// An entry that names the first entries, so many of them, once each.
-fn naming(alloc: Global, region: u32, count: u32) -> Result<Entry, NoMemory> {
-    let mut runs = Seq::new(alloc);
-    for entry in 0..count {
-        runs.push(Run { entry, count: 1 })?;
+/// Whether each depth is at least 1 and at most one more than that before it.
+fn go_deeper(before: u32, nodes: &[Node]) -> bool
+    ensures { IsTrue result → GoDeeper before nodes.now }
+{
+    let mut last = before;
+    for node in nodes {
+        if node.depth == 0 || node.depth - 1 > last {
+            return false;
+        }
+        last = node.depth;
     }
-    Ok(Entry {
-        region,
-        work: 0,
-        path: 0,
-        runs,
-    })
+    true
+}
+
+/// Whether nodes are a tree in order of entry.
+fn are_in_order(nodes: &[Node]) -> bool
+    ensures { IsTrue result → IsInOrder nodes.now }
+{
+    match nodes.split_first() {
+        None => false,
+        Some((first, later)) => first.depth == 0 && go_deeper(0, later),
+    }
 }
 
 /// Whether runs name entries below a number, by rising number, each once, with counts of at least 1.
@@ -51,25 +76,4 @@ fn are_runs(high: u32, runs: &[Run]) -> bool
         low = run.entry + 1;
     }
     true
-}
-
-#[test]
-fn all_runs_together_have_a_limit(rt: HostRuntime) -> Result<(), Fail> {
-    let mut dict = Dict::new(rt.alloc());
-    for region in 0..LEAVES {
-        assert!(rt; dict.intern(leaf(rt.alloc(), region)) == Ok(region));
-    }
-    for at in 0..WHOLE {
-        let entry = naming(rt.alloc(), at, LEAVES)?;
-        assert!(rt; are_runs(dict.len(), entry.runs.as_slice()));
-        assert!(rt; dict.intern(entry) == Ok(LEAVES + at));
-    }
-    let entry = naming(rt.alloc(), 0, 288)?;
-    assert!(rt; are_runs(dict.len(), entry.runs.as_slice()));
-    assert!(rt; dict.intern(entry) == Ok(LEAVES + WHOLE));
-    let entry = naming(rt.alloc(), 0, 1)?;
-    assert!(rt; are_runs(dict.len(), entry.runs.as_slice()));
-    assert!(rt; dict.intern(entry) == Err(DictFault::Full(Which::AllRuns)));
-    assert_eq!(rt; dict.len(), LEAVES + WHOLE + 1);
-    Ok(())
 }

@@ -1,5 +1,5 @@
 -- For contracts between crates: nobody has to believe it.
--- What is known of the adapters over the host: their counts, and no content.
+-- What is known of the adapters over the host: their counts and what was asked, and no content.
 use Rattle.std.specs.Prelude.{ℕ, ⊤, ◌≤◌, Bool, true, false, List, length, take, Option, None, Result, Ok, Err}
 use Rattle.std.specs.Io.KnownBytes.{Appends}
 use Rattle.k_edge.specs.declared.sink.PutFault.{PutFault}
@@ -26,11 +26,12 @@ writer_of s = s.inner
 abbrev pub std_sink : {W : Type 0} → StdSink W → SinkState
 std_sink s = record { written = None; faults = s.faults }
 
--- what is known of the files of the host: their counts
+-- what is known of the files of the host: their counts, and what was asked
 abbrev pub host_files : {R : Type 0} → HostFiles R → FilesState
 host_files f = record {
   held = None;
   counts = record { load_faults = f.load_faults; save_faults = f.save_faults; misses = f.misses; longs = f.longs };
+  requests = f.requests.items;
 }
 
 -- the writer holds a front of the piece more, where it tells what it holds

@@ -14,6 +14,7 @@ use Rattle.k_edge.specs.SourceWords.{SourceState}
 use Rattle.k_edge.specs.SinkWords.{SinkState}
 use Rattle.k_edge.specs.FilesWords.{FilesState}
 use Rattle.k_edge.specs.declared.memory.files.File.{File}
+use Rattle.k_edge.specs.declared.request.Request.{Request}
 
 -- a source that never fails: the bytes left, and how many were taken
 pub record SureBytes : Type 0 where
@@ -45,11 +46,12 @@ pub record MemWritten : Type 0 where
 abbrev pub mem_sink : MemWritten → SinkState
 mem_sink s = record { written = Some s.written; faults = s.faults }
 
--- files that never fail: the newest first, of which the first of a name counts
+-- files that never fail: the newest first, of which the first of a name counts; and what was asked
 pub record SureHeld : Type 0 where
   pub files : List File
   pub misses : ℕ
   pub longs : ℕ
+  pub requests : List Request
 
 -- the content of a name
 abbrev pub content_of : List File → List ℕ → Option (List ℕ)
@@ -61,6 +63,7 @@ abbrev pub sure_files : SureHeld → FilesState
 sure_files f = record {
   held = Some (content_of f.files);
   counts = record { load_faults = 0; save_faults = 0; misses = f.misses; longs = f.longs };
+  requests = f.requests;
 }
 
 -- files that fail at listed calls
@@ -75,6 +78,7 @@ abbrev pub mem_files : MemHeld → FilesState
 mem_files f = record {
   held = Some (content_of f.held.files);
   counts = record { load_faults = f.load_faults; save_faults = f.save_faults; misses = f.held.misses; longs = f.held.longs };
+  requests = f.held.requests;
 }
 
 -- a put fails exactly where it is listed, and then writes nothing
@@ -82,12 +86,14 @@ abbrev pub PutFailsAsListed : Result ⊤ PutFault → Bool → List ℕ → List
 PutFailsAsListed (Err put.Failed) listed old new = (listed ≡ true) × (new ≡ old)
 PutFailsAsListed _ listed old new = listed ≡ false
 
--- a load fails exactly where it is listed
+-- a load fails exactly where it is listed, unless there is no memory to note it
 abbrev pub LoadFailsAsListed : Result (Vec ℕ Global) LoadFault → Bool → Type 0
 LoadFailsAsListed (Err load.Failed) listed = listed ≡ true
+LoadFailsAsListed (Err load.Memory) listed = ⊤
 LoadFailsAsListed _ listed = listed ≡ false
 
--- a save fails exactly where it is listed, and then changes no file
+-- a save fails exactly where it is listed, and then changes no file, unless there is no memory to note it
 abbrev pub SaveFailsAsListed : Result ⊤ SaveFault → Bool → List File → List File → Type 0
 SaveFailsAsListed (Err save.Failed) listed old new = (listed ≡ true) × (new ≡ old)
+SaveFailsAsListed (Err save.Memory) listed old new = ⊤
 SaveFailsAsListed _ listed old new = listed ≡ false

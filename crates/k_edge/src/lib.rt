@@ -9,6 +9,7 @@ mod host;
 pub mod laws;
 mod memory;
 mod reading;
+mod request;
 mod sink;
 mod source;
 
@@ -19,5 +20,6 @@ pub use memory::files::{MemFiles, SureFiles};
 pub use memory::sink::{MemSink, SureSink};
 pub use memory::source::{MemSource, SureSource};
 pub use reading::{ReadAllFault, read_all};
+pub use request::Request;
 pub use sink::{PutFault, Sink};
 pub use source::{Failed, Source};

@@ -1,5 +1,5 @@
 -- Calls are lawful, and so is a whole run.
-use Rattle.std.proofs.Common.{ℕ, zero, suc, ◌+◌, ◌≤◌, pos, List, [], ◌∷◌, ◌++◌, map, Option, Some, None, Bool, true, false, nat_eq, if◌then◌else◌, ap, slice_get}
+use Rattle.std.proofs.Common.{ℕ, zero, suc, ◌+◌, ◌-◌, ◌≤◌, pos, List, [], ◌∷◌, ◌++◌, map, take, Option, Some, None, Bool, true, false, nat_eq, if◌then◌else◌, ap, slice_get}
 use Rattle.k_num.specs.declared.place.Place.{Place}
 use Rattle.k_optab.specs.declared.class.Class.TheVariants as class
 use Rattle.k_ending.specs.declared.ending.End.TheVariants as ending
@@ -14,6 +14,7 @@ use Rattle.k_mem.specs.declared.start.Start.TheVariants.{Unset, Zero}
 use Rattle.k_world.specs.declared.act.Act.TheVariants as act
 use Rattle.k_world.specs.declared.value.Held.{Held}
 use Rattle.k_world.specs.declared.value.Value.TheVariants as value
+use Rattle.k_world.specs.Limits.{call_limit, is_too_large}
 use Rattle.k_world.specs.Worlds.{World}
 use Rattle.k_world.specs.WorldLaws.{IsMade, IsSound}
 use Rattle.k_evaluation.specs.declared.operand.Operand.{Operand}
@@ -25,7 +26,7 @@ use Rattle.k_evaluation.specs.Objects.{makes_object, makes_string, fills, block}
 use Rattle.k_evaluation.specs.Expressions.{Calls}
 use Rattle.k_evaluation.specs.Flows.{in_order}
 use Rattle.k_evaluation.specs.Statements.{does}
-use Rattle.k_evaluation.specs.Calls.{unset, with_arguments, stores_argument, serves_by, serves, falls_off, at_end, result_of, function_region, within, body, runs, with_call, is_too_large, entered, as_operand, back_to, enters_function, enters_number, calls_operation, calls}
+use Rattle.k_evaluation.specs.Calls.{unset, with_arguments, stores_argument, serves_by, serves, falls_off, at_end, result_of, function_region, within, body, runs, with_call, entered, as_operand, back_to, enters_function, enters_number, calls_operation, calls}
 use Rattle.k_evaluation.specs.Runs.{starts_object, starts_objects, starts_strings, runs_main, whole}
 use Rattle.k_evaluation.proofs.Kept.{Setting, SlotsCome, OperandsCome, source_later, slots_later, IsGood, more, Grows, Fine, Cut, Keeps, Lawful, bind}
 use Rattle.k_evaluation.proofs.Parts.{Brings, of_operand, of_held, of_none, binds, anywhere, before_both, gives_lawful, traps_lawful, sets_lawful, held_comes, makes_lawful, makes_object_lawful, makes_string_lawful, fills_lawful, block_lawful, region_lawful, lasts}
@@ -97,6 +98,11 @@ module _ (g : Setting) where
   arguments_come made (a ∷ args) [] h k = tt
   arguments_come made (a ∷ args) (v ∷ vars) h k = (h.0, arguments_come made args vars h.1 k.1)
 
+  first_come : (made count : ℕ) (args : List (Option Held)) → SlotsCome made args → SlotsCome made (take count args)
+  first_come made zero args h = tt
+  first_come made (suc count) [] h = tt
+  first_come made (suc count) (a ∷ args) h = (h.0, first_come made count args h.1)
+
   with_counts : (most budget calls_live size : ℕ) (c : Option ℕ) (w : World) → IsSound budget most w → IsMade w.made c
       → IsSound budget most (record w { control = c; calls = calls_live; size = size })
   with_counts most budget calls_live size c w sound one = record {
@@ -113,7 +119,7 @@ module _ (g : Setting) where
   entered_good : (budget : ℕ) (s : State) (f : TFunc) (args : List (Option Held)) → IsGood g.most budget s → SlotsCome s.world.made args → IsGood g.most budget (entered f args s)
   entered_good budget s f args good come = record {
     sound = with_counts g.most budget (s.world.calls + 1) (s.world.size + f.nodes) s.world.control s.world good.sound good.sound.control;
-    held = arguments_come s.world.made args (unset f.variables) come (unset_come s.world.made f.variables);
+    held = arguments_come s.world.made (take f.params args) (unset f.variables) (first_come s.world.made f.params args come) (unset_come s.world.made f.variables);
   }
 
   operand_comes : (made : ℕ) (v : Option Held) → OperandsCome made (of_slot v) → OperandsCome made (of_operand (as_operand v))
@@ -151,7 +157,7 @@ module _ (g : Setting) where
 
   enters_function_lawful : (inner : Calls) (number : ℕ) (place : Place) (f : TFunc) (args : List (Option Held)) → LawfulCalls g inner
       → Lawful g (ArgumentsCome args) (λ made a. OperandsCome made (of_operand a)) (enters_function g.program inner number place f args)
-  enters_function_lawful inner number place f args lawful budget s good come = by (is_too_large f s.world)
+  enters_function_lawful inner number place f args lawful budget s good come = by (is_too_large s.world f.nodes)
     where
       kept : Keeps g.most budget (λ made v. OperandsCome made (of_slot v)) (runs g.program inner number f) (entered f args s)
       kept = runs_lawful inner number f lawful budget (entered f args s) (entered_good budget s f args good come) tt
@@ -233,8 +239,8 @@ module _ (g : Setting) where
   main_lawful : (f : Option TFunc) → Brings g [] of_slot (runs_main g.program f)
   main_lawful None budget s good w = gives_lawful g [] of_slot None (λ made v. tt) budget s good w
   main_lawful (Some f) budget s good w =
-      let kept = runs_lawful (calls 4095 g.program) g.program.unit.main f (calls_lawful 4095) budget (entered f [] s) (entered_good budget s f [] good tt) tt in
-      (main_fine budget s.world (runs g.program (calls 4095 g.program) g.program.unit.main f (entered f [] s)) f kept.0, kept.1)
+      let kept = runs_lawful (calls (call_limit - 1) g.program) g.program.unit.main f (calls_lawful (call_limit - 1)) budget (entered f [] s) (entered_good budget s f [] good tt) tt in
+      (main_fine budget s.world (runs g.program (calls (call_limit - 1) g.program) g.program.unit.main f (entered f [] s)) f kept.0, kept.1)
 
   -- A WHOLE RUN
   pub whole_lawful : Brings g [] of_slot (whole g.program)

@@ -1,5 +1,5 @@
 -- A run writes bytes, where the texts of its program are bytes.
-use Rattle.std.proofs.Common.{ℕ, zero, suc, ◌+◌, ℤ, pos, List, [], ◌∷◌, ◌++◌, map, Option, Some, None, Bool, true, false, nat_eq, if◌then◌else◌, sym, subst, slice_get}
+use Rattle.std.proofs.Common.{ℕ, zero, suc, ◌+◌, ◌-◌, ℤ, pos, List, [], ◌∷◌, ◌++◌, map, Option, Some, None, Bool, true, false, nat_eq, if◌then◌else◌, sym, subst, slice_get}
 use Rattle.k_num.specs.declared.place.Place.{Place}
 use Rattle.k_num.specs.declared.numbers.Kind.{Kind}
 use Rattle.k_num.specs.declared.numbers.Bin.TheVariants as bin
@@ -27,6 +27,7 @@ use Rattle.k_mem.specs.declared.start.Start.TheVariants.{Unset, Zero}
 use Rattle.k_world.specs.declared.act.Act.TheVariants as act
 use Rattle.k_world.specs.declared.value.Held.{Held}
 use Rattle.k_world.specs.declared.value.Value.TheVariants as value
+use Rattle.k_world.specs.Limits.{call_limit, is_too_large}
 use Rattle.k_world.specs.WorldLaws.{AreBytes}
 use Rattle.k_evaluation.specs.declared.operand.Operand.{Operand}
 use Rattle.k_evaluation.specs.declared.operand.Operand.TheVariants.{Constant, Register}
@@ -45,7 +46,7 @@ use Rattle.k_evaluation.specs.Loops.{LoopParts, Turn, Again, Ends, turn_of, rese
 use Rattle.k_evaluation.specs.Declarations.{stores, initialises, begins_register, values_from, element_of, stores_item, stores_items, begins_object, begins_variable, declares_by, elements_of, declares, declares_all, starts_with}
 use Rattle.k_evaluation.specs.Switches.{PartDoing, ACase, ADefault, AStatement, statements_of, behind_default, has_case, selects, chooses, behind_switch, runs_chosen, switches, switch_jumps, switch}
 use Rattle.k_evaluation.specs.Statements.{expression, empty, compound, does_or_none, chosen_arm, if_jumps, if_else, for_loop, break, continue, returns_moved, returns_value, return, declaration, does_step, part_step, does}
-use Rattle.k_evaluation.specs.Calls.{serves_by, serves, falls_off, at_end, result_of, function_region, within, body, runs, is_too_large, entered, back_to, enters_function, enters_number, calls_operation, calls}
+use Rattle.k_evaluation.specs.Calls.{serves_by, serves, falls_off, at_end, result_of, function_region, within, body, runs, entered, back_to, enters_function, enters_number, calls_operation, calls}
 use Rattle.k_evaluation.specs.Runs.{starts_object, starts_objects, starts_strings, runs_main, whole, initial, ended, run}
 use Rattle.k_evaluation.specs.Texts.{joined, texts, option_texts, item_texts, init_texts, declared_texts, first_texts, stmt_step, stmt_texts, part_texts, function_texts, source_texts}
 use Rattle.k_evaluation.specs.Texts as texts_of
@@ -236,7 +237,7 @@ module _ (program : Program) (function : ℕ) (vs : List TVariable) (calls : Cal
   begins_object_clean d init.Nothing home h = gives_clean {A = Unit {0}} tt
   begins_object_clean d (init.Value e) home h = initialises_clean d e (InMemory (Constant home.value)) h
   begins_object_clean d (init.Elements items) home h =
-      then_clean (fills home (values_from 0 items)) (λ done. stores_items here home items) (fills_clean home (values_from 0 items)) (λ done. stores_items_clean home items h)
+      then_clean (fills home (values_from items)) (λ done. stores_items here home items) (fills_clean home (values_from items)) (λ done. stores_items_clean home items h)
 
   declares_by_clean : (d : TDeclarator) (n : ℕ) → AreBytes (init_texts d.init) → IsClean (declares_by here d n)
   declares_by_clean d zero h = begins_register_clean d d.init h
@@ -470,7 +471,7 @@ module _ (program : Program) where
 
   enters_clean : (inner : Calls) (number : ℕ) (place : Place) (f : TFunc) (args : List (Option Held)) → CleanCalls inner → AreBytes (function_texts f)
       → IsClean (enters_function program inner number place f args)
-  enters_clean inner number place f args c h = record { clean = λ s bytes. by s bytes (is_too_large f s.world) }
+  enters_clean inner number place f args c h = record { clean = λ s bytes. by s bytes (is_too_large s.world f.nodes) }
     where
       by : (s : State) → AreBytes s.world.output → (b : Bool) → CleanOutcome (if b then traps StackOverflow place s else back_to s (runs program inner number f (entered f args s)))
       by s bytes true = bytes
@@ -520,7 +521,7 @@ module _ (program : Program) where
 
   main_clean : AllTexts program.unit.functions → (f : Option TFunc) → TextThere f → IsClean (runs_main program f)
   main_clean h None k = record { clean = λ s bytes. bytes }
-  main_clean h (Some f) k = record { clean = λ s bytes. (runs_clean (calls 4095 program) program.unit.main f (calls_clean h 4095) k).clean (entered f [] s) bytes }
+  main_clean h (Some f) k = record { clean = λ s bytes. (runs_clean (calls (call_limit - 1) program) program.unit.main f (calls_clean h (call_limit - 1)) k).clean (entered f [] s) bytes }
 
   whole_clean : AllTexts program.unit.functions → IsClean (whole program)
   unfolding whole

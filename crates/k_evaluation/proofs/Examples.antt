@@ -1,5 +1,5 @@
 -- Examples: small constructs, with each event and the whole state that they leave worked out by hand from the table of constructs.
-use Rattle.std.proofs.Common.{◌≡◌, ℕ, ◌+◌, ℤ, pos, true, false, List, [], ◌∷◌, Option, Some, None, refl, sym, ap, ◌∙◌}
+use Rattle.std.proofs.Common.{◌≡◌, ℕ, ◌+◌, ◌-◌, ℤ, pos, true, false, List, [], ◌∷◌, Option, Some, None, refl, sym, ap, ◌∙◌}
 use Rattle.std.specs.Prelude.{codes}
 use Rattle.k_num.specs.declared.place.Place.{Place}
 use Rattle.k_num.specs.declared.numbers.Bin.TheVariants.{Add, Mul, Div, Lt}
@@ -28,12 +28,13 @@ use Rattle.k_world.specs.declared.value.Held.{Held}
 use Rattle.k_world.specs.declared.value.Value.{Value}
 use Rattle.k_world.specs.declared.value.Value.TheVariants as value
 use Rattle.k_world.specs.Acts.{work, effect, hidden}
+use Rattle.k_world.specs.Limits.{call_limit}
 use Rattle.k_world.specs.Operations.{operation}
 use Rattle.k_world.specs.Worlds.{World, fresh}
 use Rattle.k_evaluation.specs.declared.operand.Operand.TheVariants.{Constant, Holding, Register}
 use Rattle.k_evaluation.specs.declared.flow.Flow.TheVariants.{Normal, Broke}
 use Rattle.k_evaluation.specs.States.{Program, State, Goes, Stops, ◌>>=◌, gives, settled, region}
-use Rattle.k_evaluation.specs.Objects.{block}
+use Rattle.k_evaluation.specs.Objects.{fills, block}
 use Rattle.k_evaluation.specs.Meanings.{Meaning, nothing, tests}
 use Rattle.k_evaluation.specs.Places.{number, variable, index}
 use Rattle.k_evaluation.specs.Operators.{convert, binary, both, either, cond, comma}
@@ -213,6 +214,22 @@ not_read : element.value false start
 unfolding index variable number operation work effect hidden
 not_read = refl
 
+-- before its declaration the array is not set: the operation on its address traps
+undeclared : element.value true (record { vars = Some (plain (pos 300)) ∷ Some (plain (pos 0)) ∷ Some (plain (pos 7)) ∷ None ∷ []; world = world_of [] 0 10 })
+    ≡ Stops (Trapped Uninit (col 21)) (world_of [] 0 10)
+unfolding index variable number operation work effect hidden
+undeclared = refl
+
+-- the array is set: the element that no item names is 0, and the item past the end is left out
+filled : fills (record { value = at_element 0; source = None }) (record { element = 1; number = pos 8 } ∷ record { element = 2; number = pos 9 } ∷ []) start
+    ≡ Goes tt (record start { world = record (world_of [] 0 10) { memory = array_of (Some (pos 0) ∷ Some (pos 8) ∷ []) } })
+filled = refl
+
+-- a call of `void f(int n)` with a second variable: an argument beyond the parameter is passed to none
+passed : (entered (record function { variables = variables }) (Some (plain (pos 5)) ∷ Some (plain (pos 6)) ∷ []) start).vars
+    ≡ Some (plain (pos 5)) ∷ None ∷ None ∷ None ∷ []
+passed = refl
+
 -- `f(i + 1)`, at columns 30, 32, 33, 34: the argument, the call, and in the function's region the store of the argument at the parameter
 called : (binary program (int 33) Add I32 (i_at 32) (number (int 34) (pos 1))).value true start ≡ Goes (Holding (given (pos 301) 0)) (state (plain (pos 300)) (plain (pos 0)) (plain (pos 7)) (world_of (Op class.Simple 1 [] (col 33) ∷ []) 1 9))
 unfolding binary variable number operation work effect hidden
@@ -342,16 +359,16 @@ twelve = record {
 
 -- what lies around main's statement
 abbrev in_main : Within
-in_main = within twelve (calls 4095 twelve) 0 main
+in_main = within twelve (calls (call_limit - 1) twelve) 0 main
 
 number_means : (n : ℕ) (z : ℤ) → means in_main (typed.Number (int n) z) ≡ number (int n) z
 number_means n z =
-    ap (means in_main) (sym (typed.rolls-Number (int n) z)) ∙ fold-roll-TExpr Meaning (eval_step twelve [] (calls 4095 twelve)) (TExpr-F.Number (int n) z)
+    ap (means in_main) (sym (typed.rolls-Number (int n) z)) ∙ fold-roll-TExpr Meaning (eval_step twelve [] (calls (call_limit - 1) twelve)) (TExpr-F.Number (int n) z)
 
 product_means : means in_main product ≡ binary twelve (int 24) Mul I32 (number (int 23) (pos 3)) (number (int 25) (pos 4))
 product_means =
     ap (means in_main) (sym (typed.rolls-Binary (int 24) Mul I32 (typed.Number (int 23) (pos 3)) (typed.Number (int 25) (pos 4))))
-    ∙ fold-roll-TExpr Meaning (eval_step twelve [] (calls 4095 twelve)) (TExpr-F.Binary (int 24) Mul I32 (typed.Number (int 23) (pos 3)) (typed.Number (int 25) (pos 4)))
+    ∙ fold-roll-TExpr Meaning (eval_step twelve [] (calls (call_limit - 1) twelve)) (TExpr-F.Binary (int 24) Mul I32 (typed.Number (int 23) (pos 3)) (typed.Number (int 25) (pos 4)))
     ∙ (λ i. binary twelve (int 24) Mul I32 (number_means 23 (pos 3) i) (number_means 25 (pos 4) i))
 
 return_does : does in_main returns_product ≡ return in_main (record { number = 0; place = col 16 }) (Some product)

@@ -197,8 +197,8 @@ module _ (g : Setting) (function : ℕ) (vs : List TVariable) (calls : Calls) (c
   begins_object_lawful d init.Nothing home = gives_done g []
   begins_object_lawful d (init.Value e) home = initialises_lawful d e (InMemory (Constant home.value)) (λ made. (tt, tt))
   begins_object_lawful d (init.Elements items) home =
-      binds g [] of_none of_none (fills home (values_from 0 items)) (λ done. stores_items around home items)
-      (fills_lawful g [] home (values_from 0 items)) (λ done. stores_items_lawful home items)
+      binds g [] of_none of_none (fills home (values_from items)) (λ done. stores_items around home items)
+      (fills_lawful g [] home (values_from items)) (λ done. stores_items_lawful home items)
 
   begins_variable_lawful : (d : TDeclarator) (home : Held) → Brings g (Holding home ∷ []) of_none (begins_variable around d home)
   begins_variable_lawful d home =

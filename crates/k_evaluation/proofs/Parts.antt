@@ -2,6 +2,7 @@
 use Rattle.std.proofs.Common.{◌≡◌, ℕ, zero, suc, ◌+◌, ◌-◌, ◌*◌, ◌≤◌, ℤ, pos, List, [], ◌∷◌, ◌++◌, map, length, take, drop, replicate, slice_get, slice_set, Option, Some, None, Result, Ok, Err, Bool, true, false, nat_eq, refl, sym, ◌∙◌, subst, ap, arith, append_assoc}
 use Rattle.std.proofs.lemmas.Bool.{eqb-true, eqb-false, ne_eqb}
 use Rattle.std.proofs.lemmas.List.{append-nil}
+use Rattle.k_num.specs.declared.initial.Initial.{Initial}
 use Rattle.k_num.specs.declared.place.Place.{Place}
 use Rattle.k_optab.specs.declared.class.Class.{Class}
 use Rattle.k_optab.specs.declared.event.Event.{Event}
@@ -24,18 +25,18 @@ use Rattle.k_world.specs.declared.value.Read.{Read}
 use Rattle.k_world.specs.declared.value.Value.{Value}
 use Rattle.k_world.specs.declared.value.Value.TheVariants as value
 use Rattle.k_world.specs.Acts.{Given, work, effect, hidden, output_effect, pointer_and_number, store_effect, written}
-use Rattle.k_world.specs.Changes.{with_elements, object_filled, objects_kept, without_origins}
-use Rattle.k_world.specs.Operands.{source_in, are_set, values_of, sources}
+use Rattle.k_world.specs.Changes.{with_elements, with_string, object_filled, objects_kept, without_origins}
+use Rattle.k_world.specs.Operands.{source_in, held_by, are_set, values_of, sources}
 use Rattle.k_world.specs.Operations.{Made, Gives, Ends, operation, acted, counted, event_of}
-use Rattle.k_world.specs.Worlds.{World}
+use Rattle.k_world.specs.Worlds.{World, with_event}
 use Rattle.k_world.specs.WorldLaws.{IsMade, AreMade, AllComeFrom, IsSound, HasOneMore, LeavesSound, WhereMade, IsCounted}
 use Rattle.k_world.proofs.Effects.{framed, work_framed, hidden_framed, effect_framed}
 use Rattle.k_world.proofs.Operations.{operation_out, operation_unset, operation_acts}
 use Rattle.k_world.proofs.Sound.{operation_sound, operations_count, operation_cases}
 use Rattle.k_evaluation.specs.declared.operand.Operand.{Operand}
 use Rattle.k_evaluation.specs.declared.operand.Operand.TheVariants.{Constant, Holding, Register}
-use Rattle.k_evaluation.specs.States.{State, Outcome, Goes, Stops, Part, follow, ◌>>=◌, gives, traps, held_by, read, made, makes, computes, sets, with_event, exits, region, control, controls, settles, settled}
-use Rattle.k_evaluation.specs.Objects.{made_object, makes_object, with_values_at, fills, live, keeps, block, with_string, makes_string}
+use Rattle.k_evaluation.specs.States.{State, Outcome, Goes, Stops, Part, follow, ◌>>=◌, gives, traps, read, made, makes, computes, sets, exits, region, control, controls, settles, settled}
+use Rattle.k_evaluation.specs.Objects.{made_object, makes_object, with_items_at, fills, live, keeps, block, makes_string}
 use Rattle.k_evaluation.specs.Laws.{Begins}
 use Rattle.k_evaluation.proofs.Kept.{Setting, SlotsCome, OperandsCome, slots_later, operands_later, operands_both, begins_itself, HasGrown, HasPassed, grown_both, passed_itself, grown_itself, IsGood, more_world, more, Grows, Fine, Cut, Lawful, Lasts, more_good, op_alone, region_events, grows_less, fine_grows, fine_so, cut_follow, bind}
 
@@ -388,35 +389,35 @@ without_made made (Ok first) (Ok count) origins h =
 without_made made (Ok first) (Err t) origins h = h
 without_made made (Err t) count origins h = h
 
-filled_sound : (most budget : ℕ) (v : Value) (values : List ℤ) (w : World) → IsSound budget most w → IsSound budget most (with_values_at v values w)
-filled_sound most budget (value.Number z) values w sound = sound
-filled_sound most budget (value.Pointer p) values w sound =
-    with_objects most budget w (object_filled w p.object values).memory (object_filled w p.object values).origins sound
+filled_sound : (most budget : ℕ) (v : Value) (items : List Initial) (w : World) → IsSound budget most w → IsSound budget most (with_items_at v items w)
+filled_sound most budget (value.Number z) items w sound = sound
+filled_sound most budget (value.Pointer p) items w sound =
+    with_objects most budget w (object_filled w p.object items).memory (object_filled w p.object items).origins sound
     (without_made w.made (first_of w.memory p.object) (length_of w.memory p.object) w.origins sound.elements)
 
-filled_passed : (v : Value) (values : List ℤ) (w : World) → HasPassed w (with_values_at v values w)
-filled_passed (value.Number z) values w = passed_itself w
-filled_passed (value.Pointer p) values w = same_passed w (object_filled w p.object values) refl refl refl
+filled_passed : (v : Value) (items : List Initial) (w : World) → HasPassed w (with_items_at v items w)
+filled_passed (value.Number z) items w = passed_itself w
+filled_passed (value.Pointer p) items w = same_passed w (object_filled w p.object items) refl refl refl
 
-filled_more : (k : ℕ) (v : Value) (values : List ℤ) (w : World) → with_values_at v values (more_world k w) ≡ more_world k (with_values_at v values w)
-filled_more k (value.Number z) values w = refl
-filled_more k (value.Pointer p) values w = refl
+filled_more : (k : ℕ) (v : Value) (items : List Initial) (w : World) → with_items_at v items (more_world k w) ≡ more_world k (with_items_at v items w)
+filled_more k (value.Number z) items w = refl
+filled_more k (value.Pointer p) items w = refl
 
-filled_made : (v : Value) (values : List ℤ) (w : World) → (with_values_at v values w).made ≡ w.made
-filled_made (value.Number z) values w = refl
-filled_made (value.Pointer p) values w = refl
+filled_made : (v : Value) (items : List Initial) (w : World) → (with_items_at v items w).made ≡ w.made
+filled_made (value.Number z) items w = refl
+filled_made (value.Pointer p) items w = refl
 
-pub fills_lawful : (g : Setting) (waiting : List Operand) (home : Held) (values : List ℤ) → Brings g waiting of_none (fills home values)
-fills_lawful g waiting home values budget s good w = (
+pub fills_lawful : (g : Setting) (waiting : List Operand) (home : Held) (items : List Initial) → Brings g waiting of_none (fills home items)
+fills_lawful g waiting home items budget s good w = (
   (
     record {
-      sound = filled_sound g.most budget home.value values s.world good.sound;
-      held = subst (λ (n : ℕ). SlotsCome n s.vars) (sym (filled_made home.value values s.world)) good.held;
+      sound = filled_sound g.most budget home.value items s.world good.sound;
+      held = subst (λ (n : ℕ). SlotsCome n s.vars) (sym (filled_made home.value items s.world)) good.held;
     },
     tt,
-    filled_passed home.value values s.world,
+    filled_passed home.value items s.world,
   ),
-  λ k. ap (λ (v : World). Goes tt (record s { world = v })) (filled_more k home.value values s.world),
+  λ k. ap (λ (v : World). Goes tt (record s { world = v })) (filled_more k home.value items s.world),
 )
 
 keeps_lawful : (g : Setting) (waiting : List Operand) (count : ℕ) → Brings g waiting of_none (keeps count)

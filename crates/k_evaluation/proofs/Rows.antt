@@ -1,5 +1,5 @@
 -- Each row of the table of expressions is lawful where its operands are.
-use Rattle.std.proofs.Common.{ℕ, ℤ, List, [], ◌∷◌, ◌++◌, map, Option, Some, None, Bool, true, false, if◌then◌else◌, refl}
+use Rattle.std.proofs.Common.{ℕ, ℤ, List, [], ◌∷◌, ◌++◌, map, Option, Some, None, Bool, true, false, if◌then◌else◌}
 use Rattle.k_num.specs.declared.place.Place.{Place}
 use Rattle.k_num.specs.declared.numbers.Bin.{Bin}
 use Rattle.k_num.specs.declared.numbers.Bin.TheVariants as bin
@@ -19,21 +19,19 @@ use Rattle.k_world.specs.declared.act.Out.{Out}
 use Rattle.k_world.specs.declared.act.Out.TheVariants as out
 use Rattle.k_world.specs.declared.value.Held.{Held}
 use Rattle.k_world.specs.declared.value.Value.TheVariants as value
-use Rattle.k_world.specs.WorldLaws.{IsMade}
-use Rattle.k_world.specs.Operands.{source_in}
 use Rattle.k_evaluation.specs.declared.operand.Operand.{Operand}
 use Rattle.k_evaluation.specs.declared.operand.Operand.TheVariants.{Constant, Holding, Register}
 use Rattle.k_evaluation.specs.declared.operand.Target.{Target}
 use Rattle.k_evaluation.specs.declared.operand.Target.TheVariants.{InRegister, InMemory}
-use Rattle.k_evaluation.specs.States.{Part, ◌>>=◌, gives, held_in, makes, computes, sets, settled}
+use Rattle.k_evaluation.specs.States.{Part, ◌>>=◌, gives, makes, computes, sets, settled}
 use Rattle.k_evaluation.specs.Meanings.{Meaning, nothing, only_value, at_place, value_at, value_in_memory, loads, on_one, on_two, behind_one, in_turn, tests, holds, kind_of, scale_of}
-use Rattle.k_evaluation.specs.Places.{number, string, object, variable, index, deref, address, forward, back, onto, address_of, string_number, home_of, variable_place, is_register, offset, element_at, behind_base, address_at, offset_onto}
+use Rattle.k_evaluation.specs.Places.{number, string, object, variable, index, deref, address, forward, back, onto, address_of, string_number, variable_place, is_register, is_broken, offset, element_at, behind_base, address_at, offset_onto}
 use Rattle.k_evaluation.specs.Operators.{plus, unary, convert, cast, binary, compare, distance, both, either, cond, comma, unary_on, converts, cast_to, class_of, binary_on, compare_on, distance_on, truth_on, truth_of, behind_test, same_truth, kind_or_int, logical, moves, arm, arm_by}
 use Rattle.k_evaluation.specs.Assignments.{assign, assign_by, pre, post, writes, behind_place, old_value, converts_between, converts_side, converts_back, side_kind, combined, changed, changes, changes_old, behind_changed, one, after_old, after_place}
 use Rattle.k_evaluation.specs.Library.{getchar, putchar, puts, printf, outputs, puts_byte, chunk_of}
 use Rattle.k_evaluation.specs.Expressions.{Calls, call}
-use Rattle.k_evaluation.proofs.Kept.{Setting, OperandComes, OperandsCome, passed_itself}
-use Rattle.k_evaluation.proofs.Parts.{Brings, of_operand, of_held, of_none, binds, needs, anywhere, before_both, behind_both, gives_lawful, sets_lawful, settled_lawful, held_comes, makes_lawful, computes_lawful}
+use Rattle.k_evaluation.proofs.Kept.{Setting, OperandComes, OperandsCome}
+use Rattle.k_evaluation.proofs.Parts.{Brings, of_operand, of_held, of_none, binds, needs, anywhere, before_both, behind_both, gives_lawful, sets_lawful, settled_lawful, makes_lawful, computes_lawful}
 
 -- what a place has
 abbrev pub of_target : Target → List Operand
@@ -125,16 +123,9 @@ module _ (g : Setting) where
   unfolding object
   object_lawful node n = at_place_lawful node (gives (InMemory (address_of n))) (gives_lawful g [] of_target (InMemory (address_of n)) (λ made w. (tt, tt)))
 
-  home_comes : (made : ℕ) (home : Option Held) → IsMade made (source_in home) → OperandComes made (home_of home)
-  home_comes made None h = tt
-  home_comes made (Some home) h = h
-
   variable_place_lawful : (node : Node) (n : ℕ) (b : Bool) → Brings g [] of_target (variable_place g.program node n b)
-  variable_place_lawful node n true budget s good w = ((good, tt, passed_itself s.world), λ k. refl)
-  variable_place_lawful node n false budget s good w = (
-    (good, (home_comes s.world.made (held_in s n) (held_comes s.world.made s.vars n good.held), tt), passed_itself s.world),
-    λ k. refl,
-  )
+  variable_place_lawful node n true = gives_lawful g [] of_target (InRegister n (is_broken g.program node.number)) (λ made w. tt)
+  variable_place_lawful node n false = gives_lawful g [] of_target (InMemory (Register n false)) (λ made w. (tt, tt))
 
   pub variable_lawful : (vs : List TVariable) (node : Node) (n : ℕ) → LawfulMeaning g (variable g.program vs node n)
   unfolding variable

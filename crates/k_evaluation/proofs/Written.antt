@@ -3,6 +3,7 @@ use Rattle.std.proofs.Common.{◌≡◌, ℕ, zero, suc, ◌+◌, ◌/◌, ◌%�
 use Rattle.std.proofs.lemmas.Nat.{mod_below}
 use Rattle.std.specs.Fmt.{digits, digits_onto, digit_glyph, decimal, signed_decimal}
 use Rattle.k_num.specs.declared.numbers.Kind.TheVariants.{U8, U64}
+use Rattle.k_num.specs.declared.initial.Initial.{Initial}
 use Rattle.k_num.specs.declared.place.Place.{Place}
 use Rattle.k_num.specs.Kind.{remainder}
 use Rattle.k_num.proofs.KindLaws.{remainder_below}
@@ -24,7 +25,7 @@ use Rattle.k_world.specs.declared.value.Held.{Held}
 use Rattle.k_world.specs.declared.value.Value.{Value}
 use Rattle.k_world.specs.declared.value.Value.TheVariants as value
 use Rattle.k_world.specs.Acts.{effect, first_number, behind_value, conversion_bytes, bytes_before, argument_before, formatted, written, output_effect, store_effect, pointer_and_number}
-use Rattle.k_world.specs.Changes.{with_elements}
+use Rattle.k_world.specs.Changes.{with_elements, with_string}
 use Rattle.k_world.specs.Operands.{values_of}
 use Rattle.k_world.specs.Operations.{Made, Gives, Ends, operation, counted}
 use Rattle.k_world.specs.Worlds.{World}
@@ -33,7 +34,7 @@ use Rattle.k_world.proofs.Sound.{operation_cases}
 use Rattle.k_evaluation.specs.declared.operand.Operand.{Operand}
 use Rattle.k_evaluation.specs.declared.operand.Operand.TheVariants.{Holding}
 use Rattle.k_evaluation.specs.States.{Program, State, Outcome, Goes, Stops, Part, follow, ◌>>=◌, gives, traps, read, made, makes, computes, sets, region, control, controls, settles, settled, enters, exits}
-use Rattle.k_evaluation.specs.Objects.{made_object, makes_object, with_values_at, fills, live, keeps, block, with_string, makes_string}
+use Rattle.k_evaluation.specs.Objects.{made_object, makes_object, with_items_at, fills, live, keeps, block, makes_string}
 
 -- BYTES
 pub bytes_both : (xs ys : List ℕ) → AreBytes xs → AreBytes ys → AreBytes (xs ++ ys)
@@ -212,12 +213,12 @@ makes_string_clean place text = record {
   clean = λ s bytes. object_clean place (length (text ++ 0 ∷ [])) s (with_string s.world.memory (text ++ 0 ∷ [])) bytes;
 }
 
-filled_bytes : (v : Value) (values : List ℤ) (w : World) → AreBytes w.output → AreBytes (with_values_at v values w).output
-filled_bytes (value.Number z) values w h = h
-filled_bytes (value.Pointer p) values w h = h
+filled_bytes : (v : Value) (items : List Initial) (w : World) → AreBytes w.output → AreBytes (with_items_at v items w).output
+filled_bytes (value.Number z) items w h = h
+filled_bytes (value.Pointer p) items w h = h
 
-pub fills_clean : (home : Held) (values : List ℤ) → IsClean (fills home values)
-fills_clean home values = record { clean = λ s bytes. filled_bytes home.value values s.world bytes }
+pub fills_clean : (home : Held) (items : List Initial) → IsClean (fills home items)
+fills_clean home items = record { clean = λ s bytes. filled_bytes home.value items s.world bytes }
 
 -- AN OPERATION
 abbrev MadeClean : Made → Type 0

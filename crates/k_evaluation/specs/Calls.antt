@@ -1,6 +1,6 @@
 -- Believed with the theorem on the top call.
 -- Calls: the call operation, the limits, the parameters, the function's block, and what the caller goes on with (C17 6.5.2.2, 6.9.1).
-use Rattle.std.specs.Prelude.{ℕ, zero, suc, ◌+◌, ◌*◌, nat_lt, nat_eq, Bool, true, false, if◌then◌else◌, pos, List, [], ◌∷◌, map, slice_get, Option, Some, None}
+use Rattle.std.specs.Prelude.{ℕ, zero, suc, ◌+◌, ◌*◌, nat_eq, Bool, true, false, if◌then◌else◌, pos, List, [], ◌∷◌, map, slice_get, take, Option, Some, None}
 use Rattle.k_num.specs.declared.place.Place.{Place}
 use Rattle.k_optab.specs.declared.class.Class.TheVariants as class
 use Rattle.k_ending.specs.declared.ending.Trap.TheVariants.{StackOverflow, FallOff}
@@ -12,6 +12,7 @@ use Rattle.k_mem.specs.declared.start.Start.TheVariants.{Unset}
 use Rattle.k_world.specs.declared.act.Act.TheVariants as act
 use Rattle.k_world.specs.declared.value.Held.{Held}
 use Rattle.k_world.specs.declared.value.Value.TheVariants as value
+pub use Rattle.k_world.specs.Limits.{is_too_large}
 use Rattle.k_world.specs.Worlds.{World}
 use Rattle.k_evaluation.specs.declared.operand.Operand.{Operand}
 use Rattle.k_evaluation.specs.declared.operand.Operand.TheVariants.{Constant, Holding, Register}
@@ -89,13 +90,9 @@ runs program calls number f =
 abbrev pub with_call : TFunc → World → World
 with_call f w = record w { calls = w.calls + 1; size = w.size + f.nodes }
 
--- the nodes of the live calls and of one more would be more than 1,048,576
-abbrev pub is_too_large : TFunc → World → Bool
-is_too_large f w = nat_lt 1048576 (w.size + f.nodes)
-
--- the state in which a function begins: its variables hold these arguments, and the control source is the caller's
+-- the state in which a function begins: its parameters hold these arguments, and the control source is the caller's
 abbrev pub entered : TFunc → List (Option Held) → State → State
-entered f args s = record { vars = with_arguments args (unset f.variables); world = with_call f s.world }
+entered f args s = record { vars = with_arguments (take f.params args) (unset f.variables); world = with_call f s.world }
 
 -- a value that a call gave, as an operand; that of void is not used
 abbrev pub as_operand : Option Held → Operand
@@ -113,7 +110,7 @@ back_to caller (Stops end w) = Stops end w
 -- a function is entered, where the limit of nodes allows it
 abbrev pub enters_function : Program → Calls → ℕ → Place → TFunc → List (Option Held) → Part Operand
 enters_function program inner number place f args s =
-    if is_too_large f s.world then traps StackOverflow place s else back_to s (runs program inner number f (entered f args s))
+    if is_too_large s.world f.nodes then traps StackOverflow place s else back_to s (runs program inner number f (entered f args s))
 
 -- the function of a number is entered
 abbrev pub enters_number : Program → Calls → ℕ → Place → Option TFunc → List (Option Held) → Part Operand

@@ -1,8 +1,7 @@
 -- Believed with the theorem on the top call.
 -- Declarations, and how a variable begins (C17 6.7, 6.7.9).
-use Rattle.std.specs.Prelude.{ℕ, zero, suc, ◌+◌, ◌-◌, true, false, ℤ, pos, List, [], ◌∷◌, ◌++◌, map, length, replicate, slice_get, Option, Some, None}
-use Rattle.k_num.specs.declared.numbers.Kind.TheVariants.{I8}
-use Rattle.k_num.specs.Kind.{converted}
+use Rattle.std.specs.Prelude.{ℕ, zero, suc, true, false, List, [], ◌∷◌, ◌++◌, slice_get, Option, Some, None}
+use Rattle.k_num.specs.declared.initial.Initial.{Initial}
 use Rattle.k_num.specs.declared.place.Place.{Place}
 use Rattle.k_optab.specs.declared.class.Class.TheVariants as class
 use Rattle.k_types_meaning.specs.declared.tree.expression.TExpr.{TExpr}
@@ -15,6 +14,7 @@ use Rattle.k_types_meaning.specs.declared.tree.declaration.TItem.TheVariants as 
 use Rattle.k_types_meaning.specs.declared.tree.statement.TFirst.{TFirst}
 use Rattle.k_types_meaning.specs.declared.tree.statement.TFirst.TheVariants as first
 use Rattle.k_types_meaning.specs.declared.tree.unit.TVariable.{TVariable}
+use Rattle.k_types_meaning.specs.Initialisers.{bytes_from}
 use Rattle.k_mem.specs.declared.start.Start.TheVariants.{Unset}
 use Rattle.k_world.specs.declared.act.Act.TheVariants as act
 use Rattle.k_world.specs.declared.value.Held.{Held}
@@ -38,13 +38,11 @@ begins_register w d init.Nothing = sets d.variable None
 begins_register w d (init.Value e) = initialises w d e (InRegister d.variable false)
 begins_register w d (init.Elements items) = gives tt
 
--- C17 6.7.9p14, p21: the values that an array begins with, from the element of this number on: the strings' bytes as signed 8-bit numbers,
--- and zeros between
-abbrev pub values_from : ℕ → List TItem → List ℤ
-values_from n [] = []
-values_from n (item.Bytes m bytes ∷ items) =
-    replicate (m - n) (pos 0) ++ (map (λ b. converted I8 (pos b)) bytes ++ values_from (m + length bytes) items)
-values_from n (item.Value place m e ∷ items) = values_from n items
+-- C17 6.7.9p14: the numbers with which elements of an array begin without an operation: those that strings give
+abbrev pub values_from : List TItem → List Initial
+values_from [] = []
+values_from (item.Bytes n bytes ∷ items) = bytes_from n bytes ++ values_from items
+values_from (item.Value place n e ∷ items) = values_from items
 
 -- a pointer to the element of this number, by that to the first
 abbrev pub element_value : Value → ℕ → Value
@@ -73,7 +71,7 @@ stores_items w home (i ∷ items) = stores_item w home i >>= λ done. stores_ite
 abbrev pub begins_object : Within → TDeclarator → TInit → Held → Part (Unit {0})
 begins_object w d init.Nothing home = gives tt
 begins_object w d (init.Value e) home = initialises w d e (InMemory (Constant home.value))
-begins_object w d (init.Elements items) home = fills home (values_from 0 items) >>= λ done. stores_items w home items
+begins_object w d (init.Elements items) home = fills home (values_from items) >>= λ done. stores_items w home items
 
 -- a variable has its object from now on, which then begins
 abbrev pub begins_variable : Within → TDeclarator → Held → Part (Unit {0})

@@ -1,17 +1,16 @@
 -- Believed with the theorem on the top call.
 -- What an expression means: what it does, and what it gives as a value that is used or not, and as a place.
-use Rattle.std.specs.Prelude.{ℕ, Bool, true, false, not, pos, List, [], ◌∷◌, Option, Some, None}
+use Rattle.std.specs.Prelude.{ℕ, Bool, true, false, pos, List, [], ◌∷◌, Option, Some, None}
 use Rattle.k_num.specs.declared.place.Place.{Place}
 use Rattle.k_num.specs.declared.numbers.Kind.{Kind}
-use Rattle.k_num.specs.Arithmetic.{is_zero}
 use Rattle.k_optab.specs.declared.class.Class.TheVariants as class
 use Rattle.k_types_meaning.specs.declared.types.TType.{TType}
 use Rattle.k_types_meaning.specs.declared.types.TType.TheVariants as ttype
 use Rattle.k_types_meaning.specs.declared.tree.expression.Node.{Node}
 use Rattle.k_world.specs.declared.act.Act.TheVariants as act
 use Rattle.k_world.specs.declared.value.Held.{Held}
-use Rattle.k_world.specs.declared.value.Value.{Value}
 use Rattle.k_world.specs.declared.value.Value.TheVariants as value
+pub use Rattle.k_world.specs.Values.{is_true}
 use Rattle.k_evaluation.specs.declared.operand.Operand.{Operand}
 use Rattle.k_evaluation.specs.declared.operand.Operand.TheVariants.{Constant, Register}
 use Rattle.k_evaluation.specs.declared.operand.Target.{Target}
@@ -93,11 +92,6 @@ flag (Some b) = b
 -- THE TEST of a condition, which is not promoted: it is the control source from then on
 abbrev pub tests : Program → Place → Operand → Part Held
 tests program place a = makes program class.Test place act.Test (a ∷ [])
-
--- a value is a number other than 0
-abbrev pub is_true : Value → Bool
-is_true (value.Number z) = not (is_zero z)
-is_true (value.Pointer p) = true
 
 -- a test found a number other than 0
 abbrev pub holds : Held → Bool

@@ -6,14 +6,13 @@ use Rattle.k_optab.specs.declared.class.Class.TheVariants as class
 use Rattle.k_types_meaning.specs.declared.tree.expression.Node.{Node}
 use Rattle.k_types_meaning.specs.declared.tree.unit.TVariable.{TVariable}
 use Rattle.k_world.specs.declared.act.Act.TheVariants as act
-use Rattle.k_world.specs.declared.value.Held.{Held}
 use Rattle.k_world.specs.declared.value.Value.TheVariants as value
 use Rattle.k_evaluation.specs.declared.operand.Operand.{Operand}
-use Rattle.k_evaluation.specs.declared.operand.Operand.TheVariants.{Constant, Holding}
+use Rattle.k_evaluation.specs.declared.operand.Operand.TheVariants.{Constant, Register}
 use Rattle.k_evaluation.specs.declared.operand.Target.{Target}
 use Rattle.k_evaluation.specs.declared.operand.Target.TheVariants.{InRegister, InMemory}
-use Rattle.k_evaluation.specs.States.{Program, Goes, Part, ◌>>=◌, gives, held_in, computes}
-use Rattle.k_evaluation.specs.Objects.{pointer_to}
+use Rattle.k_evaluation.specs.States.{Program, Part, ◌>>=◌, gives, computes}
+use Rattle.k_world.specs.Values.{pointer_to}
 use Rattle.k_evaluation.specs.Meanings.{Meaning, nothing, only_value, at_place, on_two, scale_of, flag}
 
 -- NUMBER, `sizeof`: no operation
@@ -22,7 +21,7 @@ number node z = only_value node (λ used. gives (Constant (value.Number z)))
 
 -- the address of the first element of an object
 abbrev pub address_of : ℕ → Operand
-address_of object = Constant (pointer_to object).value
+address_of object = Constant (pointer_to object 0).value
 
 -- the number of the object of a string: strings are made behind the file objects
 abbrev pub string_number : Program → ℕ → ℕ
@@ -41,11 +40,6 @@ string program node n bytes = record {
 unfoldable pub object : Program → Node → ℕ → Meaning
 object program node n = at_place program node (gives (InMemory (address_of n)))
 
--- what a variable that is memory holds, as an operand
-abbrev pub home_of : Option Held → Operand
-home_of None = nothing
-home_of (Some home) = Holding home
-
 -- a variable without an object is a register
 abbrev pub has_register : Option TVariable → Bool
 has_register None = true
@@ -59,12 +53,13 @@ is_register vs n = has_register (slice_get vs n)
 abbrev pub is_broken : Program → ℕ → Bool
 is_broken program n = flag (slice_get program.marks.broken n)
 
--- a variable as a place, by whether it is a register
+-- A variable as a place, by whether it is a register. The address of one that is memory is what the variable holds, which is read by the
+-- operation that uses it: before its declaration that is not set.
 abbrev pub variable_place : Program → Node → ℕ → Bool → Part Target
-variable_place program node n true s = Goes (InRegister n (is_broken program node.number)) s
-variable_place program node n false s = Goes (InMemory (home_of (held_in s n))) s
+variable_place program node n true = gives (InRegister n (is_broken program node.number))
+variable_place program node n false = gives (InMemory (Register n false))
 
--- VARIABLE: a place; a register is read by the operation that uses it
+-- VARIABLE: a place
 unfoldable pub variable : Program → List TVariable → Node → ℕ → Meaning
 variable program vs node n = at_place program node (variable_place program node n (is_register vs n))
 

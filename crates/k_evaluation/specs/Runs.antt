@@ -1,8 +1,6 @@
 -- Believed with the theorem on the top call.
 -- *Run*: a program's start, main and its end (C17 5.1.2.2).
-use Rattle.std.specs.Prelude.{ℕ, ℤ, pos, List, [], ◌∷◌, slice_get, Option, Some, None}
-use Rattle.k_num.specs.declared.numbers.Kind.TheVariants.{I32}
-use Rattle.k_num.specs.Kind.{converted}
+use Rattle.std.specs.Prelude.{ℕ, ◌-◌, List, [], ◌∷◌, slice_get, Option, Some, None}
 use Rattle.k_optab.specs.declared.event.Event.{Event}
 use Rattle.k_ending.specs.declared.ending.End.{End}
 use Rattle.k_ending.specs.declared.ending.End.TheVariants.{Returned}
@@ -12,14 +10,14 @@ use Rattle.k_types_meaning.specs.declared.tree.unit.TObject.{TObject}
 use Rattle.k_types_meaning.specs.declared.tree.unit.TString.{TString}
 use Rattle.k_mem.specs.declared.start.Start.TheVariants.{Zero}
 use Rattle.k_world.specs.declared.value.Held.{Held}
-use Rattle.k_world.specs.declared.value.Value.{Value}
-use Rattle.k_world.specs.declared.value.Value.TheVariants as value
+use Rattle.k_world.specs.Limits.{call_limit}
+pub use Rattle.k_world.specs.Values.{int_of, exit_of}
 use Rattle.k_world.specs.Worlds.{fresh}
 use Rattle.k_evaluation.specs.States.{Program, State, Outcome, Goes, Stops, Part, ◌>>=◌, gives}
 use Rattle.k_evaluation.specs.Objects.{makes_object, makes_string, fills}
 use Rattle.k_evaluation.specs.Calls.{runs, calls, entered}
 
--- a file object: zeros, and its first values in its elements from the first on (C17 6.7.9p10)
+-- a file object: the numbers with which elements of it begin, and zeros in the others (C17 6.7.9p10)
 abbrev pub starts_object : TObject → Part (Unit {0})
 starts_object o = makes_object o.place Zero o.elements >>= λ home. fills home o.first
 
@@ -33,26 +31,16 @@ abbrev pub starts_strings : List TString → Part (Unit {0})
 starts_strings [] = gives tt
 starts_strings (t ∷ ts) = makes_string t.place t.bytes >>= λ home. starts_strings ts
 
--- main as the first live call, which no operation calls: 4,095 more may be live at once
+-- main as the first live call, which no operation calls: as many more may be live at once as the limit allows beside it
 abbrev pub runs_main : Program → Option TFunc → Part (Option Held)
 runs_main program None s = Goes None s
-runs_main program (Some f) s = runs program (calls 4095 program) program.unit.main f (entered f [] s)
+runs_main program (Some f) s = runs program (calls (call_limit - 1) program) program.unit.main f (entered f [] s)
 
 -- a whole run: the objects, the strings, main
 unfoldable pub whole : Program → Part (Option Held)
 whole program =
     starts_objects program.unit.objects >>= λ objects. starts_strings program.unit.strings >>= λ strings.
     runs_main program (slice_get program.unit.functions program.unit.main)
-
--- the number that a value is, as an int
-abbrev pub int_of : Value → ℤ
-int_of (value.Number z) = converted I32 z
-int_of (value.Pointer p) = pos 0
-
--- the number that main gives
-abbrev pub exit_of : Option Held → ℤ
-exit_of None = pos 0
-exit_of (Some held) = int_of held.value
 
 -- What a run leaves: its events, its output and its end.
 pub record Run : Type 0 where

@@ -1,9 +1,8 @@
 -- Believed with the theorem on the top call.
 -- The state of an evaluation and its parts: how they follow one another, and how an operation is one.
-use Rattle.std.specs.Prelude.{ℕ, Bool, true, false, List, [], ◌∷◌, ◌++◌, map, slice_get, slice_set, Option, Some, None}
+use Rattle.std.specs.Prelude.{ℕ, Bool, true, false, List, map, slice_get, slice_set, Option, Some, None}
 use Rattle.k_num.specs.declared.place.Place.{Place}
 use Rattle.k_optab.specs.declared.class.Class.{Class}
-use Rattle.k_optab.specs.declared.event.Event.{Event}
 use Rattle.k_optab.specs.declared.event.Event.TheVariants as event
 use Rattle.k_optab.specs.Latencies.{latency}
 use Rattle.k_ending.specs.declared.ending.End.{End}
@@ -15,6 +14,8 @@ use Rattle.k_world.specs.declared.act.Act.{Act}
 use Rattle.k_world.specs.declared.value.Held.{Held}
 use Rattle.k_world.specs.declared.value.Read.{Read}
 use Rattle.k_world.specs.Worlds.{World}
+pub use Rattle.k_world.specs.Operands.{held_by}
+pub use Rattle.k_world.specs.Worlds.{with_event}
 use Rattle.k_world.specs.Operations.{Made, Gives, Ends, operation}
 use Rattle.k_evaluation.specs.declared.operand.Operand.{Operand}
 use Rattle.k_evaluation.specs.declared.operand.Operand.TheVariants.{Constant, Holding, Register}
@@ -58,11 +59,6 @@ gives a s = Goes a s
 abbrev pub traps : {A : Type 0} → Trap → Place → Part A
 traps trap place s = Stops (Trapped trap place) s.world
 
--- what a variable holds that may not be there
-abbrev pub held_by : Option (Option Held) → Option Held
-held_by None = None
-held_by (Some slot) = slot
-
 -- what the variable of this number holds
 abbrev pub held_in : State → ℕ → Option Held
 held_in s n = held_by (slice_get s.vars n)
@@ -90,10 +86,6 @@ computes program class place act operands = makes program class place act operan
 -- a variable holds this from now on, or nothing
 abbrev pub sets : ℕ → Option Held → Part (Unit {0})
 sets n slot s = Goes tt (record s { vars = slice_set s.vars n slot })
-
--- an event is added
-abbrev pub with_event : Event → World → World
-with_event e w = record w { events = w.events ++ e ∷ [] }
 
 -- an instance of a region is entered
 abbrev pub enters : ℕ → Part (Unit {0})

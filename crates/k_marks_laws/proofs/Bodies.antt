@@ -42,7 +42,7 @@ module _ (n : ℕ) (program : Program) where
   back_kept s (Stops end w) = tt
 
   enters_function_keeps : (inner : Calls) (number : ℕ) (place : Place) (f : TFunc) (args : List (Option Held)) → Keeps n Any (enters_function program inner number place f args)
-  enters_function_keeps inner number place f args s = by (is_too_large f s.world)
+  enters_function_keeps inner number place f args s = by (is_too_large s.world f.nodes)
     where
       by : (b : Bool) → Kept n Any s (if b then traps StackOverflow place s else back_to s (runs program inner number f (entered f args s)))
       by true = tt

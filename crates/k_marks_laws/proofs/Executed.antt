@@ -212,7 +212,7 @@ module _ (n : ℕ) where
     begins_object_keeps d init.Nothing home h = gives_kept {A = Unit {0}} n tt
     begins_object_keeps d (init.Value e) home h = initialises_keeps d e (InMemory (Constant home.value)) h tt
     begins_object_keeps d (init.Elements items) home h =
-        thus n (fills home (values_from 0 items)) (λ done. stores_items w home items) (fills_kept n home (values_from 0 items)) (λ done. stores_items_keep home items h)
+        thus n (fills home (values_from items)) (λ done. stores_items w home items) (fills_kept n home (values_from items)) (λ done. stores_items_keep home items h)
 
     begins_variable_keeps : (d : TDeclarator) (home : Held) → nat_eq d.variable n ≡ false → IsSpared n (init_uses d.init) → Keeps n Any (begins_variable w d home)
     begins_variable_keeps d home differ h =

@@ -1,6 +1,7 @@
 -- What the parts that a run is made of leave of a variable.
-use Rattle.std.proofs.Common.{◌≡◌, ℕ, zero, suc, ℤ, List, [], ◌∷◌, map, Option, Some, None, Bool, true, false, nat_eq, refl, ◌∙◌, ap, subst, slice_get, slice_set}
+use Rattle.std.proofs.Common.{◌≡◌, ℕ, zero, suc, List, [], ◌∷◌, map, Option, Some, None, Bool, true, false, nat_eq, refl, ◌∙◌, ap, subst, slice_get, slice_set}
 use Rattle.std.proofs.lemmas.Bool.{eqb-false}
+use Rattle.k_num.specs.declared.initial.Initial.{Initial}
 use Rattle.k_num.specs.declared.place.Place.{Place}
 use Rattle.k_optab.specs.declared.class.Class.{Class}
 use Rattle.k_optab.specs.Latencies.{latency}
@@ -109,8 +110,8 @@ made_object_kept n place s (Some w) = (refl, tt)
 pub makes_object_kept : (n : ℕ) (place : Place) (start : Start) (count : ℕ) → Keeps n Any (makes_object place start count)
 makes_object_kept n place start count s = made_object_kept n place s (object_made s.world start count)
 
-pub fills_kept : (n : ℕ) (home : Held) (values : List ℤ) → Keeps n Any (fills home values)
-fills_kept n home values s = (refl, tt)
+pub fills_kept : (n : ℕ) (home : Held) (items : List Initial) → Keeps n Any (fills home items)
+fills_kept n home items s = (refl, tt)
 
 pub block_kept : {A : Type 0} (n : ℕ) (part : Part A) → Keeps n Any part → Keeps n Any (block part)
 block_kept {A = A} n part kept =

@@ -1,4 +1,5 @@
 //! A box that contracts see as what it holds, so that a tree of boxes is plain data.
+ghost use Rattle.std.specs.Borrow.{sem};
 ghost use Rattle.std.specs.Prelude.{◌≡◌, IfOk};
 
 use crate::NoMemory;
@@ -21,11 +22,21 @@ impl<T> Model for Box<T> {
 }
 
 impl<T> Box<T> {
+    ghost use Rattle.k_num.specs.Lending.{LendsValue};
+
     /// The value.
     pub fn get(&self) -> &T
         ensures { result.now ≡ self.now }
     {
         &self.inner
+    }
+
+    /// The value, for writing.
+    pub fn get_mut(&mut self) -> &mut T
+        ensures* writes_back { sem 𝓛 (LendsValue T.row self.entry result) }
+        ensures value { result.now ≡ self.old }
+    {
+        &mut self.inner
     }
 
     /// The value, out of its box.

@@ -1,9 +1,10 @@
-//! The base of every other crate: lists and texts that contracts see as plain data, places in a source,
-//! and the kinds and operators of C's whole numbers with their laws.
+//! The base of every other crate: lists and texts that contracts see as plain data, places in a source, the numbers with which objects
+//! begin, and the kinds and operators of C's whole numbers with their laws.
 #![tactic(auto)]
 
 mod binary_operators;
 mod boxed;
+mod initial;
 mod kinds;
 pub mod laws;
 mod memory;
@@ -16,6 +17,7 @@ mod unary_operators;
 
 pub use binary_operators::binary;
 pub use boxed::Box;
+pub use initial::Initial;
 pub use kinds::{bytes, common, convert, holds, promote};
 pub use memory::NoMemory;
 pub use numbers::{Bin, Kind, NumTrap, Un};

@@ -114,7 +114,7 @@ not_reached limit z y t reach e deep takes = elim takes [
 ]
 
 -- what was read so far begins a source
-so_far : (limit : ℕ) (s : Source) (seen : List Token) → OkSource limit s seen → PhaseReached limit s.phase → Begins limit seen
+so_far : (limit : ℕ) (s : Source) (seen : List Token) → OkSource limit s seen → PhaseReached limit s.stage → Begins limit seen
 so_far limit s seen ok reached =
     let found = source_begins limit s seen ok reached in
     let more : List Token = found.0 in
@@ -142,7 +142,7 @@ none_err f e = cc
 pub record Stands (limit : ℕ) (s : Source) (seen : List Token) : Type 0 where
   pub trace : Reaches Sources (1 + limit) begin_source seen s
   pub ok : OkSource limit s seen
-  pub reached : PhaseReached limit s.phase
+  pub reached : PhaseReached limit s.stage
 
 -- the same at each limit from this one on
 abbrev pub StandsFrom : ℕ → Source → List Token → Type 0

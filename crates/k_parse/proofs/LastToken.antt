@@ -68,7 +68,7 @@ module _ (p : Place) where
   value_stops g [] a = tt
   value_stops g (o ∷ s) a = plugged_stops g s (expressions.plug o a) (λ b. expressions.value g s b end) (λ b. value_stops g s b)
 
-  now_stops : (g : Site) (s : Opens) (n : ExpressionStage) → FedStops (expressions.feed_at g s n end)
+  now_stops : (g : Site) (s : Opens) (n : ExpressionStage) → FedStops (expressions.stage_fed g s n end)
   unfolding expressions.operand expressions.named expressions.in_type
   now_stops g s now.Operand = tt
   now_stops g s (now.Named q name) = value_stops g s _
@@ -77,7 +77,7 @@ module _ (p : Place) where
 
   feed_stops : (r : Reading) → FedStops (expressions.feed r end)
   unfolding expressions.feed
-  feed_stops r = now_stops r.site r.opens r.state
+  feed_stops r = now_stops r.site r.opens r.stage
 
   read_refused : (f : Fed) → FedStops f → readings.read_by f false ≡ turn.Refused
   read_refused (turn.Goes r reach) h = absurd h
@@ -130,7 +130,7 @@ module _ (p : Place) where
 
   -- parameters
 
-  part_refused : (list : List Param) (x : ParameterStage) → parameters.part_fed list x end ≡ turn.Refused
+  part_refused : (list : List Param) (x : ParameterStage) → parameters.stage_fed list x end ≡ turn.Refused
   unfolding parameters.first_token parameters.typed parameters.size
   part_refused list part_.Starts = refl
   part_refused list (part_.Typed q stars) = refl
@@ -139,7 +139,7 @@ module _ (p : Place) where
 
   parameters_refused : (ps : Parameters) → parameters.feed_parameters ps end ≡ turn.Refused
   unfolding parameters.feed_parameters
-  parameters_refused ps = part_refused ps.list ps.part
+  parameters_refused ps = part_refused ps.list ps.stage
 
   -- statements
 
@@ -184,15 +184,15 @@ module _ (p : Place) where
   for_refused ps s (step.Third q start test r) = ap (statements.third_by ps s q start test) (maybe_refused r closer.Paren)
   for_refused ps s x = switch_refused ps s x
 
-  step_refused : (ps : Parts) (s : Frames) (x : BlockStage) → statements.step_fed ps s x end ≡ turn.Refused
-  unfolding statements.value statements.opened statements.test statements.semicolon statements.returned statements.local
+  step_refused : (ps : Parts) (s : Frames) (x : BlockStage) → statements.stage_fed ps s x end ≡ turn.Refused
+  unfolding statements.value statements.opened statements.test statements.semicolon statements.in_return statements.local
   step_refused ps s step.Begins = begins_refused ps s
   step_refused ps s (step.Whole x) = behind_refused ps s x
   step_refused ps s (step.Value q r) = ap (statements.value_by ps s q) (needed_refused r closer.Semicolon)
   step_refused ps s (step.Keyword x) = refl
   step_refused ps s (step.Test x r) = ap (statements.test_by ps s x) (needed_refused r closer.Paren)
   step_refused ps s (step.Semicolon x) = ap (λ b. cond b (statements.whole ps s x) turn.Refused) (not_closed closer.Semicolon)
-  step_refused ps s (step.Return q r) = ap (statements.returned_by ps s q) (maybe_refused r closer.Semicolon)
+  step_refused ps s (step.Return q r) = ap (statements.in_return_by ps s q) (maybe_refused r closer.Semicolon)
   step_refused ps s (step.Local q d) = ap (statements.local_by ps s q) (declaration_refused d)
   step_refused ps s (step.For q) = for_refused ps s (step.For q)
   step_refused ps s (step.Start q r) = for_refused ps s (step.Start q r)
@@ -205,11 +205,11 @@ module _ (p : Place) where
 
   body_refused : (b : Body) → statements.feed_body b end ≡ turn.Refused
   unfolding statements.feed_body
-  body_refused b = step_refused b.parts b.frames b.step
+  body_refused b = step_refused b.parts b.frames b.stage
 
   -- sources
 
-  phase_stops : (items : List Item) (x : SourceStage) → SourcedStops (sources.phase_fed items x end)
+  phase_stops : (items : List Item) (x : SourceStage) → SourcedStops (sources.stage_fed items x end)
   unfolding sources.starts sources.declares sources.parameters sources.headed sources.in_body
   phase_stops items phase.Starts = tt
   phase_stops items (phase.Declares q d) =
@@ -221,7 +221,7 @@ module _ (p : Place) where
 
   source_stops : (s : Source) → SourcedStops (sources.feed_source s end)
   unfolding sources.feed_source
-  source_stops s = phase_stops s.items s.phase
+  source_stops s = phase_stops s.items s.stage
 
 -- the source does not go on behind the end
 pub end_stops : (s z : Source) (t : Token) (reach : ℕ) → t.what ≡ token.End → sources.feed_source s t ≡ turn.Goes z reach → ⊥

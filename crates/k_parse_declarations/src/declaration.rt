@@ -12,9 +12,9 @@ use k_parse_steps::declaration::initialiser::{After, Brace, Opened};
 use k_parse_steps::declaration::{Declaration, DeclarationStage, Declared, Front};
 use k_parse_steps::expression::Reading;
 use k_parse_steps::level::plus;
-use k_parse_steps::operators::{is_bracket, is_equal, is_left_brace, is_right_brace};
 use k_parse_steps::reading::{Closer, Maybe, Read};
 use k_parse_steps::stars::{Stars, all_stars, no_stars, star, type_word};
+use k_parse_steps::tokens::is_mark;
 use k_parse_steps::turn::Turn;
 use k_tree::{Declarator, Expr, Init, Mark, Token, TokenKind, Word};
 use std::alloc::Global;
@@ -155,14 +155,14 @@ fn named(
 ) -> Result<Declared, NoMemory>
     ensures { IfOk result (λ fed. fed ≡ spec.named front declarator mark) }
 {
-    if is_bracket(mark) {
+    if is_mark(mark, Mark::LeftBracket) {
         let reading = begin_boxed(alloc, 2, front.level)?;
         let stage = DeclarationStage::Size {
             declarator,
             reading,
         };
         Ok(declares(front, stage, 0))
-    } else if is_equal(mark) {
+    } else if is_mark(mark, Mark::Equal) {
         let reach = plus(front.level, 1)?;
         let braces = Stack::new(alloc);
         let stage = DeclarationStage::Starts { declarator, braces };
@@ -274,9 +274,9 @@ fn mark_starts(
 ) -> Result<Declared, NoMemory>
     ensures { IfOk result (λ fed. fed ≡ spec.mark_starts front opened token.now mark) }
 {
-    if is_left_brace(mark) {
+    if is_mark(mark, Mark::LeftBrace) {
         open_brace(alloc, front, opened, token.place)
-    } else if is_right_brace(mark) {
+    } else if is_mark(mark, Mark::RightBrace) {
         last_comma(alloc, front, opened)
     } else {
         first(alloc, front, opened, token)

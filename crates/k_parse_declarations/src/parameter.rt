@@ -6,20 +6,21 @@ use k_num::{Box, NoMemory, Place, Seq, Text};
 use k_parse_expressions::expression::begin_boxed;
 use k_parse_expressions::reading::{read_maybe, unboxed};
 use k_parse_steps::expression::Reading;
-use k_parse_steps::operators::{is_bracket, is_spec, is_star};
+use k_parse_steps::operators::is_spec;
 use k_parse_steps::parameter::{ParameterStage, Parameters, Parametric};
 use k_parse_steps::reading::{Closer, Maybe};
 use k_parse_steps::stars::{Stars, all_stars, no_stars, star, type_word};
+use k_parse_steps::tokens::{is_mark, is_word};
 use k_parse_steps::turn::Turn;
 use k_tree::{Mark, Param, Params, Token, TokenKind, Word};
 use std::alloc::Global;
 use std::mem;
 
 /// The parameters go on.
-fn follows(list: Seq<Param>, part: ParameterStage, reach: usize) -> Parametric
-    ensures { result ≡ spec.follows list part reach }
+fn follows(list: Seq<Param>, stage: ParameterStage, reach: usize) -> Parametric
+    ensures { result ≡ spec.follows list stage reach }
 {
-    let parameters = Parameters { list, part };
+    let parameters = Parameters { list, stage };
     Turn::Goes(parameters, reach)
 }
 
@@ -29,7 +30,7 @@ pub fn begin_parameters(alloc: Global) -> Parameters
 {
     Parameters {
         list: Seq::new(alloc),
-        part: ParameterStage::Starts,
+        stage: ParameterStage::Starts,
     }
 }
 
@@ -88,12 +89,22 @@ fn mark_first(list: Seq<Param>, mark: Mark) -> Parametric
     }
 }
 
+/// Is `void` the only specifier?
+fn is_void_list(specs: &[Word]) -> bool
+    ensures { result ≡ spec.is_void_list specs.now }
+{
+    match specs {
+        [word] => is_word(*word, Word::Void),
+        _ => false,
+    }
+}
+
 /// Is it `void` alone?
 #[tactic(auto, unfolding(k_parse_steps::specs::Parameters::is_void_alone))]
 fn is_void_alone(param: &Param) -> bool
     ensures { result ≡ spec.is_void_alone param.now }
 {
-    matches!(param.specs.as_slice(), [Word::Void])
+    is_void_list(param.specs.as_slice())
         && param.stars.len() == 0
         && param.name.is_none()
         && param.dims.len() == 0
@@ -129,7 +140,7 @@ fn end(mut list: Seq<Param>, param: Param, mark: Mark) -> Result<Parametric, NoM
 fn named(alloc: Global, list: Seq<Param>, param: Param, mark: Mark) -> Result<Parametric, NoMemory>
     ensures { IfOk result (λ fed. fed ≡ spec.named list param mark) }
 {
-    if is_bracket(mark) {
+    if is_mark(mark, Mark::LeftBracket) {
         let reading = match begin_boxed(alloc, 2, 1) {
             Ok(reading) => reading,
             Err(NoMemory) => {
@@ -261,7 +272,7 @@ fn mark_typed(
 ) -> Result<Parametric, NoMemory>
     ensures { IfOk result (λ fed. fed ≡ spec.mark_typed list param stars mark) }
 {
-    if is_star(mark) {
+    if is_mark(mark, Mark::Star) {
         match star(stars) {
             Ok(stars) => Ok(follows(list, ParameterStage::Typed { param, stars }, 0)),
             Err(NoMemory) => {
@@ -322,8 +333,8 @@ pub fn feed_parameters(
 ) -> Result<Parametric, NoMemory>
     ensures { IfOk result (λ fed. fed ≡ spec.feed_parameters parameters token.now) }
 {
-    let Parameters { list, part } = parameters;
-    match part {
+    let Parameters { list, stage } = parameters;
+    match stage {
         ParameterStage::Starts => first(alloc, list, token),
         ParameterStage::Typed { param, stars } => typed(alloc, list, param, stars, token),
         ParameterStage::Named { param } => behind_name(alloc, list, param, token),

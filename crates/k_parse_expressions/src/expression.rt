@@ -9,21 +9,21 @@ ghost use Rattle.std.specs.Prelude.{◌≡◌, IfOk};
 ghost use Rattle.k_parse_steps.specs.Expressions as spec;
 ghost use Rattle.k_parse_steps.specs.declared.turn.Turn.TheVariants as turns;
 
-use crate::reading::is_left_paren;
 use k_num::{Box, NoMemory, Place, Seq, Stack, Text};
 use k_parse_steps::expression::{ExpressionStage, Fed, Open, Reading, Site, Term};
 use k_parse_steps::level::plus;
 use k_parse_steps::operators::right_rank;
 use k_parse_steps::reading::Read;
+use k_parse_steps::tokens::token_is_mark;
 use k_parse_steps::turn::Turn;
 use k_tree::{Expr, Mark, Token};
 use std::alloc::Global;
 
 /// The expression goes on.
-fn goes(site: Site, opens: Stack<Open>, state: ExpressionStage, reach: usize) -> Fed
-    ensures { result ≡ spec.goes site opens state reach }
+fn goes(site: Site, opens: Stack<Open>, stage: ExpressionStage, reach: usize) -> Fed
+    ensures { result ≡ spec.goes site opens stage reach }
 {
-    let reading = Reading { site, opens, state };
+    let reading = Reading { site, opens, stage };
     Turn::Goes(reading, reach)
 }
 
@@ -76,8 +76,8 @@ fn prefix_rank(op: Mark) -> u8
 fn feed(alloc: Global, reading: Reading, token: &Token) -> Result<Fed, NoMemory>
     ensures { IfOk result (λ fed. fed ≡ spec.feed reading token.now) }
 {
-    let Reading { site, opens, state } = reading;
-    match state {
+    let Reading { site, opens, stage } = reading;
+    match stage {
         ExpressionStage::Operand => operand::operand(alloc, site, opens, token),
         ExpressionStage::Named { place, name } => named(alloc, site, opens, place, name, token),
         ExpressionStage::Type { specs, stars } => {
@@ -99,7 +99,7 @@ fn named(
 ) -> Result<Fed, NoMemory>
     ensures { IfOk result (λ fed. fed ≡ spec.named site opens place name token.now) }
 {
-    if is_left_paren(token) {
+    if token_is_mark(token, Mark::LeftParen) {
         opens.push(Open::Call {
             place,
             name,
@@ -123,7 +123,7 @@ fn begin(alloc: Global, rank: u8, level: usize) -> Reading
     Reading {
         site: Site { rank, level },
         opens: Stack::new(alloc),
-        state: ExpressionStage::Operand,
+        stage: ExpressionStage::Operand,
     }
 }
 

@@ -1,63 +1,34 @@
 //! An expression up to the mark that closes it.
 ghost use Rattle.std.specs.Prelude.{◌≡◌, ◌&&◌, IfOk};
 ghost use Rattle.k_parse_steps.specs.Readings as spec;
-ghost use Rattle.k_parse_steps.specs.Expressions.{is_left_paren};
-ghost use Rattle.k_parse_steps.specs.declared.reading.Closer.TheVariants as closers;
 
 use crate::expression::feed_boxed;
 use k_num::{Box, NoMemory};
 use k_parse_steps::expression::{ExpressionStage, Reading};
-use k_parse_steps::operators::{is_close, is_open, is_semicolon};
 use k_parse_steps::reading::{Closer, Maybe, Read};
+use k_parse_steps::tokens::token_is_mark;
 use k_parse_steps::turn::Turn;
-use k_tree::{Expr, Mark, Token, TokenKind};
+use k_tree::{Expr, Mark, Token};
 use std::alloc::Global;
 
-/// Is a token this mark?
+/// The mark that closes an expression.
+fn closing(closer: Closer) -> Mark
+    ensures { result ≡ spec.closing closer }
+{
+    match closer {
+        Closer::Bracket => Mark::RightBracket,
+        Closer::Paren => Mark::RightParen,
+        Closer::Semicolon => Mark::Semicolon,
+        Closer::Colon => Mark::Colon,
+    }
+}
+
+/// Is a token the mark that closes an expression?
 #[tactic(auto, unfolding(k_parse_steps::specs::Readings::closes))]
 pub fn closes(token: &Token, closer: Closer) -> bool
     ensures { result ≡ spec.closes token.now closer }
 {
-    match &token.what {
-        TokenKind::Mark(mark) => mark_closes(*mark, closer),
-        _ => false,
-    }
-}
-
-/// Is it this mark?
-#[tactic(auto, unfolding(k_parse_steps::specs::Operators::is_close, k_parse_steps::specs::Operators::is_semicolon))]
-fn mark_closes(mark: Mark, closer: Closer) -> bool
-    ensures { result ≡ spec.mark_closes closer mark }
-{
-    match closer {
-        Closer::Bracket => is_right_bracket(mark),
-        Closer::Paren => is_close(mark),
-        Closer::Semicolon => is_semicolon(mark),
-        Closer::Colon => is_colon(mark),
-    }
-}
-
-fn is_colon(mark: Mark) -> bool
-    ensures { result ≡ spec.mark_closes closers.Colon mark }
-{
-    matches!(mark, Mark::Colon)
-}
-
-fn is_right_bracket(mark: Mark) -> bool
-    ensures { result ≡ spec.mark_closes closers.Bracket mark }
-{
-    matches!(mark, Mark::RightBracket)
-}
-
-/// Is a token `(`?
-#[tactic(auto, unfolding(k_parse_steps::specs::Operators::is_open))]
-pub fn is_left_paren(token: &Token) -> bool
-    ensures { result ≡ is_left_paren token.now.what }
-{
-    match &token.what {
-        TokenKind::Mark(mark) => is_open(*mark),
-        _ => false,
-    }
+    token_is_mark(token, closing(closer))
 }
 
 /// Has nothing of the expression been read yet?
@@ -65,7 +36,7 @@ pub fn is_left_paren(token: &Token) -> bool
 pub fn is_fresh(reading: &Reading) -> bool
     ensures { result ≡ spec.is_fresh reading.now }
 {
-    match &reading.state {
+    match &reading.stage {
         ExpressionStage::Operand => reading.opens.len() == 0,
         _ => false,
     }

@@ -2,7 +2,7 @@
 ghost use Rattle.std.specs.Prelude.{◌≡◌, IfOk};
 ghost use Rattle.k_parse_steps.specs.Parameters.{begin_parameters};
 ghost use Rattle.k_parse_steps.specs.Sources as spec;
-ghost use Rattle.k_parse_steps.specs.declared.source.SourceStage.TheVariants as phases;
+ghost use Rattle.k_parse_steps.specs.declared.source.SourceStage.TheVariants as stages;
 ghost use Rattle.k_parse_steps.specs.declared.turn.Turn.TheVariants as turns;
 ghost use Rattle.k_parse_steps.specs.Declarations.{feed_declaration};
 
@@ -10,20 +10,20 @@ use crate::statement::{begin_body, feed_body};
 use k_num::{Box, NoMemory, Place, Seq};
 use k_parse_declarations::declaration::{Boxed, begin_declaration, feed_declaration};
 use k_parse_declarations::parameter::{begin_parameters, feed_parameters};
-use k_parse_expressions::reading::is_left_paren;
 use k_parse_steps::declaration::{Declaration, DeclarationStage, Front};
 use k_parse_steps::operators::is_spec;
 use k_parse_steps::parameter::{Parameters, Parametric};
 use k_parse_steps::source::{Source, SourceStage, Sourced, Title};
 use k_parse_steps::statement::{Body, Stepped};
+use k_parse_steps::tokens::token_is_mark;
 use k_parse_steps::turn::Turn;
 use k_tree::{Declarator, Head, Item, Mark, Params, Token, TokenKind, Unit, Word};
 use std::alloc::Global;
 
-fn goes_on(items: Seq<Item>, phase: SourceStage, reach: usize) -> Sourced
-    ensures { result ≡ spec.goes_on items phase reach }
+fn goes_on(items: Seq<Item>, stage: SourceStage, reach: usize) -> Sourced
+    ensures { result ≡ spec.goes_on items stage reach }
 {
-    let source = Source { items, phase };
+    let source = Source { items, stage };
     Turn::Goes(source, reach)
 }
 
@@ -33,7 +33,7 @@ pub fn begin_source(alloc: Global) -> Source
 {
     Source {
         items: Seq::new(alloc),
-        phase: SourceStage::Starts,
+        stage: SourceStage::Starts,
     }
 }
 
@@ -99,6 +99,32 @@ fn title_of(front: Front, declarator: Box<Declarator>) -> Title
     }
 }
 
+/// The parameters of a function go on.
+fn in_parameters(
+    alloc: Global,
+    items: Seq<Item>,
+    place: Place,
+    title: Title,
+    parameters: Parameters,
+    reach: usize,
+) -> Result<Sourced, NoMemory>
+    ensures { IfOk result (λ fed. fed ≡ spec.goes_on items (stages.Parameters place title parameters) reach) }
+{
+    let parameters = match Box::new(alloc, parameters) {
+        Ok(parameters) => parameters,
+        Err(NoMemory) => {
+            drop(title);
+            return Err(NoMemory);
+        }
+    };
+    let stage = SourceStage::Parameters {
+        place,
+        title,
+        parameters,
+    };
+    Ok(goes_on(items, stage, reach))
+}
+
 /// The parameters of a function begin.
 fn parameters_begin(
     alloc: Global,
@@ -107,22 +133,10 @@ fn parameters_begin(
     front: Front,
     declarator: Box<Declarator>,
 ) -> Result<Sourced, NoMemory>
-    ensures { IfOk result (λ fed. fed ≡ spec.goes_on items (phases.Parameters place (spec.title_of front declarator) begin_parameters) 0) }
+    ensures { IfOk result (λ fed. fed ≡ spec.goes_on items (stages.Parameters place (spec.title_of front declarator) begin_parameters) 0) }
 {
     let title = title_of(front, declarator);
-    let parameters = match Box::new(alloc, begin_parameters(alloc)) {
-        Ok(parameters) => parameters,
-        Err(NoMemory) => {
-            drop(title);
-            return Err(NoMemory);
-        }
-    };
-    let phase = SourceStage::Parameters {
-        place,
-        title,
-        parameters,
-    };
-    Ok(goes_on(items, phase, 0))
+    in_parameters(alloc, items, place, title, begin_parameters(alloc), 0)
 }
 
 /// `(` at a stage where no function's parameters can begin.
@@ -195,7 +209,7 @@ fn declares(
 ) -> Result<Sourced, NoMemory>
     ensures { IfOk result (λ fed. fed ≡ spec.declares items place declaration token.now) }
 {
-    if is_left_paren(token) && is_titled(declaration.get()) {
+    if token_is_mark(token, Mark::LeftParen) && is_titled(declaration.get()) {
         titled(alloc, items, place, declaration)
     } else {
         declared(alloc, items, place, declaration, token)
@@ -241,19 +255,7 @@ fn parameters(
     };
     match fed {
         Turn::Goes(parameters, reach) => {
-            let parameters = match Box::new(alloc, parameters) {
-                Ok(parameters) => parameters,
-                Err(NoMemory) => {
-                    drop(title);
-                    return Err(NoMemory);
-                }
-            };
-            let phase = SourceStage::Parameters {
-                place,
-                title,
-                parameters,
-            };
-            Ok(goes_on(items, phase, reach))
+            in_parameters(alloc, items, place, title, parameters, reach)
         }
         Turn::Done(params) => {
             let head = Box::new(alloc, head_of(title, params))?;
@@ -344,8 +346,8 @@ fn in_body(
 pub fn feed_source(alloc: Global, source: Source, token: &Token) -> Result<Sourced, NoMemory>
     ensures { IfOk result (λ fed. fed ≡ spec.feed_source source token.now) }
 {
-    let Source { items, phase } = source;
-    match phase {
+    let Source { items, stage } = source;
+    match stage {
         SourceStage::Starts => starts(alloc, items, token),
         SourceStage::Declares { place, declaration } => {
             declares(alloc, items, place, declaration, token)

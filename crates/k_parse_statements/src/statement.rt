@@ -20,13 +20,13 @@ use k_tree::{Stmt, Token};
 use std::alloc::Global;
 
 /// The block goes on.
-pub fn steps(parts: Seq<Stmt>, frames: Stack<Frame>, step: BlockStage, reach: usize) -> Stepped
-    ensures { result ≡ spec.steps parts frames step reach }
+pub fn steps(parts: Seq<Stmt>, frames: Stack<Frame>, stage: BlockStage, reach: usize) -> Stepped
+    ensures { result ≡ spec.steps parts frames stage reach }
 {
     let body = Body {
         parts,
         frames,
-        step,
+        stage,
     };
     Turn::Goes(body, reach)
 }
@@ -78,7 +78,7 @@ pub fn begin_body(alloc: Global) -> Body
     Body {
         parts: Seq::new(alloc),
         frames: Stack::new(alloc),
-        step: BlockStage::Begins,
+        stage: BlockStage::Begins,
     }
 }
 
@@ -104,8 +104,8 @@ fn value(
 }
 
 /// A token in the value of a `return`.
-#[tactic(auto, unfolding(k_parse_steps::specs::Statements::returned))]
-fn returned(
+#[tactic(auto, unfolding(k_parse_steps::specs::Statements::in_return))]
+fn in_return(
     alloc: Global,
     parts: Seq<Stmt>,
     frames: Stack<Frame>,
@@ -113,7 +113,7 @@ fn returned(
     reading: Box<Reading>,
     token: &Token,
 ) -> Result<Stepped, NoMemory>
-    ensures { IfOk result (λ fed. fed ≡ spec.returned parts frames place reading token.now) }
+    ensures { IfOk result (λ fed. fed ≡ spec.in_return parts frames place reading token.now) }
 {
     match read_maybe(alloc, reading, token, Closer::Semicolon)? {
         Turn::Goes(reading, reach) => {
@@ -172,9 +172,9 @@ pub fn feed_body(alloc: Global, body: Body, token: &Token) -> Result<Stepped, No
     let Body {
         parts,
         frames,
-        step,
+        stage,
     } = body;
-    match step {
+    match stage {
         BlockStage::Begins => begin::begins(alloc, parts, frames, token),
         BlockStage::Whole { stmt } => clause::behind(alloc, parts, frames, stmt, token),
         BlockStage::Value { place, reading } => value(alloc, parts, frames, place, reading, token),
@@ -183,12 +183,12 @@ pub fn feed_body(alloc: Global, body: Body, token: &Token) -> Result<Stepped, No
             alloc, parts, frames, tested, reading, token,
         ),
         BlockStage::Semicolon { stmt } => Ok(semicolon(parts, frames, stmt, token)),
-        BlockStage::Return { place, reading } => returned(
+        BlockStage::Return { place, reading } => in_return(
             alloc, parts, frames, place, reading, token,
         ),
         BlockStage::Local { place, declaration } => {
             local(alloc, parts, frames, place, declaration, token)
         }
-        step => loops::in_for(alloc, parts, frames, step, token),
+        stage => loops::in_for(alloc, parts, frames, stage, token),
     }
 }

@@ -13,9 +13,9 @@ use Rattle.k_tree.specs.Nesting.{expr_depth, option_depth, first_depth, declarat
 use Rattle.k_tree.specs.Ranked.{RankedStmt, RankedParts, RankedDeclaration, value, empty, block, if_alone, if_else, while_loop, do_loop, for_loop, switch_stmt, RankedSwitch, no_labels, case_label, default_label, does, break_loop, continue_loop, return_value, no_parts, statement, declaration, is_spec}
 use Rattle.k_tree.specs.Spelling.{Spelled, spell_specs, spell_declarator, spell_declaration, with_commas, in_braces, spell_stmt, spell_stmts, spell_part_step, spell_stmt_step, the_mark}
 use Rattle.k_tree.proofs.Begin.{stmt_begins, not_empty}
-use Rattle.k_parse_steps.specs.Operators.{is_semicolon, is_right_brace, is_left_brace, is_spec_word}
+use Rattle.k_parse_steps.specs.Operators.{is_spec_word}
 use Rattle.k_parse_steps.specs.Declarations.{begin_declaration}
-use Rattle.k_parse_steps.specs.Statements.{mark_begins, jump, Parts, Frames, feed_body, begins, keyword, declares, is_in_block, block_ends, local, local_by, steps, behind, close, part, more, is_else, level, inner}
+use Rattle.k_parse_steps.specs.Statements.{mark_begins, jump, Parts, Frames, feed_body, begins, keyword, declares, is_in_block, block_ends, local, local_by, steps, behind, close, part, more, level, inner}
 use Rattle.k_parse_steps.specs.declared.statement.Frame.TheVariants as frame
 use Rattle.k_parse_steps.specs.declared.statement.BlockStage.TheVariants as step
 use Rattle.k_parse_steps.specs.declared.turn.Turn.TheVariants as turn
@@ -28,6 +28,7 @@ use Rattle.k_parse_steps.proofs.CompleteTests.{while_reads, do_reads, if_alone_r
 use Rattle.k_parse_steps.proofs.CompleteLoops.{for_reads}
 use Rattle.k_parse_steps.proofs.CompleteSwitches.{EachSwitched, case_reads, default_reads, does_reads, switch_reads}
 use Rattle.k_parse_steps.proofs.Rows.{one_more}
+use Rattle.k_parse_steps.specs.Tokens.{is_mark, is_word, token_is_word}
 
 -- a part of a block is read where a block awaits one, as itself up to places
 abbrev pub PartReads : Stmt → Type 0
@@ -48,7 +49,7 @@ declares_goes ps s w p h i =
     ∙ ap (λ b. cond b (steps ps s (step.Local p (begin_declaration w (inner s))) (level s)) turn.Refused) i
 
 specifier_goes : (ps : Parts) (s : Frames) (w : Word) (p : Place) → IsTrue (is_spec w) → feed_body (begins_at ps s) (token_at p (token.Word w)) ≡ declares ps s w p
-unfolding feed_body begins keyword mark_begins is_semicolon is_left_brace is_right_brace jump is_spec_word
+unfolding feed_body begins keyword mark_begins is_mark jump is_spec_word is_word
 specifier_goes ps s word.Sizeof p h = absurd cc
 specifier_goes ps s w p h = ap (λ b. cond b (declares ps s w p) (jump ps s w p)) h
 
@@ -121,7 +122,7 @@ pub record Blocks (pf : List Stmt → Parts) (ff : List Stmt → Frames) (n : �
 -- the parts are read: a token that is no `else` finds them there
 pub record PartsHold (pf : List Stmt → Parts) (ff : List Stmt → Frames) (parts : List Stmt) (z : Body) : Type 0 where
   pub made : List Stmt
-  pub next : (t : Token) → is_else t.what ≡ false → feed_body z t ≡ feed_body (begins_at (pf made) (ff made)) t
+  pub next : (t : Token) → token_is_word t.what word.Else ≡ false → feed_body z t ≡ feed_body (begins_at (pf made) (ff made)) t
   pub same : map bare_stmt made ≡ map bare_stmt parts
 
 pub parts_lead : (bound : ℕ) (pf : List Stmt → Parts) (ff : List Stmt → Frames) (n : ℕ) → Blocks pf ff n → (more : List Stmt) → EachPart more
@@ -144,12 +145,12 @@ parts_lead bound pf ff n blocks (x ∷ more) r low seen z h =
 -- a block
 
 block_goes : (ps : Parts) (s : Frames) (p : Place) → Runs (begins_at ps s) (token_at p (token.Mark mark.LeftBrace)) (begins_at ps (frame.Block p [] ∷ s)) (level s)
-unfolding feed_body begins mark_begins is_semicolon is_left_brace is_right_brace
+unfolding feed_body begins mark_begins is_mark
 block_goes ps s p = refl
 
 block_closes : (ps : Parts) (s : Frames) (p : Place) (parts : List Stmt) (at : Place)
     → Runs (begins_at ps (frame.Block p parts ∷ s)) (token_at at (token.Mark mark.RightBrace)) (body_at ps s (step.Whole (stmt.Block p parts))) 0
-unfolding feed_body begins block_ends mark_begins is_semicolon is_left_brace is_right_brace
+unfolding feed_body begins block_ends mark_begins is_mark
 block_closes ps s p parts at = refl
 
 block_next : (ps : Parts) (s : Frames) (p : Place) (done : List Stmt) (x : Stmt) (t : Token)

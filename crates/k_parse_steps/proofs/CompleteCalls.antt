@@ -8,7 +8,7 @@ use Rattle.k_tree.specs.Bare.{bare_expr, bare_expr_step, nowhere}
 use Rattle.k_tree.proofs.Folds.{expr_Call}
 use Rattle.k_tree.specs.Nesting.{expr_depth, expr_depth_step, deepest}
 use Rattle.k_tree.specs.Spelling.{Spelled, spell_expr, spell_expr_step, the_mark, behind_commas, with_commas}
-use Rattle.k_parse_steps.specs.Operators.{is_prefix_mark, is_open, is_close}
+use Rattle.k_parse_steps.specs.Operators.{is_prefix_mark}
 use Rattle.k_parse_steps.specs.Level.{plus}
 use Rattle.k_parse_steps.specs.Expressions.{then_ends, paren_ends, index_ends, feed, operand, named, hole, plug, Opens, goes, level, term, mark_operand, no_arguments, enclose, argued}
 use Rattle.k_parse_steps.specs.declared.expression.Open.TheVariants as open_
@@ -20,6 +20,7 @@ use Rattle.k_parse_steps.proofs.CompleteOperators.{reads_by, holds_value}
 use Rattle.k_parse_steps.proofs.CompleteEnclosed.{encloses}
 use Rattle.k_parse_steps.proofs.Rows.{one_more}
 use Rattle.k_parse_steps.proofs.CompleteReadings.{comma_below, paren_below}
+use Rattle.k_parse_steps.specs.Tokens.{is_mark}
 
 -- the arguments are read one by one
 abbrev pub EachReads : List Expr → Type 0
@@ -53,12 +54,12 @@ call_closes g s p x args height v = refl
 
 call_opens : (g : Site) (s : Opens) (p : Place) (x : List ℕ) (at : Place)
     → feed (reading g s (now.Named p x)) (token_at at (token.Mark mark.LeftParen)) ≡ goes g (open_.Call p x [] 0 ∷ s) now.Operand 0
-unfolding feed named
+unfolding feed named is_mark
 call_opens g s p x at = refl
 
 call_empty : (g : Site) (s : Opens) (p : Place) (x : List ℕ) (at : Place)
     → feed (awaits g (open_.Call p x [] 0 ∷ s)) (token_at at (token.Mark mark.RightParen)) ≡ goes g s (now.Value (term (expr.Call p x []) 15 1)) 0
-unfolding feed operand mark_operand no_arguments is_open is_close is_prefix_mark
+unfolding feed operand mark_operand no_arguments is_mark is_prefix_mark
 call_empty g s p x at = refl
 
 argument_guards : Guards 1 1

@@ -9,7 +9,7 @@ use Rattle.k_tree.specs.Bare.{bare_dims, bare_init, bare_declarator, where_given
 use Rattle.k_tree.specs.Nesting.{init_depth, initialised_depth, declarator_depth, declarators_depth}
 use Rattle.k_tree.specs.Ranked.{Specs, IfGiven, RankedInit, RankedDeclarator, RankedDeclaration, is_spec}
 use Rattle.k_tree.specs.Spelling.{spell_init, spell_initialised, spell_dims, spell_stars, spell_specs, spell_declarator, the_name, behind_commas, with_commas}
-use Rattle.k_parse_steps.specs.Operators.{is_equal, is_bracket, is_spec_word}
+use Rattle.k_parse_steps.specs.Operators.{is_spec_word}
 use Rattle.k_parse_steps.specs.Level.{plus}
 use Rattle.k_parse_steps.specs.Stars.{no_stars, all_stars, star, constant, type_word}
 use Rattle.k_parse_steps.specs.Expressions.{begin}
@@ -26,6 +26,7 @@ use Rattle.k_parse_steps.proofs.CompleteReadings.{maybe_goes, maybe_ends, bracke
 use Rattle.k_parse_steps.proofs.CompleteRows.{words_lead, Starred, stars_lead, Sized, Sizes, dims_lead}
 use Rattle.k_parse_steps.proofs.CompleteInitialisers.{Declares, InitHolds, init_awaits, init_complete, init_positive}
 use Rattle.k_parse_steps.proofs.Rows.{one_more}
+use Rattle.k_parse_steps.specs.Tokens.{is_mark, is_word}
 
 -- before the name of a declarator
 abbrev pub before_name : Front → Stars → Declaration
@@ -40,7 +41,7 @@ unfolding feed_declaration before mark_before
 star_goes f v p = refl
 
 const_goes : (f : Front) (v : Stars) (p : Place) → Declares (before_name f (star v)) (token_at p (token.Word word_.Const)) (before_name f (constant (star v))) 0
-unfolding feed_declaration before word type_word mark_before
+unfolding feed_declaration before word type_word mark_before is_word
 const_goes f v p = refl
 
 name_goes : (f : Front) (v : Stars) (x : List ℕ) (p : Place)
@@ -76,7 +77,7 @@ title_lead bound f stars x positive =
 size_opens : (f : Front) (p : Place) (stars : List Bool) (x : List ℕ) (ds : List (Option Expr)) (at : Place)
     → Declares (declaration_at f (stage.Named (named_at f p stars x ds))) (token_at at (token.Mark mark.LeftBracket))
     (declaration_at f (stage.Size (named_at f p stars x ds) (begin 2 f.level))) 0
-unfolding feed_declaration named is_bracket is_equal
+unfolding feed_declaration named is_mark
 size_opens f p stars x ds at = refl
 
 size_moves : (f : Front) (d : Declarator) (r : Reading) (t : Token) (next : Reading) (reach : ℕ) → Feeds r t next reach
@@ -87,7 +88,7 @@ size_moves f d r t next reach h = ap (size_by f d) (maybe_goes r t closer.Bracke
 size_closes : (f : Front) (p : Place) (stars : List Bool) (x : List ℕ) (ds : List (Option Expr)) (at : Place)
     → Declares (declaration_at f (stage.Size (named_at f p stars x ds) (begin 2 f.level))) (token_at at (token.Mark mark.RightBracket))
     (declaration_at f (stage.Named (named_at f p stars x (ds ++ None ∷ [])))) 0
-unfolding feed_declaration size read_maybe is_fresh closes
+unfolding feed_declaration size read_maybe is_fresh closes is_mark
 size_closes f p stars x ds at = refl
 
 size_ends : (f : Front) (p : Place) (stars : List Bool) (x : List ℕ) (ds : List (Option Expr)) (e : Expr) (r : Reading) (h : Whole 2 e r) (at : Place)
@@ -116,17 +117,17 @@ pub record DeclaratorHolds (f : Front) (d : Declarator) (z : Declaration) : Type
 
 no_init_comma : (f : Front) (d : Declarator) (p : Place)
     → feed_declaration (declaration_at f (stage.Named d)) (token_at p (token.Mark mark.Comma)) ≡ end f d mark.Comma
-unfolding feed_declaration named is_bracket is_equal
+unfolding feed_declaration named is_mark
 no_init_comma f d p = refl
 
 no_init_semicolon : (f : Front) (d : Declarator) (p : Place)
     → feed_declaration (declaration_at f (stage.Named d)) (token_at p (token.Mark mark.Semicolon)) ≡ end f d mark.Semicolon
-unfolding feed_declaration named is_bracket is_equal
+unfolding feed_declaration named is_mark
 no_init_semicolon f d p = refl
 
 init_opens : (f : Front) (d : Declarator) (p : Place)
     → Declares (declaration_at f (stage.Named d)) (token_at p (token.Mark mark.Equal)) (init_awaits f d []) (plus f.level 1)
-unfolding feed_declaration named is_bracket is_equal
+unfolding feed_declaration named is_mark
 init_opens f d p = refl
 
 init_comma : (f : Front) (d : Declarator) (i : Init) (p : Place)

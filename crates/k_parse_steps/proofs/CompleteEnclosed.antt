@@ -9,7 +9,7 @@ use Rattle.k_tree.proofs.Folds.{expr_Cond, expr_Index, expr_Paren, expr_Post}
 use Rattle.k_tree.specs.Nesting.{expr_depth, expr_depth_step}
 use Rattle.k_tree.specs.Ranked.{is_step}
 use Rattle.k_tree.specs.Spelling.{Spelled, spell_expr, spell_expr_step, the_mark}
-use Rattle.k_parse_steps.specs.Operators.{is_question, is_bracket, binding, is_step_mark}
+use Rattle.k_parse_steps.specs.Operators.{binding, is_step_mark}
 use Rattle.k_parse_steps.specs.Level.{plus, above}
 use Rattle.k_num.specs.Top.{top}
 use Rattle.k_parse_steps.specs.Expressions.{then_ends, paren_ends, index_ends, feed, hole, plug, Opens, goes, level, enclose, enclosed, indexed, posted, conditional, take_operator, is_sizeof_open, operator_opens}
@@ -21,6 +21,7 @@ use Rattle.k_parse_steps.proofs.CompleteHolds.{Feeds, reading, awaits, Below, Ho
 use Rattle.k_parse_steps.proofs.CompleteSteps.{reach_low, above-both, above-one, bind, paren_opens, step_binding, step_is_no_paren}
 use Rattle.k_parse_steps.proofs.CompleteOperators.{reads_by, holds_value, holds_over}
 use Rattle.k_parse_steps.proofs.CompleteReadings.{paren_below, bracket_below, colon_below}
+use Rattle.k_parse_steps.specs.Tokens.{is_mark}
 
 -- the construct around a value meets a mark that no operand goes on with
 pub encloses : (least : ℕ) (g : Site) (o : Open) (s : Opens) (k : ℕ) (e : Expr) (r : Reading) (h : Holds least g (o ∷ s) k e r) (m : Mark) (p : Place)
@@ -80,7 +81,7 @@ postfix_guards = ((λ h. omega arith), (λ h. omega arith), (λ h. omega arith),
 
 bracket_opens : (g : Site) (s : Opens) (a : Term) (p : Place)
     → take_operator g s a mark.LeftBracket p ≡ goes g (open_.Index p a ∷ s) now.Operand (plus (level g s) a.height)
-unfolding take_operator is_step_mark is_bracket is_question
+unfolding take_operator is_step_mark is_mark
 bracket_opens g s a p = refl
 
 bracket_binding : binding mark.LeftBracket ≡ Some (bind 15 15 0)
@@ -101,6 +102,7 @@ unfolding enclose then_ends paren_ends index_ends
 index_closes g s p a v = refl
 
 pub reads_index : (k : ℕ) (p : Place) (a b : Expr) → k ≤ 15 → Reads 15 a → Reads 0 b → Reads k (expr.Index p a b)
+unfolding is_mark
 reads_index k p a b le f n =
     reads_by k (expr.Index p a b) _ (1 + max (expr_depth a) (expr_depth b)) (expr_Index Spelled spell_expr_step p a b) (expr_Index ℕ expr_depth_step p a b)
     (λ least g s low q.
@@ -135,7 +137,7 @@ reads_index k p a b le f n =
 -- `++` and `--` behind an operand
 post_goes : (g : Site) (s : Opens) (a : Term) (op : Mark) (p : Place) → IsTrue (is_step op)
     → take_operator g s a op p ≡ goes g s (now.Value (posted p op a)) (plus (level g s) a.height)
-unfolding take_operator is_step_mark is_bracket is_question
+unfolding take_operator is_step_mark is_mark
 post_goes g s a op p h =
     ap (λ v. cond v (goes g s (now.Value (posted p op a)) (plus (level g s) a.height)) (goes g (operator_opens op a p ∷ s) now.Operand (plus (level g s) a.height))) h
 
@@ -165,7 +167,7 @@ question_binding = refl
 
 question_opens : (g : Site) (s : Opens) (a : Term) (p : Place)
     → take_operator g s a mark.Question p ≡ goes g (open_.Then p a ∷ s) now.Operand (plus (level g s) a.height)
-unfolding take_operator is_step_mark is_bracket is_question
+unfolding take_operator is_step_mark is_mark
 question_opens g s a p = refl
 
 then_hole : (g : Site) (s : Opens) (p : Place) (a : Term) → hole g (open_.Then p a ∷ s) ≡ 0
@@ -193,6 +195,7 @@ conditional_high : (h i j d e f : ℕ) → h ≡ d → i ≡ e → j ≡ f → a
 conditional_high h i j d e f x y z = omega arith
 
 pub reads_conditional : (k : ℕ) (p : Place) (a b c : Expr) → k ≤ 2 → Reads 3 a → Reads 0 b → Reads 2 c → Reads k (expr.Cond p a b c)
+unfolding is_mark
 reads_conditional k p a b c le f n m =
     let d : ℕ = 1 + max (expr_depth a) (max (expr_depth b) (expr_depth c)) in
     reads_by k (expr.Cond p a b c) _ d (expr_Cond Spelled spell_expr_step p a b c) (expr_Cond ℕ expr_depth_step p a b c)

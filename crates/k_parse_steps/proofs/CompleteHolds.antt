@@ -1,5 +1,5 @@
 -- A value that is read, around which constructs may still be open: what the next token does there.
-use Rattle.std.proofs.Common.{ℕ, ◌≡◌, ◌+◌, ◌-◌, ◌<◌, ◌≤◌, true, false, cond, ◌&&◌, nat_le, [], ◌∷◌, length, Some, None, ap, ◌∙◌, arith, le-leb}
+use Rattle.std.proofs.Common.{ℕ, ◌≡◌, ◌+◌, ◌<◌, ◌≤◌, true, false, cond, ◌&&◌, nat_le, [], ◌∷◌, length, Some, None, ap, ◌∙◌, arith, le-leb}
 use Rattle.std.proofs.lemmas.Bool.{lt-leb}
 use Rattle.k_parse_steps.specs.Types.{Place, Token, TokenKind, Mark, Expr, Binding, Term, Open, ExpressionStage, Site, Reading}
 use Rattle.k_tree.specs.declared.tokens.TokenKind.TheVariants as token
@@ -7,14 +7,16 @@ use Rattle.k_tree.specs.Bare.{bare_expr}
 use Rattle.k_tree.specs.Nesting.{expr_depth}
 use Rattle.k_tree.specs.Spelling.{spell_expr}
 use Rattle.k_parse_steps.specs.Operators.{binding, takes, takes_by}
-use Rattle.k_parse_steps.specs.Expressions.{feed, value, hole, plug, Opens, takes_token, is_left_paren, take_operator, enclose_by, closed_by, take_token}
+use Rattle.k_parse_steps.specs.Expressions.{feed, value, hole, plug, Opens, takes_token, take_operator, enclose_by, closed_by, take_token}
 use Rattle.k_parse_steps.specs.declared.expression.ExpressionStage.TheVariants as now
 use Rattle.k_parse_steps.specs.declared.turn.Turn.TheVariants as turn
 use Rattle.k_parse_steps.specs.declared.expression.plug.Plugged.TheVariants as plugged
 use Rattle.k_parse_steps.proofs.CompleteLeads.{token_at, Moves, Leads}
+use Rattle.k_parse_steps.specs.Tokens.{token_is_mark}
+use Rattle.k_tree.specs.declared.tokens.mark.Mark.TheVariants as mark
 
 abbrev pub reading : Site → Opens → ExpressionStage → Reading
-reading g s n = record { site = g; opens = s; state = n }
+reading g s n = record { site = g; opens = s; stage = n }
 
 -- how the machine of expressions moves
 abbrev pub Feeds : Moves Reading
@@ -27,7 +29,7 @@ awaits g s = reading g s now.Operand
 -- a token that goes on with no operand in a place of this least rank or a higher one
 abbrev pub Below : ℕ → TokenKind → Type 0
 Below least kind =
-    (is_left_paren kind ≡ false) × ((place rank : ℕ) → least ≤ place → takes_token place rank kind ≡ false)
+    (token_is_mark kind mark.LeftParen ≡ false) × ((place rank : ℕ) → least ≤ place → takes_token place rank kind ≡ false)
 
 -- the tree is read over these open constructs: a token below `least` finds it there, of rank k or above
 pub record Holds (least : ℕ) (g : Site) (s : Opens) (k : ℕ) (e : Expr) (r : Reading) : Type 0 where
@@ -82,11 +84,11 @@ unfolding takes
 taken_by place rank op b e low high = ap (takes_by place rank) e ∙ (ap (λ v. v && nat_le b.left rank) (le-leb place b.own low) ∙ le-leb b.left rank high)
 
 -- and not in a place that is higher than what it makes
-pub below_by : (least : ℕ) (op : Mark) (b : Binding) → is_left_paren (token.Mark op) ≡ false → binding op ≡ Some b → b.own < least → Below least (token.Mark op)
+pub below_by : (least : ℕ) (op : Mark) (b : Binding) → token_is_mark (token.Mark op) mark.LeftParen ≡ false → binding op ≡ Some b → b.own < least → Below least (token.Mark op)
 unfolding takes
 below_by least op b passed e lt = (passed, λ place rank le. ap (takes_by place rank) e ∙ ap (λ v. v && nat_le b.left rank) (lt-leb place b.own (omega arith)))
 
 -- what is no operator goes on with nothing
-pub below_none : (least : ℕ) (op : Mark) → is_left_paren (token.Mark op) ≡ false → binding op ≡ None → Below least (token.Mark op)
+pub below_none : (least : ℕ) (op : Mark) → token_is_mark (token.Mark op) mark.LeftParen ≡ false → binding op ≡ None → Below least (token.Mark op)
 unfolding takes
 below_none least op passed e = (passed, λ place rank le. ap (takes_by place rank) e)

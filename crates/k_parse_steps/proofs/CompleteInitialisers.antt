@@ -12,7 +12,7 @@ use Rattle.k_tree.specs.Nesting.{expr_depth, init_depth, init_depth_step, deepes
 use Rattle.k_tree.specs.Ranked.{Ranked, RankedInit, RankedInits, one, braces, no_inits, more_inits}
 use Rattle.k_tree.specs.Spelling.{Spelled, spell_expr, spell_init, spell_init_step, the_mark, behind_commas, spell_last_comma}
 use Rattle.k_tree.proofs.Begin.{expr_begins}
-use Rattle.k_parse_steps.specs.Operators.{is_right_brace, is_left_brace, binding}
+use Rattle.k_parse_steps.specs.Operators.{binding}
 use Rattle.k_parse_steps.specs.Level.{plus}
 use Rattle.k_parse_steps.specs.Expressions.{feed, begin}
 use Rattle.k_parse_steps.specs.Initialisers as inits
@@ -25,6 +25,7 @@ use Rattle.k_parse_steps.proofs.CompleteDepths.{depth_positive}
 use Rattle.k_parse_steps.proofs.CompleteExpressions.{Whole, whole}
 use Rattle.k_parse_steps.proofs.Rows.{one_more}
 use Rattle.k_parse_steps.proofs.CompleteReadings.{comma_below}
+use Rattle.k_parse_steps.specs.Tokens.{is_mark}
 
 -- how the machine of declarations moves
 abbrev pub Declares : Moves Declaration
@@ -50,7 +51,7 @@ InitReads i = (f : Front) (d : Declarator) (s : List Brace) → Leads Declares (
 starts_first : (f : Front) (o : Opened) (t : Token) (kind : TokenKind) (next : Reading) (reach : ℕ)
     → first_token f o t ≡ turn.Goes (declaration_at f (stage.Value o.declarator o.braces t.place next)) reach
     → begins_expr kind ≡ true → kind_starts f o t kind ≡ turn.Goes (declaration_at f (stage.Value o.declarator o.braces t.place next)) reach
-unfolding mark_starts is_left_brace is_right_brace
+unfolding mark_starts is_mark
 starts_first f o t (token.Mark mark.LeftBrace) next reach h b = absurd cc
 starts_first f o t (token.Mark mark.RightBrace) next reach h b = absurd cc
 starts_first f o t kind next reach h b = h
@@ -58,7 +59,7 @@ starts_first f o t kind next reach h b = h
 value_begins : (f : Front) (d : Declarator) (s : List Brace) (t : Token) (next : Reading) (reach : ℕ) → begins_expr t.what ≡ true
     → Feeds (begin 1 (plus (inner_level f (inits.opened d s)) 1)) t next reach
     → Declares (init_awaits f d s) t (declaration_at f (stage.Value d s t.place next)) reach
-unfolding feed_declaration starts first_token mark_starts is_left_brace is_right_brace
+unfolding feed_declaration starts first_token mark_starts is_mark
 value_begins f d s t next reach b h = starts_first f (inits.opened d s) t t.what next reach (ap (first_by f (inits.opened d s) t.place) h) b
 
 value_moves : (f : Front) (d : Declarator) (s : List Brace) (p : Place) (r : Reading) (t : Token) (next : Reading) (reach : ℕ)
@@ -107,7 +108,7 @@ one_reads p a x = λ f d s.
 -- a list in braces
 
 brace_below : Below 1 (token.Mark mark.RightBrace)
-unfolding binding
+unfolding binding is_mark
 brace_below = below_none 1 mark.RightBrace refl refl
 
 brace_at : Place → List Init → Brace
@@ -115,7 +116,7 @@ brace_at p items = record { place = p; items = items }
 
 brace_opens : (f : Front) (d : Declarator) (s : List Brace) (p : Place)
     → Declares (init_awaits f d s) (token_at p (token.Mark mark.LeftBrace)) (init_awaits f d (record { place = p; items = [] } ∷ s)) (plus (inner_level f (inits.opened d s)) 2)
-unfolding feed_declaration starts brace mark_starts is_left_brace is_right_brace
+unfolding feed_declaration starts brace mark_starts is_mark
 brace_opens f d s p = refl
 
 comma_goes : (f : Front) (d : Declarator) (b : Brace) (s : List Brace) (i : Init) (p : Place)
@@ -151,7 +152,7 @@ last_in d b s h = ap (λ v. cond v None (Some (inits.plug_into d s (inits.listed
 
 last_goes : (f : Front) (d : Declarator) (b : Brace) (s : List Brace) (p : Place) → nat_eq (length b.items) 0 ≡ false
     → Declares (init_awaits f d (b ∷ s)) (token_at p (token.Mark mark.RightBrace)) (after_plugged f d s (inits.listed b true)) 0
-unfolding feed_declaration starts last_comma inits.plug after_plugged mark_starts is_left_brace is_right_brace
+unfolding feed_declaration starts last_comma inits.plug after_plugged mark_starts is_mark
 last_goes f d b s p h = ap (last_comma_by f) (last_in d b s h)
 
 -- each is read where one is awaited

@@ -10,8 +10,7 @@ use Rattle.k_tree.specs.Bare.{bare_head, bare_stmt, bare_item, nowhere}
 use Rattle.k_tree.specs.Nesting.{declarators_depth, params_depth, stmt_depth, item_depth, deepest}
 use Rattle.k_tree.specs.Ranked.{Specs, RankedDeclaration, RankedParams, RankedHead, RankedItem, is_spec}
 use Rattle.k_tree.specs.Spelling.{Spelled, spell_specs, spell_stars, spell_declarator, spell_declaration, spell_params, spell_head, spell_item, spell_stmts, with_commas, in_parens, in_braces, the_mark, the_name}
-use Rattle.k_parse_steps.specs.Operators.{is_semicolon, is_right_brace, is_left_brace, is_equal, is_bracket, is_spec_word}
-use Rattle.k_parse_steps.specs.Expressions.{is_left_paren}
+use Rattle.k_parse_steps.specs.Operators.{is_spec_word}
 use Rattle.k_parse_steps.specs.Declarations.{feed_declaration, declaration_at, front_of, begin_declaration, named, end}
 use Rattle.k_parse_steps.specs.Stars.{no_stars}
 use Rattle.k_parse_steps.specs.Parameters.{begin_parameters}
@@ -26,13 +25,14 @@ use Rattle.k_parse_steps.proofs.CompleteDeclarations.{named_at, before_name, Tit
 use Rattle.k_parse_steps.proofs.CompleteParameters.{Follows, ParamsHold, params_complete}
 use Rattle.k_parse_steps.proofs.CompleteStatements.{Runs, begins_at}
 use Rattle.k_parse_steps.proofs.CompleteBlocks.{Blocks, PartsHold, EachPart, parts_lead, parts_complete}
+use Rattle.k_parse_steps.specs.Tokens.{is_mark, token_is_mark}
 
 -- how the machine of sources moves
 abbrev pub Sources : Moves Source
 Sources s t next reach = feed_source s t ≡ turn.Goes next reach
 
 abbrev phase_at : List Item → SourceStage → Source
-phase_at items p = record { items = items; phase = p }
+phase_at items p = record { items = items; stage = p }
 
 -- an item may begin
 abbrev pub starts_at : List Item → Source
@@ -51,30 +51,30 @@ spec_goes : (items : List Item) (w : Word) (p : Place) → IsTrue (is_spec w)
 unfolding feed_source starts is_spec_word
 spec_goes items w p h = ap (λ b. cond b (goes_on items (phase.Declares p (begin_declaration w 1)) 0) turn.Refused) h
 
-paren_refused : (f : Front) (d : Declarator) (p : Place) (kind : TokenKind) → is_left_paren kind ≡ true
+paren_refused : (f : Front) (d : Declarator) (p : Place) (kind : TokenKind) → token_is_mark kind mark.LeftParen ≡ true
     → feed_declaration (declaration_at f (stage.Named d)) (token_at p kind) ≡ turn.Refused
-unfolding feed_declaration named end is_bracket is_equal
+unfolding feed_declaration named end is_mark
 paren_refused f d p (token.Mark mark.LeftParen) h = refl
 paren_refused f d p kind h = absurd cc
 
-stage_refused : (f : Front) (n : DeclarationStage) (t : Token) → is_left_paren t.what ≡ true → titled_by f n ≡ true → feed_declaration (declaration_at f n) t ≡ turn.Refused
+stage_refused : (f : Front) (n : DeclarationStage) (t : Token) → token_is_mark t.what mark.LeftParen ≡ true → titled_by f n ≡ true → feed_declaration (declaration_at f n) t ≡ turn.Refused
 stage_refused f (stage.Named d) t h i = paren_refused f d t.place t.what h
 stage_refused f n t h i = absurd cc
 
-titled_refused : (d : Declaration) (t : Token) → is_left_paren t.what ≡ true → is_titled d ≡ true → feed_declaration d t ≡ turn.Refused
+titled_refused : (d : Declaration) (t : Token) → token_is_mark t.what mark.LeftParen ≡ true → is_titled d ≡ true → feed_declaration d t ≡ turn.Refused
 unfolding is_titled
 titled_refused d t h i = stage_refused d.front d.stage t h i
 
 refused_goes : (d : Declaration) (reach : ℕ) → ◌≡◌ {A = Declared} turn.Refused (turn.Goes d reach) → ⊥
 refused_goes d reach e = cc
 
-not_titled : (d : Declaration) (t : Token) (next : Declaration) (reach : ℕ) → Declares d t next reach → (is_left_paren t.what && is_titled d) ≡ false
+not_titled : (d : Declaration) (t : Token) (next : Declaration) (reach : ℕ) → Declares d t next reach → (token_is_mark t.what mark.LeftParen && is_titled d) ≡ false
 not_titled d t next reach h =
     ⊎_elim
-    (λ e. let both : (is_left_paren t.what ≡ true) × (is_titled d ≡ true) = and_parts (is_left_paren t.what) (is_titled d) e in
+    (λ e. let both : (token_is_mark t.what mark.LeftParen ≡ true) × (is_titled d ≡ true) = and_parts (token_is_mark t.what mark.LeftParen) (is_titled d) e in
     absurd (refused_goes next reach (sym (titled_refused d t both.0 both.1) ∙ h)))
     (λ e. e)
-    (cases_Bool (is_left_paren t.what && is_titled d))
+    (cases_Bool (token_is_mark t.what mark.LeftParen && is_titled d))
 
 declares_moves : (items : List Item) (p : Place) (d : Declaration) (t : Token) (next : Declaration) (reach : ℕ) → Declares d t next reach
     → Sources (phase_at items (phase.Declares p d)) t (phase_at items (phase.Declares p next)) reach
@@ -85,7 +85,7 @@ declares_moves items p d t next reach h =
 
 declares_ends : (items : List Item) (p : Place) (specs : List Word) (list : List Declarator) (d : Declaration) (h : DeclarationHolds specs list d) (at : Place)
     → Sources (phase_at items (phase.Declares p d)) (token_at at (token.Mark mark.Semicolon)) (starts_at (items ++ item.Objects p specs h.made ∷ [])) 0
-unfolding feed_source declares
+unfolding feed_source declares is_mark
 declares_ends items p specs list d h at = ap (declares_by items p) (h.ends at)
 
 record InObjects (items : List Item) (p : Place) (specs : List Word) (list : List Declarator) (z : Source) : Type 0 where
@@ -131,7 +131,7 @@ head specs stars x p ps = record { specs = specs; stars = stars; name = x; name_
 title_opens : (items : List Item) (p : Place) (specs : List Word) (stars : List Bool) (x : List ℕ) (q at : Place)
     → Sources (phase_at items (phase.Declares p (declaration_at (front_of specs [] 1) (stage.Named (named_at (front_of specs [] 1) q stars x [])))))
     (token_at at (token.Mark mark.LeftParen)) (phase_at items (phase.Parameters p (title specs stars x q) begin_parameters)) 0
-unfolding feed_source declares is_titled titled
+unfolding feed_source declares is_titled titled is_mark
 title_opens items p specs stars x q at = refl
 
 parameters_move : (items : List Item) (p : Place) (t : Title) (ps : Parameters) (k : Token) (next : Parameters) (reach : ℕ) → Follows ps k next reach
@@ -257,7 +257,7 @@ blocks_whole = record {
 }
 
 whole_ends : (done : List Stmt) (p : Place) → feed_body (begins_at done []) (token_at p (token.Mark mark.RightBrace)) ≡ turn.Done done
-unfolding feed_body begins block_ends mark_begins is_semicolon is_left_brace is_right_brace
+unfolding feed_body begins block_ends mark_begins is_mark
 whole_ends done p = refl
 
 body_ends : (items : List Item) (p : Place) (h : Head) (parts : List Stmt) (b : Body) (k : PartsHold (λ done. done) (λ done. []) parts b) (at : Place)

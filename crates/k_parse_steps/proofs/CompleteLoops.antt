@@ -13,7 +13,7 @@ use Rattle.k_tree.proofs.Folds.{stmt_For}
 use Rattle.k_tree.specs.Nesting.{option_depth, first_depth, declarators_depth, stmt_depth, part_depth_step, stmt_depth_step}
 use Rattle.k_tree.specs.Ranked.{Ranked, IfGiven, RankedFirst, RankedDeclaration, ends_open_part, ends_open_step, is_spec}
 use Rattle.k_tree.specs.Spelling.{Spelled, spell_specs, spell_declarator, spell_declaration, with_commas, spell_option, spell_first, spell_for, spell_stmt, spell_part_step, spell_stmt_step, the_mark, the_word}
-use Rattle.k_parse_steps.specs.Operators.{is_semicolon, is_right_brace, is_left_brace, is_spec_word}
+use Rattle.k_parse_steps.specs.Operators.{is_spec_word}
 use Rattle.k_parse_steps.specs.Expressions.{feed, operand, word_operand, is_before_type, type_begun, goes, level as expr_level, begin, Opens}
 use Rattle.k_parse_steps.specs.Readings.{read_maybe, is_fresh, closes}
 use Rattle.k_parse_steps.specs.declared.reading.Closer.TheVariants as closer
@@ -32,6 +32,7 @@ use Rattle.k_parse_steps.proofs.CompleteInitialisers.{Declares}
 use Rattle.k_parse_steps.proofs.CompleteDeclarations.{DeclarationHolds, declaration_complete}
 use Rattle.k_parse_steps.proofs.CompleteStatements.{Runs, body_at, begins_at, StmtHolds, StmtReads, stmt_by, Given, maybe_lead}
 use Rattle.k_parse_steps.proofs.CompleteTypes.{spec_is_no_sizeof}
+use Rattle.k_parse_steps.specs.Tokens.{is_mark, is_word}
 
 -- a specifier is refused where an expression begins
 
@@ -55,7 +56,7 @@ word_no_specifier : (r : Reading) (p : Place) (w : Word) → (feed r (token_at p
 word_no_specifier r p w f =
     ⊎_elim
     (λ e. let both : (is_spec_word w ≡ true) × (is_fresh r ≡ true) = and_parts (is_spec_word w) (is_fresh r) e in
-    absurd (f (state_refused r.site r.opens r.state p w both.1 both.0)))
+    absurd (f (state_refused r.site r.opens r.stage p w both.1 both.0)))
     (λ e. ap (λ b. cond b (Some w) None) e)
     (cases_Bool (is_spec_word w && is_fresh r))
 
@@ -66,11 +67,11 @@ kind_no_specifier r p kind f = refl
 -- the parts
 
 for_goes : (ps : Parts) (s : Frames) (p : Place) → Runs (begins_at ps s) (token_at p (token.Word word.For)) (body_at ps s (step.For p)) (inner s)
-unfolding feed_body begins keyword mark_begins is_semicolon is_left_brace is_right_brace jump is_spec_word
+unfolding feed_body begins keyword mark_begins is_mark jump is_spec_word is_word
 for_goes ps s p = refl
 
 for_opens : (ps : Parts) (s : Frames) (p at : Place) → Runs (body_at ps s (step.For p)) (token_at at (token.Mark mark.LeftParen)) (body_at ps s (step.Start p (begin 0 (inner s)))) 0
-unfolding feed_body in_for for_opened
+unfolding feed_body in_for for_opened is_mark
 for_opens ps s p at = refl
 
 start_moves : (ps : Parts) (s : Frames) (p : Place) (r : Reading) (t : Token) (next : Reading) (reach : ℕ) → Feeds r t next reach
@@ -85,7 +86,7 @@ second_at ps s p x = body_at ps s (step.Second p x (begin 0 (inner s)))
 
 start_empty : (ps : Parts) (s : Frames) (p at : Place)
     → Runs (body_at ps s (step.Start p (begin 0 (inner s)))) (token_at at (token.Mark mark.Semicolon)) (second_at ps s p (first_of None)) 0
-unfolding feed_body in_for start specifier read_maybe is_fresh closes second_at
+unfolding feed_body in_for start specifier read_maybe is_fresh closes second_at is_mark
 start_empty ps s p at = refl
 
 start_ends : (ps : Parts) (s : Frames) (p : Place) (a : Expr) (r : Reading) (h : Whole 0 a r) (at : Place)
@@ -186,7 +187,7 @@ third_at ps s p x a = body_at ps s (step.Third p x a (begin 0 (inner s)))
 
 second_empty : (ps : Parts) (s : Frames) (p : Place) (x : First) (at : Place)
     → Runs (second_at ps s p x) (token_at at (token.Mark mark.Semicolon)) (third_at ps s p x None) 0
-unfolding feed_body in_for second read_maybe is_fresh closes second_at third_at
+unfolding feed_body in_for second read_maybe is_fresh closes second_at third_at is_mark
 second_empty ps s p x at = refl
 
 second_ends : (ps : Parts) (s : Frames) (p : Place) (x : First) (a : Expr) (r : Reading) (h : Whole 0 a r) (at : Place)
@@ -203,7 +204,7 @@ third_moves ps s p x a r t next reach h = ap (third_by ps s p x a) (maybe_goes r
 
 third_empty : (ps : Parts) (s : Frames) (p : Place) (x : First) (a : Option Expr) (at : Place)
     → Runs (third_at ps s p x a) (token_at at (token.Mark mark.RightParen)) (begins_at ps (frame.For p x a None ∷ s)) 0
-unfolding feed_body in_for third read_maybe is_fresh closes third_at
+unfolding feed_body in_for third read_maybe is_fresh closes third_at is_mark
 third_empty ps s p x a at = refl
 
 third_ends : (ps : Parts) (s : Frames) (p : Place) (x : First) (a : Option Expr) (b : Expr) (r : Reading) (h : Whole 0 b r) (at : Place)

@@ -12,13 +12,14 @@ use Rattle.k_tree.specs.Ranked.{binary_rank, is_assignment}
 use Rattle.k_tree.specs.Spelling.{Spelled, spell_expr, spell_expr_step, the_mark}
 use Rattle.k_parse_steps.specs.Operators.{binding, own_rank}
 use Rattle.k_parse_steps.specs.Level.{plus}
-use Rattle.k_parse_steps.specs.Expressions.{feed, operand, named, value, hole, plug, Opens, goes, level, leaf, term, is_left_paren, infix_made, infix_tree}
+use Rattle.k_parse_steps.specs.Expressions.{feed, operand, named, value, hole, plug, Opens, goes, level, leaf, term, infix_made, infix_tree}
 use Rattle.k_parse_steps.specs.declared.expression.Open.TheVariants as open_
 use Rattle.k_parse_steps.specs.declared.expression.ExpressionStage.TheVariants as now
 use Rattle.k_parse_steps.specs.declared.expression.plug.Plugged.TheVariants as plugged
 use Rattle.k_parse_steps.proofs.CompleteLeads.{token_at, Leads, Step, leads-then, leads-more}
 use Rattle.k_parse_steps.proofs.CompleteHolds.{Feeds, reading, awaits, Holds, Guards, Reads, closed, taken, taken_by, below_by}
 use Rattle.k_parse_steps.proofs.CompleteSteps.{reach_low, above-both, bind, Infixes, comma_infixes, binary_infixes, assignment_infixes, binary_bounds, binary_binding, assignment_binding, own_bound, infix_hole, infix_opens, infix_plugs}
+use Rattle.k_parse_steps.specs.Tokens.{token_is_mark}
 
 -- a construct by its spelling and its depth
 pub reads_by : (k : ℕ) (e : Expr) (xs : Spelled) (d : ℕ) → spell_expr e ≡ xs → expr_depth e ≡ d
@@ -83,7 +84,7 @@ reads_string k p bytes le =
     (expr_Str Expr bare_expr_step at bytes ∙ sym (expr_Str Expr bare_expr_step p bytes)))
 
 -- a name, which no `(` follows
-named_next : (g : Site) (s : Opens) (p : Place) (x : List ℕ) (t : Token) → is_left_paren t.what ≡ false
+named_next : (g : Site) (s : Opens) (p : Place) (x : List ℕ) (t : Token) → token_is_mark t.what mark.LeftParen ≡ false
     → feed (reading g s (now.Named p x)) t ≡ value g s (term (expr.Name p x) 16 1) t
 unfolding feed named
 named_next g s p x t h = ap (λ v. cond v (goes g (open_.Call p x [] 0 ∷ s) now.Operand 0) (value g s (term (expr.Name p x) 16 1) t)) h

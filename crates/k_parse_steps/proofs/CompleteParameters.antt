@@ -12,12 +12,12 @@ use Rattle.k_tree.specs.Bare.{bare_expr, bare_dims, bare_param, bare_params, whe
 use Rattle.k_tree.specs.Nesting.{dims_depth, param_depth, params_depth, deepest}
 use Rattle.k_tree.specs.Ranked.{Specs, RankedDims, RankedParam, RankedParams, IsVoidAlone, is_spec}
 use Rattle.k_tree.specs.Spelling.{spell_dims, spell_stars, spell_specs, spell_optional_name, spell_param, spell_params, behind_commas}
-use Rattle.k_parse_steps.specs.Operators.{is_star, is_bracket, is_spec_word}
+use Rattle.k_parse_steps.specs.Operators.{is_spec_word}
 use Rattle.k_parse_steps.specs.Stars.{no_stars, all_stars, star, constant, type_word}
 use Rattle.k_parse_steps.specs.Expressions.{begin}
 use Rattle.k_parse_steps.specs.Readings.{read_maybe, is_fresh, closes}
 use Rattle.k_parse_steps.specs.declared.reading.Closer.TheVariants as closer
-use Rattle.k_parse_steps.specs.Parameters.{mark_typed, mark_first, feed_parameters, begin_parameters, follows, first_token, starts, none, typed, word, name, named, end, size, size_by, is_void, is_void_list, is_void_alone, word_by}
+use Rattle.k_parse_steps.specs.Parameters.{mark_typed, mark_first, feed_parameters, begin_parameters, follows, first_token, starts, none, typed, word, name, named, end, size, size_by, is_void_list, is_void_alone, word_by}
 use Rattle.k_parse_steps.specs.declared.parameter.ParameterStage.TheVariants as part_
 use Rattle.k_parse_steps.specs.declared.turn.Turn.TheVariants as turn
 use Rattle.k_parse_steps.proofs.CompleteLeads.{token_at, Moves, Leads, leads-then, leads-more}
@@ -26,13 +26,15 @@ use Rattle.k_parse_steps.proofs.CompleteExpressions.{Whole}
 use Rattle.k_parse_steps.proofs.CompleteReadings.{maybe_goes, maybe_ends, bracket_below, closes_at}
 use Rattle.k_parse_steps.proofs.CompleteRows.{words_lead, Starred, stars_lead, Sized, Sizes, dims_lead}
 use Rattle.k_parse_steps.proofs.Rows.{one_more}
+use Rattle.k_parse_steps.specs.Tokens.{is_mark, is_word}
+use Rattle.k_parse_steps.proofs.Marks.{word_is}
 
 -- how the machine of parameters moves
 abbrev pub Follows : Moves Parameters
 Follows ps t next reach = feed_parameters ps t ≡ turn.Goes next reach
 
 abbrev at_part : List Param → ParameterStage → Parameters
-at_part list p = record { list = list; part = p }
+at_part list p = record { list = list; stage = p }
 
 abbrev param_at : Place → List Word → List Bool → Option (List ℕ) → List (Option Expr) → Param
 param_at p specs stars x dims = record { place = p; specs = specs; stars = stars; name = x; dims = dims }
@@ -51,28 +53,28 @@ first_goes list w p h = ap (λ b. cond b (follows list (part_.Typed (param_at p 
 
 word_goes : (list : List Param) (at : Place) (vs : List Word) (w : Word) (p : Place) → IsTrue (is_spec w)
     → Follows (typed_at list at vs no_stars) (token_at p (token.Word w)) (typed_at list at (vs ++ w ∷ []) no_stars) 0
-unfolding feed_parameters typed word type_word is_spec_word mark_typed is_star is_bracket
+unfolding feed_parameters typed word type_word is_spec_word mark_typed is_mark
 word_goes list at vs w p h = ap (λ b. word_by list (param_at at vs [] None []) (cond b (Some (vs ++ w ∷ [], no_stars)) None)) h
 
 star_goes : (list : List Param) (at : Place) (specs : List Word) (v : Stars) (p : Place)
     → Follows (typed_at list at specs v) (token_at p (token.Mark mark.Star)) (typed_at list at specs (star v)) 0
-unfolding feed_parameters typed mark_typed is_star is_bracket
+unfolding feed_parameters typed mark_typed is_mark
 star_goes list at specs v p = refl
 
 const_goes : (list : List Param) (at : Place) (specs : List Word) (v : Stars) (p : Place)
     → Follows (typed_at list at specs (star v)) (token_at p (token.Word word_.Const)) (typed_at list at specs (constant (star v))) 0
-unfolding feed_parameters typed word type_word mark_typed is_star is_bracket
+unfolding feed_parameters typed word type_word mark_typed is_mark is_word
 const_goes list at specs v p = refl
 
 name_goes : (list : List Param) (at : Place) (specs : List Word) (v : Stars) (x : List ℕ) (p : Place)
     → Follows (typed_at list at specs v) (token_at p (token.Name x)) (named_at list at specs (all_stars v) (Some x) []) 0
-unfolding feed_parameters typed name mark_typed is_star is_bracket
+unfolding feed_parameters typed name mark_typed is_mark
 name_goes list at specs v x p = refl
 
 -- dimensions
 size_opens : (list : List Param) (at : Place) (specs : List Word) (stars : List Bool) (x : Option (List ℕ)) (ds : List (Option Expr)) (p : Place)
     → Follows (named_at list at specs stars x ds) (token_at p (token.Mark mark.LeftBracket)) (at_part list (part_.Size (param_at at specs stars x ds) (begin 2 1))) 0
-unfolding feed_parameters named is_bracket
+unfolding feed_parameters named is_mark
 size_opens list at specs stars x ds p = refl
 
 size_moves : (list : List Param) (d : Param) (r : Reading) (t : Token) (next : Reading) (reach : ℕ) → Feeds r t next reach
@@ -82,7 +84,7 @@ size_moves list d r t next reach h = ap (size_by list d) (maybe_goes r t closer.
 
 size_closes : (list : List Param) (at : Place) (specs : List Word) (stars : List Bool) (x : Option (List ℕ)) (ds : List (Option Expr)) (p : Place)
     → Follows (at_part list (part_.Size (param_at at specs stars x ds) (begin 2 1))) (token_at p (token.Mark mark.RightBracket)) (named_at list at specs stars x (ds ++ None ∷ [])) 0
-unfolding feed_parameters size read_maybe is_fresh closes
+unfolding feed_parameters size read_maybe is_fresh closes is_mark
 size_closes list at specs stars x ds p = refl
 
 size_ends : (list : List Param) (at : Place) (specs : List Word) (stars : List Bool) (x : Option (List ℕ)) (ds : List (Option Expr)) (e : Expr) (r : Reading) (h : Whole 2 e r) (p : Place)
@@ -109,26 +111,26 @@ record ParamHolds (list : List Param) (d : Param) (z : Parameters) : Type 0 wher
   same : bare_param made ≡ bare_param d
 
 named_comma : (list : List Param) (d : Param) (p : Place) → feed_parameters (at_part list (part_.Named d)) (token_at p (token.Mark mark.Comma)) ≡ end list d mark.Comma
-unfolding feed_parameters named is_bracket
+unfolding feed_parameters named is_mark
 named_comma list d p = refl
 
 named_close : (list : List Param) (d : Param) (p : Place) → feed_parameters (at_part list (part_.Named d)) (token_at p (token.Mark mark.RightParen)) ≡ end list d mark.RightParen
-unfolding feed_parameters named is_bracket
+unfolding feed_parameters named is_mark
 named_close list d p = refl
 
 typed_comma : (list : List Param) (at : Place) (specs : List Word) (v : Stars) (p : Place)
     → feed_parameters (typed_at list at specs v) (token_at p (token.Mark mark.Comma)) ≡ end list (param_at at specs (all_stars v) None []) mark.Comma
-unfolding feed_parameters typed named mark_typed is_star is_bracket
+unfolding feed_parameters typed named mark_typed is_mark
 typed_comma list at specs v p = refl
 
 typed_close : (list : List Param) (at : Place) (specs : List Word) (v : Stars) (p : Place)
     → feed_parameters (typed_at list at specs v) (token_at p (token.Mark mark.RightParen)) ≡ end list (param_at at specs (all_stars v) None []) mark.RightParen
-unfolding feed_parameters typed named mark_typed is_star is_bracket
+unfolding feed_parameters typed named mark_typed is_mark
 typed_close list at specs v p = refl
 
 typed_bracket : (list : List Param) (at : Place) (specs : List Word) (v : Stars) (p : Place)
     → feed_parameters (typed_at list at specs v) (token_at p (token.Mark mark.LeftBracket)) ≡ feed_parameters (named_at list at specs (all_stars v) None []) (token_at p (token.Mark mark.LeftBracket))
-unfolding feed_parameters typed named mark_typed is_star is_bracket
+unfolding feed_parameters typed named mark_typed is_mark
 typed_bracket list at specs v p = refl
 
 param_same : (p q : Place) (specs : List Word) (stars : List Bool) (x : Option (List ℕ)) (ds es : List (Option Expr)) → bare_dims ds ≡ bare_dims es
@@ -212,13 +214,9 @@ param_complete bound list d h positive low = typed_lead bound list d d.specs ref
 
 -- `void` alone
 
-void_word : (w : Word) → is_void w ≡ true → w ≡ word_.Void
-void_word word_.Void h = refl
-void_word w h = absurd cc
-
 void_words : (ws : List Word) → is_void_list ws ≡ true → ws ≡ word_.Void ∷ []
 void_words [] h = absurd cc
-void_words (w ∷ []) h = ap (λ v. v ∷ []) (void_word w h)
+void_words (w ∷ []) h = ap (λ v. v ∷ []) (word_is w word_.Void h)
 void_words (w ∷ (v ∷ ws)) h = absurd cc
 
 no_length : {A : Type 0} (xs : List A) → nat_eq (length xs) 0 ≡ true → xs ≡ []
@@ -301,7 +299,7 @@ unfolding feed_parameters first_token starts is_spec_word mark_first
 void_begins p = refl
 
 void_ends : (at p : Place) → feed_parameters (typed_at [] at (word_.Void ∷ []) no_stars) (token_at p (token.Mark mark.RightParen)) ≡ turn.Done params.Void
-unfolding feed_parameters typed named end is_void_alone mark_typed is_star is_bracket
+unfolding feed_parameters typed named end is_void_alone mark_typed is_mark is_word
 void_ends at p = refl
 
 cons_some : (b : Param) (more : List Param) → b ∷ more ≡ [] → ⊥

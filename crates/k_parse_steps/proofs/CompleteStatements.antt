@@ -12,24 +12,25 @@ use Rattle.k_tree.specs.Nesting.{expr_depth, option_depth, stmt_depth, part_dept
 use Rattle.k_tree.specs.Ranked.{Ranked, IfGiven, ends_open}
 use Rattle.k_tree.specs.Spelling.{Spelled, spell_expr, spell_option, spell_stmt, spell_part_step, spell_stmt_step, the_mark, the_word}
 use Rattle.k_tree.proofs.Begin.{expr_begins}
-use Rattle.k_parse_steps.specs.Operators.{is_spec_word, is_semicolon, is_right_brace, is_left_brace}
+use Rattle.k_parse_steps.specs.Operators.{is_spec_word}
 use Rattle.k_parse_steps.specs.Expressions.{begin}
 use Rattle.k_parse_steps.specs.Readings.{read_maybe, is_fresh, closes}
 use Rattle.k_parse_steps.specs.declared.reading.Closer.TheVariants as closer
-use Rattle.k_parse_steps.specs.Statements.{mark_begins, jump, Parts, Frames, feed_body, begins, begins_by, expression, expression_by, keyword, value, value_by, returned, returned_by, semicolon, behind, is_else, declares, level, inner}
+use Rattle.k_parse_steps.specs.Statements.{mark_begins, jump, Parts, Frames, feed_body, begins, begins_by, expression, expression_by, keyword, value, value_by, in_return, in_return_by, semicolon, behind, declares, level, inner}
 use Rattle.k_parse_steps.specs.declared.statement.BlockStage.TheVariants as step
 use Rattle.k_parse_steps.specs.declared.turn.Turn.TheVariants as turn
 use Rattle.k_parse_steps.proofs.CompleteLeads.{token_at, Moves, Step, Leads, leads-then, leads-more, leads-in}
 use Rattle.k_parse_steps.proofs.CompleteHolds.{Feeds}
 use Rattle.k_parse_steps.proofs.CompleteExpressions.{Whole, whole}
 use Rattle.k_parse_steps.proofs.CompleteReadings.{needed_goes, needed_ends, maybe_goes, maybe_ends, semicolon_below, closes_at}
+use Rattle.k_parse_steps.specs.Tokens.{is_mark, is_word, token_is_word}
 
 -- how the machine of a function's block moves
 abbrev pub Runs : Moves Body
 Runs b t next reach = feed_body b t ≡ turn.Goes next reach
 
 abbrev pub body_at : Parts → Frames → BlockStage → Body
-body_at ps s n = record { parts = ps; frames = s; step = n }
+body_at ps s n = record { parts = ps; frames = s; stage = n }
 
 -- a statement begins
 abbrev pub begins_at : Parts → Frames → Body
@@ -38,7 +39,7 @@ begins_at ps s = body_at ps s step.Begins
 -- the statement is read: a token finds it there, and `else` does if no open `if` in it would take that
 pub record StmtHolds (ps : Parts) (s : Frames) (x : Stmt) (z : Body) : Type 0 where
   pub made : Stmt
-  pub next : (t : Token) → (ends_open x ≡ true → is_else t.what ≡ false) → feed_body z t ≡ behind ps s made t
+  pub next : (t : Token) → (ends_open x ≡ true → token_is_word t.what word.Else ≡ false) → feed_body z t ≡ behind ps s made t
   pub same : bare_stmt made ≡ bare_stmt x
 
 -- a statement is read where one begins, no deeper than it lies, as itself up to places
@@ -60,7 +61,7 @@ holds_stmt ps s x made e = record { made = made; next = λ t f. refl; same = e }
 -- an expression
 
 begins_first : (ps : Parts) (s : Frames) (t : Token) (kind : TokenKind) (z : Stepped) → expression ps s t ≡ z → begins_expr kind ≡ true → begins_by ps s t kind ≡ z
-unfolding mark_begins is_semicolon is_left_brace is_right_brace
+unfolding mark_begins is_mark is_word
 begins_first ps s t (token.Mark mark.Semicolon) z h b = absurd cc
 begins_first ps s t (token.Mark mark.LeftBrace) z h b = absurd cc
 begins_first ps s t (token.Mark mark.RightBrace) z h b = absurd cc
@@ -70,7 +71,7 @@ begins_first ps s t kind z h b = h
 
 expression_goes : (ps : Parts) (s : Frames) (t : Token) (next : Reading) (reach : ℕ) → begins_expr t.what ≡ true → Feeds (begin 0 (inner s)) t next reach
     → Runs (begins_at ps s) t (body_at ps s (step.Value t.place next)) reach
-unfolding feed_body begins expression mark_begins is_semicolon is_left_brace is_right_brace
+unfolding feed_body begins expression mark_begins is_mark
 expression_goes ps s t next reach b h =
     begins_first ps s t t.what (turn.Goes (body_at ps s (step.Value t.place next)) reach) (ap (expression_by ps s t.place) h) b
 
@@ -128,7 +129,7 @@ value_reads p a x =
 
 empty_goes : (ps : Parts) (s : Frames) (p : Place)
     → Runs (begins_at ps s) (token_at p (token.Mark mark.Semicolon)) (body_at ps s (step.Whole (stmt.Empty p))) (level s)
-unfolding feed_body begins mark_begins is_semicolon is_left_brace is_right_brace
+unfolding feed_body begins mark_begins is_mark
 empty_goes ps s p = refl
 
 pub empty_reads : (p : Place) → StmtReads (stmt.Empty p)
@@ -144,17 +145,17 @@ empty_reads p =
 
 pub semicolon_goes : (ps : Parts) (s : Frames) (x : Stmt) (p : Place)
     → Runs (body_at ps s (step.Semicolon x)) (token_at p (token.Mark mark.Semicolon)) (body_at ps s (step.Whole x)) 0
-unfolding feed_body semicolon closes
+unfolding feed_body semicolon closes is_mark
 semicolon_goes ps s x p = refl
 
 break_goes : (ps : Parts) (s : Frames) (p : Place)
     → Runs (begins_at ps s) (token_at p (token.Word word.Break)) (body_at ps s (step.Semicolon (stmt.Break p))) (level s)
-unfolding feed_body begins keyword mark_begins is_semicolon is_left_brace is_right_brace jump is_spec_word
+unfolding feed_body begins keyword mark_begins is_mark jump is_spec_word is_word
 break_goes ps s p = refl
 
 continue_goes : (ps : Parts) (s : Frames) (p : Place)
     → Runs (begins_at ps s) (token_at p (token.Word word.Continue)) (body_at ps s (step.Semicolon (stmt.Continue p))) (level s)
-unfolding feed_body begins keyword mark_begins is_semicolon is_left_brace is_right_brace jump is_spec_word
+unfolding feed_body begins keyword mark_begins is_mark jump is_spec_word is_word
 continue_goes ps s p = refl
 
 pub break_reads : (p : Place) → StmtReads (stmt.Break p)
@@ -232,24 +233,24 @@ maybe_lead M f after m depth bound moves empty ends (Some e) h positive low =
 
 return_goes : (ps : Parts) (s : Frames) (p : Place)
     → Runs (begins_at ps s) (token_at p (token.Word word.Return)) (body_at ps s (step.Return p (begin 0 (inner s)))) (level s)
-unfolding feed_body begins keyword mark_begins is_semicolon is_left_brace is_right_brace jump is_spec_word
+unfolding feed_body begins keyword mark_begins is_mark jump is_spec_word is_word
 return_goes ps s p = refl
 
 return_moves : (ps : Parts) (s : Frames) (p : Place) (r : Reading) (t : Token) (next : Reading) (reach : ℕ) → Feeds r t next reach
     → Runs (body_at ps s (step.Return p r)) t (body_at ps s (step.Return p next)) reach
-unfolding feed_body returned
-return_moves ps s p r t next reach h = ap (returned_by ps s p) (maybe_goes r t closer.Semicolon next reach h)
+unfolding feed_body in_return
+return_moves ps s p r t next reach h = ap (in_return_by ps s p) (maybe_goes r t closer.Semicolon next reach h)
 
 return_empty : (ps : Parts) (s : Frames) (p at : Place)
     → Runs (body_at ps s (step.Return p (begin 0 (inner s)))) (token_at at (token.Mark mark.Semicolon)) (body_at ps s (step.Whole (stmt.Return p None))) 0
-unfolding feed_body returned read_maybe is_fresh closes
+unfolding feed_body in_return read_maybe is_fresh closes is_mark
 return_empty ps s p at = refl
 
 return_ends : (ps : Parts) (s : Frames) (p : Place) (a : Expr) (r : Reading) (h : Whole 0 a r) (at : Place)
     → Runs (body_at ps s (step.Return p r)) (token_at at (token.Mark mark.Semicolon)) (body_at ps s (step.Whole (stmt.Return p (Some h.made)))) 0
-unfolding feed_body returned
+unfolding feed_body in_return
 return_ends ps s p a r h at =
-    ap (returned_by ps s p) (maybe_ends r (token_at at (token.Mark mark.Semicolon)) closer.Semicolon h.made
+    ap (in_return_by ps s p) (maybe_ends r (token_at at (token.Mark mark.Semicolon)) closer.Semicolon h.made
     (h.ends (token_at at (token.Mark mark.Semicolon)) (semicolon_below 0)) (closes_at closer.Semicolon at))
 
 pub return_reads : (p : Place) (a : Option Expr) → IfGiven (Ranked 0) a → StmtReads (stmt.Return p a)
@@ -275,18 +276,19 @@ return_reads p a x =
 -- what stands behind a statement, where the next one begins
 
 else_refused : (ps : Parts) (s : Frames) (p : Place) → feed_body (begins_at ps s) (token_at p (token.Word word.Else)) ≡ turn.Refused
-unfolding feed_body begins keyword declares is_spec_word mark_begins is_semicolon is_left_brace is_right_brace jump
+unfolding feed_body begins keyword declares is_spec_word mark_begins is_mark jump is_word
 else_refused ps s p = refl
 
 refused_goes : (b : Body) (reach : ℕ) → ◌≡◌ {A = Stepped} turn.Refused (turn.Goes b reach) → ⊥
 refused_goes b reach e = cc
 
-no_else : (ps : Parts) (s : Frames) (p : Place) (kind : TokenKind) (next : Body) (reach : ℕ) → Runs (begins_at ps s) (token_at p kind) next reach → is_else kind ≡ false
+no_else : (ps : Parts) (s : Frames) (p : Place) (kind : TokenKind) (next : Body) (reach : ℕ) → Runs (begins_at ps s) (token_at p kind) next reach → token_is_word kind word.Else ≡ false
+unfolding is_word
 no_else ps s p (token.Word word.Else) next reach h = absurd (refused_goes next reach (sym (else_refused ps s p) ∙ h))
 no_else ps s p kind next reach h = refl
 
 pub from_begin : (bound : ℕ) (xs : Spelled) (ps : Parts) (s : Frames) (z : Body) (Q : Body → Type 0) → xs ≢ []
-    → ((t : Token) → is_else t.what ≡ false → feed_body z t ≡ feed_body (begins_at ps s) t)
+    → ((t : Token) → token_is_word t.what word.Else ≡ false → feed_body z t ≡ feed_body (begins_at ps s) t)
     → Leads Runs bound xs (begins_at ps s) Q → Leads Runs bound xs z Q
 from_begin bound [] ps s z Q some f l = absurd (some refl)
 from_begin bound (x ∷ xs) ps s z Q some f l = λ p.

@@ -6,16 +6,17 @@ use Rattle.k_tree.specs.declared.tokens.TokenKind.TheVariants as token
 use Rattle.k_tree.specs.declared.tokens.mark.Mark.TheVariants as mark
 use Rattle.k_tree.specs.declared.tokens.word.Word.TheVariants as word
 use Rattle.k_tree.specs.Ranked.{binary_rank, is_assignment, is_step}
-use Rattle.k_parse_steps.specs.Operators.{is_question, is_open, is_close, is_bracket, binding, binding_by, other_binding, own_rank, own_of, right_rank, right_of, is_step_mark, is_prefix_mark}
+use Rattle.k_parse_steps.specs.Operators.{binding, binding_by, other_binding, own_rank, own_of, right_rank, right_of, is_step_mark, is_prefix_mark}
 use Rattle.k_parse_steps.specs.Level.{plus, above}
 use Rattle.k_num.specs.Top.{top}
-use Rattle.k_parse_steps.specs.Expressions.{feed, operand, opened, mark_operand, prefix_operator, word_operand, hole, plug, Opens, goes, level, is_left_paren, take_operator, operator_opens, is_sizeof_open, posted, infix_made}
+use Rattle.k_parse_steps.specs.Expressions.{feed, operand, opened, mark_operand, prefix_operator, word_operand, hole, plug, Opens, goes, level, take_operator, operator_opens, is_sizeof_open, posted, infix_made}
 use Rattle.k_parse_steps.specs.declared.expression.Open.TheVariants as open_
 use Rattle.k_parse_steps.specs.declared.expression.ExpressionStage.TheVariants as now
 use Rattle.k_parse_steps.specs.declared.turn.Turn.TheVariants as turn
 use Rattle.k_parse_steps.specs.declared.expression.plug.Plugged.TheVariants as plugged
 use Rattle.k_parse_steps.proofs.CompleteLeads.{token_at}
 use Rattle.k_parse_steps.proofs.CompleteHolds.{awaits}
+use Rattle.k_parse_steps.specs.Tokens.{is_mark, is_word, token_is_mark}
 
 -- numbers as a machine keeps them
 pub reach_low : (g : Site) (s : Opens) (h d : ℕ) → h ≡ d → plus (level g s) h ≤ g.level + length s + d
@@ -31,11 +32,11 @@ above-one h d x = omega arith
 pub paren_opens : (g : Site) (s : Opens) (p : Place)
     → feed (awaits g s) (token_at p (token.Mark mark.LeftParen))
     ≡ goes g (open_.Paren p ∷ s) now.Operand (cond (is_sizeof_open (top s)) 0 (plus (level g s) 1))
-unfolding feed operand mark_operand opened is_open is_close is_prefix_mark
+unfolding feed operand mark_operand opened is_mark is_prefix_mark
 paren_opens g s p = refl
 
 prefix_by : (g : Site) (s : Opens) (op : Mark) (p : Place) → is_prefix_mark op ≡ true → mark_operand g s op p ≡ prefix_operator g s op p
-unfolding mark_operand is_prefix_mark is_open is_close
+unfolding mark_operand is_prefix_mark is_mark
 prefix_by g s mark.LeftParen p h = cc
 prefix_by g s mark.RightParen p h = cc
 prefix_by g s op p h = cond-true (is_prefix_mark op) (prefix_operator g s op p) turn.Refused h
@@ -47,21 +48,21 @@ prefix_opens g s op p h = prefix_by g s op p h
 
 pub sizeof_opens : (g : Site) (s : Opens) (p : Place)
     → feed (awaits g s) (token_at p (token.Word word.Sizeof)) ≡ goes g (open_.Sizeof p ∷ s) now.Operand (level g s)
-unfolding feed operand word_operand
+unfolding feed operand word_operand is_word
 sizeof_opens g s p = refl
 
 -- operators with two operands
 pub record Infixes (op : Mark) : Type 0 where
-  pub name_stands : is_left_paren (token.Mark op) ≡ false
+  pub name_stands : token_is_mark (token.Mark op) mark.LeftParen ≡ false
   pub two : is_step_mark op ≡ false
   pub opens : (a : Term) (p : Place) → operator_opens op a p ≡ open_.Infix p op a
 
 pub comma_infixes : Infixes mark.Comma
-unfolding is_step_mark is_bracket is_question
+unfolding is_step_mark is_mark
 comma_infixes = record { name_stands = refl; two = refl; opens = λ a p. refl }
 
 pub binary_infixes : (op : Mark) (n : ℕ) → binary_rank op ≡ Some n → Infixes op
-unfolding is_step_mark is_bracket is_question
+unfolding is_step_mark is_mark
 binary_infixes mark.LeftParen n e = absurd cc
 binary_infixes mark.LeftBracket n e = absurd cc
 binary_infixes mark.Question n e = absurd cc
@@ -70,7 +71,7 @@ binary_infixes mark.MinusMinus n e = absurd cc
 binary_infixes op n e = record { name_stands = refl; two = refl; opens = λ a p. refl }
 
 pub assignment_infixes : (op : Mark) → IsTrue (is_assignment op) → Infixes op
-unfolding is_step_mark is_bracket is_question
+unfolding is_step_mark is_mark
 assignment_infixes mark.LeftParen e = absurd cc
 assignment_infixes mark.LeftBracket e = absurd cc
 assignment_infixes mark.Question e = absurd cc
@@ -122,7 +123,8 @@ step_binding mark.PlusPlus e = refl
 step_binding mark.MinusMinus e = refl
 step_binding op e = absurd cc
 
-pub step_is_no_paren : (op : Mark) → IsTrue (is_step op) → is_left_paren (token.Mark op) ≡ false
+pub step_is_no_paren : (op : Mark) → IsTrue (is_step op) → token_is_mark (token.Mark op) mark.LeftParen ≡ false
+unfolding is_mark
 step_is_no_paren mark.LeftParen e = cc
 step_is_no_paren op e = refl
 
@@ -141,7 +143,7 @@ infix_hole g s p op a b e = right_bound op b e
 
 pub infix_opens : (g : Site) (s : Opens) (a : Term) (op : Mark) (p : Place) → Infixes op
     → take_operator g s a op p ≡ goes g (open_.Infix p op a ∷ s) now.Operand (plus (level g s) a.height)
-unfolding take_operator is_bracket is_question
+unfolding take_operator is_mark
 infix_opens g s a op p h =
     ap (λ v. cond v (goes g s (now.Value (posted p op a)) (plus (level g s) a.height)) (goes g (operator_opens op a p ∷ s) now.Operand (plus (level g s) a.height))) h.two
     ∙ ap (λ o. goes g (o ∷ s) now.Operand (plus (level g s) a.height)) (h.opens a p)

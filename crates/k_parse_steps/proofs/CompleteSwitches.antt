@@ -12,11 +12,11 @@ use Rattle.k_tree.specs.Nesting.{expr_depth, stmt_depth, part_depth, part_depth_
 use Rattle.k_tree.specs.Places.{stmt_place}
 use Rattle.k_tree.specs.Ranked.{Ranked}
 use Rattle.k_tree.specs.Spelling.{Spelled, spell_expr, spell_stmt, spell_part, spell_switched, spell_part_step, spell_stmt_step, the_mark, the_word, in_parens, in_braces}
-use Rattle.k_parse_steps.specs.Operators.{is_spec_word, is_semicolon, is_right_brace, is_left_brace}
+use Rattle.k_parse_steps.specs.Operators.{is_spec_word}
 use Rattle.k_parse_steps.specs.Expressions.{begin}
 use Rattle.k_parse_steps.specs.Readings.{closes}
 use Rattle.k_parse_steps.specs.declared.reading.Closer.TheVariants as closer
-use Rattle.k_parse_steps.specs.Statements.{mark_begins, jump, Parts, Frames, feed_body, begins, keyword, test_done, behind, close, part, more_switched, block_ends, case_begins, default_begins, is_in_switch, in_for, in_switch, braces, case_value, case_by, default_label, labelled, is_else, level, inner}
+use Rattle.k_parse_steps.specs.Statements.{mark_begins, jump, Parts, Frames, feed_body, begins, keyword, test_done, behind, close, part, more_switched, block_ends, case_begins, default_begins, is_in_switch, in_for, in_switch, braces, case_value, case_by, default_label, labelled, level, inner}
 use Rattle.k_parse_steps.specs.declared.statement.Frame.TheVariants as frame
 use Rattle.k_parse_steps.specs.declared.statement.Tested.TheVariants as tested
 use Rattle.k_parse_steps.specs.declared.statement.BlockStage.TheVariants as step
@@ -28,9 +28,10 @@ use Rattle.k_parse_steps.proofs.CompleteReadings.{needed_goes, needed_ends, colo
 use Rattle.k_parse_steps.proofs.CompleteStatements.{Runs, body_at, begins_at, StmtHolds, StmtReads, stmt_by, holds_stmt, from_begin}
 use Rattle.k_parse_steps.proofs.CompleteTests.{tested_lead}
 use Rattle.k_parse_steps.proofs.Rows.{one_more}
+use Rattle.k_parse_steps.specs.Tokens.{is_mark, is_word, token_is_word}
 
 switch_goes : (ps : Parts) (s : Frames) (p : Place) → Runs (begins_at ps s) (token_at p (token.Word word.Switch)) (body_at ps s (step.Keyword (tested.Switch p))) (inner s)
-unfolding feed_body begins keyword mark_begins is_semicolon is_left_brace is_right_brace jump is_spec_word
+unfolding feed_body begins keyword mark_begins is_mark jump is_spec_word is_word
 switch_goes ps s p = refl
 
 switch_done : (ps : Parts) (s : Frames) (p : Place) (e : Expr) → test_done ps s (tested.Switch p) e ≡ turn.Goes (body_at ps s (step.Braces p e)) 0
@@ -42,12 +43,12 @@ switch_at p e s parts = frame.Switch p e parts ∷ s
 
 braces_open : (ps : Parts) (s : Frames) (p : Place) (e : Expr) (at : Place)
     → Runs (body_at ps s (step.Braces p e)) (token_at at (token.Mark mark.LeftBrace)) (begins_at ps (switch_at p e s [])) 0
-unfolding feed_body in_for in_switch braces
+unfolding feed_body in_for in_switch braces is_mark
 braces_open ps s p e at = refl
 
 switch_closes : (ps : Parts) (s : Frames) (p : Place) (e : Expr) (parts : List Part) (at : Place)
     → Runs (begins_at ps (switch_at p e s parts)) (token_at at (token.Mark mark.RightBrace)) (body_at ps s (step.Whole (stmt.Switch p e parts))) 0
-unfolding feed_body begins block_ends mark_begins is_semicolon is_left_brace is_right_brace
+unfolding feed_body begins block_ends mark_begins is_mark
 switch_closes ps s p e parts at = refl
 
 switch_next : (ps : Parts) (s : Frames) (p : Place) (e : Expr) (done : List Part) (x : Stmt) (t : Token)
@@ -58,7 +59,7 @@ switch_next ps s p e done x t = refl
 case_goes : (ps : Parts) (s : Frames) (p : Place) (e : Expr) (done : List Part) (at : Place)
     → Runs (begins_at ps (switch_at p e s done)) (token_at at (token.Word word.Case))
     (body_at ps (switch_at p e s done) (step.Case at (begin 2 (level (switch_at p e s done))))) (level (switch_at p e s done))
-unfolding feed_body begins keyword mark_begins is_semicolon is_left_brace is_right_brace jump is_spec_word case_begins is_in_switch
+unfolding feed_body begins keyword mark_begins is_mark jump is_spec_word case_begins is_in_switch is_word
 case_goes ps s p e done at = refl
 
 case_moves : (ps : Parts) (s : Frames) (p : Place) (r : Reading) (t : Token) (next : Reading) (reach : ℕ) → Feeds r t next reach
@@ -75,18 +76,18 @@ case_ends ps s p e done q a r h at =
 
 default_goes : (ps : Parts) (s : Frames) (p : Place) (e : Expr) (done : List Part) (at : Place)
     → Runs (begins_at ps (switch_at p e s done)) (token_at at (token.Word word.Default)) (body_at ps (switch_at p e s done) (step.Default at)) 0
-unfolding feed_body begins keyword mark_begins is_semicolon is_left_brace is_right_brace jump is_spec_word default_begins is_in_switch
+unfolding feed_body begins keyword mark_begins is_mark jump is_spec_word default_begins is_in_switch is_word
 default_goes ps s p e done at = refl
 
 default_ends : (ps : Parts) (s : Frames) (p : Place) (e : Expr) (done : List Part) (q at : Place)
     → Runs (body_at ps (switch_at p e s done) (step.Default q)) (token_at at (token.Mark mark.Colon)) (begins_at ps (switch_at p e s (done ++ part_.Default q ∷ []))) 0
-unfolding feed_body in_for in_switch default_label labelled closes
+unfolding feed_body in_for in_switch default_label labelled closes is_mark
 default_ends ps s p e done q at = refl
 
 -- the parts are read: a token that is no `else` finds them there
 pub record SwitchHolds (ps : Parts) (s : Frames) (p : Place) (e : Expr) (parts : List Part) (z : Body) : Type 0 where
   made : List Part
-  next : (t : Token) → is_else t.what ≡ false → feed_body z t ≡ feed_body (begins_at ps (switch_at p e s made)) t
+  next : (t : Token) → token_is_word t.what word.Else ≡ false → feed_body z t ≡ feed_body (begins_at ps (switch_at p e s made)) t
   same : map bare_part made ≡ map bare_part parts
 
 -- a part is read behind others, no deeper than it lies, as itself up to places

@@ -10,10 +10,10 @@ use Rattle.k_tree.proofs.Folds.{if_alone, if_else, stmt_While, stmt_DoWhile}
 use Rattle.k_tree.specs.Nesting.{expr_depth, stmt_depth, part_depth_step, stmt_depth_step}
 use Rattle.k_tree.specs.Ranked.{Ranked, ends_open, ends_open_part, ends_open_step}
 use Rattle.k_tree.specs.Spelling.{Spelled, spell_expr, spell_stmt, spell_part_step, spell_stmt_step, the_mark, the_word, in_parens}
-use Rattle.k_parse_steps.specs.Operators.{is_spec_word, is_semicolon, is_right_brace, is_left_brace}
+use Rattle.k_parse_steps.specs.Operators.{is_spec_word}
 use Rattle.k_parse_steps.specs.Expressions.{begin}
 use Rattle.k_parse_steps.specs.declared.reading.Closer.TheVariants as closer
-use Rattle.k_parse_steps.specs.Statements.{mark_begins, jump, Parts, Frames, feed_body, begins, keyword, opened, test, test_by, test_done, behind, close, closed_by, part, do_while, is_else, inner}
+use Rattle.k_parse_steps.specs.Statements.{mark_begins, jump, Parts, Frames, feed_body, begins, keyword, opened, test, test_by, test_done, behind, close, closed_by, part, do_while, inner}
 use Rattle.k_parse_steps.specs.declared.statement.Frame.TheVariants as frame
 use Rattle.k_parse_steps.specs.declared.statement.Tested.TheVariants as tested
 use Rattle.k_parse_steps.specs.declared.statement.BlockStage.TheVariants as step
@@ -23,12 +23,13 @@ use Rattle.k_parse_steps.proofs.CompleteHolds.{Feeds}
 use Rattle.k_parse_steps.proofs.CompleteExpressions.{Whole, whole}
 use Rattle.k_parse_steps.proofs.CompleteReadings.{needed_goes, needed_ends, paren_below, closes_at}
 use Rattle.k_parse_steps.proofs.CompleteStatements.{Runs, body_at, begins_at, StmtHolds, StmtReads, stmt_by, holds_stmt, semicolon_goes}
+use Rattle.k_parse_steps.specs.Tokens.{is_mark, is_word, token_is_word}
 
 -- a test
 
 test_opens : (ps : Parts) (s : Frames) (x : Tested) (p : Place)
     → Runs (body_at ps s (step.Keyword x)) (token_at p (token.Mark mark.LeftParen)) (body_at ps s (step.Test x (begin 0 (inner s)))) 0
-unfolding feed_body opened
+unfolding feed_body opened is_mark
 test_opens ps s x p = refl
 
 test_moves : (ps : Parts) (s : Frames) (x : Tested) (r : Reading) (t : Token) (next : Reading) (reach : ℕ) → Feeds r t next reach
@@ -100,15 +101,15 @@ unfolding test_done
 do_done ps s p b e = refl
 
 if_goes : (ps : Parts) (s : Frames) (p : Place) → Runs (begins_at ps s) (token_at p (token.Word word.If)) (body_at ps s (step.Keyword (tested.If p))) (inner s)
-unfolding feed_body begins keyword mark_begins is_semicolon is_left_brace is_right_brace jump is_spec_word
+unfolding feed_body begins keyword mark_begins is_mark jump is_spec_word is_word
 if_goes ps s p = refl
 
 while_goes : (ps : Parts) (s : Frames) (p : Place) → Runs (begins_at ps s) (token_at p (token.Word word.While)) (body_at ps s (step.Keyword (tested.While p))) (inner s)
-unfolding feed_body begins keyword mark_begins is_semicolon is_left_brace is_right_brace jump is_spec_word
+unfolding feed_body begins keyword mark_begins is_mark jump is_spec_word is_word
 while_goes ps s p = refl
 
 do_goes : (ps : Parts) (s : Frames) (p : Place) → Runs (begins_at ps s) (token_at p (token.Word word.Do)) (begins_at ps (frame.Do p ∷ s)) (inner s)
-unfolding feed_body begins keyword mark_begins is_semicolon is_left_brace is_right_brace jump is_spec_word
+unfolding feed_body begins keyword mark_begins is_mark jump is_spec_word is_word
 do_goes ps s p = refl
 
 -- what a statement that ends does to the construct around it
@@ -121,19 +122,19 @@ else_behind : (ps : Parts) (s : Frames) (p : Place) (e : Expr) (a b : Stmt) (t :
 unfolding behind close
 else_behind ps s p e a b t = refl
 
-then_behind : (ps : Parts) (s : Frames) (p : Place) (e : Expr) (a : Stmt) (t : Token) → is_else t.what ≡ false
+then_behind : (ps : Parts) (s : Frames) (p : Place) (e : Expr) (a : Stmt) (t : Token) → token_is_word t.what word.Else ≡ false
     → behind ps (frame.Then p e ∷ s) a t ≡ behind ps s (stmt.If p e a None) t
 unfolding behind close
 then_behind ps s p e a t h = ap (λ b. closed_by ps s (close (frame.Then p e) a b) t (λ y. behind ps s y t)) h
 
 then_else : (ps : Parts) (s : Frames) (p : Place) (e : Expr) (a : Stmt) (at : Place)
     → behind ps (frame.Then p e ∷ s) a (token_at at (token.Word word.Else)) ≡ turn.Goes (begins_at ps (frame.Else p e a ∷ s)) 0
-unfolding behind close part
+unfolding behind close part is_word
 then_else ps s p e a at = refl
 
 do_behind : (ps : Parts) (s : Frames) (p : Place) (b : Stmt) (at : Place)
     → behind ps (frame.Do p ∷ s) b (token_at at (token.Word word.While)) ≡ turn.Goes (body_at ps s (step.Keyword (tested.Do p b))) 0
-unfolding behind close part do_while
+unfolding behind close part do_while is_word
 do_behind ps s p b at = refl
 
 -- `while`
@@ -165,6 +166,7 @@ while_reads p a b x positive f =
 -- `do`
 
 pub do_reads : (p : Place) (b : Stmt) (a : Expr) → Ranked 0 a → 1 ≤ expr_depth a → StmtReads b → StmtReads (stmt.DoWhile p b a)
+unfolding is_word
 do_reads p b a x positive f =
     stmt_by (stmt.DoWhile p b a) (the_word word.Do ++ (spell_stmt b ++ (the_word word.While ++ (in_parens (spell_expr a) ++ the_mark mark.Semicolon))))
     (1 + max (stmt_depth b) (expr_depth a)) (stmt_DoWhile Spelled Spelled spell_part_step spell_stmt_step p b a) (stmt_DoWhile ℕ ℕ part_depth_step stmt_depth_step p b a)
@@ -218,7 +220,7 @@ if_alone_reads p a b x positive f =
           (f ps (frame.Then at e ∷ s))
           (λ z h. record {
             made = stmt.If at e h.made None;
-            next = λ t u. let other : is_else t.what ≡ false = u (if_alone (Unit {0}) Bool ends_open_part ends_open_step p a b) in
+            next = λ t u. let other : token_is_word t.what word.Else ≡ false = u (if_alone (Unit {0}) Bool ends_open_part ends_open_step p a b) in
                 h.next t (λ v. other) ∙ then_behind ps s at e h.made t other;
             same = if_alone Part Stmt bare_part_step bare_stmt_step at e h.made
                 ∙ (ap (λ v. stmt.If nowhere v (bare_stmt h.made) None) same ∙ (ap (λ v. stmt.If nowhere (bare_expr a) v None) h.same ∙ sym (if_alone Part Stmt bare_part_step bare_stmt_step p a b)));

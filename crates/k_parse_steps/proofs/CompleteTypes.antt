@@ -15,7 +15,7 @@ use Rattle.k_parse_steps.specs.Operators.{is_spec_word}
 use Rattle.k_parse_steps.specs.Level.{plus, above}
 use Rattle.k_num.specs.Top.{top}
 use Rattle.k_parse_steps.specs.Stars.{no_stars, all_stars, star, constant, type_word}
-use Rattle.k_parse_steps.specs.Expressions.{mark_of_type, feed, operand, hole, plug, Opens, goes, level, term, word_operand, is_before_type, is_sizeof, is_sizeof_open, type_begun, in_type, word_of_type, close_type, close_over, type_by}
+use Rattle.k_parse_steps.specs.Expressions.{mark_of_type, feed, operand, hole, plug, Opens, goes, level, term, word_operand, is_before_type, is_sizeof_open, type_begun, in_type, word_of_type, close_type, close_over, type_by}
 use Rattle.k_parse_steps.specs.declared.expression.Open.TheVariants as open_
 use Rattle.k_parse_steps.specs.declared.expression.ExpressionStage.TheVariants as now
 use Rattle.k_parse_steps.specs.declared.turn.Turn.TheVariants as turn
@@ -25,6 +25,7 @@ use Rattle.k_parse_steps.proofs.CompleteHolds.{Feeds, reading, awaits, Holds, Re
 use Rattle.k_parse_steps.proofs.CompleteSteps.{above-one, paren_opens, sizeof_opens}
 use Rattle.k_parse_steps.proofs.CompleteOperators.{reads_by, holds_value, holds_over}
 use Rattle.k_parse_steps.proofs.CompleteEnclosed.{opened_low}
+use Rattle.k_parse_steps.specs.Tokens.{is_word}
 
 abbrev in_name : Site → Opens → List Word → Stars → Reading
 in_name g s specs stars = reading g s (now.Type specs stars)
@@ -55,7 +56,7 @@ star_goes g s specs stars p = refl
 
 const_goes : (g : Site) (s : Opens) (specs : List Word) (stars : Stars) (p : Place)
     → feed (in_name g s specs (star stars)) (token_at p (token.Word word.Const)) ≡ goes g s (now.Type specs (constant (star stars))) 0
-unfolding feed in_type word_of_type type_word mark_of_type
+unfolding feed in_type word_of_type type_word mark_of_type is_word
 const_goes g s specs stars p = refl
 
 -- the name of a type is read up to here
@@ -90,7 +91,8 @@ stars_lead bound g s specs stars done (true ∷ more) positive e = λ p. record 
   };
 }
 
-pub spec_is_no_sizeof : (w : Word) → IsTrue (is_spec w) → is_sizeof w ≡ false
+pub spec_is_no_sizeof : (w : Word) → IsTrue (is_spec w) → is_word w word.Sizeof ≡ false
+unfolding is_word
 spec_is_no_sizeof word.Sizeof h = cc
 spec_is_no_sizeof w h = refl
 

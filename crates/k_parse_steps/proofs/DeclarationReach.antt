@@ -6,7 +6,6 @@ use Rattle.k_tree.specs.declared.tokens.TokenKind.TheVariants as token
 use Rattle.k_tree.specs.declared.tokens.mark.Mark.TheVariants as mark
 use Rattle.k_tree.specs.declared.tree.declaration.Init.TheVariants as init
 use Rattle.k_parse_steps.specs.Level.{plus}
-use Rattle.k_parse_steps.specs.Operators.{is_bracket, is_equal, is_left_brace, is_right_brace}
 use Rattle.k_parse_steps.specs.Expressions.{begin, feed}
 use Rattle.k_parse_steps.specs.declared.turn.Turn.TheVariants as turn
 use Rattle.k_parse_steps.specs.Readings.{is_fresh, closes, read_by, read_needed, maybe_by, read_maybe}
@@ -18,6 +17,7 @@ use Rattle.k_parse_steps.proofs.Commas.{not_none}
 use Rattle.k_parse_steps.proofs.ExpressionReach.{Reached}
 use Rattle.k_parse_steps.proofs.ReadingReach.{Begun, feed_begun}
 use Rattle.k_parse_steps.proofs.TypeWords.{word_split}
+use Rattle.k_parse_steps.specs.Tokens.{is_mark}
 
 -- an expression up to a mark
 abbrev pub ReadStays : ℕ → Read → Type 0
@@ -98,9 +98,9 @@ module _ (lim : ℕ) where
   named_stays : (f : Front) (d : Declarator) (m : Mark) → DeclaredStays lim (spec.named f d m)
   unfolding spec.named
   named_stays f d m =
-      cond_stays (is_bracket m) (spec.declares f (stage.Size d (begin 2 f.level)) 0)
-      (cond (is_equal m) (spec.declares f (stage.Starts d []) (plus f.level 1)) (spec.end f d m)) (λ e reach. begin_begun lim 2 f.level)
-      (λ e. cond_stays (is_equal m) (spec.declares f (stage.Starts d []) (plus f.level 1)) (spec.end f d m)
+      cond_stays (is_mark m mark.LeftBracket) (spec.declares f (stage.Size d (begin 2 f.level)) 0)
+      (cond (is_mark m mark.Equal) (spec.declares f (stage.Starts d []) (plus f.level 1)) (spec.end f d m)) (λ e reach. begin_begun lim 2 f.level)
+      (λ e. cond_stays (is_mark m mark.Equal) (spec.declares f (stage.Starts d []) (plus f.level 1)) (spec.end f d m)
       (λ q reach. one_more f.level reach) (λ q. end_stays f d m))
 
   kind_named_stays : (f : Front) (d : Declarator) (k : TokenKind) → DeclaredStays lim (spec.kind_named f d k)
@@ -155,9 +155,9 @@ module _ (lim : ℕ) where
   mark_starts_stays : (f : Front) (o : Opened) (t : Token) (m : Mark) → DeclaredStays lim (spec.mark_starts f o t m)
   unfolding spec.mark_starts spec.brace spec.last_comma inits.last_comma
   mark_starts_stays f o t m =
-      cond_stays (is_left_brace m) (spec.brace f o t.place) (cond (is_right_brace m) (spec.last_comma f o) (spec.first_token f o t))
+      cond_stays (is_mark m mark.LeftBrace) (spec.brace f o t.place) (cond (is_mark m mark.RightBrace) (spec.last_comma f o) (spec.first_token f o t))
       (λ e reach q. two_more f.level (length o.braces) reach)
-      (λ e. cond_stays (is_right_brace m) (spec.last_comma f o) (spec.first_token f o t) (λ q. last_stays f o.declarator o.braces)
+      (λ e. cond_stays (is_mark m mark.RightBrace) (spec.last_comma f o) (spec.first_token f o t) (λ q. last_stays f o.declarator o.braces)
       (λ q. first_token_stays f o t))
 
   starts_stays : (f : Front) (o : Opened) (t : Token) (k : TokenKind) → DeclaredStays lim (spec.kind_starts f o t k)

@@ -16,9 +16,8 @@ use Rattle.k_tree.specs.Ranked.{Ranked, IfGiven, is_spec, RankedInit, RankedDecl
 use Rattle.k_tree.specs.Spelling.{the_mark, the_word, the_name, spell_specs, spell_stars}
 use Rattle.k_tree.proofs.Standing.{stand-append}
 use Rattle.k_parse_steps.specs.Level.{plus}
-use Rattle.k_parse_steps.specs.Operators.{is_spec_word, is_bracket, is_equal, is_left_brace, is_right_brace}
-use Rattle.k_parse_steps.proofs.Marks.{is_bracket_mark, is_equal_mark, is_left_brace_mark, is_right_brace_mark}
-use Rattle.k_parse_steps.specs.Stars.{all_stars, star, constant, is_const}
+use Rattle.k_parse_steps.specs.Operators.{is_spec_word}
+use Rattle.k_parse_steps.specs.Stars.{all_stars, star, constant}
 use Rattle.k_parse_steps.specs.Expressions.{begin, feed}
 use Rattle.k_parse_steps.specs.declared.turn.Turn.TheVariants as turn
 use Rattle.k_parse_steps.specs.Readings.{read_maybe}
@@ -31,11 +30,13 @@ use Rattle.k_parse_steps.proofs.Rows.{row_push, deepest_more, StartsAt, starts-m
 use Rattle.k_parse_steps.proofs.ExpressionState.{IsRead, Keeps}
 use Rattle.k_parse_steps.proofs.ExpressionTerms.{one_at, stand-more, regroup, three}
 use Rattle.k_parse_steps.proofs.ExpressionTerms as terms
-use Rattle.k_parse_steps.proofs.TypeSound.{stars_more, stars_const, is_const_word, no_stars_yet}
+use Rattle.k_parse_steps.proofs.TypeSound.{stars_more, stars_const, no_stars_yet}
 use Rattle.k_parse_steps.proofs.ReadingSound.{At, site, begin_at, at_keeps, IsMaybe, KeepsMaybe, maybe_keeps, Behind}
 use Rattle.k_parse_steps.proofs.InitialiserSound.{bare_more, plug_keeps, comma_keeps, close_keeps, last_keeps}
 use Rattle.k_parse_steps.proofs.DeclarationState.{lay_bare, lay_front, lay_equal, lay_braces, OkFront, IsDeclarator, OkAfter, OkStarts, OkNamed, OkSize, OkValue, OkStage, OkDeclaration, KeepsDeclared}
 use Rattle.k_parse_steps.proofs.TypeWords.{word_split}
+use Rattle.k_parse_steps.specs.Tokens.{is_mark, is_word}
+use Rattle.k_parse_steps.proofs.Marks.{mark_is, word_is}
 
 none_yet : {A : Type 0} (xs : List A) → nat_eq (length xs) 0 ≡ true → xs ≡ []
 none_yet [] h = refl
@@ -72,7 +73,7 @@ module _ (lim : ℕ) (l : ℕ) (ts : List Token) (t : Token) where
         (stand-more (lay_front f) (plain (spell_stars (all_stars stars))) (plain (the_mark mark.Star)) ts (t ∷ []) st (terms.one t (token.Mark mark.Star) e));
   }
 
-  const_keeps : (f : Front) (stars : Stars) (w : Word) → OkFront lim l f → t.what ≡ token.Word w → stars.pending ≡ true → is_const w ≡ true
+  const_keeps : (f : Front) (stars : Stars) (w : Word) → OkFront lim l f → t.what ≡ token.Word w → stars.pending ≡ true → is_word w word_.Const ≡ true
       → Stand (lay_front f ++ plain (spell_stars (all_stars stars))) ts
       → KeepsDeclared lim l ts t (spec.declares f (stage.Before (constant stars)) 0)
   const_keeps f stars w o e h k st = λ z. record {
@@ -81,7 +82,7 @@ module _ (lim : ℕ) (l : ℕ) (ts : List Token) (t : Token) where
         (sym (ap plain (stars_const stars.done ∙ ap (λ x. spell_stars x ++ the_word word_.Const) (sym pending))
         ∙ map-append _ (spell_stars (all_stars stars)) (the_word word_.Const)))
         (stand-more (lay_front f) (plain (spell_stars (all_stars stars))) (plain (the_word word_.Const)) ts (t ∷ []) st
-        (terms.one t (token.Word word_.Const) (e ∙ ap token.Word (is_const_word w k))));
+        (terms.one t (token.Word word_.Const) (e ∙ ap token.Word (word_is w word_.Const k))));
   }
     where
       pending : all_stars stars ≡ stars.done ++ false ∷ []
@@ -209,8 +210,8 @@ module _ (lim : ℕ) (l : ℕ) (ts : List Token) (t : Token) where
       → KeepsDeclared lim l ts t (spec.named f d m)
   unfolding spec.named
   named_keeps f d m o e k =
-      declared_cond (is_bracket m) _ _ (λ h. bracket_keeps f d o (e ∙ ap token.Mark (is_bracket_mark m h)) k)
-      (λ h. declared_cond (is_equal m) _ _ (λ q. equal_keeps f d (plus f.level 1) o (e ∙ ap token.Mark (is_equal_mark m q)) k) (λ q. end_keeps f d m o e (bare_whole f d k)))
+      declared_cond (is_mark m mark.LeftBracket) _ _ (λ h. bracket_keeps f d o (e ∙ ap token.Mark (mark_is m mark.LeftBracket h)) k)
+      (λ h. declared_cond (is_mark m mark.Equal) _ _ (λ q. equal_keeps f d (plus f.level 1) o (e ∙ ap token.Mark (mark_is m mark.Equal q)) k) (λ q. end_keeps f d m o e (bare_whole f d k)))
 
   kind_named_keeps : (f : Front) (d : Declarator) (k : TokenKind) → OkFront lim l f → t.what ≡ k → OkNamed lim l f d ts
       → KeepsDeclared lim l ts t (spec.kind_named f d k)
@@ -342,8 +343,8 @@ module _ (lim : ℕ) (l : ℕ) (ts : List Token) (t : Token) where
       → KeepsDeclared lim l ts t (spec.mark_starts f (inits.opened d s) t m)
   unfolding spec.mark_starts
   mark_starts_keeps f d s m o e k =
-      declared_cond (is_left_brace m) _ _ (λ h. brace_keeps f d s o (e ∙ ap token.Mark (is_left_brace_mark m h)) k)
-      (λ h. declared_cond (is_right_brace m) _ _ (λ q. last_comma_keeps f d s o (e ∙ ap token.Mark (is_right_brace_mark m q)) k) (λ q. first_keeps f d s o k))
+      declared_cond (is_mark m mark.LeftBrace) _ _ (λ h. brace_keeps f d s o (e ∙ ap token.Mark (mark_is m mark.LeftBrace h)) k)
+      (λ h. declared_cond (is_mark m mark.RightBrace) _ _ (λ q. last_comma_keeps f d s o (e ∙ ap token.Mark (mark_is m mark.RightBrace q)) k) (λ q. first_keeps f d s o k))
 
   kind_starts_keeps : (f : Front) (d : Declarator) (s : List Brace) (k : TokenKind) → OkFront lim l f → t.what ≡ k → OkStarts lim l f d s ts
       → KeepsDeclared lim l ts t (spec.kind_starts f (inits.opened d s) t k)

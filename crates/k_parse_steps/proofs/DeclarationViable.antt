@@ -7,7 +7,7 @@ use Rattle.k_tree.specs.declared.tokens.TokenKind.TheVariants as token
 use Rattle.k_tree.specs.declared.tokens.mark.Mark.TheVariants as mark
 use Rattle.k_tree.specs.declared.tree.declaration.Init.TheVariants as init
 use Rattle.k_parse_steps.specs.Level.{plus}
-use Rattle.k_parse_steps.specs.Operators.{binding, is_bracket, is_equal, is_left_brace, is_right_brace}
+use Rattle.k_parse_steps.specs.Operators.{binding}
 use Rattle.k_parse_steps.specs.Stars.{all_stars}
 use Rattle.k_parse_steps.specs.Expressions.{level, begin, operand, feed}
 use Rattle.k_parse_steps.specs.declared.expression.ExpressionStage.TheVariants as now
@@ -24,6 +24,7 @@ use Rattle.k_parse_steps.proofs.ExpressionViable.{mark_token, Ends_operand}
 use Rattle.k_parse_steps.proofs.ReadingSound.{At, site, begin_at, at_keeps}
 use Rattle.k_parse_steps.proofs.ReadingViable.{inner_can_end, inner_ends, maybe_can_end}
 use Rattle.k_parse_steps.proofs.Runs.{run_ends, CanEnd, goes_then}
+use Rattle.k_parse_steps.specs.Tokens.{is_mark}
 
 -- specifiers and declarators
 abbrev pub Outcome : Type 0
@@ -39,11 +40,11 @@ abbrev pub DeclarationCanEnd : ℕ → Declaration → Type 0
 DeclarationCanEnd lim = CanEnd Declaration Outcome DeclarationGoes DeclarationEnds lim
 
 semicolon_ends : Ends_operand mark.Semicolon
-unfolding binding
+unfolding binding is_mark
 semicolon_ends = (refl, refl)
 
 brace_ends : Ends_operand mark.RightBrace
-unfolding binding
+unfolding binding is_mark
 brace_ends = (refl, refl)
 
 module _ (lim : ℕ) (f : Front) where
@@ -57,7 +58,7 @@ module _ (lim : ℕ) (f : Front) where
 
   -- `;` behind a declarator
   named_ended : (d : Declarator) → Ended (stage.Named d)
-  unfolding spec.feed_declaration spec.named spec.end is_bracket is_equal
+  unfolding spec.feed_declaration spec.named spec.end is_mark
   named_ended d = (
     mark_token mark.Semicolon ∷ [],
     (f.specs, f.list ++ d ∷ []),
@@ -143,7 +144,7 @@ module _ (lim : ℕ) (f : Front) where
   fresh_ended d s le =
       let n : ℕ = plus (plus f.level (length s)) 1 in
       let g : Site = site 1 n in
-      let r : Reading = record { site = g; opens = []; state = now.Named nowhere (97 ∷ []) } in
+      let r : Reading = record { site = g; opens = []; stage = now.Named nowhere (97 ∷ []) } in
       let low : n ≤ lim = level_of s le in
       let k : Keeps lim g [] a_name (turn.Goes r (level g [])) = at_keeps lim g [] a_name (begin 1 n) (begin_at lim 1 n (omega arith)) in
       let a : At lim g r (a_name ∷ []) = k (level_above n low) in
@@ -154,7 +155,7 @@ module _ (lim : ℕ) (f : Front) where
   -- `}` behind a comma
   comma_ended : (d : Declarator) (p : Place) (i : Init) (items : List Init) (s : List Brace)
       → Ended (stage.Starts d (record { place = p; items = i ∷ items } ∷ s))
-  unfolding spec.feed_declaration spec.starts spec.mark_starts spec.last_comma inits.last_comma is_left_brace is_right_brace
+  unfolding spec.feed_declaration spec.starts spec.mark_starts spec.last_comma inits.last_comma is_mark
   comma_ended d p i items s =
       let b : Brace = record { place = p; items = i ∷ items } in
       leads (stage.Starts d (b ∷ s))

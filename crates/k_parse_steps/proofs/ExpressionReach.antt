@@ -7,15 +7,17 @@ use Rattle.k_tree.specs.declared.tokens.mark.Mark.TheVariants as mark
 use Rattle.k_tree.specs.declared.tree.expression.Expr.TheVariants as expr
 use Rattle.k_parse_steps.specs.Level.{plus}
 use Rattle.k_num.specs.Top.{top}
-use Rattle.k_parse_steps.specs.Operators.{is_step_mark, is_prefix_mark, is_spec_word, is_open, is_close, is_bracket, is_question}
+use Rattle.k_parse_steps.specs.Operators.{is_step_mark, is_prefix_mark, is_spec_word}
 use Rattle.k_parse_steps.specs.Stars.{all_stars}
-use Rattle.k_parse_steps.specs.Expressions.{Opens, goes, level, hole, term, valued, posted, plug, is_sizeof, is_sizeof_open, opened, no_arguments, prefix_operator, mark_operand, is_before_type, type_begun, word_operand, operand_at, operand, close_over, close_type, word_of_type, mark_of_type, in_type_at, in_type, operator_opens, take_operator, argued, then_ends, paren_ends, index_ends, enclose, takes_token, take_token, closed_by, value, is_left_paren, named, feed_at, feed, type_by}
+use Rattle.k_parse_steps.specs.Expressions.{Opens, goes, level, hole, term, valued, posted, plug, is_sizeof_open, opened, no_arguments, prefix_operator, mark_operand, is_before_type, type_begun, word_operand, operand_at, operand, close_over, close_type, word_of_type, mark_of_type, in_type_at, in_type, operator_opens, take_operator, argued, then_ends, paren_ends, index_ends, enclose, takes_token, take_token, closed_by, value, named, stage_fed, feed, type_by}
 use Rattle.k_parse_steps.specs.declared.expression.Open.TheVariants as open_
 use Rattle.k_parse_steps.specs.declared.expression.ExpressionStage.TheVariants as now
 use Rattle.k_parse_steps.specs.declared.turn.Turn.TheVariants as turn
 use Rattle.k_parse_steps.specs.declared.expression.plug.Plugged.TheVariants as plugged
 use Rattle.k_parse_steps.proofs.ExpressionState.{lev}
 use Rattle.k_parse_steps.proofs.TypeWords.{word_split}
+use Rattle.k_parse_steps.specs.Tokens.{is_mark, is_word, token_is_mark}
+use Rattle.k_tree.specs.declared.tokens.word.Word.TheVariants as word
 
 -- what a cast, a prefix operator or a parenthesis with its node at level l makes sure: an operand one level down;
 -- but `sizeof (` may go on with a type
@@ -63,16 +65,16 @@ module _ (lim : ℕ) (g : Site) where
   mark_stays : (s : Opens) (m : Mark) (p : Place) → Reached lim g s → Stays lim g (mark_operand g s m p)
   unfolding mark_operand prefix_operator
   mark_stays s m p h =
-      cond_stays (is_open m) (opened g s p) (cond (is_close m) (no_arguments g s) (cond (is_prefix_mark m) (prefix_operator g s m p) turn.Refused))
+      cond_stays (is_mark m mark.LeftParen) (opened g s p) (cond (is_mark m mark.RightParen) (no_arguments g s) (cond (is_prefix_mark m) (prefix_operator g s m p) turn.Refused))
       (λ e. opened_stays s p h)
-      (λ e. cond_stays (is_close m) (no_arguments g s) (cond (is_prefix_mark m) (prefix_operator g s m p) turn.Refused)
+      (λ e. cond_stays (is_mark m mark.RightParen) (no_arguments g s) (cond (is_prefix_mark m) (prefix_operator g s m p) turn.Refused)
       (λ q. no_arguments_stays s h)
       (λ q. cond_stays (is_prefix_mark m) (prefix_operator g s m p) turn.Refused (λ k reach. (refl, (deeper s reach, h))) (λ k. tt)))
 
   word_stays : (s : Opens) (w : Word) (p : Place) → Reached lim g s → Stays lim g (word_operand g s w p)
   unfolding word_operand
   word_stays s w p h =
-      cond_stays (is_sizeof w) (goes g (open_.Sizeof p ∷ s) now.Operand (level g s))
+      cond_stays (is_word w word.Sizeof) (goes g (open_.Sizeof p ∷ s) now.Operand (level g s))
       (cond (is_spec_word w && is_before_type g s) (type_begun g s w) turn.Refused) (λ e reach. (refl, (tt, h)))
       (λ e. cond_stays (is_spec_word w && is_before_type g s) (type_begun g s w) turn.Refused (λ q reach. (refl, h)) (λ q. tt))
 
@@ -112,9 +114,9 @@ module _ (lim : ℕ) (g : Site) where
 
   opens_stays : (s : Opens) (a : Term) (op : Mark) (p : Place) → Reached lim g s → Reached lim g (operator_opens op a p ∷ s)
   opens_stays s a op p h =
-      cond_both (is_bracket op) (open_.Index p a) (cond (is_question op) (open_.Then p a) (open_.Infix p op a)) (λ o. Reached lim g (o ∷ s))
+      cond_both (is_mark op mark.LeftBracket) (open_.Index p a) (cond (is_mark op mark.Question) (open_.Then p a) (open_.Infix p op a)) (λ o. Reached lim g (o ∷ s))
       (λ e. (tt, h))
-      (λ e. cond_both (is_question op) (open_.Then p a) (open_.Infix p op a) (λ o. Reached lim g (o ∷ s)) (λ q. (tt, h)) (λ q. (tt, h)))
+      (λ e. cond_both (is_mark op mark.Question) (open_.Then p a) (open_.Infix p op a) (λ o. Reached lim g (o ∷ s)) (λ q. (tt, h)) (λ q. (tt, h)))
 
   take_stays : (s : Opens) (a : Term) (k : TokenKind) (p : Place) → Reached lim g s → Stays lim g (take_token g s a k p)
   unfolding take_operator
@@ -153,15 +155,15 @@ module _ (lim : ℕ) (g : Site) where
       (closed_by g s (plug o a) t.what (λ b. value g s b t)) (λ e. take_stays (o ∷ s) a t.what t.place h)
       (λ e. closed_stays s (plug o a) t.what (λ b. value g s b t) h.1 (λ b. value_stays s b t h.1))
 
-  now_stays : (s : Opens) (n : ExpressionStage) (t : Token) → Reached lim g s → Stays lim g (feed_at g s n t)
+  now_stays : (s : Opens) (n : ExpressionStage) (t : Token) → Reached lim g s → Stays lim g (stage_fed g s n t)
   unfolding operand named in_type
   now_stays s now.Operand t h = kind_stays s t.place t.what h
   now_stays s (now.Named p x) t h =
-      cond_stays (is_left_paren t.what) (goes g (open_.Call p x [] 0 ∷ s) now.Operand 0) (value g s (term (expr.Name p x) 16 1) t)
+      cond_stays (token_is_mark t.what mark.LeftParen) (goes g (open_.Call p x [] 0 ∷ s) now.Operand 0) (value g s (term (expr.Name p x) 16 1) t)
       (λ e reach. (refl, (tt, h))) (λ e. value_stays s (term (expr.Name p x) 16 1) t h)
   now_stays s (now.Type specs stars) t h = type_stays s specs stars t.what h
   now_stays s (now.Value a) t h = value_stays s a t h
 
 pub feed_stays : (lim : ℕ) → (r : Reading) (t : Token) → Reached lim r.site r.opens → Stays lim r.site (feed r t)
 unfolding feed
-feed_stays lim r t h = now_stays lim r.site r.opens r.state t h
+feed_stays lim r t h = now_stays lim r.site r.opens r.stage t h

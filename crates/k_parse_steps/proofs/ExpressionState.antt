@@ -82,7 +82,7 @@ ValidNow lim g s (now.Value a) = (hole g s ≤ a.rank) × Fits lim (lev g s) a
 pub record Inv (lim : ℕ) (g : Site) (s : Opens) (n : ExpressionStage) (ts : List Token) : Type 0 where
   pub stands : Stand (laid s n) ts
   pub opens : Valid lim g s
-  pub state : ValidNow lim g s n
+  pub stage : ValidNow lim g s n
 
 -- an expression that was read whole
 pub record IsRead (lim : ℕ) (g : Site) (e : Expr) (ts : List Token) : Type 0 where
@@ -92,6 +92,6 @@ pub record IsRead (lim : ℕ) (g : Site) (e : Expr) (ts : List Token) : Type 0 w
 
 -- a token keeps it so
 abbrev pub Keeps : ℕ → Site → List Token → Token → Fed → Type 0
-Keeps lim g ts t (turn.Goes r reach) = reach ≤ lim → (r.site ≡ g) × Inv lim g r.opens r.state (ts ++ t ∷ [])
+Keeps lim g ts t (turn.Goes r reach) = reach ≤ lim → (r.site ≡ g) × Inv lim g r.opens r.stage (ts ++ t ∷ [])
 Keeps lim g ts t (turn.Done e) = IsRead lim g e ts
 Keeps lim g ts t turn.Refused = Unit {0}

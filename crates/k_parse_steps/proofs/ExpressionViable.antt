@@ -11,15 +11,16 @@ use Rattle.k_tree.specs.declared.tokens.mark.Mark.TheVariants as mark
 use Rattle.k_tree.specs.declared.tokens.word.Word.TheVariants as word
 use Rattle.k_tree.specs.declared.tree.expression.Expr.TheVariants as expr
 use Rattle.k_parse_steps.specs.Level.{plus, above}
-use Rattle.k_parse_steps.specs.Operators.{binding, takes_by, takes, is_spec_word, is_open, is_close}
+use Rattle.k_parse_steps.specs.Operators.{binding, takes_by, takes, is_spec_word}
 use Rattle.k_parse_steps.specs.Stars.{no_stars, all_stars}
-use Rattle.k_parse_steps.specs.Expressions.{Opens, goes, level, hole, term, opened, no_arguments, mark_operand, is_before_type, word_operand, operand, close_over, close_type, mark_of_type, in_type, infix_made, conditional, prefixed, enclosed, indexed, plug, argued, then_ends, paren_ends, index_ends, enclose, closed_by, value, is_left_paren, named, feed}
+use Rattle.k_parse_steps.specs.Expressions.{Opens, goes, level, hole, term, opened, no_arguments, mark_operand, is_before_type, word_operand, operand, close_over, close_type, mark_of_type, in_type, infix_made, conditional, prefixed, enclosed, indexed, plug, argued, then_ends, paren_ends, index_ends, enclose, closed_by, value, named, feed}
 use Rattle.k_parse_steps.specs.declared.expression.Open.TheVariants as open_
 use Rattle.k_parse_steps.specs.declared.expression.ExpressionStage.TheVariants as now
 use Rattle.k_parse_steps.specs.declared.turn.Turn.TheVariants as turn
 use Rattle.k_parse_steps.proofs.ExpressionState.{Fits, OkOpen, ok_infix, ok_then, ok_other, ok_index, ok_call, lev, Valid, ValidNow}
 use Rattle.k_parse_steps.proofs.ExpressionReach.{Reached}
 use Rattle.k_parse_steps.proofs.ExpressionDepth.{some_depth}
+use Rattle.k_parse_steps.specs.Tokens.{is_mark, is_word, token_is_mark}
 
 -- a mark, whatever its place
 abbrev pub mark_token : Mark → Token
@@ -27,10 +28,10 @@ mark_token m = record { what = token.Mark m; place = nowhere }
 
 -- a mark that goes on with no operand
 abbrev pub Ends_operand : Mark → Type 0
-Ends_operand m = (binding m ≡ None) × (is_left_paren (token.Mark m) ≡ false)
+Ends_operand m = (binding m ≡ None) × (token_is_mark (token.Mark m) mark.LeftParen ≡ false)
 
 abbrev reading : Site → Opens → ExpressionStage → Reading
-reading g s n = record { site = g; opens = s; state = n }
+reading g s n = record { site = g; opens = s; stage = n }
 
 -- tokens, each within the limit, that lead from a reading to the end of the expression, before a last token
 pub data Completes (lim : ℕ) (end : Token) : Reading → List Token → Expr → Type 0 where
@@ -50,15 +51,15 @@ passes g s o a m e =
     cond-false (takes (hole g (o ∷ s)) a.rank m) _ _ (not_taken (hole g (o ∷ s)) a.rank m e)
 
 colon_ends : Ends_operand mark.Colon
-unfolding binding
+unfolding binding is_mark
 colon_ends = (refl, refl)
 
 right_paren_ends : Ends_operand mark.RightParen
-unfolding binding
+unfolding binding is_mark
 right_paren_ends = (refl, refl)
 
 right_bracket_ends : Ends_operand mark.RightBracket
-unfolding binding
+unfolding binding is_mark
 right_bracket_ends = (refl, refl)
 
 module _ (lim : ℕ) (end : Mark) (ends : Ends_operand end) (g : Site) where
@@ -85,7 +86,7 @@ module _ (lim : ℕ) (end : Mark) (ends : Ends_operand end) (g : Site) where
   alone : (s : Opens) (p : Place) (x : List ℕ) (m : Mark) → Ends_operand m
       → named g s p x (mark_token m) ≡ value g s (term (expr.Name p x) 16 1) (mark_token m)
   unfolding named
-  alone s p x m h = cond-false (is_left_paren (token.Mark m)) _ _ h.1
+  alone s p x m h = cond-false (token_is_mark (token.Mark m) mark.LeftParen) _ _ h.1
 
   named_completes : (s : Opens) (p : Place) (x : List ℕ) (us : List Token) (e : Expr) → Ending s (term (expr.Name p x) 16 1) us e
       → Completes lim (mark_token end) (reading g s (now.Named p x)) us e
@@ -254,7 +255,7 @@ module _ (lim : ℕ) (end : Mark) (ends : Ends_operand end) (g : Site) where
   int = record { what = token.Word word.Int; place = nowhere }
 
   int_completes : (s : Opens) (q p : Place) → Valid lim g s → Completed (open_.Paren p ∷ (open_.Sizeof q ∷ s)) now.Operand
-  unfolding feed operand word_operand is_spec_word is_before_type int
+  unfolding feed operand word_operand is_spec_word is_before_type int is_word
   int_completes s q p v =
       let r : Reading = reading g (open_.Paren p ∷ (open_.Sizeof q ∷ s)) (now.Type (word.Int ∷ []) no_stars) in
       let x : Completed (open_.Paren p ∷ (open_.Sizeof q ∷ s)) (now.Type (word.Int ∷ []) no_stars) =
@@ -266,7 +267,7 @@ module _ (lim : ℕ) (end : Mark) (ends : Ends_operand end) (g : Site) where
 
   -- `( int )` behind `sizeof`
   sizeof_completes : (s : Opens) (q : Place) → Valid lim g s → Completed (open_.Sizeof q ∷ s) now.Operand
-  unfolding feed operand mark_operand opened is_open
+  unfolding feed operand mark_operand opened is_mark
   sizeof_completes s q v =
       let x : Completed (open_.Paren nowhere ∷ (open_.Sizeof q ∷ s)) now.Operand = int_completes s q nowhere v in (
         mark_token mark.LeftParen ∷ x.0,
@@ -277,7 +278,7 @@ module _ (lim : ℕ) (end : Mark) (ends : Ends_operand end) (g : Site) where
 
   -- `)` behind `name (`
   empty_completes : (s : Opens) (p : Place) (x : List ℕ) (height : ℕ) → Valid lim g s → Completed (open_.Call p x [] height ∷ s) now.Operand
-  unfolding feed operand mark_operand no_arguments is_open is_close
+  unfolding feed operand mark_operand no_arguments is_mark
   empty_completes s p x height v =
       let w : Term = term (expr.Call p x []) 15 1 in
       let y : Ended s w = value_ending s w v in (

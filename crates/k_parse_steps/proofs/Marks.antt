@@ -1,12 +1,16 @@
--- Which operators there are behind an operand, and what each makes.
+-- Which operators there are behind an operand, and what each makes; which mark and which keyword a token is.
 use Rattle.std.proofs.Common.{ℕ, suc, ◌≡◌, ◌+◌, ◌≤◌, true, false, IsTrue, Some, None, refl, ◌∙◌, ap, arith}
-use Rattle.k_parse_steps.specs.Types.{Place, Mark, Term, TokenKind}
+use denote.Enum.Bare.{same_true}
+use Rattle.k_parse_steps.specs.Types.{Place, Mark, Word, Term, TokenKind}
+use Rattle.k_tree.specs.contracts.tokens.mark.Mark as marks
+use Rattle.k_tree.specs.contracts.tokens.word.Word as words
 use Rattle.k_tree.specs.declared.tokens.TokenKind.TheVariants as token
 use Rattle.k_tree.specs.declared.tokens.mark.Mark.TheVariants as mark
 use Rattle.k_tree.specs.Ranked.{binary_rank, is_assignment, is_step}
-use Rattle.k_parse_steps.specs.Operators.{binding, binding_by, other_binding, is_step_mark, is_open, is_close, is_bracket, is_question, is_equal, is_left_brace, is_right_brace, is_star, is_semicolon}
+use Rattle.k_parse_steps.specs.Operators.{binding, binding_by, other_binding, is_step_mark}
+use Rattle.k_parse_steps.specs.Tokens.{is_mark, is_word, token_is_mark, token_is_word}
 use Rattle.k_parse_steps.specs.declared.expression.Open.TheVariants as open_
-use Rattle.k_parse_steps.specs.Expressions.{operator_opens, is_left_paren}
+use Rattle.k_parse_steps.specs.Expressions.{operator_opens}
 
 -- a binary, assignment or comma operator, by the least rank of its left operand, the rank of what it makes, and the least
 -- rank of its right operand
@@ -39,7 +43,7 @@ assign_kind op b e s o =
     (ap (λ r. binding_by r (is_assignment op) (other_binding op)) b ∙ ap (λ r. binding_by None r (other_binding op)) e) s o
 
 pub kind_of : (op : Mark) → Kind op
-unfolding binding is_step_mark is_bracket is_question
+unfolding binding is_step_mark is_mark
 kind_of mark.Comma = infix_kind mark.Comma 0 0 1 is_comma refl refl (λ a p. refl)
 kind_of mark.Question = question
 kind_of mark.LeftBracket = bracket
@@ -79,46 +83,18 @@ kind_of op = no_operator op refl
 pub false_true : false ≡ true → ⊥
 false_true z = cc
 
-pub is_open_mark : (m : Mark) → is_open m ≡ true → m ≡ mark.LeftParen
-unfolding is_open
-is_open_mark mark.LeftParen h = refl
-is_open_mark _ h = absurd (false_true h)
+pub mark_is : (m which : Mark) → is_mark m which ≡ true → m ≡ which
+unfolding is_mark
+mark_is m which h = same_true marks.the_type tt m which h
 
-pub is_close_mark : (m : Mark) → is_close m ≡ true → m ≡ mark.RightParen
-unfolding is_close
-is_close_mark mark.RightParen h = refl
-is_close_mark _ h = absurd (false_true h)
+pub word_is : (w which : Word) → is_word w which ≡ true → w ≡ which
+unfolding is_word
+word_is w which h = same_true words.the_type tt w which h
 
-pub is_bracket_mark : (m : Mark) → is_bracket m ≡ true → m ≡ mark.LeftBracket
-unfolding is_bracket
-is_bracket_mark mark.LeftBracket h = refl
-is_bracket_mark _ h = absurd (false_true h)
+pub token_mark_is : (k : TokenKind) (which : Mark) → token_is_mark k which ≡ true → k ≡ token.Mark which
+token_mark_is (token.Mark m) which h = ap token.Mark (mark_is m which h)
+token_mark_is _ which h = absurd (false_true h)
 
-pub is_equal_mark : (m : Mark) → is_equal m ≡ true → m ≡ mark.Equal
-unfolding is_equal
-is_equal_mark mark.Equal h = refl
-is_equal_mark _ h = absurd (false_true h)
-
-pub is_left_brace_mark : (m : Mark) → is_left_brace m ≡ true → m ≡ mark.LeftBrace
-unfolding is_left_brace
-is_left_brace_mark mark.LeftBrace h = refl
-is_left_brace_mark _ h = absurd (false_true h)
-
-pub is_right_brace_mark : (m : Mark) → is_right_brace m ≡ true → m ≡ mark.RightBrace
-unfolding is_right_brace
-is_right_brace_mark mark.RightBrace h = refl
-is_right_brace_mark _ h = absurd (false_true h)
-
-pub is_star_mark : (m : Mark) → is_star m ≡ true → m ≡ mark.Star
-unfolding is_star
-is_star_mark mark.Star h = refl
-is_star_mark _ h = absurd (false_true h)
-
-pub is_semicolon_mark : (m : Mark) → is_semicolon m ≡ true → m ≡ mark.Semicolon
-unfolding is_semicolon
-is_semicolon_mark mark.Semicolon h = refl
-is_semicolon_mark _ h = absurd (false_true h)
-
-pub left_paren_is : (k : TokenKind) → is_left_paren k ≡ true → k ≡ token.Mark mark.LeftParen
-left_paren_is (token.Mark mark.LeftParen) h = refl
-left_paren_is _ h = absurd (false_true h)
+pub token_word_is : (k : TokenKind) (which : Word) → token_is_word k which ≡ true → k ≡ token.Word which
+token_word_is (token.Word w) which h = ap token.Word (word_is w which h)
+token_word_is _ which h = absurd (false_true h)

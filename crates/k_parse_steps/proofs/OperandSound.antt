@@ -13,14 +13,15 @@ use Rattle.k_tree.specs.Places.{Pieces, plain, at, lay_expr, lay_expr_step, Stan
 use Rattle.k_tree.specs.Ranked.{Ranked, is_spec, number, character, string, call, no_args}
 use Rattle.k_tree.specs.Spelling.{the_mark, the_word}
 use Rattle.k_tree.proofs.Standing.{stand-append}
-use Rattle.k_parse_steps.specs.Operators.{is_open, is_close, is_prefix_mark, is_step_mark, is_spec_word}
-use Rattle.k_parse_steps.specs.Expressions.{Opens, goes, level, hole, prefix_rank, leaf, opened, no_arguments, prefix_operator, mark_operand, is_before_type, type_begun, is_sizeof, word_operand, operand_at, operand}
+use Rattle.k_parse_steps.specs.Operators.{is_prefix_mark, is_step_mark, is_spec_word}
+use Rattle.k_parse_steps.specs.Expressions.{Opens, goes, level, hole, prefix_rank, leaf, opened, no_arguments, prefix_operator, mark_operand, is_before_type, type_begun, word_operand, operand_at, operand}
 use Rattle.k_parse_steps.specs.declared.expression.Open.TheVariants as open_
 use Rattle.k_parse_steps.specs.declared.expression.ExpressionStage.TheVariants as now
 use Rattle.k_parse_steps.specs.declared.turn.Turn.TheVariants as turn
-use Rattle.k_parse_steps.proofs.Marks.{is_open_mark, is_close_mark, Infix, is_comma, is_assign, is_binary}
+use Rattle.k_parse_steps.proofs.Marks.{Infix, is_comma, is_assign, is_binary, mark_is, word_is}
 use Rattle.k_parse_steps.proofs.ExpressionState.{lay_opens, ok_infix, ok_then, ok_other, ok_cast, ok_prefix, ok_sizeof, ok_paren, ok_index, ok_call, Valid, Keeps}
 use Rattle.k_parse_steps.proofs.ExpressionTerms.{one_at, one, stand-more, and_left, and_right}
+use Rattle.k_parse_steps.specs.Tokens.{is_mark, is_word}
 
 -- the right operand of an infix operator has a rank up to 13
 infix_right : (op : Mark) (left own right : ℕ) → Infix op left own right → own ≤ 12 → right ≤ 14
@@ -64,7 +65,7 @@ module _ (lim : ℕ) (g : Site) (ts : List Token) (t : Token) where
     record {
       stands = stand-append (lay_opens s) (lay_expr tree) ts (t ∷ []) st (subst (λ z. Stand z (t ∷ [])) (sym l) (one_at t k e));
       opens = v;
-      state = (
+      stage = (
         omega (arith, hole_small lim g s v),
         record {
           ranked = r;
@@ -83,7 +84,7 @@ module _ (lim : ℕ) (g : Site) (ts : List Token) (t : Token) where
     record {
       stands = stand-append (lay_opens s) _ ts (t ∷ []) st (one_at t (token.Mark mark.LeftParen) e);
       opens = (ok_paren t.place (hole_small lim g s v), v);
-      state = tt;
+      stage = tt;
     },
   )
 
@@ -95,7 +96,7 @@ module _ (lim : ℕ) (g : Site) (ts : List Token) (t : Token) where
     record {
       stands = stand-append (lay_opens s) _ ts (t ∷ []) st (one_at t (token.Mark op) e);
       opens = (ok_prefix t.place op (hole_small lim g s v) h, v);
-      state = tt;
+      stage = tt;
     },
   )
 
@@ -112,7 +113,7 @@ module _ (lim : ℕ) (g : Site) (ts : List Token) (t : Token) where
       stands = subst (λ z. Stand (lay_opens s ++ z) (ts ++ t ∷ [])) (sym (expr_Call Pieces lay_expr_step p x []))
           (stand-more (lay_opens s) _ (plain (the_mark mark.RightParen)) ts (t ∷ []) st (one t (token.Mark mark.RightParen) e));
       opens = v;
-      state = (
+      stage = (
         omega (arith, hole_small lim g s v),
         record {
           ranked = call 15 p x [] (omega arith) no_args;
@@ -141,21 +142,17 @@ module _ (lim : ℕ) (g : Site) (ts : List Token) (t : Token) where
       → Keeps lim g ts t (mark_operand g s m t.place)
   unfolding mark_operand
   mark_keeps s m e st v =
-      cond_keeps lim g ts t (is_open m) _ _ (λ h. opened_keeps s (e ∙ ap token.Mark (is_open_mark m h)) st v)
-      (λ h. cond_keeps lim g ts t (is_close m) _ _ (λ k. no_arguments_keeps s (e ∙ ap token.Mark (is_close_mark m k)) st v) (λ k. prefix_or_none s m e st v))
+      cond_keeps lim g ts t (is_mark m mark.LeftParen) _ _ (λ h. opened_keeps s (e ∙ ap token.Mark (mark_is m mark.LeftParen h)) st v)
+      (λ h. cond_keeps lim g ts t (is_mark m mark.RightParen) _ _ (λ k. no_arguments_keeps s (e ∙ ap token.Mark (mark_is m mark.RightParen k)) st v) (λ k. prefix_or_none s m e st v))
 
-  is_sizeof_word : (w : Word) → is_sizeof w ≡ true → w ≡ word.Sizeof
-  is_sizeof_word word.Sizeof h = refl
-  is_sizeof_word _ h = cc
-
-  sizeof_keeps : (s : Opens) (w : Word) → t.what ≡ token.Word w → is_sizeof w ≡ true → Stand (lay_opens s) ts → Valid lim g s
+  sizeof_keeps : (s : Opens) (w : Word) → t.what ≡ token.Word w → is_word w word.Sizeof ≡ true → Stand (lay_opens s) ts → Valid lim g s
       → Keeps lim g ts t (goes g (open_.Sizeof t.place ∷ s) now.Operand (level g s))
   sizeof_keeps s w e h st v = λ reach. (
     refl,
     record {
-      stands = stand-append (lay_opens s) _ ts (t ∷ []) st (one_at t (token.Word word.Sizeof) (e ∙ ap token.Word (is_sizeof_word w h)));
+      stands = stand-append (lay_opens s) _ ts (t ∷ []) st (one_at t (token.Word word.Sizeof) (e ∙ ap token.Word (word_is w word.Sizeof h)));
       opens = (ok_sizeof t.place (hole_small lim g s v) reach, v);
-      state = tt;
+      stage = tt;
     },
   )
 
@@ -167,7 +164,7 @@ module _ (lim : ℕ) (g : Site) (ts : List Token) (t : Token) where
     record {
       stands = stand-append (lay_opens s) (plain (the_word w)) ts (t ∷ []) st (one t (token.Word w) e);
       opens = v;
-      state = ((λ q. cc, All-cons (λ u. IsTrue (is_spec u)) w [] h (All-nil (λ u. IsTrue (is_spec u)))), b);
+      stage = ((λ q. cc, All-cons (λ u. IsTrue (is_spec u)) w [] h (All-nil (λ u. IsTrue (is_spec u)))), b);
     },
   )
 
@@ -175,7 +172,7 @@ module _ (lim : ℕ) (g : Site) (ts : List Token) (t : Token) where
       → Keeps lim g ts t (word_operand g s w t.place)
   unfolding word_operand
   word_keeps s w e st v =
-      cond_keeps lim g ts t (is_sizeof w) _ _ (λ h. sizeof_keeps s w e h st v)
+      cond_keeps lim g ts t (is_word w word.Sizeof) _ _ (λ h. sizeof_keeps s w e h st v)
       (λ h. cond_keeps lim g ts t (is_spec_word w && is_before_type g s) (type_begun g s w) turn.Refused
       (λ k. type_begun_keeps s w e (and_left (is_spec_word w) (is_before_type g s) k) (and_right (is_spec_word w) (is_before_type g s) k) st v)
       (λ k. tt))
@@ -187,7 +184,7 @@ module _ (lim : ℕ) (g : Site) (ts : List Token) (t : Token) where
     record {
       stands = stand-append (lay_opens s) _ ts (t ∷ []) st (one_at t (token.Name x) e);
       opens = v;
-      state = reach;
+      stage = reach;
     },
   )
   kind_keeps s (token.Number kind n) e st v =

@@ -14,8 +14,8 @@ use Rattle.k_tree.specs.Places.{Pieces, plain, lay_dim, lay_dims, lay_option, la
 use Rattle.k_tree.specs.Ranked.{Ranked, IfGiven, Specs, is_spec, RankedDims, RankedParam, RankedParams, IsVoidAlone}
 use Rattle.k_tree.specs.Spelling.{the_mark, the_word, the_name, spell_specs, spell_stars, spell_optional_name}
 use Rattle.k_tree.proofs.Standing.{stand-append}
-use Rattle.k_parse_steps.specs.Operators.{is_spec_word, is_bracket, is_star}
-use Rattle.k_parse_steps.proofs.Marks.{is_bracket_mark, is_star_mark, false_true}
+use Rattle.k_parse_steps.specs.Operators.{is_spec_word}
+use Rattle.k_parse_steps.proofs.Marks.{false_true, mark_is, word_is}
 use Rattle.k_parse_steps.specs.Stars.{all_stars, star, constant}
 use Rattle.k_parse_steps.specs.Expressions.{begin}
 use Rattle.k_parse_steps.specs.Readings.{read_maybe}
@@ -26,10 +26,11 @@ use Rattle.k_parse_steps.specs.declared.parameter.ParameterStage.TheVariants as 
 use Rattle.k_parse_steps.proofs.Commas.{comma, lay_each, each_push, with_last, not_none}
 use Rattle.k_parse_steps.proofs.Rows.{row_push, deepest_more, StartsAt, starts-more, at_stands, no_items}
 use Rattle.k_parse_steps.proofs.ExpressionTerms.{one, stand-more, regroup, and_left, and_right}
-use Rattle.k_parse_steps.proofs.TypeSound.{stars_more, stars_const, is_const_word, no_stars_yet}
+use Rattle.k_parse_steps.proofs.TypeSound.{stars_more, stars_const, no_stars_yet}
 use Rattle.k_parse_steps.proofs.ReadingSound.{At, site, begin_at, IsMaybe, KeepsMaybe, maybe_keeps, Behind}
 use Rattle.k_parse_steps.proofs.DeclarationSound.{behind_all, behind_now}
 use Rattle.k_parse_steps.proofs.TypeWords.{word_split}
+use Rattle.k_parse_steps.specs.Tokens.{is_mark, is_word}
 
 -- the parameter that is read stands behind those before it, and begins at its place
 abbrev pub lay_inner : Param → Pieces
@@ -66,7 +67,7 @@ OkPart lim list (part_.Size p r) ts = OkSize lim list p r ts
 
 pub record OkParameters (lim : ℕ) (ps : Parameters) (ts : List Token) : Type 0 where
   pub list : OkList lim ps.list
-  pub part : OkPart lim ps.list ps.part ts
+  pub stage : OkPart lim ps.list ps.stage ts
 
 -- parameters that were read whole, with the parenthesis behind them
 pub record AreRead (lim : ℕ) (ps : Params) (ts : List Token) : Type 0 where
@@ -86,20 +87,16 @@ ranked_list (x ∷ []) p h k = h
 ranked_list (x ∷ (y ∷ list)) p h k = h
 
 alone_tells : (p : Param) → IsVoidAlone p → spec.is_void_alone p ≡ true
-unfolding spec.is_void_alone
+unfolding spec.is_void_alone is_word
 alone_tells p h =
     subst (λ a. (spec.is_void_list a && (nat_eq (length p.stars) 0 && (is_none p.name && nat_eq (length p.dims) 0))) ≡ true) (sym h.0)
     (subst (λ a. (nat_eq (length a) 0 && (is_none p.name && nat_eq (length p.dims) 0)) ≡ true) (sym h.1)
     (subst (λ a. (is_none a && nat_eq (length p.dims) 0) ≡ true) (sym h.2)
     (subst (λ a. nat_eq (length a) 0 ≡ true) (sym h.3) refl)))
 
-void_word : (w : Word) → spec.is_void w ≡ true → w ≡ word_.Void
-void_word word_.Void h = refl
-void_word _ h = absurd (false_true h)
-
 void_list : (ws : List Word) → spec.is_void_list ws ≡ true → ws ≡ word_.Void ∷ []
 void_list [] h = absurd (false_true h)
-void_list (w ∷ []) h = ap (λ z. z ∷ []) (void_word w h)
+void_list (w ∷ []) h = ap (λ z. z ∷ []) (word_is w word_.Void h)
 void_list (w ∷ (v ∷ ws)) h = absurd (false_true h)
 
 none_given : {A : Type 0} (x : Option A) → is_none x ≡ true → x ≡ None
@@ -161,7 +158,7 @@ module _ (lim : ℕ) (ts : List Token) (t : Token) where
       parametric_cond (is_spec_word w) _ turn.Refused
       (λ h z. record {
         list = o;
-        part = record {
+        stage = record {
           behind = record { front = ts; back = t ∷ []; is = refl; stands = st; rest = (one t (token.Word w) e, refl) };
           specs = (λ q. cc, All-push (λ u. IsTrue (is_spec u)) [] w (All-nil _) h);
           no_name = refl;
@@ -207,7 +204,7 @@ module _ (lim : ℕ) (ts : List Token) (t : Token) where
   unfolding spec.end
   end_keeps list p mark.Comma o e k = λ z. record {
     list = record { ranked = All-push RankedParam list p o.ranked k.ranked; within = omega (arith, o.within, k.within, deepest_more param_depth list p) };
-    part = subst (λ x. Stand x (ts ++ t ∷ [])) (sym (each_push lay_param list p))
+    stage = subst (λ x. Stand x (ts ++ t ∷ [])) (sym (each_push lay_param list p))
         (stand-more (lay_each lay_param list) (lay_param p) comma ts (t ∷ []) (whole_stands list p k) (one t (token.Mark mark.Comma) e));
   }
   end_keeps list p mark.RightParen o e k =
@@ -233,7 +230,7 @@ module _ (lim : ℕ) (ts : List Token) (t : Token) where
       → KeepsParametric lim ts t (spec.follows list (part_.Size p (begin 2 1)) 0)
   bracket_keeps list p o e k = λ z. record {
     list = o;
-    part = record {
+    stage = record {
       behind = push_behind list _ _ (λ us h. (
         behind_now (lay_inner p ++ plain (the_mark mark.LeftBracket)) _ (us ++ t ∷ [])
             (stand-append (lay_inner p) (plain (the_mark mark.LeftBracket)) us (t ∷ []) h.0 (one t (token.Mark mark.LeftBracket) e)) (begin_at lim 2 1 (omega arith)),
@@ -248,7 +245,7 @@ module _ (lim : ℕ) (ts : List Token) (t : Token) where
       → KeepsParametric lim ts t (spec.named list p m)
   unfolding spec.named
   named_keeps list p m o e k =
-      parametric_cond (is_bracket m) _ _ (λ h. bracket_keeps list p o (e ∙ ap token.Mark (is_bracket_mark m h)) k) (λ h. end_keeps list p m o e k)
+      parametric_cond (is_mark m mark.LeftBracket) _ _ (λ h. bracket_keeps list p o (e ∙ ap token.Mark (mark_is m mark.LeftBracket h)) k) (λ h. end_keeps list p m o e k)
 
   kind_named_keeps : (list : List Param) (p : Param) (k : TokenKind) → OkList lim list → t.what ≡ k → OkParam lim list p ts
       → KeepsParametric lim ts t (spec.kind_named list p k)
@@ -292,7 +289,7 @@ module _ (lim : ℕ) (ts : List Token) (t : Token) where
   unfolding is_spec_word
   more_spec list p stars w o e k a c = λ z. record {
     list = o;
-    part = record {
+    stage = record {
       behind = typed_push list p (record p { specs = p.specs ++ w ∷ [] }) stars stars (token.Word w) k e refl (spec_laid p stars w a);
       specs = (not_none p.specs w, All-push (λ u. IsTrue (is_spec u)) p.specs w k.specs.1 c);
       no_name = k.no_name;
@@ -307,8 +304,8 @@ module _ (lim : ℕ) (ts : List Token) (t : Token) where
       word_split (λ x. KeepsParametric lim ts t (spec.word_by list p x)) p.specs stars true w
       (λ h c z. record {
         list = o;
-        part = record {
-          behind = typed_push list p p stars (constant stars) (token.Word word_.Const) k (e ∙ ap token.Word (is_const_word w c)) refl (const_laid p stars h);
+        stage = record {
+          behind = typed_push list p p stars (constant stars) (token.Word word_.Const) k (e ∙ ap token.Word (word_is w word_.Const c)) refl (const_laid p stars h);
           specs = k.specs;
           no_name = k.no_name;
           no_dims = k.no_dims;
@@ -340,7 +337,7 @@ module _ (lim : ℕ) (ts : List Token) (t : Token) where
   unfolding spec.name
   name_keeps list p stars x o e k = λ z. record {
     list = o;
-    part = record {
+    stage = record {
       behind = push_behind list _ _ (λ us r. (
         subst (λ y. Stand (plain (spell_specs p.specs) ++ (plain (spell_stars (all_stars stars)) ++ (plain (the_name x) ++ lay_dims y))) (us ++ t ∷ [])) (sym k.no_dims)
             (stand-more (plain (spell_specs p.specs)) (plain (spell_stars (all_stars stars))) (plain (the_name x)) us (t ∷ []) r.0 (one t (token.Name x) e)),
@@ -355,11 +352,11 @@ module _ (lim : ℕ) (ts : List Token) (t : Token) where
       → KeepsParametric lim ts t (spec.mark_typed list p stars m)
   unfolding spec.mark_typed
   mark_typed_keeps list p stars m o e k =
-      parametric_cond (is_star m) _ _
+      parametric_cond (is_mark m mark.Star) _ _
       (λ h z. record {
         list = o;
-        part = record {
-          behind = typed_push list p p stars (star stars) (token.Mark mark.Star) k (e ∙ ap token.Mark (is_star_mark m h)) refl (star_laid p stars);
+        stage = record {
+          behind = typed_push list p p stars (star stars) (token.Mark mark.Star) k (e ∙ ap token.Mark (mark_is m mark.Star h)) refl (star_laid p stars);
           specs = k.specs;
           no_name = k.no_name;
           no_dims = k.no_dims;
@@ -413,7 +410,7 @@ module _ (lim : ℕ) (ts : List Token) (t : Token) where
       → KeepsMaybe lim (site 2 1) k.behind.rest.0.back t mark.RightBracket m → KeepsParametric lim ts t (spec.size_by list p m)
   size_by_keeps list p r (turn.Goes q reach) o k h = λ z. record {
     list = o;
-    part = record {
+    stage = record {
       behind = record {
         front = k.behind.front;
         back = k.behind.back ++ t ∷ [];
@@ -434,7 +431,7 @@ module _ (lim : ℕ) (ts : List Token) (t : Token) where
       within = k.within;
     };
   }
-  size_by_keeps list p r (turn.Done v) o k h = λ z. record { list = o; part = size_done list p r v k h.0 h.1 }
+  size_by_keeps list p r (turn.Done v) o k h = λ z. record { list = o; stage = size_done list p r v k h.0 h.1 }
   size_by_keeps list p r turn.Refused o k h = tt
 
   size_keeps : (list : List Param) (p : Param) (r : Reading) → OkList lim list → OkSize lim list p r ts → KeepsParametric lim ts t (spec.size list p r t)
@@ -443,7 +440,7 @@ module _ (lim : ℕ) (ts : List Token) (t : Token) where
       size_by_keeps list p r (read_maybe r t closer.Bracket) o k
       (maybe_keeps lim (site 2 1) k.behind.rest.0.back t r closer.Bracket (omega arith) k.behind.rest.0.rest)
 
-  part_keeps : (list : List Param) (q : ParameterStage) → OkList lim list → OkPart lim list q ts → KeepsParametric lim ts t (spec.part_fed list q t)
+  part_keeps : (list : List Param) (q : ParameterStage) → OkList lim list → OkPart lim list q ts → KeepsParametric lim ts t (spec.stage_fed list q t)
   part_keeps list part_.Starts o k = first_keeps list o k
   part_keeps list (part_.Typed p stars) o k = typed_keeps list p stars o k
   part_keeps list (part_.Named p) o k = kind_named_keeps list p t.what o refl k
@@ -451,7 +448,7 @@ module _ (lim : ℕ) (ts : List Token) (t : Token) where
 
   pub parameters_keep : (ps : Parameters) → OkParameters lim ps ts → KeepsParametric lim ts t (spec.feed_parameters ps t)
   unfolding spec.feed_parameters
-  parameters_keep ps k = part_keeps ps.list ps.part k.list k.part
+  parameters_keep ps k = part_keeps ps.list ps.stage k.list k.stage
 
 pub begin_parameters_ok : (lim : ℕ) → OkParameters lim spec.begin_parameters []
-begin_parameters_ok lim = record { list = record { ranked = All-nil _; within = omega arith }; part = tt }
+begin_parameters_ok lim = record { list = record { ranked = All-nil _; within = omega arith }; stage = tt }

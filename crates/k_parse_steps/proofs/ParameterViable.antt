@@ -7,7 +7,7 @@ use Rattle.k_tree.specs.declared.tokens.TokenKind.TheVariants as token
 use Rattle.k_tree.specs.declared.tokens.mark.Mark.TheVariants as mark
 use Rattle.k_tree.specs.declared.tokens.word.Word.TheVariants as word_
 use Rattle.k_tree.specs.declared.tree.declaration.Params.TheVariants as params
-use Rattle.k_parse_steps.specs.Operators.{is_spec_word, is_bracket, is_star}
+use Rattle.k_parse_steps.specs.Operators.{is_spec_word}
 use Rattle.k_parse_steps.specs.Stars.{no_stars, star}
 use Rattle.k_parse_steps.specs.Expressions.{begin}
 use Rattle.k_parse_steps.specs.Readings.{read_maybe}
@@ -23,6 +23,7 @@ use Rattle.k_parse_steps.proofs.ReadingSound.{At, site}
 use Rattle.k_parse_steps.proofs.ReadingViable.{maybe_can_end}
 use Rattle.k_parse_steps.proofs.Runs.{run_ends, CanEnd, goes_then}
 use Rattle.k_parse_steps.proofs.TypeWords.{word_split}
+use Rattle.k_parse_steps.specs.Tokens.{is_mark}
 
 -- what a part makes sure
 abbrev pub PartReached : ℕ → ParameterStage → Type 0
@@ -30,7 +31,7 @@ PartReached lim (part_.Size p r) = Begun lim r
 PartReached lim _ = Unit {0}
 
 abbrev pub ParametricStays : ℕ → Parametric → Type 0
-ParametricStays lim (turn.Goes ps reach) = reach ≤ lim → PartReached lim ps.part
+ParametricStays lim (turn.Goes ps reach) = reach ≤ lim → PartReached lim ps.stage
 ParametricStays lim _ = Unit {0}
 
 module _ (lim : ℕ) where
@@ -63,7 +64,7 @@ module _ (lim : ℕ) where
   named_stays : (list : List Param) (p : Param) (m : Mark) → ParametricStays lim (spec.named list p m)
   unfolding spec.named
   named_stays list p m =
-      cond_stays (is_bracket m) (spec.follows list (part_.Size p (begin 2 1)) 0) (spec.end list p m) (λ e reach. begin_begun lim 2 1)
+      cond_stays (is_mark m mark.LeftBracket) (spec.follows list (part_.Size p (begin 2 1)) 0) (spec.end list p m) (λ e reach. begin_begun lim 2 1)
       (λ e. end_stays list p m)
 
   kind_named_stays : (list : List Param) (p : Param) (k : TokenKind) → ParametricStays lim (spec.kind_named list p k)
@@ -76,7 +77,7 @@ module _ (lim : ℕ) where
       word_split (λ x. ParametricStays lim (spec.word_by list p x)) p.specs stars true w (λ e q reach. tt) (λ e q m r reach. tt) tt
   typed_stays list p stars (token.Name x) = λ reach. tt
   typed_stays list p stars (token.Mark m) =
-      cond_stays (is_star m) (spec.follows list (part_.Typed p (star stars)) 0) (spec.named list (spec.starred p stars) m) (λ e reach. tt)
+      cond_stays (is_mark m mark.Star) (spec.follows list (part_.Typed p (star stars)) 0) (spec.named list (spec.starred p stars) m) (λ e reach. tt)
       (λ e. named_stays list (spec.starred p stars) m)
   typed_stays list p stars _ = tt
 
@@ -85,7 +86,7 @@ module _ (lim : ℕ) where
   size_stays list p (turn.Done v) h = λ le. tt
   size_stays list p turn.Refused h = tt
 
-  part_stays : (list : List Param) (n : ParameterStage) (t : Token) → PartReached lim n → ParametricStays lim (spec.part_fed list n t)
+  part_stays : (list : List Param) (n : ParameterStage) (t : Token) → PartReached lim n → ParametricStays lim (spec.stage_fed list n t)
   unfolding spec.first_token spec.typed spec.size
   part_stays list part_.Starts t h = first_stays list t.place t.what
   part_stays list (part_.Typed p stars) t h = typed_stays list p stars t.what
@@ -93,10 +94,10 @@ module _ (lim : ℕ) where
   part_stays list (part_.Size p r) t h = size_stays list p (read_maybe r t closer.Bracket) (maybe_stays lim r t closer.Bracket h)
 
 -- a token within the limit keeps it so
-pub parameters_stay : (lim : ℕ) → (ps : Parameters) (t : Token) → PartReached lim ps.part
+pub parameters_stay : (lim : ℕ) → (ps : Parameters) (t : Token) → PartReached lim ps.stage
     → ParametricStays lim (spec.feed_parameters ps t)
 unfolding spec.feed_parameters
-parameters_stay lim ps t h = part_stays lim ps.list ps.part t h
+parameters_stay lim ps t h = part_stays lim ps.list ps.stage t h
 
 abbrev pub ParametersGo : Parameters → Token → Parameters → ℕ → Type 0
 ParametersGo ps t next reach = spec.feed_parameters ps t ≡ turn.Goes next reach
@@ -110,9 +111,9 @@ ParametersCanEnd lim = CanEnd Parameters Params ParametersGo ParametersEnd lim
 module _ (lim : ℕ) (list : List Param) where
   -- `)` behind a parameter
   end_by : (p : Param) → (n : ParameterStage) → (b : Bool)
-      → spec.feed_parameters (record { list = list; part = n }) (mark_token mark.RightParen)
+      → spec.feed_parameters (record { list = list; stage = n }) (mark_token mark.RightParen)
       ≡ cond b (turn.Done params.Void) (turn.Done (params.List (list ++ p ∷ [])))
-      → ParametersCanEnd lim (record { list = list; part = n })
+      → ParametersCanEnd lim (record { list = list; stage = n })
   end_by p n true e = (mark_token mark.RightParen ∷ [], params.Void, run_ends _ (mark_token mark.RightParen) params.Void e)
   end_by p n false e = (
     mark_token mark.RightParen ∷ [],
@@ -120,12 +121,12 @@ module _ (lim : ℕ) (list : List Param) where
     run_ends _ (mark_token mark.RightParen) (params.List (list ++ p ∷ [])) e,
   )
 
-  named_ended : (p : Param) → ParametersCanEnd lim (record { list = list; part = part_.Named p })
-  unfolding spec.feed_parameters spec.named spec.end is_bracket
+  named_ended : (p : Param) → ParametersCanEnd lim (record { list = list; stage = part_.Named p })
+  unfolding spec.feed_parameters spec.named spec.end is_mark
   named_ended p = end_by p (part_.Named p) (nat_eq (length list) 0 && spec.is_void_alone p) refl
 
-  typed_ended : (p : Param) (stars : Stars) → ParametersCanEnd lim (record { list = list; part = part_.Typed p stars })
-  unfolding spec.feed_parameters spec.typed spec.mark_typed spec.named spec.end is_bracket is_star
+  typed_ended : (p : Param) (stars : Stars) → ParametersCanEnd lim (record { list = list; stage = part_.Typed p stars })
+  unfolding spec.feed_parameters spec.typed spec.mark_typed spec.named spec.end is_mark
   typed_ended p stars =
       end_by (spec.starred p stars) (part_.Typed p stars) (nat_eq (length list) 0 && spec.is_void_alone (spec.starred p stars)) refl
 
@@ -133,29 +134,29 @@ module _ (lim : ℕ) (list : List Param) where
   int = record { what = token.Word word_.Int; place = nowhere }
 
   -- `int )`
-  starts_ended : ParametersCanEnd lim (record { list = list; part = part_.Starts })
+  starts_ended : ParametersCanEnd lim (record { list = list; stage = part_.Starts })
   unfolding spec.feed_parameters spec.first_token spec.starts is_spec_word int
   starts_ended =
       let p : Param = record { place = nowhere; specs = word_.Int ∷ []; stars = []; name = None; dims = [] } in
-      goes_then Parameters Params ParametersGo ParametersEnd lim (record { list = list; part = part_.Starts })
-      (record { list = list; part = part_.Typed p no_stars }) int 0 refl (omega arith) (typed_ended p no_stars)
+      goes_then Parameters Params ParametersGo ParametersEnd lim (record { list = list; stage = part_.Starts })
+      (record { list = list; stage = part_.Typed p no_stars }) int 0 refl (omega arith) (typed_ended p no_stars)
 
   size_ended : (p : Param) (r : Reading) (ts : List Token) → At lim (site 2 1) r ts → Begun lim r
-      → ParametersCanEnd lim (record { list = list; part = part_.Size p r })
+      → ParametersCanEnd lim (record { list = list; stage = part_.Size p r })
   unfolding spec.feed_parameters spec.size
   size_ended p r ts a h =
       maybe_can_end Parameters Params ParametersGo ParametersEnd lim closer.Bracket (site 2 1) r ts a h
-      (λ u. record { list = list; part = part_.Size p u }) (λ v. record { list = list; part = part_.Named (record p { dims = p.dims ++ v ∷ [] }) })
+      (λ u. record { list = list; stage = part_.Size p u }) (λ v. record { list = list; stage = part_.Named (record p { dims = p.dims ++ v ∷ [] }) })
       (λ u t next reach e. ap (λ z. spec.size_by list p z) e) (λ u t v e. ap (λ z. spec.size_by list p z) e)
       (λ v. named_ended (record p { dims = p.dims ++ v ∷ [] }))
 
-  part_ended : (n : ParameterStage) (ts : List Token) → OkPart lim list n ts → PartReached lim n → ParametersCanEnd lim (record { list = list; part = n })
+  part_ended : (n : ParameterStage) (ts : List Token) → OkPart lim list n ts → PartReached lim n → ParametersCanEnd lim (record { list = list; stage = n })
   part_ended part_.Starts ts k h = starts_ended
   part_ended (part_.Typed p stars) ts k h = typed_ended p stars
   part_ended (part_.Named p) ts k h = named_ended p
   part_ended (part_.Size p r) ts k h = size_ended p r _ k.behind.rest.0.rest h
 
 -- what was read of parameters can be ended within the limit
-pub parameters_viable : (lim : ℕ) → (ps : Parameters) (ts : List Token) → OkParameters lim ps ts → PartReached lim ps.part
+pub parameters_viable : (lim : ℕ) → (ps : Parameters) (ts : List Token) → OkParameters lim ps ts → PartReached lim ps.stage
     → ParametersCanEnd lim ps
-parameters_viable lim ps ts ok h = part_ended lim ps.list ps.part ts ok.part h
+parameters_viable lim ps ts ok h = part_ended lim ps.list ps.stage ts ok.stage h

@@ -1,57 +1,34 @@
 -- An expression up to the mark that closes it.
 use Rattle.std.proofs.Common.{ℕ, ◌≡◌, ◌+◌, ◌≤◌, Bool, true, false, ◌&&◌, cond, List, [], ◌∷◌, ◌++◌, length, Option, None, refl, subst, arith, nat_eq, ap, ◌∙◌, append_assoc}
 use Rattle.std.proofs.lemmas.Bool.{eqb-true}
-use Rattle.k_parse_steps.specs.Types.{Token, TokenKind, Mark, Expr, ExpressionStage, Reading, Site, Fed, Closer, Read, Maybe}
+use Rattle.k_parse_steps.specs.Types.{Token, Mark, Expr, ExpressionStage, Reading, Site, Fed, Closer, Read, Maybe}
 use Rattle.k_tree.specs.declared.tokens.TokenKind.TheVariants as token
-use Rattle.k_tree.specs.declared.tokens.mark.Mark.TheVariants as mark
 use Rattle.k_tree.specs.Nesting.{option_depth}
 use Rattle.k_tree.specs.Places.{Pieces, lay_option, Stand}
 use Rattle.k_tree.specs.Ranked.{Ranked, IfGiven}
 use Rattle.k_parse_steps.specs.Expressions.{Opens, begin, feed}
-use Rattle.k_parse_steps.specs.Readings.{mark_closes, kind_closes, closes, is_operand, is_fresh, read_by, read_needed, maybe_by, read_maybe}
+use Rattle.k_parse_steps.specs.Readings.{closing, closes, is_operand, is_fresh, read_by, read_needed, maybe_by, read_maybe}
 use Rattle.k_parse_steps.specs.declared.expression.ExpressionStage.TheVariants as now
 use Rattle.k_parse_steps.specs.declared.turn.Turn.TheVariants as turn
-use Rattle.k_parse_steps.specs.declared.reading.Closer.TheVariants as closer
 use Rattle.k_parse_steps.proofs.ExpressionState.{laid, Inv, IsRead, Keeps}
 use Rattle.k_parse_steps.proofs.ExpressionTerms.{and_left, and_right}
 use Rattle.k_parse_steps.proofs.ExpressionSound.{feed_keeps}
-use Rattle.k_parse_steps.proofs.Marks.{false_true}
+use Rattle.k_parse_steps.proofs.Marks.{false_true, token_mark_is}
 
 -- what was read of an expression at a site
 abbrev pub At : ℕ → Site → Reading → List Token → Type 0
-At lim g r ts = (r.site ≡ g) × Inv lim g r.opens r.state ts
+At lim g r ts = (r.site ≡ g) × Inv lim g r.opens r.stage ts
 
 -- the site of an expression that begins
 abbrev pub site : ℕ → ℕ → Site
 site rank level = record { rank = rank; level = level }
 
 pub begin_at : (lim rank level : ℕ) → rank ≤ 2 → At lim (site rank level) (begin rank level) []
-begin_at lim rank level h = (refl, record { stands = tt; opens = h; state = tt })
+begin_at lim rank level h = (refl, record { stands = tt; opens = h; stage = tt })
 
 pub at_keeps : (lim : ℕ) → (g : Site) (ts : List Token) (t : Token) (r : Reading) → At lim g r ts → Keeps lim g ts t (feed r t)
 at_keeps lim g ts t r (e, i) =
-    subst (λ h. Inv lim h r.opens r.state ts → Keeps lim h ts t (feed r t)) e (feed_keeps lim ts t r) i
-
--- the mark that closes
-abbrev pub closing : Closer → Mark
-closing closer.Bracket = mark.RightBracket
-closing closer.Paren = mark.RightParen
-closing closer.Semicolon = mark.Semicolon
-closing closer.Colon = mark.Colon
-
-mark_is : (c : Closer) (m : Mark) → mark_closes c m ≡ true → m ≡ closing c
-mark_is closer.Bracket mark.RightBracket h = refl
-mark_is closer.Paren mark.RightParen h = refl
-mark_is closer.Semicolon mark.Semicolon h = refl
-mark_is closer.Colon mark.Colon h = refl
-mark_is closer.Bracket _ h = absurd (false_true h)
-mark_is closer.Paren _ h = absurd (false_true h)
-mark_is closer.Semicolon _ h = absurd (false_true h)
-mark_is closer.Colon _ h = absurd (false_true h)
-
-kind_is : (c : Closer) (k : TokenKind) → kind_closes c k ≡ true → k ≡ token.Mark (closing c)
-kind_is c (token.Mark m) h = let e : m ≡ closing c = mark_is c m h in cc
-kind_is c _ h = absurd (false_true h)
+    subst (λ h. Inv lim h r.opens r.stage ts → Keeps lim h ts t (feed r t)) e (feed_keeps lim ts t r) i
 
 -- a token keeps it so
 abbrev pub KeepsRead : ℕ → Site → List Token → Token → Mark → Read → Type 0
@@ -79,7 +56,7 @@ read_by_keeps lim g ts t m turn.Refused b e k = tt
 
 pub closes_is : (c : Closer) (t : Token) → closes t c ≡ true → t.what ≡ token.Mark (closing c)
 unfolding closes
-closes_is c t h = kind_is c t.what h
+closes_is c t h = token_mark_is t.what (closing c) h
 
 pub read_keeps : (lim : ℕ) → (g : Site) (ts : List Token) (t : Token) (r : Reading) (c : Closer) → At lim g r ts
     → KeepsRead lim g ts t (closing c) (read_needed r t c)
@@ -105,9 +82,9 @@ no_opens (o ∷ s) h = absurd (omega (arith, h))
 pub fresh_stands : (lim : ℕ) (g : Site) (ts : List Token) (r : Reading) → is_fresh r ≡ true → At lim g r ts → Stand [] ts
 unfolding is_fresh
 fresh_stands lim g ts r h (e, i) =
-    let a : r.state ≡ now.Operand = operand_is r.state (and_left (is_operand r.state) (nat_eq (length r.opens) 0) h) in
-    let b : r.opens ≡ [] = no_opens r.opens (eqb-true (length r.opens) 0 (and_right (is_operand r.state) (nat_eq (length r.opens) 0) h)) in
-    subst (λ n. Stand (laid [] n) ts) a (subst (λ s. Stand (laid s r.state) ts) b i.stands)
+    let a : r.stage ≡ now.Operand = operand_is r.stage (and_left (is_operand r.stage) (nat_eq (length r.opens) 0) h) in
+    let b : r.opens ≡ [] = no_opens r.opens (eqb-true (length r.opens) 0 (and_right (is_operand r.stage) (nat_eq (length r.opens) 0) h)) in
+    subst (λ n. Stand (laid [] n) ts) a (subst (λ s. Stand (laid s r.stage) ts) b i.stands)
 
 maybe_cond : (lim : ℕ) (g : Site) (ts : List Token) (t : Token) (m : Mark) (b : Bool) (x y : Maybe)
     → (b ≡ true → KeepsMaybe lim g ts t m x) → KeepsMaybe lim g ts t m y → KeepsMaybe lim g ts t m (cond b x y)

@@ -1,12 +1,10 @@
 -- An expression inside another construct can be ended, up to the mark that closes it.
 use Rattle.std.proofs.Common.{ℕ, ◌≡◌, Bool, true, false, ◌&&◌, cond, List, [], ◌∷◌, ◌++◌, Option, Some, None, sym, ◌∙◌, ap, subst, refl, arith}
-use Rattle.std.proofs.lemmas.Bool.{cond-true, cond_both, and_parts, and_from, false≢true}
+use Rattle.std.proofs.lemmas.Bool.{cond-true, cond_both, and_parts, and_from}
 use Rattle.k_parse_steps.specs.Types.{Place, Token, TokenKind, Mark, Expr, Site, Reading, Closer, Fed}
-use Rattle.k_tree.specs.declared.tokens.TokenKind.TheVariants as token
-use Rattle.k_tree.specs.declared.tokens.mark.Mark.TheVariants as mark
-use Rattle.k_parse_steps.specs.Operators.{binding, is_prefix_mark, is_open, is_close}
-use Rattle.k_parse_steps.specs.Expressions.{mark_operand, no_arguments, operand_at, operand, feed_at, feed}
-use Rattle.k_parse_steps.specs.Readings.{mark_closes, kind_closes, closes, is_fresh, read_by, read_needed, maybe_by, read_maybe}
+use Rattle.k_parse_steps.specs.Operators.{binding, is_prefix_mark}
+use Rattle.k_parse_steps.specs.Expressions.{mark_operand, no_arguments, operand_at, operand, stage_fed, feed}
+use Rattle.k_parse_steps.specs.Readings.{closing, closes, is_fresh, read_by, read_needed, maybe_by, read_maybe}
 use Rattle.k_parse_steps.specs.declared.expression.ExpressionStage.TheVariants as now
 use Rattle.k_parse_steps.specs.declared.turn.Turn.TheVariants as turn
 use Rattle.k_parse_steps.specs.declared.reading.Closer.TheVariants as closer
@@ -14,46 +12,43 @@ use Rattle.k_parse_steps.proofs.ExpressionState.{Inv}
 use Rattle.k_parse_steps.proofs.ExpressionReach.{Reached}
 use Rattle.k_parse_steps.proofs.ExpressionViable.{mark_token, Ends_operand, Completes, completes, completes_by, now_completes}
 use Rattle.k_parse_steps.proofs.ReadingReach.{Begun, fresh_is}
-use Rattle.k_parse_steps.proofs.ReadingSound.{At, closing}
+use Rattle.k_parse_steps.proofs.ReadingSound.{At}
+use Rattle.k_parse_steps.proofs.Marks.{token_mark_is}
 use Rattle.k_parse_steps.proofs.Runs.{Runs, run_ends, run_goes, CanEnd}
+use Rattle.k_parse_steps.specs.Tokens.{is_mark, token_is_mark}
 
 -- the marks that close
 pub closing_ends : (c : Closer) → Ends_operand (closing c)
-unfolding binding
+unfolding binding is_mark
 closing_ends closer.Bracket = (refl, refl)
 closing_ends closer.Paren = (refl, refl)
 closing_ends closer.Semicolon = (refl, refl)
 closing_ends closer.Colon = (refl, refl)
 
 pub closing_closes : (c : Closer) → closes (mark_token (closing c)) c ≡ true
-unfolding closes
+unfolding closes is_mark
 closing_closes closer.Bracket = refl
 closing_closes closer.Paren = refl
 closing_closes closer.Semicolon = refl
 closing_closes closer.Colon = refl
 
 -- none of them begins an expression
-mark_refused : (g : Site) (p : Place) (c : Closer) (m : Mark) → mark_closes c m ≡ true → mark_operand g [] m p ≡ turn.Refused
-unfolding mark_operand is_prefix_mark no_arguments is_open is_close
-mark_refused g p closer.Bracket mark.RightBracket e = refl
-mark_refused g p closer.Paren mark.RightParen e = refl
-mark_refused g p closer.Semicolon mark.Semicolon e = refl
-mark_refused g p closer.Colon mark.Colon e = refl
-mark_refused g p closer.Bracket _ e = absurd (false≢true e)
-mark_refused g p closer.Paren _ e = absurd (false≢true e)
-mark_refused g p closer.Semicolon _ e = absurd (false≢true e)
-mark_refused g p closer.Colon _ e = absurd (false≢true e)
+mark_refused : (g : Site) (p : Place) (c : Closer) → mark_operand g [] (closing c) p ≡ turn.Refused
+unfolding mark_operand is_prefix_mark no_arguments is_mark
+mark_refused g p closer.Bracket = refl
+mark_refused g p closer.Paren = refl
+mark_refused g p closer.Semicolon = refl
+mark_refused g p closer.Colon = refl
 
-kind_refused : (g : Site) (p : Place) (c : Closer) (k : TokenKind) → kind_closes c k ≡ true → operand_at g [] p k ≡ turn.Refused
-kind_refused g p c (token.Mark m) e = mark_refused g p c m e
-kind_refused g p c _ e = absurd (false≢true e)
+kind_refused : (g : Site) (p : Place) (c : Closer) (k : TokenKind) → token_is_mark k (closing c) ≡ true → operand_at g [] p k ≡ turn.Refused
+kind_refused g p c k e = ap (operand_at g [] p) (token_mark_is k (closing c) e) ∙ mark_refused g p c
 
 fresh_refuses : (r : Reading) (t : Token) (c : Closer) → is_fresh r ≡ true → closes t c ≡ true → feed r t ≡ turn.Refused
 unfolding feed is_fresh closes operand
 fresh_refuses r t c e h =
-    let q : (r.state ≡ now.Operand) × (r.opens ≡ []) = fresh_is r.opens r.state e in
-    ap (λ n. feed_at r.site r.opens n t) q.0
-    ∙ (ap (λ s. feed_at r.site s now.Operand t) q.1 ∙ kind_refused r.site t.place c t.what h)
+    let q : (r.stage ≡ now.Operand) × (r.opens ≡ []) = fresh_is r.opens r.stage e in
+    ap (λ n. stage_fed r.site r.opens n t) q.0
+    ∙ (ap (λ s. stage_fed r.site s now.Operand t) q.1 ∙ kind_refused r.site t.place c t.what h)
 
 refused_goes : (next : Reading) (reach : ℕ) → ◌≡◌ {A = Fed} turn.Refused (turn.Goes next reach) → ⊥
 refused_goes next reach e = cc
@@ -97,8 +92,8 @@ maybe_left_out r t c e h = cond-true (is_fresh r && closes t c) _ _ (and_from (i
 pub at_completes : (lim : ℕ) → (m : Mark) → Ends_operand m → (g : Site) (r : Reading) (ts : List Token) → At lim g r ts
     → Reached lim r.site r.opens → (us : List Token) × (e : Expr) × Completes lim (mark_token m) r us e
 at_completes lim m ends g r ts a h =
-    let i : Inv lim r.site r.opens r.state ts = subst (λ z. Inv lim z r.opens r.state ts) (sym a.0) a.1 in
-    now_completes lim m ends r.site r.opens r.state i.opens i.state h
+    let i : Inv lim r.site r.opens r.stage ts = subst (λ z. Inv lim z r.opens r.stage ts) (sym a.0) a.1 in
+    now_completes lim m ends r.site r.opens r.stage i.opens i.stage h
 
 module _ (R O : Type 0) (Goes : R → Token → R → ℕ → Type 0) (Ends : R → Token → O → Type 0) (lim : ℕ) where
   -- the tokens of an expression inside, and then what comes behind it

@@ -15,7 +15,6 @@ use Rattle.k_tree.specs.Ranked.{Specs, RankedHead, RankedItem, RankedUnit}
 use Rattle.k_tree.specs.Spelling.{the_mark, the_name, spell_specs, spell_stars}
 use Rattle.k_tree.proofs.Standing.{stand-append}
 use Rattle.k_parse_steps.specs.Operators.{is_spec_word}
-use Rattle.k_parse_steps.specs.Expressions.{is_left_paren}
 use Rattle.k_parse_steps.specs.Declarations.{begin_declaration}
 use Rattle.k_parse_steps.specs.declared.declaration.DeclarationStage.TheVariants as stage
 use Rattle.k_parse_steps.specs.declared.turn.Turn.TheVariants as turn
@@ -32,7 +31,8 @@ use Rattle.k_parse_steps.proofs.DeclarationSound.{behind_all, behind_now, declar
 use Rattle.k_parse_steps.proofs.ParameterSound.{OkParameters, KeepsParametric, parameters_keep, begin_parameters_ok}
 use Rattle.k_parse_steps.proofs.StatementState.{OkBody, KeepsStepped, left_paren, left_brace}
 use Rattle.k_parse_steps.proofs.StatementSound.{body_keeps, begin_body_ok}
-use Rattle.k_parse_steps.proofs.Marks.{false_true, left_paren_is}
+use Rattle.k_parse_steps.proofs.Marks.{false_true, token_mark_is}
+use Rattle.k_parse_steps.specs.Tokens.{token_is_mark}
 
 abbrev pub lay_items : List Item → Pieces
 lay_items items = lay_row (map lay_item items)
@@ -64,7 +64,7 @@ OkPhase lim items (phase.Body p h b) ts = Behind (lay_items items ++ (at p (lay_
 pub record OkSource (lim : ℕ) (s : Source) (ts : List Token) : Type 0 where
   pub items : All RankedItem s.items
   pub within : deepest (map item_depth s.items) ≤ lim
-  pub phase : OkPhase lim s.items s.phase ts
+  pub stage : OkPhase lim s.items s.stage ts
 
 -- a source that was read whole
 pub record IsUnit (lim : ℕ) (u : source.Unit) (ts : List Token) : Type 0 where
@@ -100,7 +100,7 @@ module _ (lim : ℕ) (ts : List Token) (t : Token) where
   goes : (items : List Item) (x : SourceStage) (reach : ℕ) → OkItems items → (reach ≤ lim → OkPhase lim items x (ts ++ t ∷ []))
       → KeepsSourced lim ts t (spec.goes_on items x reach)
   unfolding OkItems
-  goes items x reach o f = λ z. record { items = o.0; within = o.1; phase = f z }
+  goes items x reach o f = λ z. record { items = o.0; within = o.1; stage = f z }
 
   done : (items : List Item) (i : Item) → OkItems items → RankedItem i → item_depth i ≤ lim → Stand (lay_items items ++ lay_item i) (ts ++ t ∷ [])
       → KeepsSourced lim ts t (spec.item_done items i)
@@ -108,7 +108,7 @@ module _ (lim : ℕ) (ts : List Token) (t : Token) where
   done items i o r w st = λ z. record {
     items = All-push RankedItem items i o.0 r;
     within = omega (arith, o.1, w, deepest_more item_depth items i);
-    phase = subst (λ x. Stand x (ts ++ t ∷ [])) (sym (row_push lay_item items i)) st;
+    stage = subst (λ x. Stand x (ts ++ t ∷ [])) (sym (row_push lay_item items i)) st;
   }
 
   -- pieces that stand at the tokens behind others, with this one
@@ -173,8 +173,8 @@ module _ (lim : ℕ) (ts : List Token) (t : Token) where
       → Behind (lay_items items) (λ us. OkDeclaration lim 1 d us × StartsAt p us) ts → KeepsSourced lim ts t (spec.declares items p d t)
   unfolding spec.declares spec.is_titled spec.titled
   declares_keeps items p d o b =
-      sourced_cond (is_left_paren t.what && spec.titled_by d.front d.stage) _ _
-      (λ h. titled_keeps items p d.front d.stage o (left_paren_is t.what (and_left (is_left_paren t.what) _ h)) (and_right (is_left_paren t.what) _ h) b)
+      sourced_cond (token_is_mark t.what mark.LeftParen && spec.titled_by d.front d.stage) _ _
+      (λ h. titled_keeps items p d.front d.stage o (token_mark_is t.what mark.LeftParen (and_left (token_is_mark t.what mark.LeftParen) _ h)) (and_right (token_is_mark t.what mark.LeftParen) _ h) b)
       (λ h. declares_by_keeps items p d _ o b (declaration_keeps lim 1 b.back t d b.rest.0))
 
   -- parameters
@@ -257,7 +257,7 @@ module _ (lim : ℕ) (ts : List Token) (t : Token) where
       (behind_all (lay_items items ++ (at p (lay_head h) ++ left_brace)) (lay_stmts parts) _ ts b k.1) (one_at t (token.Mark mark.RightBrace) k.2)))
   body_by_keeps items p h d turn.Refused o i b k = tt
 
-  phase_keeps : (items : List Item) (x : SourceStage) → OkItems items → OkPhase lim items x ts → KeepsSourced lim ts t (spec.phase_fed items x t)
+  phase_keeps : (items : List Item) (x : SourceStage) → OkItems items → OkPhase lim items x ts → KeepsSourced lim ts t (spec.stage_fed items x t)
   unfolding spec.starts spec.headed spec.in_body
   phase_keeps items phase.Starts o k = kind_starts_keeps items t.what o refl k
   phase_keeps items (phase.Declares p d) o k = declares_keeps items p d o k
@@ -267,7 +267,7 @@ module _ (lim : ℕ) (ts : List Token) (t : Token) where
 
   pub source_keeps : (s : Source) → OkSource lim s ts → KeepsSourced lim ts t (spec.feed_source s t)
   unfolding spec.feed_source OkItems
-  source_keeps s k = phase_keeps s.items s.phase (k.items, k.within) k.phase
+  source_keeps s k = phase_keeps s.items s.stage (k.items, k.within) k.stage
 
 pub begin_source_ok : (lim : ℕ) → OkSource lim spec.begin_source []
-begin_source_ok lim = record { items = All-nil _; within = omega arith; phase = tt }
+begin_source_ok lim = record { items = All-nil _; within = omega arith; stage = tt }

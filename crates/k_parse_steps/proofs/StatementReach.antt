@@ -6,8 +6,8 @@ use Rattle.k_tree.specs.declared.tokens.TokenKind.TheVariants as token
 use Rattle.k_tree.specs.declared.tokens.word.Word.TheVariants as word
 use Rattle.k_tree.specs.declared.tree.statement.Part.TheVariants as part_
 use Rattle.k_tree.specs.Places.{stmt_place}
-use Rattle.k_parse_steps.specs.Operators.{is_spec_word, is_semicolon, is_left_brace, is_right_brace}
-use Rattle.k_parse_steps.specs.Expressions.{begin, feed, is_left_paren, is_sizeof}
+use Rattle.k_parse_steps.specs.Operators.{is_spec_word}
+use Rattle.k_parse_steps.specs.Expressions.{begin, feed}
 use Rattle.k_parse_steps.specs.declared.turn.Turn.TheVariants as turn
 use Rattle.k_parse_steps.specs.Readings.{closes, read_needed, read_maybe}
 use Rattle.k_parse_steps.specs.declared.reading.Closer.TheVariants as closer
@@ -20,6 +20,8 @@ use Rattle.k_parse_steps.specs.declared.statement.BlockStage.TheVariants as step
 use Rattle.k_parse_steps.proofs.DeclarationReach.{ReadStays, MaybeStays, needed_stays, maybe_stays, begin_begun, StageReached, DeclaredStays, declaration_stays}
 use Rattle.k_parse_steps.proofs.ExpressionReach.{Reached}
 use Rattle.k_parse_steps.proofs.ReadingReach.{Begun, feed_begun}
+use Rattle.k_parse_steps.specs.Tokens.{is_mark, is_word, token_is_mark, token_is_word}
+use Rattle.k_tree.specs.declared.tokens.mark.Mark.TheVariants as mark
 
 -- a statement whose part is awaited makes a level more sure; a block doesn't, nor do the braces of a `switch`
 abbrev pub FrameReached : ℕ → Frames → Frame → Type 0
@@ -49,7 +51,7 @@ StepReached lim s (step.Local p d) = StageReached lim d.front d.stage
 StepReached lim s _ = Unit {0}
 
 abbrev pub BodyReached : ℕ → Body → Type 0
-BodyReached lim b = FramesReached lim b.frames × StepReached lim b.frames b.step
+BodyReached lim b = FramesReached lim b.frames × StepReached lim b.frames b.stage
 
 abbrev pub BodyStays : ℕ → Stepped → Type 0
 BodyStays lim (turn.Goes b reach) = reach ≤ lim → BodyReached lim b
@@ -118,18 +120,18 @@ module _ (lim : ℕ) (ps : Parts) where
   mark_stays : (s : Frames) (t : Token) (m : Mark) → FramesReached lim s → BodyStays lim (spec.mark_begins ps s t m)
   unfolding spec.mark_begins
   mark_stays s t m h =
-      cond_both (is_semicolon m) (spec.empty ps s t.place)
-      (cond (is_left_brace m) (spec.block_begins ps s t.place) (cond (is_right_brace m) (spec.block_ends ps s) (spec.expression ps s t)))
+      cond_both (is_mark m mark.Semicolon) (spec.empty ps s t.place)
+      (cond (is_mark m mark.LeftBrace) (spec.block_begins ps s t.place) (cond (is_mark m mark.RightBrace) (spec.block_ends ps s) (spec.expression ps s t)))
       (BodyStays lim) (λ e reach. (h, tt))
-      (λ e. cond_both (is_left_brace m) (spec.block_begins ps s t.place) (cond (is_right_brace m) (spec.block_ends ps s) (spec.expression ps s t))
+      (λ e. cond_both (is_mark m mark.LeftBrace) (spec.block_begins ps s t.place) (cond (is_mark m mark.RightBrace) (spec.block_ends ps s) (spec.expression ps s t))
       (BodyStays lim) (λ q reach. ((tt, h), tt))
-      (λ q. cond_both (is_right_brace m) (spec.block_ends ps s) (spec.expression ps s t) (BodyStays lim)
+      (λ q. cond_both (is_mark m mark.RightBrace) (spec.block_ends ps s) (spec.expression ps s t) (BodyStays lim)
       (λ k. block_ends_stays s h) (λ k. expression_stays s t h)))
 
   kind_stays : (s : Frames) (t : Token) (k : TokenKind) → FramesReached lim s → BodyStays lim (spec.begins_by ps s t k)
   kind_stays s t (token.Mark m) h = mark_stays s t m h
   kind_stays s t (token.Word w) h =
-      cond_both (is_sizeof w) (spec.expression ps s t) (spec.keyword ps s w t.place) (BodyStays lim)
+      cond_both (is_word w word.Sizeof) (spec.expression ps s t) (spec.keyword ps s w t.place) (BodyStays lim)
       (λ e. expression_stays s t h) (λ e. keyword_stays s w t.place h)
   kind_stays s t k h = expression_stays s t h
 
@@ -144,10 +146,10 @@ module _ (lim : ℕ) (ps : Parts) where
   value_stays s p (turn.Done e) h k = λ le. (h, tt)
   value_stays s p turn.Refused h k = tt
 
-  returned_stays : (s : Frames) (p : Place) (x : Maybe) → FramesReached lim s → MaybeStays lim x → BodyStays lim (spec.returned_by ps s p x)
-  returned_stays s p (turn.Goes r reach) h k = λ le. (h, λ e. k le)
-  returned_stays s p (turn.Done e) h k = λ le. (h, tt)
-  returned_stays s p turn.Refused h k = tt
+  in_return_stays : (s : Frames) (p : Place) (x : Maybe) → FramesReached lim s → MaybeStays lim x → BodyStays lim (spec.in_return_by ps s p x)
+  in_return_stays s p (turn.Goes r reach) h k = λ le. (h, λ e. k le)
+  in_return_stays s p (turn.Done e) h k = λ le. (h, tt)
+  in_return_stays s p turn.Refused h k = tt
 
   local_stays : (s : Frames) (p : Place) (x : Declared) → FramesReached lim s → DeclaredStays lim x → BodyStays lim (spec.local_by ps s p x)
   local_stays s p (turn.Goes d reach) h k = λ le. (h, k le)
@@ -162,7 +164,7 @@ module _ (lim : ℕ) (ps : Parts) where
   opened_stays : (s : Frames) (x : Tested) (t : Token) → FramesReached lim s → spec.inner s ≤ lim → BodyStays lim (spec.opened ps s x t)
   unfolding spec.opened
   opened_stays s x t h i =
-      cond_both (is_left_paren t.what) (spec.steps ps s (step.Test x (begin 0 (spec.inner s))) 0) turn.Refused (BodyStays lim)
+      cond_both (token_is_mark t.what mark.LeftParen) (spec.steps ps s (step.Test x (begin 0 (spec.inner s))) 0) turn.Refused (BodyStays lim)
       (λ e le. (h, (i, i))) (λ e. tt)
 
   test_stays : (s : Frames) (x : Tested) (y : Read) → FramesReached lim s → spec.inner s ≤ lim → ReadStays lim y
@@ -181,7 +183,7 @@ module _ (lim : ℕ) (ps : Parts) where
       → BodyStays lim (spec.do_while ps s p x t)
   unfolding spec.do_while
   do_stays s p x t h i =
-      cond_both (spec.is_while t.what) (spec.steps ps s (step.Keyword (tested.Do p x)) 0) turn.Refused (BodyStays lim)
+      cond_both (token_is_word t.what word.While) (spec.steps ps s (step.Keyword (tested.Do p x)) 0) turn.Refused (BodyStays lim)
       (λ e le. (h, i)) (λ e. tt)
 
   closed_stays : (s : Frames) (f : Frame) (x : Stmt) (other : Bool) (t : Token) (again : Stmt → Stepped) → FramesReached lim (f ∷ s)
@@ -202,7 +204,7 @@ module _ (lim : ℕ) (ps : Parts) where
   for_opened_stays : (s : Frames) (p : Place) (t : Token) → FramesReached lim s → spec.inner s ≤ lim → BodyStays lim (spec.for_opened ps s p t)
   unfolding spec.for_opened
   for_opened_stays s p t h i =
-      cond_both (is_left_paren t.what) (spec.steps ps s (step.Start p (begin 0 (spec.inner s))) 0) turn.Refused (BodyStays lim)
+      cond_both (token_is_mark t.what mark.LeftParen) (spec.steps ps s (step.Start p (begin 0 (spec.inner s))) 0) turn.Refused (BodyStays lim)
       (λ e le. (h, (i, i))) (λ e. tt)
 
   start_stays : (s : Frames) (p : Place) (r : Reading) (t : Token) (w : Option Word) → FramesReached lim s → spec.inner s ≤ lim
@@ -238,7 +240,7 @@ module _ (lim : ℕ) (ps : Parts) where
   braces_stays : (s : Frames) (p : Place) (e : Expr) (t : Token) → FramesReached lim s → BodyStays lim (spec.braces ps s p e t)
   unfolding spec.braces
   braces_stays s p e t h =
-      cond_both (spec.is_brace t.what) (spec.await_part ps s (frame.Switch p e []) 0) turn.Refused (BodyStays lim) (λ q le. ((tt, h), tt)) (λ q. tt)
+      cond_both (token_is_mark t.what mark.LeftBrace) (spec.await_part ps s (frame.Switch p e []) 0) turn.Refused (BodyStays lim) (λ q le. ((tt, h), tt)) (λ q. tt)
 
   labelled_stays : (s : Frames) (x : Part) → FramesReached lim s → BodyStays lim (spec.labelled ps s x)
   unfolding spec.labelled
@@ -261,11 +263,11 @@ behind_stays : (lim : ℕ) → (ps : Parts) (s : Frames) (x : Stmt) (t : Token) 
 unfolding spec.behind
 behind_stays lim ps [] x t h = begins_stays lim (ps ++ x ∷ []) [] t h
 behind_stays lim ps (f ∷ s) x t h =
-    closed_stays lim ps s f x (spec.is_else t.what) t (λ y. spec.behind ps s y t) h (λ y. behind_stays lim ps s y t h.1)
+    closed_stays lim ps s f x (token_is_word t.what word.Else) t (λ y. spec.behind ps s y t) h (λ y. behind_stays lim ps s y t h.1)
 
 step_stays : (lim : ℕ) → (ps : Parts) (s : Frames) (n : BlockStage) (t : Token) → FramesReached lim s → StepReached lim s n
-    → BodyStays lim (spec.step_fed ps s n t)
-unfolding spec.value spec.test spec.returned spec.local spec.in_for spec.start spec.for_declares spec.second spec.third spec.in_switch spec.case_value
+    → BodyStays lim (spec.stage_fed ps s n t)
+unfolding spec.value spec.test spec.in_return spec.local spec.in_for spec.start spec.for_declares spec.second spec.third spec.in_switch spec.case_value
 step_stays lim ps s step.Begins t h k = begins_stays lim ps s t h
 step_stays lim ps s (step.Whole x) t h k = behind_stays lim ps s x t h
 step_stays lim ps s (step.Value p r) t h k =
@@ -275,7 +277,7 @@ step_stays lim ps s (step.Test x r) t h k =
     test_stays lim ps s x (read_needed r t closer.Paren) h k.0 (needed_stays lim r t closer.Paren (λ e. k.1))
 step_stays lim ps s (step.Semicolon x) t h k = semicolon_stays lim ps s x t h
 step_stays lim ps s (step.Return p r) t h k =
-    returned_stays lim ps s p (read_maybe r t closer.Semicolon) h (maybe_stays lim r t closer.Semicolon k)
+    in_return_stays lim ps s p (read_maybe r t closer.Semicolon) h (maybe_stays lim r t closer.Semicolon k)
 step_stays lim ps s (step.Local p d) t h k = local_stays lim ps s p (feed_declaration d t) h (declaration_stays lim d t k)
 step_stays lim ps s (step.For p) t h k = for_opened_stays lim ps s p t h k
 step_stays lim ps s (step.Start p r) t h k = start_stays lim ps s p r t (spec.specifier r t) h k.0 k.1
@@ -293,4 +295,4 @@ step_stays lim ps s (step.Default p) t h k = default_stays lim ps s p t h
 -- a token within the limit keeps it so
 pub body_stays : (lim : ℕ) → (b : Body) (t : Token) → BodyReached lim b → BodyStays lim (spec.feed_body b t)
 unfolding spec.feed_body
-body_stays lim b t h = step_stays lim b.parts b.frames b.step t h.0 h.1
+body_stays lim b t h = step_stays lim b.parts b.frames b.stage t h.0 h.1

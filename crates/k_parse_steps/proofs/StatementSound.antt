@@ -14,9 +14,9 @@ use Rattle.k_tree.specs.Places.{Pieces, plain, at, lay_expr, lay_option, lay_fir
 use Rattle.k_tree.specs.Ranked.{Ranked, IfGiven, RankedFirst, RankedStmt, RankedSwitch, ends_open, ends_open_part, ends_open_step, value, empty, block, if_alone, if_else, while_loop, do_loop, for_loop, switch_stmt, no_labels, case_label, default_label, does, break_loop, continue_loop, return_value, no_parts}
 use Rattle.k_tree.specs.Spelling.{the_mark, the_word}
 use Rattle.k_tree.proofs.Standing.{stand-append}
-use Rattle.k_parse_steps.specs.Operators.{is_spec_word, is_semicolon, is_left_brace, is_right_brace}
-use Rattle.k_parse_steps.proofs.Marks.{is_semicolon_mark, is_left_brace_mark, is_right_brace_mark, false_true, left_paren_is}
-use Rattle.k_parse_steps.specs.Expressions.{begin, is_left_paren, is_sizeof}
+use Rattle.k_parse_steps.specs.Operators.{is_spec_word}
+use Rattle.k_parse_steps.proofs.Marks.{false_true, mark_is, token_mark_is, token_word_is}
+use Rattle.k_parse_steps.specs.Expressions.{begin}
 use Rattle.k_parse_steps.specs.declared.turn.Turn.TheVariants as turn
 use Rattle.k_parse_steps.specs.Readings.{closes, is_fresh}
 use Rattle.k_parse_steps.specs.declared.reading.Closer.TheVariants as closer
@@ -33,8 +33,9 @@ use Rattle.k_parse_steps.proofs.ReadingSound.{At, site, begin_at, at_keeps, Keep
 use Rattle.k_parse_steps.proofs.DeclarationState.{OkDeclaration, KeepsDeclared}
 use Rattle.k_parse_steps.proofs.DeclarationSound.{behind_all, behind_now, declaration_keeps, begin_declared}
 use Rattle.k_parse_steps.proofs.SwitchTerms.{switch_split, switched_append, switch_push, does_stands}
-use Rattle.k_parse_steps.proofs.StatementTerms.{parts_push, base_open, base_close, else_is, while_is, brace_is}
+use Rattle.k_parse_steps.proofs.StatementTerms.{parts_push, base_open, base_close}
 use Rattle.k_parse_steps.proofs.StatementState.{word_at, left_paren, left_brace, semicolon, lay_frame, lay_frames, lay_base, lay_tested, Below, OkFrame, OkFrames, OkTested, IsPart, a_stmt, a_declaration, OkSemicolon, OkBehind, For_at, OkStep, OkParts, OkBody, KeepsStepped}
+use Rattle.k_parse_steps.specs.Tokens.{is_mark, is_word, token_is_mark, token_is_word}
 
 module _ (lim : ℕ) (ts : List Token) (t : Token) where
   stepped_cond : (b : Bool) (x y : Stepped) → (b ≡ true → KeepsStepped lim ts t x) → (b ≡ false → KeepsStepped lim ts t y)
@@ -54,7 +55,7 @@ module _ (lim : ℕ) (ts : List Token) (t : Token) where
 
   goes : (ps : Parts) (s : Frames) (x : BlockStage) (reach : ℕ) → OkParts lim ps → OkFrames lim s → (reach ≤ lim → OkStep lim ps s x (ts ++ t ∷ []))
       → KeepsStepped lim ts t (spec.steps ps s x reach)
-  goes ps s x reach a b f = λ z. record { parts = a; frames = b; step = f z }
+  goes ps s x reach a b f = λ z. record { parts = a; frames = b; stage = f z }
 
   -- an expression of its own
   value_by_keeps : (ps : Parts) (s : Frames) (p : Place) (r : Reading) (m : Read) → OkParts lim ps → OkFrames lim s
@@ -82,12 +83,12 @@ module _ (lim : ℕ) (ts : List Token) (t : Token) where
       value_by_keeps ps s p r _ o f b (read_keeps lim (site 0 (inner s)) b.back t r closer.Semicolon b.rest.0)
 
   -- `return`
-  returned_by_keeps : (ps : Parts) (s : Frames) (p : Place) (r : Reading) (m : Maybe) → OkParts lim ps → OkFrames lim s
+  in_return_by_keeps : (ps : Parts) (s : Frames) (p : Place) (r : Reading) (m : Maybe) → OkParts lim ps → OkFrames lim s
       → (b : OkBehind lim s (lay_base ps s ++ word_at p word.Return) (At lim (site 0 (inner s)) r) ts)
-      → KeepsMaybe lim (site 0 (inner s)) b.behind.back t mark.Semicolon m → KeepsStepped lim ts t (spec.returned_by ps s p m)
-  returned_by_keeps ps s p r (turn.Goes q reach) o f b h =
+      → KeepsMaybe lim (site 0 (inner s)) b.behind.back t mark.Semicolon m → KeepsStepped lim ts t (spec.in_return_by ps s p m)
+  in_return_by_keeps ps s p r (turn.Goes q reach) o f b h =
       goes ps s (step.Return p q) reach o f (λ z. record { behind = pushed ts t (lay_base ps s ++ word_at p word.Return) _ _ b.behind (h z); room = b.room })
-  returned_by_keeps ps s p r (turn.Done e) o f b h =
+  in_return_by_keeps ps s p r (turn.Done e) o f b h =
       goes ps s (step.Whole (stmt.Return p e)) 0 o f (λ z. record {
         stands = subst (λ x. Stand (lay_base ps s ++ x) (ts ++ t ∷ [])) (sym (stmt_Return Pieces Pieces lay_part_step lay_stmt_step p e))
             (regroup (lay_base ps s) (word_at p word.Return) (lay_option e ++ semicolon) (ts ++ t ∷ [])
@@ -97,13 +98,13 @@ module _ (lim : ℕ) (ts : List Token) (t : Token) where
         shut = stmt_Return (Unit {0}) Bool ends_open_part ends_open_step p e;
         within = omega (arith, stmt_Return ℕ ℕ part_depth_step stmt_depth_step p e, true_inner s (option_depth e) h.0.within);
       })
-  returned_by_keeps ps s p r turn.Refused o f b h = tt
+  in_return_by_keeps ps s p r turn.Refused o f b h = tt
 
-  pub returned_keeps : (ps : Parts) (s : Frames) (p : Place) (r : Reading) → OkParts lim ps → OkFrames lim s
-      → OkBehind lim s (lay_base ps s ++ word_at p word.Return) (At lim (site 0 (inner s)) r) ts → KeepsStepped lim ts t (spec.returned ps s p r t)
-  unfolding spec.returned
-  returned_keeps ps s p r o f b =
-      returned_by_keeps ps s p r _ o f b (maybe_keeps lim (site 0 (inner s)) b.behind.back t r closer.Semicolon b.room b.behind.rest)
+  pub in_return_keeps : (ps : Parts) (s : Frames) (p : Place) (r : Reading) → OkParts lim ps → OkFrames lim s
+      → OkBehind lim s (lay_base ps s ++ word_at p word.Return) (At lim (site 0 (inner s)) r) ts → KeepsStepped lim ts t (spec.in_return ps s p r t)
+  unfolding spec.in_return
+  in_return_keeps ps s p r o f b =
+      in_return_by_keeps ps s p r _ o f b (maybe_keeps lim (site 0 (inner s)) b.behind.back t r closer.Semicolon b.room b.behind.rest)
 
   -- a declaration of a block
   local_by_keeps : (ps : Parts) (s : Frames) (p : Place) (d : Declaration) (m : Declared) → OkParts lim ps → OkFrames lim s → is_in_block s ≡ true
@@ -180,7 +181,7 @@ module _ (lim : ℕ) (ts : List Token) (t : Token) where
 
   await_keeps : (ps : Parts) (s : Frames) (f : Frame) (reach : ℕ) → OkParts lim ps → OkFrames lim s → (reach ≤ lim → OkFrame lim (1 + length s) f)
       → Stand (lay_base ps s ++ lay_frame f) (ts ++ t ∷ []) → KeepsStepped lim ts t (spec.await_part ps s f reach)
-  await_keeps ps s f reach o g h st = λ z. record { parts = o; frames = (h z, g); step = base_close ps f s (ts ++ t ∷ []) st }
+  await_keeps ps s f reach o g h st = λ z. record { parts = o; frames = (h z, g); stage = base_close ps f s (ts ++ t ∷ []) st }
 
   at_word : (ps : Parts) (s : Frames) (w : Word) → t.what ≡ token.Word w → Stand (lay_base ps s) ts → Stand (lay_base ps s ++ word_at t.place w) (ts ++ t ∷ [])
   at_word ps s w e st = stand-append (lay_base ps s) (word_at t.place w) ts (t ∷ []) st (one_at t (token.Word w) e)
@@ -289,17 +290,17 @@ module _ (lim : ℕ) (ts : List Token) (t : Token) where
       → KeepsStepped lim ts t (spec.mark_begins ps s t m)
   unfolding spec.mark_begins
   mark_begins_keeps ps s m o f e st =
-      stepped_cond (is_semicolon m) _ _ (λ h. empty_keeps ps s o f (e ∙ ap token.Mark (is_semicolon_mark m h)) st)
-      (λ h. stepped_cond (is_left_brace m) _ _
+      stepped_cond (is_mark m mark.Semicolon) _ _ (λ h. empty_keeps ps s o f (e ∙ ap token.Mark (mark_is m mark.Semicolon h)) st)
+      (λ h. stepped_cond (is_mark m mark.LeftBrace) _ _
       (λ q. await_keeps ps s (frame.Block t.place []) (level s) o f (λ z. (no_parts, omega (arith, true_level s z)))
-      (stand-append (lay_base ps s) _ ts (t ∷ []) st (one_at t (token.Mark mark.LeftBrace) (e ∙ ap token.Mark (is_left_brace_mark m q)))))
-      (λ q. stepped_cond (is_right_brace m) _ _ (λ y. block_ends_keeps ps s o f (e ∙ ap token.Mark (is_right_brace_mark m y)) st) (λ y. expression_keeps ps s o f st)))
+      (stand-append (lay_base ps s) _ ts (t ∷ []) st (one_at t (token.Mark mark.LeftBrace) (e ∙ ap token.Mark (mark_is m mark.LeftBrace q)))))
+      (λ q. stepped_cond (is_mark m mark.RightBrace) _ _ (λ y. block_ends_keeps ps s o f (e ∙ ap token.Mark (mark_is m mark.RightBrace y)) st) (λ y. expression_keeps ps s o f st)))
 
   begins_by_keeps : (ps : Parts) (s : Frames) (k : TokenKind) → OkParts lim ps → OkFrames lim s → t.what ≡ k → Stand (lay_base ps s) ts
       → KeepsStepped lim ts t (spec.begins_by ps s t k)
   begins_by_keeps ps s (token.Mark m) o f e st = mark_begins_keeps ps s m o f e st
   begins_by_keeps ps s (token.Word w) o f e st =
-      stepped_cond (is_sizeof w) _ _ (λ h. expression_keeps ps s o f st) (λ h. keyword_keeps ps s w o f e st)
+      stepped_cond (is_word w word.Sizeof) _ _ (λ h. expression_keeps ps s o f st) (λ h. keyword_keeps ps s w o f e st)
   begins_by_keeps ps s _ o f e st = expression_keeps ps s o f st
 
   pub begins_keeps : (ps : Parts) (s : Frames) → OkParts lim ps → OkFrames lim s → Stand (lay_base ps s) ts → KeepsStepped lim ts t (spec.begins ps s t)
@@ -312,10 +313,10 @@ module _ (lim : ℕ) (ts : List Token) (t : Token) where
       → Stand (lay_base ps s ++ lay_tested x) ts → OkTested lim (1 + length s) x → KeepsStepped lim ts t (spec.opened ps s x t)
   unfolding spec.opened
   opened_keeps ps s x o f st h =
-      stepped_cond (is_left_paren t.what) _ turn.Refused
+      stepped_cond (token_is_mark t.what mark.LeftParen) _ turn.Refused
       (λ e. goes ps s (step.Test x (begin 0 (inner s))) 0 o f (λ z. (
         behind_now (lay_base ps s ++ (lay_tested x ++ left_paren)) _ (ts ++ t ∷ [])
-            (stand-more (lay_base ps s) (lay_tested x) left_paren ts (t ∷ []) st (one t (token.Mark mark.LeftParen) (left_paren_is t.what e))) (begin_at lim 0 (inner s) (omega arith)),
+            (stand-more (lay_base ps s) (lay_tested x) left_paren ts (t ∷ []) st (one t (token.Mark mark.LeftParen) (token_mark_is t.what mark.LeftParen e))) (begin_at lim 0 (inner s) (omega arith)),
         h,
       )))
       (λ e. tt)
@@ -368,7 +369,7 @@ module _ (lim : ℕ) (ts : List Token) (t : Token) where
   record Ended (ps : Parts) (s : Frames) (x : Stmt) : Type 0 where
     stands : Stand (lay_base ps s ++ lay_stmt x) ts
     part : (IsPart x × (is_in_block s ≡ true)) ⊎ RankedStmt x
-    shut : spec.is_else t.what ≡ true → ends_open x ≡ false
+    shut : token_is_word t.what word.Else ≡ true → ends_open x ≡ false
     within : (1 + length s) + stmt_depth x ≤ lim + 1
 
   part_of : (x : Stmt) (b : Bool) → ((IsPart x × (b ≡ true)) ⊎ RankedStmt x) → IsPart x
@@ -384,7 +385,7 @@ module _ (lim : ℕ) (ts : List Token) (t : Token) where
   around ps f s x st = subst (λ y. Stand (y ++ lay_stmt x) ts) (sym (append_assoc (lay_stmts ps) (lay_frames s) (lay_frame f))) st
 
   otherwise_keeps : (ps : Parts) (s : Frames) (p : Place) (e : Expr) (x : Stmt) → OkParts lim ps → OkFrames lim (frame.Then p e ∷ s)
-      → spec.is_else t.what ≡ true → Ended ps (frame.Then p e ∷ s) x → KeepsStepped lim ts t (spec.otherwise ps s p e x)
+      → token_is_word t.what word.Else ≡ true → Ended ps (frame.Then p e ∷ s) x → KeepsStepped lim ts t (spec.otherwise ps s p e x)
   unfolding is_in_block
   otherwise_keeps ps s p e x o f h k =
       await_keeps ps s (frame.Else p e x) 0 o f.1
@@ -392,9 +393,9 @@ module _ (lim : ℕ) (ts : List Token) (t : Token) where
       (four (lay_base ps s) (word_at p word.If) (lay_in_parens (lay_expr e)) (lay_stmt x) (plain (the_word word.Else)) (ts ++ t ∷ [])
       (stand-append _ (plain (the_word word.Else)) ts (t ∷ [])
       (three (lay_base ps s) (word_at p word.If) (lay_in_parens (lay_expr e)) (lay_stmt x) ts (around ps (frame.Then p e) s x k.stands))
-      (one t (token.Word word.Else) (else_is t.what h))))
+      (one t (token.Word word.Else) (token_word_is t.what word.Else h))))
 
-  alone_ended : (ps : Parts) (s : Frames) (p : Place) (e : Expr) (x : Stmt) → OkFrames lim (frame.Then p e ∷ s) → spec.is_else t.what ≡ false
+  alone_ended : (ps : Parts) (s : Frames) (p : Place) (e : Expr) (x : Stmt) → OkFrames lim (frame.Then p e ∷ s) → token_is_word t.what word.Else ≡ false
       → Ended ps (frame.Then p e ∷ s) x → Ended ps s (stmt.If p e x None)
   unfolding is_in_block
   alone_ended ps s p e x f h k = record {
@@ -443,11 +444,11 @@ module _ (lim : ℕ) (ts : List Token) (t : Token) where
       → Ended ps (frame.Do p ∷ s) x → KeepsStepped lim ts t (spec.do_while ps s p x t)
   unfolding is_in_block spec.do_while
   do_keeps ps s p x o f k =
-      stepped_cond (spec.is_while t.what) _ turn.Refused
+      stepped_cond (token_is_word t.what word.While) _ turn.Refused
       (λ e. goes ps s (step.Keyword (tested.Do p x)) 0 o f.1 (λ z. (
         three (lay_base ps s) (word_at p word.Do) (lay_stmt x) (plain (the_word word.While)) (ts ++ t ∷ [])
             (stand-append _ (plain (the_word word.While)) ts (t ∷ []) (regroup (lay_base ps s) (word_at p word.Do) (lay_stmt x) ts (around ps (frame.Do p) s x k.stands))
-            (one t (token.Word word.While) (while_is t.what e))),
+            (one t (token.Word word.While) (token_word_is t.what word.While e))),
         (stmt_in x k.part, omega (arith, k.within)),
       )))
       (λ e. tt)
@@ -479,7 +480,7 @@ module _ (lim : ℕ) (ts : List Token) (t : Token) where
       )
       (switch_push ps p e parts s new ts (does_stands (lay_base ps (frame.Switch p e parts ∷ s)) x ts r k.stands))
 
-  close_keeps : (ps : Parts) (f : Frame) (s : Frames) (x : Stmt) (b : Bool) → spec.is_else t.what ≡ b → OkParts lim ps → OkFrames lim (f ∷ s)
+  close_keeps : (ps : Parts) (f : Frame) (s : Frames) (x : Stmt) (b : Bool) → token_is_word t.what word.Else ≡ b → OkParts lim ps → OkFrames lim (f ∷ s)
       → Ended ps (f ∷ s) x → ((y : Stmt) → Ended ps s y → KeepsStepped lim ts t (spec.behind ps s y t))
       → KeepsStepped lim ts t (spec.closed_by ps s (spec.close f x b) t (λ y. spec.behind ps s y t))
   unfolding spec.close spec.part spec.more
@@ -499,7 +500,7 @@ module _ (lim : ℕ) (ts : List Token) (t : Token) where
       (parts_push ps x o.0 (part_of x _ k.part), omega (arith, o.1, k.within, deepest_more stmt_depth ps x)) tt
       (subst (λ y. Stand y ts) (sym (append-nil (lay_stmts (ps ++ x ∷ []))))
       (subst (λ y. Stand y ts) (sym (row_push lay_stmt ps x)) (subst (λ y. Stand (y ++ lay_stmt x) ts) (append-nil (lay_stmts ps)) k.stands)))
-  behind_keeps ps (g ∷ s) x o f k = close_keeps ps g s x (spec.is_else t.what) refl o f k (λ y h. behind_keeps ps s y o f.1 h)
+  behind_keeps ps (g ∷ s) x o f k = close_keeps ps g s x (token_is_word t.what word.Else) refl o f k (λ y h. behind_keeps ps s y o f.1 h)
 
   -- the parts of a `for`
 
@@ -507,10 +508,10 @@ module _ (lim : ℕ) (ts : List Token) (t : Token) where
       → Stand (lay_base ps s ++ word_at p word.For) ts → inner s ≤ lim → KeepsStepped lim ts t (spec.for_opened ps s p t)
   unfolding spec.for_opened
   for_opened_keeps ps s p o f st h =
-      stepped_cond (is_left_paren t.what) _ turn.Refused
+      stepped_cond (token_is_mark t.what mark.LeftParen) _ turn.Refused
       (λ e. goes ps s (step.Start p (begin 0 (inner s))) 0 o f (λ z. record {
         behind = behind_now (lay_base ps s ++ For_at p) _ (ts ++ t ∷ [])
-            (stand-more (lay_base ps s) (word_at p word.For) left_paren ts (t ∷ []) st (one t (token.Mark mark.LeftParen) (left_paren_is t.what e))) (begin_at lim 0 (inner s) (omega arith));
+            (stand-more (lay_base ps s) (word_at p word.For) left_paren ts (t ∷ []) st (one t (token.Mark mark.LeftParen) (token_mark_is t.what mark.LeftParen e))) (begin_at lim 0 (inner s) (omega arith));
         room = omega (arith, h);
       }))
       (λ e. tt)
@@ -648,11 +649,11 @@ module _ (lim : ℕ) (ts : List Token) (t : Token) where
       → Stand (lay_base ps s ++ (word_at p word.Switch ++ lay_in_parens (lay_expr e))) ts → KeepsStepped lim ts t (spec.braces ps s p e t)
   unfolding spec.braces
   braces_keeps ps s p e o f b st =
-      stepped_cond (spec.is_brace t.what) _ turn.Refused
+      stepped_cond (token_is_mark t.what mark.LeftBrace) _ turn.Refused
       (λ h. await_keeps ps s (frame.Switch p e []) 0 o f (λ z. (b, (no_labels, omega (arith, b.1))))
       (three (lay_base ps s) (word_at p word.Switch) (lay_in_parens (lay_expr e)) left_brace (ts ++ t ∷ [])
       (stand-append (lay_base ps s ++ (word_at p word.Switch ++ lay_in_parens (lay_expr e))) left_brace ts (t ∷ []) st
-      (one t (token.Mark mark.LeftBrace) (brace_is t.what h)))))
+      (one t (token.Mark mark.LeftBrace) (token_mark_is t.what mark.LeftBrace h)))))
       (λ h. tt)
 
   -- a label in the innermost braces
@@ -723,20 +724,20 @@ module _ (lim : ℕ) (ts : List Token) (t : Token) where
       third_by_keeps ps s p start test r _ o f k.0 k.1 k.2 (maybe_keeps lim (site 0 (inner s)) k.0.behind.back t r closer.Paren k.0.room k.0.behind.rest)
   for_keeps ps s x o f k = switch_keeps ps s x o f k
 
-  step_keeps : (ps : Parts) (s : Frames) (x : BlockStage) → OkParts lim ps → OkFrames lim s → OkStep lim ps s x ts → KeepsStepped lim ts t (spec.step_fed ps s x t)
+  step_keeps : (ps : Parts) (s : Frames) (x : BlockStage) → OkParts lim ps → OkFrames lim s → OkStep lim ps s x ts → KeepsStepped lim ts t (spec.stage_fed ps s x t)
   step_keeps ps s step.Begins o f k = begins_keeps ps s o f k
   step_keeps ps s (step.Whole x) o f k = behind_keeps ps s x o f (record { stands = k.stands; part = k.part; shut = λ z. k.shut; within = k.within })
   step_keeps ps s (step.Value p r) o f k = value_keeps ps s p r o f k
   step_keeps ps s (step.Keyword x) o f k = opened_keeps ps s x o f k.0 k.1
   step_keeps ps s (step.Test x r) o f k = test_keeps ps s x r o f k.1 k.0
   step_keeps ps s (step.Semicolon x) o f k = semicolon_keeps ps s x o f k
-  step_keeps ps s (step.Return p r) o f k = returned_keeps ps s p r o f k
+  step_keeps ps s (step.Return p r) o f k = in_return_keeps ps s p r o f k
   step_keeps ps s (step.Local p d) o f k = local_keeps ps s p d o f k.1 k.0
   step_keeps ps s x o f k = for_keeps ps s x o f k
 
   pub body_keeps : (b : Body) → OkBody lim b ts → KeepsStepped lim ts t (spec.feed_body b t)
   unfolding spec.feed_body
-  body_keeps b k = step_keeps b.parts b.frames b.step k.parts k.frames k.step
+  body_keeps b k = step_keeps b.parts b.frames b.stage k.parts k.frames k.stage
 
 pub begin_body_ok : (lim : ℕ) → OkBody lim spec.begin_body []
-begin_body_ok lim = record { parts = (no_parts, omega arith); frames = tt; step = tt }
+begin_body_ok lim = record { parts = (no_parts, omega arith); frames = tt; stage = tt }

@@ -145,7 +145,7 @@ OkParts lim ps = RankedParts ps × (1 + deepest (map stmt_depth ps) ≤ lim + 1)
 pub record OkBody (lim : ℕ) (b : Body) (ts : List Token) : Type 0 where
   pub parts : OkParts lim b.parts
   pub frames : OkFrames lim b.frames
-  pub step : OkStep lim b.parts b.frames b.step ts
+  pub stage : OkStep lim b.parts b.frames b.stage ts
 
 -- a token keeps it so; the last is the closing brace
 abbrev pub KeepsStepped : ℕ → List Token → Token → Stepped → Type 0

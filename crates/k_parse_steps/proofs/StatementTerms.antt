@@ -1,14 +1,10 @@
 -- What the soundness of a function's block rests on: parts that grow, pieces of what is open, and which tokens pass a test.
-use Rattle.std.proofs.Common.{◌≡◌, true, List, [], ◌∷◌, ◌++◌, refl, sym, subst, append_assoc}
-use Rattle.k_parse_steps.specs.Types.{Token, TokenKind, Stmt, Frame}
-use Rattle.k_tree.specs.declared.tokens.TokenKind.TheVariants as token
-use Rattle.k_tree.specs.declared.tokens.mark.Mark.TheVariants as mark
-use Rattle.k_tree.specs.declared.tokens.word.Word.TheVariants as word
+use Rattle.std.proofs.Common.{List, [], ◌∷◌, ◌++◌, sym, subst, append_assoc}
+use Rattle.k_parse_steps.specs.Types.{Token, Stmt, Frame}
 use Rattle.k_tree.specs.Places.{lay_stmts, Stand}
 use Rattle.k_tree.specs.Ranked.{RankedParts, no_parts, statement, declaration}
-use Rattle.k_parse_steps.specs.Statements.{Parts, Frames, is_else, is_while, is_brace}
+use Rattle.k_parse_steps.specs.Statements.{Parts, Frames}
 use Rattle.k_parse_steps.proofs.StatementState.{lay_frame, lay_frames, lay_base, IsPart, a_stmt, a_declaration}
-use Rattle.k_parse_steps.proofs.Marks.{false_true}
 
 -- one part more
 pub parts_push : (ps : Parts) (x : Stmt) → RankedParts ps → IsPart x → RankedParts (ps ++ x ∷ [])
@@ -22,15 +18,3 @@ base_open ps f s us st = subst (λ x. Stand x us) (sym (append_assoc (lay_stmts 
 
 pub base_close : (ps : Parts) (f : Frame) (s : Frames) (us : List Token) → Stand (lay_base ps s ++ lay_frame f) us → Stand (lay_base ps (f ∷ s)) us
 base_close ps f s us st = subst (λ x. Stand x us) (append_assoc (lay_stmts ps) (lay_frames s) (lay_frame f)) st
-
-pub else_is : (k : TokenKind) → is_else k ≡ true → k ≡ token.Word word.Else
-else_is (token.Word word.Else) h = refl
-else_is _ h = absurd (false_true h)
-
-pub while_is : (k : TokenKind) → is_while k ≡ true → k ≡ token.Word word.While
-while_is (token.Word word.While) h = refl
-while_is _ h = absurd (false_true h)
-
-pub brace_is : (k : TokenKind) → is_brace k ≡ true → k ≡ token.Mark mark.LeftBrace
-brace_is (token.Mark mark.LeftBrace) h = refl
-brace_is _ h = absurd (false_true h)

@@ -11,8 +11,8 @@ use Rattle.k_tree.specs.declared.tree.statement.Part.TheVariants as part_
 use Rattle.k_tree.specs.Places.{stmt_place}
 use Rattle.k_tree.specs.declared.tree.statement.Stmt.TheVariants as stmt
 use Rattle.k_parse_steps.specs.Level.{plus}
-use Rattle.k_parse_steps.specs.Operators.{is_spec_word, is_semicolon, is_left_brace, is_right_brace}
-use Rattle.k_parse_steps.specs.Expressions.{begin, is_sizeof, is_before_type, type_begun, word_operand, operand, feed_at, feed, goes, level}
+use Rattle.k_parse_steps.specs.Operators.{is_spec_word}
+use Rattle.k_parse_steps.specs.Expressions.{begin, is_before_type, type_begun, word_operand, operand, stage_fed, feed, goes, level}
 use Rattle.k_parse_steps.specs.declared.expression.ExpressionStage.TheVariants as now
 use Rattle.k_parse_steps.specs.declared.expression.Open.TheVariants as open_
 use Rattle.k_parse_steps.specs.declared.turn.Turn.TheVariants as turn
@@ -34,6 +34,7 @@ use Rattle.k_parse_steps.proofs.Runs.{run_ends, CanEnd, goes_then, inside_can_en
 use Rattle.k_parse_steps.proofs.StatementReach.{FramesReached, ReadingReached, StepReached, BodyReached}
 use Rattle.k_parse_steps.proofs.SwitchTerms.{switch_split}
 use Rattle.k_parse_steps.proofs.StatementState.{OkStep, OkBody}
+use Rattle.k_parse_steps.specs.Tokens.{is_mark, is_word, token_is_word}
 
 abbrev pub BodyGoes : Body → Token → Body → ℕ → Type 0
 BodyGoes b t next reach = spec.feed_body b t ≡ turn.Goes next reach
@@ -45,15 +46,15 @@ abbrev pub BodyCanEnd : ℕ → Body → Type 0
 BodyCanEnd lim = CanEnd Body Parts BodyGoes BodyEnds lim
 
 -- a specifier where the first part of a `for` begins is none of an expression
-not_sizeof : (w : Word) → is_spec_word w ≡ true → is_sizeof w ≡ false
-unfolding is_spec_word
+not_sizeof : (w : Word) → is_spec_word w ≡ true → is_word w word.Sizeof ≡ false
+unfolding is_spec_word is_word
 not_sizeof word.Sizeof h = absurd (false≢true h)
 not_sizeof _ h = refl
 
 spec_refused : (g : Site) (w : Word) (p : Place) → is_spec_word w ≡ true → word_operand g [] w p ≡ turn.Refused
 unfolding word_operand is_before_type
 spec_refused g w p h =
-    cond-false (is_sizeof w) (goes g (open_.Sizeof p ∷ []) now.Operand (level g []))
+    cond-false (is_word w word.Sizeof) (goes g (open_.Sizeof p ∷ []) now.Operand (level g []))
     (cond (is_spec_word w && false) (type_begun g [] w) turn.Refused) (not_sizeof w h)
     ∙ ap (λ b. cond (b && false) (type_begun g [] w) turn.Refused) h
 
@@ -62,15 +63,15 @@ fresh_refused : (r : Reading) (p : Place) (w : Word) → is_fresh r ≡ true →
 unfolding feed is_fresh operand
 fresh_refused r p w e h =
     let t : Token = record { what = token.Word w; place = p } in
-    let q : (r.state ≡ now.Operand) × (r.opens ≡ []) = fresh_is r.opens r.state e in
-    ap (λ n. feed_at r.site r.opens n t) q.0 ∙ (ap (λ s. feed_at r.site s now.Operand t) q.1 ∙ spec_refused r.site w p h)
+    let q : (r.stage ≡ now.Operand) × (r.opens ≡ []) = fresh_is r.opens r.stage e in
+    ap (λ n. stage_fed r.site r.opens n t) q.0 ∙ (ap (λ s. stage_fed r.site s now.Operand t) q.1 ∙ spec_refused r.site w p h)
 
 no_token : (b : Bool) → (b && false) ≡ true → ⊥
 no_token b e = false≢true (and_parts b false e).1
 
 spec_read : (r : Reading) (p : Place) (w : Word) → is_fresh r ≡ true → is_spec_word w ≡ true
     → read_maybe r (record { what = token.Word w; place = p }) closer.Semicolon ≡ turn.Refused
-unfolding read_maybe read_needed closes
+unfolding read_maybe read_needed closes is_mark
 spec_read r p w e h =
     let t : Token = record { what = token.Word w; place = p } in
     cond_both (is_fresh r && false) (turn.Done None) (maybe_by (read_by (feed r t) false)) (λ z. z ≡ turn.Refused)
@@ -94,7 +95,7 @@ closed_so v e = cc
 
 module _ (lim : ℕ) (ps : Parts) where
   abbrev body : Frames → BlockStage → Body
-  body s n = record { parts = ps; frames = s; step = n }
+  body s n = record { parts = ps; frames = s; stage = n }
 
   abbrev Ended : Frames → BlockStage → Type 0
   Ended s n = BodyCanEnd lim (body s n)
@@ -112,14 +113,14 @@ module _ (lim : ℕ) (ps : Parts) where
 
   -- a token behind a statement, and no `else`
   abbrev Behind : Frames → Stmt → Type 0
-  Behind s x = (t : Token) × (spec.is_else t.what ≡ false) × Leads (spec.behind ps s x t)
+  Behind s x = (t : Token) × (token_is_word t.what word.Else ≡ false) × Leads (spec.behind ps s x t)
 
   whole_ended : (s : Frames) (x : Stmt) → Behind s x → Ended s (step.Whole x)
   unfolding spec.feed_body
   whole_ended s x h = ended_by (body s (step.Whole x)) h.0 (spec.behind ps s x h.0) refl h.2
 
   semicolon_ended : (s : Frames) (x : Stmt) → Behind s x → Ended s (step.Semicolon x)
-  unfolding spec.feed_body spec.semicolon closes
+  unfolding spec.feed_body spec.semicolon closes is_mark
   semicolon_ended s x h =
       ended_by (body s (step.Semicolon x)) (mark_token mark.Semicolon) (spec.whole ps s x) refl (omega arith, whole_ended s x h)
 
@@ -149,7 +150,7 @@ module _ (lim : ℕ) (ps : Parts) where
       rest
 
   keyword_ended : (s : Frames) (x : Tested) → spec.inner s ≤ lim → ((e : Expr) → BodyCanEnd lim (tested_body s x e)) → Ended s (step.Keyword x)
-  unfolding spec.feed_body spec.opened
+  unfolding spec.feed_body spec.opened is_mark
   keyword_ended s x h rest =
       ended_by (body s (step.Keyword x)) (mark_token mark.LeftParen) (spec.steps ps s (step.Test x (begin 0 (spec.inner s))) 0) refl
       (omega arith, test_ended s x (begin 0 (spec.inner s)) (site 0 (spec.inner s)) [] (begin_at lim 0 (spec.inner s) (omega arith)) h rest)
@@ -159,7 +160,7 @@ module _ (lim : ℕ) (ps : Parts) where
 
   -- behind a statement: what ends with it ends, `}` closes a block, and `while` goes on with a `do`
   behind_ends : (s : Frames) (x : Stmt) → FramesReached lim s → Behind s x
-  unfolding spec.behind spec.begins spec.mark_begins is_semicolon is_left_brace is_right_brace spec.block_ends spec.close spec.part spec.more spec.more_switched spec.do_while while_token tested_body
+  unfolding spec.behind spec.begins spec.mark_begins is_mark spec.block_ends spec.close spec.part spec.more spec.more_switched spec.do_while while_token tested_body is_word
   behind_ends [] x h = (mark_token mark.RightBrace, refl, tt)
   behind_ends (frame.Then p e ∷ s) x h =
       let n : Behind s (stmt.If p e x None) = behind_ends s (stmt.If p e x None) h.1 in
@@ -196,13 +197,13 @@ module _ (lim : ℕ) (ps : Parts) where
 
   -- `;` where the part of a statement is awaited
   part_ended : (s : Frames) (f : Frame) → spec.inner s ≤ lim → FramesReached lim (f ∷ s) → Ended (f ∷ s) step.Begins
-  unfolding spec.feed_body spec.begins spec.mark_begins is_semicolon is_left_brace is_right_brace
+  unfolding spec.feed_body spec.begins spec.mark_begins is_mark
   part_ended s f le h =
       ended_by (body (f ∷ s) step.Begins) (mark_token mark.Semicolon) (spec.empty ps (f ∷ s) nowhere) refl
       (inner_level (length s) le, closes_whole (f ∷ s) (stmt.Empty nowhere) h)
 
   begins_ended : (s : Frames) → FramesReached lim s → Ended s step.Begins
-  unfolding spec.feed_body spec.begins spec.mark_begins is_semicolon is_left_brace is_right_brace spec.block_ends
+  unfolding spec.feed_body spec.begins spec.mark_begins is_mark spec.block_ends
   begins_ended [] h = (mark_token mark.RightBrace ∷ [], ps, run_ends (body [] step.Begins) (mark_token mark.RightBrace) ps refl)
   begins_ended (frame.Block p parts ∷ s) h =
       ended_by (body (frame.Block p parts ∷ s) step.Begins) (mark_token mark.RightBrace) (spec.whole ps s (stmt.Block p parts)) refl
@@ -218,7 +219,7 @@ module _ (lim : ℕ) (ps : Parts) where
 
   -- `{` where the braces of a `switch` are awaited
   braces_ended : (s : Frames) (p : Place) (e : Expr) → FramesReached lim s → Ended s (step.Braces p e)
-  unfolding spec.feed_body spec.in_for spec.in_switch spec.braces
+  unfolding spec.feed_body spec.in_for spec.in_switch spec.braces is_mark
   braces_ended s p e h =
       ended_by (body s (step.Braces p e)) (mark_token mark.LeftBrace) (spec.await_part ps s (frame.Switch p e []) 0) refl
       (omega arith, begins_ended (frame.Switch p e [] ∷ s) (tt, h))
@@ -249,7 +250,7 @@ module _ (lim : ℕ) (ps : Parts) where
   Default_ended s = (p : Place) → FramesReached lim s → Ended s (step.Default p)
 
   default_ended : (s : Frames) → spec.is_in_switch s ≡ true → Default_ended s
-  unfolding spec.feed_body spec.in_for spec.in_switch spec.default_label spec.labelled closes
+  unfolding spec.feed_body spec.in_for spec.in_switch spec.default_label spec.labelled closes is_mark
   default_ended = switch_split Default_ended (λ q e parts s p h.
       let f : Frames = frame.Switch q e parts ∷ s in
       ended_by (body f (step.Default p)) (mark_token mark.Colon)
@@ -270,11 +271,11 @@ module _ (lim : ℕ) (ps : Parts) where
 
   return_ended : (s : Frames) (p : Place) (r : Reading) (g : Site) (ts : List Token) → At lim g r ts → Begun lim r → FramesReached lim s
       → Ended s (step.Return p r)
-  unfolding spec.feed_body spec.returned
+  unfolding spec.feed_body spec.in_return
   return_ended s p r g ts a k h =
       maybe_can_end Body Parts BodyGoes BodyEnds lim closer.Semicolon g r ts a k
       (λ u. body s (step.Return p u)) (λ v. body s (step.Whole (stmt.Return p v)))
-      (λ u t next reach e. ap (λ z. spec.returned_by ps s p z) e) (λ u t v e. ap (λ z. spec.returned_by ps s p z) e)
+      (λ u t next reach e. ap (λ z. spec.in_return_by ps s p z) e) (λ u t v e. ap (λ z. spec.in_return_by ps s p z) e)
       (λ v. closes_whole s (stmt.Return p v) h)
 
   local_ended : (s : Frames) (p : Place) (d : Declaration) (l : ℕ) (ts : List Token) → OkDeclaration lim l d ts
@@ -326,7 +327,7 @@ module _ (lim : ℕ) (ps : Parts) where
       (λ v. seconds s p (spec.first_of v) h i)
 
   for_ended : (s : Frames) (p : Place) → FramesReached lim s → spec.inner s ≤ lim → Ended s (step.For p)
-  unfolding spec.feed_body spec.in_for spec.for_opened
+  unfolding spec.feed_body spec.in_for spec.for_opened is_mark
   for_ended s p h i =
       ended_by (body s (step.For p)) (mark_token mark.LeftParen) (spec.steps ps s (step.Start p (begin 0 (spec.inner s))) 0) refl (
         omega arith,
@@ -365,4 +366,4 @@ module _ (lim : ℕ) (ps : Parts) where
 
 -- what was read of a block can be ended within the limit
 pub body_viable : (lim : ℕ) → (b : Body) (ts : List Token) → OkBody lim b ts → BodyReached lim b → BodyCanEnd lim b
-body_viable lim b ts ok h = step_ended lim b.parts b.frames b.step ts ok.step h.0 h.1
+body_viable lim b ts ok h = step_ended lim b.parts b.frames b.stage ts ok.stage h.0 h.1

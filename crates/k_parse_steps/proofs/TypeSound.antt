@@ -14,7 +14,7 @@ use Rattle.k_tree.specs.Places.{Pieces, plain, at, lay_expr, lay_expr_step, Stan
 use Rattle.k_tree.specs.Ranked.{Specs, is_spec, sizeof_type}
 use Rattle.k_tree.specs.Spelling.{Spelled, the_mark, the_word, in_parens, spell_specs, spell_star, spell_stars, spell_type}
 use Rattle.k_parse_steps.specs.Operators.{is_spec_word}
-use Rattle.k_parse_steps.specs.Stars.{all_stars, star, constant, is_const}
+use Rattle.k_parse_steps.specs.Stars.{all_stars, star, constant}
 use Rattle.k_parse_steps.specs.Expressions.{Opens, goes, hole, term, valued, is_before_type, cast_opened, close_over, close_type, word_of_type, mark_of_type, in_type_at, in_type, type_by}
 use Rattle.k_parse_steps.specs.declared.expression.Open.TheVariants as open_
 use Rattle.k_parse_steps.specs.declared.expression.ExpressionStage.TheVariants as now
@@ -22,6 +22,8 @@ use Rattle.k_parse_steps.proofs.ExpressionState.{lay_opens, OkOpen, ok_cast, ok_
 use Rattle.k_parse_steps.proofs.ExpressionTerms.{one, stand-more, regroup}
 use Rattle.k_parse_steps.proofs.Rows.{no_items}
 use Rattle.k_parse_steps.proofs.TypeWords.{word_split}
+use Rattle.k_parse_steps.specs.Tokens.{is_word}
+use Rattle.k_parse_steps.proofs.Marks.{word_is}
 
 -- spellings of stars
 pub stars_more : (xs : List Bool) (b : Bool) → spell_stars (xs ++ b ∷ []) ≡ spell_stars xs ++ spell_star b
@@ -60,10 +62,6 @@ spec_spelled specs stars w h =
     (append-nil (spell_specs (specs ++ w ∷ []))
     ∙ (map-append token.Word specs (w ∷ []) ∙ ap (λ z. z ++ the_word w) (sym (append-nil (spell_specs specs)))))
 
-pub is_const_word : (w : Word) → is_const w ≡ true → w ≡ word.Const
-is_const_word word.Const h = refl
-is_const_word _ h = cc
-
 -- a place that no node asks for
 pub forget : (xs : Pieces) (p : Place) (x : TokenKind) (ys : Pieces) (ts : List Token)
     → Stand ((xs ++ at p (plain (x ∷ []))) ++ ys) ts → Stand ((xs ++ plain (x ∷ [])) ++ ys) ts
@@ -89,7 +87,7 @@ module _ (lim : ℕ) (g : Site) (ts : List Token) (t : Token) where
       stands = type_more (lay_opens s) (spell_type specs (all_stars stars)) (spell_type (specs ++ w ∷ []) (all_stars stars)) (token.Word w) t ts
           (spec_spelled specs stars w (no_stars_yet stars h k)) e i.stands;
       opens = i.opens;
-      state = ((not_none specs w, All-push (λ u. IsTrue (is_spec u)) specs w i.state.0.1 r), i.state.1);
+      stage = ((not_none specs w, All-push (λ u. IsTrue (is_spec u)) specs w i.stage.0.1 r), i.stage.1);
     },
   )
     where
@@ -98,15 +96,15 @@ module _ (lim : ℕ) (g : Site) (ts : List Token) (t : Token) where
       not_none (y ∷ xs) x = λ q. cc
 
   const_keeps : (s : Opens) (specs : List Word) (stars : Stars) (w : Word) → t.what ≡ token.Word w
-      → stars.pending ≡ true → is_const w ≡ true
+      → stars.pending ≡ true → is_word w word.Const ≡ true
       → Inv lim g s (now.Type specs stars) ts → Keeps lim g ts t (goes g s (now.Type specs (constant stars)) 0)
   const_keeps s specs stars w e h k i = λ reach. (
     refl,
     record {
       stands = type_more (lay_opens s) (spell_type specs (all_stars stars)) (spell_type specs (all_stars (constant stars))) (token.Word word.Const) t ts
-          (const_spelled specs stars h) (e ∙ ap token.Word (is_const_word w k)) i.stands;
+          (const_spelled specs stars h) (e ∙ ap token.Word (word_is w word.Const k)) i.stands;
       opens = i.opens;
-      state = i.state;
+      stage = i.stage;
     },
   )
 
@@ -130,8 +128,8 @@ module _ (lim : ℕ) (g : Site) (ts : List Token) (t : Token) where
     refl,
     record {
       stands = parens_stand (lay_opens s) (at p (plain (the_mark mark.LeftParen))) (spell_type specs (all_stars stars)) e i.stands;
-      opens = (ok_cast p specs (all_stars stars) h i.state.0, i.opens.1);
-      state = tt;
+      opens = (ok_cast p specs (all_stars stars) h i.stage.0, i.opens.1);
+      stage = tt;
     },
   )
 
@@ -163,16 +161,16 @@ module _ (lim : ℕ) (g : Site) (ts : List Token) (t : Token) where
     record {
       stands = sizeof_stands (lay_opens s) p q specs (all_stars stars) e i.stands;
       opens = i.opens.1.1;
-      state = sizeof_fits s q specs (all_stars stars) i.state.0 i.opens.1.0;
+      stage = sizeof_fits s q specs (all_stars stars) i.stage.0 i.opens.1.0;
     },
   )
 
   over_keeps : (s : Opens) (p : Place) (specs : List Word) (stars : Stars) → t.what ≡ token.Mark mark.RightParen
       → Inv lim g (open_.Paren p ∷ s) (now.Type specs stars) ts → Keeps lim g ts t (close_over g s p specs (all_stars stars))
   unfolding close_over is_before_type
-  over_keeps [] p specs stars e i = cast_keeps [] p specs stars e (leb-true (hole g []) 13 i.state.1) i
+  over_keeps [] p specs stars e i = cast_keeps [] p specs stars e (leb-true (hole g []) 13 i.stage.1) i
   over_keeps (open_.Sizeof q ∷ s) p specs stars e i = sizeof_keeps s p q specs stars e i
-  over_keeps (o ∷ s) p specs stars e i = cast_keeps (o ∷ s) p specs stars e (leb-true (hole g (o ∷ s)) 13 i.state.1) i
+  over_keeps (o ∷ s) p specs stars e i = cast_keeps (o ∷ s) p specs stars e (leb-true (hole g (o ∷ s)) 13 i.stage.1) i
 
   close_keeps : (s : Opens) (specs : List Word) (stars : Stars) → t.what ≡ token.Mark mark.RightParen
       → Inv lim g s (now.Type specs stars) ts → Keeps lim g ts t (close_type g s specs stars)
@@ -190,7 +188,7 @@ module _ (lim : ℕ) (g : Site) (ts : List Token) (t : Token) where
       stands = type_more (lay_opens s) (spell_type specs (all_stars stars)) (spell_type specs (all_stars (star stars))) (token.Mark mark.Star) t ts
           (star_spelled specs stars) e i.stands;
       opens = i.opens;
-      state = i.state;
+      stage = i.stage;
     },
   )
   mark_keeps s specs stars mark.RightParen e i = close_keeps s specs stars e i

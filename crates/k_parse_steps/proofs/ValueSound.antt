@@ -13,15 +13,16 @@ use Rattle.k_tree.specs.Places.{Pieces, plain, at, lay_expr, lay_expr_step, lay_
 use Rattle.k_tree.specs.Ranked.{Ranked, RankedArgs, Specs, is_step, is_unary, conditional, cast, unary, prefix, sizeof_expr, index, postfix, call, name, paren, no_args, more_args}
 use Rattle.k_tree.specs.Spelling.{the_mark, the_name}
 use Rattle.k_parse_steps.specs.Level.{plus, above}
-use Rattle.k_parse_steps.specs.Operators.{is_bracket, is_question, binding, takes, takes_by, right_of, right_rank, own_of, own_rank, is_step_mark}
-use Rattle.k_parse_steps.specs.Expressions.{Opens, goes, level, hole, term, valued, take_operator, plug, closed_by, take_token, takes_token, enclose, enclose_by, argued, colon, posted, enclosed, indexed, infix_tree, infix_made, value, named, is_left_paren}
+use Rattle.k_parse_steps.specs.Operators.{binding, takes, takes_by, right_of, right_rank, own_of, own_rank, is_step_mark}
+use Rattle.k_parse_steps.specs.Expressions.{Opens, goes, level, hole, term, valued, take_operator, plug, closed_by, take_token, takes_token, enclose, enclose_by, argued, colon, posted, enclosed, indexed, infix_tree, infix_made, value, named}
 use Rattle.k_parse_steps.specs.Expressions as spec
 use Rattle.k_parse_steps.specs.declared.expression.Open.TheVariants as open_
 use Rattle.k_parse_steps.specs.declared.expression.ExpressionStage.TheVariants as now
-use Rattle.k_parse_steps.proofs.Marks.{Infix, Kind, kind_of, infix_kind, question, bracket, step, no_operator, false_true, left_paren_is}
+use Rattle.k_parse_steps.proofs.Marks.{Infix, Kind, kind_of, infix_kind, question, bracket, step, no_operator, false_true, token_mark_is}
 use Rattle.k_parse_steps.proofs.ExpressionState.{lay_args, lay_open, lay_opens, Fits, OkOpen, ok_infix, ok_then, ok_other, ok_cast, ok_prefix, ok_sizeof, ok_paren, ok_index, ok_call, lev, Valid, Inv, IsRead, Keeps}
 use Rattle.k_parse_steps.proofs.ExpressionTerms.{one_at, one, stand-more, regroup, three, four, five, fits_two, fits_one, ranked_as, infix_ranked, infix_laid, infix_deep, and_left, and_right}
 use Rattle.k_parse_steps.proofs.OperandSound.{hole_small, cond_keeps}
+use Rattle.k_parse_steps.specs.Tokens.{is_mark, token_is_mark}
 
 -- levels
 deeper : (lim : ℕ) (g : Site) (s : Opens) (o : Open) (a : Term) → Fits lim (lev g (o ∷ s)) a → Fits lim (lev g s + 1) a
@@ -75,7 +76,7 @@ module _ (lim : ℕ) (g : Site) (ts : List Token) (t : Token) where
   -- an operator goes on
   open_keeps : (s : Opens) (o : Open) (reach : ℕ) → (reach ≤ lim → Stand (lay_opens s ++ lay_open o) (ts ++ t ∷ []))
       → (reach ≤ lim → OkOpen lim (lev g s) (hole g s) o) → Valid lim g s → Keeps lim g ts t (goes g (o ∷ s) now.Operand reach)
-  open_keeps s o reach st ok v = λ r. (refl, record { stands = st r; opens = (ok r, v); state = tt })
+  open_keeps s o reach st ok v = λ r. (refl, record { stands = st r; opens = (ok r, v); stage = tt })
 
   infix_keeps : (s : Opens) (a : Term) (op : Mark) (left own right : ℕ) → Infix op left own right → t.what ≡ token.Mark op
       → right_rank op ≡ right → own_rank op ≡ own → hole g s ≤ own → left ≤ a.rank → Reads s a
@@ -83,7 +84,7 @@ module _ (lim : ℕ) (g : Site) (ts : List Token) (t : Token) where
   infix_keeps s a op left own right i e r o k le h =
       open_keeps s (open_.Infix t.place op a) (plus (level g s) a.height)
       (λ z. stand-more (lay_opens s) (lay_expr a.tree) _ ts (t ∷ []) h.stands (one_at t (token.Mark op) e))
-      (λ z. ok_infix t.place op a left own right i r o k le (sunk lim g s a h.state.1 z)) h.opens
+      (λ z. ok_infix t.place op a left own right i r o k le (sunk lim g s a h.stage.1 z)) h.opens
 
   posted_keeps : (s : Opens) (a : Term) (op : Mark) → t.what ≡ token.Mark op → IsTrue (is_step op) → 15 ≤ a.rank → Reads s a
       → Keeps lim g ts t (goes g s (now.Value (posted t.place op a)) (plus (level g s) a.height))
@@ -93,32 +94,32 @@ module _ (lim : ℕ) (g : Site) (ts : List Token) (t : Token) where
       stands = subst (λ y. Stand (lay_opens s ++ y) (ts ++ t ∷ [])) (sym (expr_Post Pieces lay_expr_step t.place op a.tree))
           (stand-more (lay_opens s) (lay_expr a.tree) _ ts (t ∷ []) h.stands (one_at t (token.Mark op) e));
       opens = h.opens;
-      state = (
+      stage = (
         omega (arith, hole_small lim g s h.opens),
         fits_one lim (lev g s) 15 (expr.Post t.place op a.tree) a
-            (postfix 15 t.place op a.tree (omega arith) q (ranked_as 15 lim (lev g s) a le h.state.1))
-            (expr_Post ℕ expr_depth_step t.place op a.tree) (sunk lim g s a h.state.1 z),
+            (postfix 15 t.place op a.tree (omega arith) q (ranked_as 15 lim (lev g s) a le h.stage.1))
+            (expr_Post ℕ expr_depth_step t.place op a.tree) (sunk lim g s a h.stage.1 z),
       );
     },
   )
 
   question_keeps : (s : Opens) (a : Term) → t.what ≡ token.Mark mark.Question → takes (hole g s) a.rank mark.Question ≡ true → Reads s a
       → Keeps lim g ts t (take_operator g s a mark.Question t.place)
-  unfolding take_operator takes binding is_step_mark is_bracket is_question
+  unfolding take_operator takes binding is_step_mark is_mark
   question_keeps s a e h r =
       let f : (hole g s ≤ 2) × (3 ≤ a.rank) = takes_facts (hole g s) a.rank 3 2 2 h in
       open_keeps s (open_.Then t.place a) (plus (level g s) a.height)
       (λ z. stand-more (lay_opens s) (lay_expr a.tree) _ ts (t ∷ []) r.stands (one_at t (token.Mark mark.Question) e))
-      (λ z. ok_then t.place a f.0 f.1 (sunk lim g s a r.state.1 z)) r.opens
+      (λ z. ok_then t.place a f.0 f.1 (sunk lim g s a r.stage.1 z)) r.opens
 
   bracket_keeps : (s : Opens) (a : Term) → t.what ≡ token.Mark mark.LeftBracket → takes (hole g s) a.rank mark.LeftBracket ≡ true → Reads s a
       → Keeps lim g ts t (take_operator g s a mark.LeftBracket t.place)
-  unfolding take_operator takes binding is_step_mark is_bracket is_question
+  unfolding take_operator takes binding is_step_mark is_mark
   bracket_keeps s a e h r =
       let f : (hole g s ≤ 15) × (15 ≤ a.rank) = takes_facts (hole g s) a.rank 15 15 0 h in
       open_keeps s (open_.Index t.place a) (plus (level g s) a.height)
       (λ z. stand-more (lay_opens s) (lay_expr a.tree) _ ts (t ∷ []) r.stands (one_at t (token.Mark mark.LeftBracket) e))
-      (λ z. ok_index t.place a (hole_small lim g s r.opens) f.1 (sunk lim g s a r.state.1 z)) r.opens
+      (λ z. ok_index t.place a (hole_small lim g s r.opens) f.1 (sunk lim g s a r.stage.1 z)) r.opens
 
   no_step : (op : Mark) → IsTrue (is_step op) → is_step_mark op ≡ false → ⊥
   unfolding is_step_mark
@@ -157,7 +158,7 @@ module _ (lim : ℕ) (g : Site) (ts : List Token) (t : Token) where
           open_keeps s (open_.Other p a b) 0
           (λ z. three (lay_opens s) (lay_expr a.tree) _ _ (ts ++ t ∷ [])
           (stand-more (lay_opens s ++ lay_open (open_.Then p a)) (lay_expr b.tree) _ ts (t ∷ []) r.stands (one t (token.Mark mark.Colon) e)))
-          (λ z. ok_other p a b k le f (deeper lim g s (open_.Then p a) b r.state.1)) r.opens.1
+          (λ z. ok_other p a b k le f (deeper lim g s (open_.Then p a) b r.stage.1)) r.opens.1
 
   pub paren_keeps : (s : Opens) (p : Place) (a : Term) → t.what ≡ token.Mark mark.RightParen → Reads (open_.Paren p ∷ s) a
       → Keeps lim g ts t (valued g s (enclosed p a))
@@ -168,11 +169,11 @@ module _ (lim : ℕ) (g : Site) (ts : List Token) (t : Token) where
           (regroup (lay_opens s) (lay_open (open_.Paren p)) _ (ts ++ t ∷ [])
           (stand-more (lay_opens s ++ lay_open (open_.Paren p)) (lay_expr a.tree) _ ts (t ∷ []) r.stands (one t (token.Mark mark.RightParen) e)));
       opens = r.opens.1;
-      state = (
+      stage = (
         omega (arith, hole_small lim g s r.opens.1),
         fits_one lim (lev g s) 16 (expr.Paren p a.tree) a
-            (paren 16 p a.tree (omega arith) (ranked_as 0 lim (lev g (open_.Paren p ∷ s)) a (omega arith) r.state.1))
-            (expr_Paren ℕ expr_depth_step p a.tree) (deeper lim g s (open_.Paren p) a r.state.1),
+            (paren 16 p a.tree (omega arith) (ranked_as 0 lim (lev g (open_.Paren p ∷ s)) a (omega arith) r.stage.1))
+            (expr_Paren ℕ expr_depth_step p a.tree) (deeper lim g s (open_.Paren p) a r.stage.1),
       );
     },
   )
@@ -189,11 +190,11 @@ module _ (lim : ℕ) (g : Site) (ts : List Token) (t : Token) where
               (three (lay_opens s) (lay_expr a.tree) _ _ (ts ++ t ∷ [])
               (stand-more (lay_opens s ++ lay_open (open_.Index p a)) (lay_expr b.tree) _ ts (t ∷ []) r.stands (one t (token.Mark mark.RightBracket) e)));
           opens = r.opens.1;
-          state = (
+          stage = (
             omega (arith, hole_small lim g s r.opens.1),
             fits_two lim (lev g s) 15 (expr.Index p a.tree b.tree) a b
-                (index 15 p a.tree b.tree (omega arith) (ranked_as 15 lim (lev g s + 1) a le f) (ranked_as 0 lim (lev g (open_.Index p a ∷ s)) b (omega arith) r.state.1))
-                (expr_Index ℕ expr_depth_step p a.tree b.tree) f (deeper lim g s (open_.Index p a) b r.state.1),
+                (index 15 p a.tree b.tree (omega arith) (ranked_as 15 lim (lev g s + 1) a le f) (ranked_as 0 lim (lev g (open_.Index p a ∷ s)) b (omega arith) r.stage.1))
+                (expr_Index ℕ expr_depth_step p a.tree b.tree) f (deeper lim g s (open_.Index p a) b r.stage.1),
           );
         },
       )
@@ -209,9 +210,9 @@ module _ (lim : ℕ) (g : Site) (ts : List Token) (t : Token) where
       (four (lay_opens s) (at p (plain (the_name x))) (plain (the_mark mark.LeftParen)) (lay_args args) _ (ts ++ t ∷ [])
       (stand-more (lay_opens s ++ lay_open (open_.Call p x args height)) (lay_expr a.tree) _ ts (t ∷ []) r.stands (one t (token.Mark mark.Comma) e))))
       (λ z. ok_call p x (args ++ a.tree ∷ []) (max height a.height) k
-      (args_push args a.tree ra (ranked_as 1 lim (lev g (open_.Call p x args height ∷ s)) a r.state.0 r.state.1))
-      (omega (arith, eh, r.state.1.height, deepest_push args a.tree)) le
-      (omega (arith, l, r.state.1.height, (deeper lim g s (open_.Call p x args height) a r.state.1).within))) r.opens.1
+      (args_push args a.tree ra (ranked_as 1 lim (lev g (open_.Call p x args height ∷ s)) a r.stage.0 r.stage.1))
+      (omega (arith, eh, r.stage.1.height, deepest_push args a.tree)) le
+      (omega (arith, l, r.stage.1.height, (deeper lim g s (open_.Call p x args height) a r.stage.1).within))) r.opens.1
 
   last_argument : (s : Opens) (p : Place) (x : List ℕ) (args : List Expr) (height : ℕ) (a : Term) → t.what ≡ token.Mark mark.RightParen
       → OkOpen lim (lev g s) (hole g s) (open_.Call p x args height) → Reads (open_.Call p x args height ∷ s) a
@@ -226,13 +227,13 @@ module _ (lim : ℕ) (g : Site) (ts : List Token) (t : Token) where
           (four (lay_opens s) (at p (plain (the_name x))) (plain (the_mark mark.LeftParen)) (lay_args args) _ (ts ++ t ∷ [])
           (stand-more (lay_opens s ++ lay_open (open_.Call p x args height)) (lay_expr a.tree) _ ts (t ∷ []) r.stands (one t (token.Mark mark.RightParen) e)))));
       opens = r.opens.1;
-      state = (
+      stage = (
         omega (arith, hole_small lim g s r.opens.1),
         record {
           ranked = call 15 p x (args ++ a.tree ∷ []) (omega arith)
-              (args_push args a.tree ra (ranked_as 1 lim (lev g (open_.Call p x args height ∷ s)) a r.state.0 r.state.1));
+              (args_push args a.tree ra (ranked_as 1 lim (lev g (open_.Call p x args height ∷ s)) a r.stage.0 r.stage.1));
           height = called_height;
-          within = omega (arith, called_depth, deepest_push args a.tree, eh, r.state.1.height, l, (deeper lim g s (open_.Call p x args height) a r.state.1).within);
+          within = omega (arith, called_depth, deepest_push args a.tree, eh, r.stage.1.height, l, (deeper lim g s (open_.Call p x args height) a r.stage.1).within);
         },
       );
     },
@@ -242,7 +243,7 @@ module _ (lim : ℕ) (g : Site) (ts : List Token) (t : Token) where
       called_depth = expr_Call ℕ expr_depth_step p x (args ++ a.tree ∷ [])
 
       called_height : plus (max height a.height) 1 ≡ expr_depth (expr.Call p x (args ++ a.tree ∷ []))
-      called_height = omega (arith, called_depth, deepest_push args a.tree, eh, r.state.1.height, l, (deeper lim g s (open_.Call p x args height) a r.state.1).within)
+      called_height = omega (arith, called_depth, deepest_push args a.tree, eh, r.stage.1.height, l, (deeper lim g s (open_.Call p x args height) a r.stage.1).within)
 
   argued_keeps : (s : Opens) (p : Place) (x : List ℕ) (args : List Expr) (height : ℕ) (a : Term) (m : Mark) → t.what ≡ token.Mark m
       → Reads (open_.Call p x args height ∷ s) a
@@ -305,21 +306,21 @@ module _ (lim : ℕ) (g : Site) (ts : List Token) (t : Token) where
   prefix_reads s p op a true e k h r = record {
     stands = subst (λ y. Stand (lay_opens s ++ y) ts) (sym (expr_Pre Pieces lay_expr_step p op a.tree)) (regroup (lay_opens s) (lay_open (open_.Prefix p op)) (lay_expr a.tree) ts r.stands);
     opens = r.opens.1;
-    state = (
+    stage = (
       k,
       fits_one lim (lev g s) 14 (expr.Pre p op a.tree) a
-          (prefix 14 p op a.tree (omega arith) e (ranked_as 14 lim (lev g (open_.Prefix p op ∷ s)) a (step_hole (is_step op) a.rank r.state.0 e) r.state.1))
-          (expr_Pre ℕ expr_depth_step p op a.tree) (deeper lim g s (open_.Prefix p op) a r.state.1),
+          (prefix 14 p op a.tree (omega arith) e (ranked_as 14 lim (lev g (open_.Prefix p op ∷ s)) a (step_hole (is_step op) a.rank r.stage.0 e) r.stage.1))
+          (expr_Pre ℕ expr_depth_step p op a.tree) (deeper lim g s (open_.Prefix p op) a r.stage.1),
     );
   }
   prefix_reads s p op a false e k h r = record {
     stands = subst (λ y. Stand (lay_opens s ++ y) ts) (sym (expr_Unary Pieces lay_expr_step p op a.tree)) (regroup (lay_opens s) (lay_open (open_.Prefix p op)) (lay_expr a.tree) ts r.stands);
     opens = r.opens.1;
-    state = (
+    stage = (
       k,
       fits_one lim (lev g s) 14 (expr.Unary p op a.tree) a
-          (unary 14 p op a.tree (omega arith) (only_unary (is_step op) (is_unary op) h e) (ranked_as 13 lim (lev g (open_.Prefix p op ∷ s)) a (unary_hole (is_step op) a.rank r.state.0) r.state.1))
-          (expr_Unary ℕ expr_depth_step p op a.tree) (deeper lim g s (open_.Prefix p op) a r.state.1),
+          (unary 14 p op a.tree (omega arith) (only_unary (is_step op) (is_unary op) h e) (ranked_as 13 lim (lev g (open_.Prefix p op ∷ s)) a (unary_hole (is_step op) a.rank r.stage.0) r.stage.1))
+          (expr_Unary ℕ expr_depth_step p op a.tree) (deeper lim g s (open_.Prefix p op) a r.stage.1),
     );
   }
 
@@ -331,12 +332,12 @@ module _ (lim : ℕ) (g : Site) (ts : List Token) (t : Token) where
     stands = subst (λ y. Stand (lay_opens s ++ y) ts) (sym (infix_laid op left own right i p a.tree b.tree))
         (three (lay_opens s) (lay_expr a.tree) _ (lay_expr b.tree) ts r.stands);
     opens = r.opens.1;
-    state = (
+    stage = (
       k,
       fits_two lim (lev g s) own (infix_tree own p op a.tree b.tree) a b
           (infix_ranked op left own right i p a.tree b.tree (ranked_as left lim (lev g s + 1) a le f)
-          (ranked_as right lim (lev g (open_.Infix p op a ∷ s)) b (subst (λ n. n ≤ b.rank) e r.state.0) r.state.1))
-          (infix_deep op left own right i p a.tree b.tree) f (deeper lim g s (open_.Infix p op a) b r.state.1),
+          (ranked_as right lim (lev g (open_.Infix p op a ∷ s)) b (subst (λ n. n ≤ b.rank) e r.stage.0) r.stage.1))
+          (infix_deep op left own right i p a.tree b.tree) f (deeper lim g s (open_.Infix p op a) b r.stage.1),
     );
   }
 
@@ -347,13 +348,13 @@ module _ (lim : ℕ) (g : Site) (ts : List Token) (t : Token) where
     stands = subst (λ y. Stand (lay_opens s ++ y) ts) (sym (expr_Cond Pieces lay_expr_step p a.tree b.tree c.tree))
         (five (lay_opens s) (lay_expr a.tree) (at p (plain (the_mark mark.Question))) (lay_expr b.tree) (plain (the_mark mark.Colon)) (lay_expr c.tree) ts r.stands);
     opens = r.opens.1;
-    state = (
+    stage = (
       k,
       record {
         ranked = conditional 2 p a.tree b.tree c.tree (omega arith) (ranked_as 3 lim (lev g s + 1) a le f)
-            (ranked_as 0 lim (lev g s + 1) b (omega arith) h) (ranked_as 2 lim (lev g (open_.Other p a b ∷ s)) c r.state.0 r.state.1);
-        height = omega (arith, made, f.height, h.height, r.state.1.height, f.within, h.within, (deeper lim g s (open_.Other p a b) c r.state.1).within);
-        within = omega (arith, made, f.within, h.within, (deeper lim g s (open_.Other p a b) c r.state.1).within);
+            (ranked_as 0 lim (lev g s + 1) b (omega arith) h) (ranked_as 2 lim (lev g (open_.Other p a b ∷ s)) c r.stage.0 r.stage.1);
+        height = omega (arith, made, f.height, h.height, r.stage.1.height, f.within, h.within, (deeper lim g s (open_.Other p a b) c r.stage.1).within);
+        within = omega (arith, made, f.within, h.within, (deeper lim g s (open_.Other p a b) c r.stage.1).within);
       },
     );
   }
@@ -368,11 +369,11 @@ module _ (lim : ℕ) (g : Site) (ts : List Token) (t : Token) where
     stands = subst (λ y. Stand (lay_opens s ++ y) ts) (sym (expr_Cast Pieces lay_expr_step p specs stars a.tree))
         (regroup (lay_opens s) (lay_open (open_.Cast p specs stars)) (lay_expr a.tree) ts r.stands);
     opens = r.opens.1;
-    state = (
+    stage = (
       k,
       fits_one lim (lev g s) 13 (expr.Cast p specs stars a.tree) a
-          (cast 13 p specs stars a.tree (omega arith) h (ranked_as 13 lim (lev g (open_.Cast p specs stars ∷ s)) a r.state.0 r.state.1))
-          (expr_Cast ℕ expr_depth_step p specs stars a.tree) (deeper lim g s (open_.Cast p specs stars) a r.state.1),
+          (cast 13 p specs stars a.tree (omega arith) h (ranked_as 13 lim (lev g (open_.Cast p specs stars ∷ s)) a r.stage.0 r.stage.1))
+          (expr_Cast ℕ expr_depth_step p specs stars a.tree) (deeper lim g s (open_.Cast p specs stars) a r.stage.1),
     );
   }
 
@@ -383,11 +384,11 @@ module _ (lim : ℕ) (g : Site) (ts : List Token) (t : Token) where
     stands = subst (λ y. Stand (lay_opens s ++ y) ts) (sym (expr_SizeofExpr Pieces lay_expr_step p a.tree))
         (regroup (lay_opens s) (lay_open (open_.Sizeof p)) (lay_expr a.tree) ts r.stands);
     opens = r.opens.1;
-    state = (
+    stage = (
       k,
       fits_one lim (lev g s) 14 (expr.SizeofExpr p a.tree) a
-          (sizeof_expr 14 p a.tree (omega arith) (ranked_as 14 lim (lev g (open_.Sizeof p ∷ s)) a r.state.0 r.state.1))
-          (expr_SizeofExpr ℕ expr_depth_step p a.tree) (deeper lim g s (open_.Sizeof p) a r.state.1),
+          (sizeof_expr 14 p a.tree (omega arith) (ranked_as 14 lim (lev g (open_.Sizeof p ∷ s)) a r.stage.0 r.stage.1))
+          (expr_SizeofExpr ℕ expr_depth_step p a.tree) (deeper lim g s (open_.Sizeof p) a r.stage.1),
     );
   }
 
@@ -410,7 +411,7 @@ module _ (lim : ℕ) (g : Site) (ts : List Token) (t : Token) where
 
   end_keeps : (a : Term) → Reads [] a → IsRead lim g a.tree ts
   unfolding hole
-  end_keeps a r = record { ranked = ranked_as g.rank lim (lev g []) a r.state.0 r.state.1; stands = r.stands; within = omega (arith, r.state.1.within) }
+  end_keeps a r = record { ranked = ranked_as g.rank lim (lev g []) a r.stage.0 r.stage.1; stands = r.stands; within = omega (arith, r.stage.1.within) }
 
   pub value_keeps : (s : Opens) (a : Term) → Reads s a → Keeps lim g ts t (value g s a t)
   unfolding value
@@ -426,18 +427,18 @@ module _ (lim : ℕ) (g : Site) (ts : List Token) (t : Token) where
   call_opens s p x e i =
       open_keeps s (open_.Call p x [] 0) 0
       (λ z. stand-more (lay_opens s) (at p (plain (the_name x))) _ ts (t ∷ []) i.stands (one t (token.Mark mark.LeftParen) e))
-      (λ z. ok_call p x [] 0 (hole_small lim g s i.opens) no_args refl i.state (omega (arith, i.state))) i.opens
+      (λ z. ok_call p x [] 0 (hole_small lim g s i.opens) no_args refl i.stage (omega (arith, i.stage))) i.opens
 
   name_reads : (s : Opens) (p : Place) (x : List ℕ) → Inv lim g s (now.Named p x) ts → Reads s (term (expr.Name p x) 16 1)
   name_reads s p x i = record {
     stands = subst (λ y. Stand (lay_opens s ++ y) ts) (sym (expr_Name Pieces lay_expr_step p x)) i.stands;
     opens = i.opens;
-    state = (
+    stage = (
       omega (arith, hole_small lim g s i.opens),
       record {
         ranked = name 16 p x (omega arith);
         height = sym (expr_Name ℕ expr_depth_step p x);
-        within = omega (arith, expr_Name ℕ expr_depth_step p x, i.state);
+        within = omega (arith, expr_Name ℕ expr_depth_step p x, i.stage);
       },
     );
   }
@@ -445,5 +446,5 @@ module _ (lim : ℕ) (g : Site) (ts : List Token) (t : Token) where
   pub named_keeps : (s : Opens) (p : Place) (x : List ℕ) → Inv lim g s (now.Named p x) ts → Keeps lim g ts t (named g s p x t)
   unfolding named
   named_keeps s p x i =
-      cond_keeps lim g ts t (is_left_paren t.what) _ _ (λ h. call_opens s p x (left_paren_is t.what h) i)
+      cond_keeps lim g ts t (token_is_mark t.what mark.LeftParen) _ _ (λ h. call_opens s p x (token_mark_is t.what mark.LeftParen h) i)
       (λ h. value_keeps s (term (expr.Name p x) 16 1) (name_reads s p x i))

@@ -5,7 +5,6 @@ use Rattle.k_parse_steps.specs.Types.{Place, Token, TokenKind, Mark, Word, Expr,
 use Rattle.k_tree.specs.declared.tokens.TokenKind.TheVariants as token
 use Rattle.k_tree.specs.declared.tokens.mark.Mark.TheVariants as mark
 use Rattle.k_tree.specs.declared.tree.declaration.Init.TheVariants as init
-use Rattle.k_parse_steps.specs.Operators.{is_bracket, is_equal, is_left_brace, is_right_brace}
 use Rattle.k_parse_steps.specs.Level.{plus}
 use Rattle.k_parse_steps.specs.Stars.{no_stars, all_stars, star, type_word}
 use Rattle.k_parse_steps.specs.Expressions.{begin, feed}
@@ -15,6 +14,7 @@ use Rattle.k_parse_steps.specs.declared.reading.Closer.TheVariants as closer
 use Rattle.k_parse_steps.specs.Initialisers as inits
 use Rattle.k_parse_steps.specs.declared.declaration.initialiser.After.TheVariants as after_
 use Rattle.k_parse_steps.specs.declared.declaration.DeclarationStage.TheVariants as stage
+use Rattle.k_parse_steps.specs.Tokens.{is_mark}
 
 -- a declaration with this front, of which the reading stands at this stage
 abbrev pub declaration_at : Front → DeclarationStage → Declaration
@@ -71,8 +71,8 @@ end f d _ = turn.Refused
 -- a mark behind the name of a declarator, or behind a dimension
 unfoldable pub named : Front → Declarator → Mark → Declared
 named f d m =
-    cond (is_bracket m) (declares f (stage.Size d (begin 2 f.level)) 0)
-    (cond (is_equal m) (declares f (stage.Starts d []) (plus f.level 1)) (end f d m))
+    cond (is_mark m mark.LeftBracket) (declares f (stage.Size d (begin 2 f.level)) 0)
+    (cond (is_mark m mark.Equal) (declares f (stage.Starts d []) (plus f.level 1)) (end f d m))
 
 -- a token of this kind behind the name of a declarator, or behind a dimension: only a mark can stand there
 abbrev pub kind_named : Front → Declarator → TokenKind → Declared
@@ -138,7 +138,8 @@ first_token f o t = first_by f o t.place (feed (begin 1 (plus (inner_level f o) 
 
 -- a mark where an initialiser begins: `{`, `}` behind a comma, or the first token of an expression (C17 6.7.9)
 unfoldable pub mark_starts : Front → Opened → Token → Mark → Declared
-mark_starts f o t m = cond (is_left_brace m) (brace f o t.place) (cond (is_right_brace m) (last_comma f o) (first_token f o t))
+mark_starts f o t m =
+    cond (is_mark m mark.LeftBrace) (brace f o t.place) (cond (is_mark m mark.RightBrace) (last_comma f o) (first_token f o t))
 
 -- a token of this kind where an initialiser begins: a mark, or the first token of an expression
 abbrev pub kind_starts : Front → Opened → Token → TokenKind → Declared

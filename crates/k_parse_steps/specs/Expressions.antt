@@ -8,20 +8,21 @@ use Rattle.k_tree.specs.declared.tokens.word.Word.TheVariants as word
 use Rattle.k_tree.specs.declared.tree.expression.Expr.TheVariants as expr
 use Rattle.k_num.specs.Top.{top}
 use Rattle.k_parse_steps.specs.Level.{plus, above}
-use Rattle.k_parse_steps.specs.Operators.{own_rank, right_rank, takes, is_prefix_mark, is_step_mark, is_spec_word, is_open, is_close, is_bracket, is_question}
+use Rattle.k_parse_steps.specs.Operators.{own_rank, right_rank, takes, is_prefix_mark, is_step_mark, is_spec_word}
 use Rattle.k_parse_steps.specs.Stars.{no_stars, all_stars, star, type_word}
 use Rattle.k_parse_steps.specs.declared.expression.Open.TheVariants as open_
 use Rattle.k_parse_steps.specs.declared.expression.ExpressionStage.TheVariants as now
 use Rattle.k_parse_steps.specs.declared.turn.Turn.TheVariants as turn
 use Rattle.k_parse_steps.specs.declared.expression.plug.Plugged.TheVariants as plugged
+use Rattle.k_parse_steps.specs.Tokens.{is_mark, is_word, token_is_mark}
 
 -- the constructs of which an operand is awaited, the innermost first
 abbrev pub Opens : Type 0
 Opens = List Open
 
--- the reading goes on in this state, and the token makes sure that a node lies at this level
+-- the reading goes on at this stage, and the token makes sure that a node lies at this level
 abbrev pub goes : Site → Opens → ExpressionStage → ℕ → Fed
-goes g s n reach = turn.Goes (record { site = g; opens = s; state = n }) reach
+goes g s n reach = turn.Goes (record { site = g; opens = s; stage = n }) reach
 
 -- the level of a node in the innermost open construct
 abbrev pub level : Site → Opens → ℕ
@@ -83,7 +84,8 @@ prefix_operator g s op p = goes g (open_.Prefix p op ∷ s) now.Operand (plus (l
 -- a mark where an operand begins: `(`, the `)` of a call without arguments, or a prefix operator
 unfoldable pub mark_operand : Site → Opens → Mark → Place → Fed
 mark_operand g s m p =
-    cond (is_open m) (opened g s p) (cond (is_close m) (no_arguments g s) (cond (is_prefix_mark m) (prefix_operator g s m p) turn.Refused))
+    cond (is_mark m mark.LeftParen) (opened g s p)
+    (cond (is_mark m mark.RightParen) (no_arguments g s) (cond (is_prefix_mark m) (prefix_operator g s m p) turn.Refused))
 
 -- does `(` stand before a token that begins a type?
 unfoldable pub is_before_type : Site → Opens → Bool
@@ -95,15 +97,10 @@ is_before_type g (_ ∷ s) = false
 abbrev pub type_begun : Site → Opens → Word → Fed
 type_begun g s w = goes g s (now.Type (w ∷ []) no_stars) 0
 
--- is it `sizeof`?
-abbrev pub is_sizeof : Word → Bool
-is_sizeof word.Sizeof = true
-is_sizeof _ = false
-
 -- a word where an operand begins: `sizeof`, or behind `(` the first word of the name of a type (C17 6.5.3.4, 6.5.4)
 unfoldable pub word_operand : Site → Opens → Word → Place → Fed
 word_operand g s w p =
-    cond (is_sizeof w) (goes g (open_.Sizeof p ∷ s) now.Operand (level g s))
+    cond (is_word w word.Sizeof) (goes g (open_.Sizeof p ∷ s) now.Operand (level g s))
     (cond (is_spec_word w && is_before_type g s) (type_begun g s w) turn.Refused)
 
 -- a token of this kind where an operand begins: a name, a constant, a string, a mark or a word (C17 6.5.1)
@@ -202,7 +199,8 @@ plug o a = plugged.Part o a
 
 -- the construct that an operator opens behind its left operand: an index, a conditional, or one with an operator between operands
 abbrev pub operator_opens : Mark → Term → Place → Open
-operator_opens op a p = cond (is_bracket op) (open_.Index p a) (cond (is_question op) (open_.Then p a) (open_.Infix p op a))
+operator_opens op a p =
+    cond (is_mark op mark.LeftBracket) (open_.Index p a) (cond (is_mark op mark.Question) (open_.Then p a) (open_.Infix p op a))
 
 -- an operator goes on with an operand
 unfoldable pub take_operator : Site → Opens → Term → Mark → Place → Fed
@@ -271,28 +269,23 @@ value g (o ∷ s) a t =
     cond (takes_token (hole g (o ∷ s)) a.rank t.what) (take_token g (o ∷ s) a t.what t.place)
     (closed_by g s (plug o a) t.what (λ b. value g s b t))
 
--- is it `(`?
-abbrev pub is_left_paren : TokenKind → Bool
-is_left_paren (token.Mark mark.LeftParen) = true
-is_left_paren _ = false
-
 -- the token behind a name
 unfoldable pub named : Site → Opens → Place → List ℕ → Token → Fed
 named g s p name t =
-    cond (is_left_paren t.what) (goes g (open_.Call p name [] 0 ∷ s) now.Operand 0)
+    cond (token_is_mark t.what mark.LeftParen) (goes g (open_.Call p name [] 0 ∷ s) now.Operand 0)
     (value g s (term (expr.Name p name) 16 1) t)
 
--- the next token of an expression, in each state of its reading
-abbrev pub feed_at : Site → Opens → ExpressionStage → Token → Fed
-feed_at g s now.Operand t = operand g s t
-feed_at g s (now.Named p name) t = named g s p name t
-feed_at g s (now.Type specs stars) t = in_type g s specs stars t
-feed_at g s (now.Value a) t = value g s a t
+-- the next token of an expression, at each stage of its reading
+abbrev pub stage_fed : Site → Opens → ExpressionStage → Token → Fed
+stage_fed g s now.Operand t = operand g s t
+stage_fed g s (now.Named p name) t = named g s p name t
+stage_fed g s (now.Type specs stars) t = in_type g s specs stars t
+stage_fed g s (now.Value a) t = value g s a t
 
 -- the next token of an expression
 unfoldable pub feed : Reading → Token → Fed
-feed r t = feed_at r.site r.opens r.state t
+feed r t = stage_fed r.site r.opens r.stage t
 
 -- an expression begins
 abbrev pub begin : ℕ → ℕ → Reading
-begin rank level = record { site = record { rank = rank; level = level }; opens = []; state = now.Operand }
+begin rank level = record { site = record { rank = rank; level = level }; opens = []; stage = now.Operand }

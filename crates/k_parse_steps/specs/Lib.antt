@@ -8,4 +8,5 @@ pub mod Readings
 pub mod Sources
 pub mod Stars
 pub mod Statements
+pub mod Tokens
 pub mod Types

@@ -6,21 +6,22 @@ use Rattle.k_tree.specs.declared.tokens.TokenKind.TheVariants as token
 use Rattle.k_tree.specs.declared.tokens.mark.Mark.TheVariants as mark
 use Rattle.k_tree.specs.declared.tokens.word.Word.TheVariants as word_
 use Rattle.k_tree.specs.declared.tree.declaration.Params.TheVariants as params
-use Rattle.k_parse_steps.specs.Operators.{is_spec_word, is_bracket, is_star}
+use Rattle.k_parse_steps.specs.Operators.{is_spec_word}
 use Rattle.k_parse_steps.specs.Stars.{no_stars, all_stars, star, type_word}
 use Rattle.k_parse_steps.specs.Expressions.{begin}
 use Rattle.k_parse_steps.specs.Readings.{read_maybe}
 use Rattle.k_parse_steps.specs.declared.reading.Closer.TheVariants as closer
 use Rattle.k_parse_steps.specs.declared.turn.Turn.TheVariants as turn
 use Rattle.k_parse_steps.specs.declared.parameter.ParameterStage.TheVariants as part_
+use Rattle.k_parse_steps.specs.Tokens.{is_mark, is_word}
 
--- the parameters go on in this part, and the token makes sure that a node lies at this level
+-- the parameters go on at this stage, and the token makes sure that a node lies at this level
 abbrev pub follows : List Param → ParameterStage → ℕ → Parametric
-follows list p reach = turn.Goes (record { list = list; part = p }) reach
+follows list p reach = turn.Goes (record { list = list; stage = p }) reach
 
 -- the opening parenthesis was read, and no parameter yet
 abbrev pub begin_parameters : Parameters
-begin_parameters = record { list = []; part = part_.Starts }
+begin_parameters = record { list = []; stage = part_.Starts }
 
 -- a word where a parameter begins: its first specifier (C17 6.7.2, 6.7.6.3)
 unfoldable pub starts : List Param → Word → Place → Parametric
@@ -48,15 +49,10 @@ kind_first list p _ = turn.Refused
 unfoldable pub first_token : List Param → Token → Parametric
 first_token list t = kind_first list t.place t.what
 
--- is it `void`?
-abbrev pub is_void : Word → Bool
-is_void word_.Void = true
-is_void _ = false
-
 -- is `void` the only specifier?
 abbrev pub is_void_list : List Word → Bool
 is_void_list [] = false
-is_void_list (w ∷ []) = is_void w
+is_void_list (w ∷ []) = is_word w word_.Void
 is_void_list (w ∷ (v ∷ ws)) = false
 
 -- C17 6.7.6.3p10
@@ -72,7 +68,7 @@ end list p _ = turn.Refused
 
 -- a mark behind the name of a parameter, or behind a dimension: `[` opens a dimension, or the parameter ends
 unfoldable pub named : List Param → Param → Mark → Parametric
-named list p m = cond (is_bracket m) (follows list (part_.Size p (begin 2 1)) 0) (end list p m)
+named list p m = cond (is_mark m mark.LeftBracket) (follows list (part_.Size p (begin 2 1)) 0) (end list p m)
 
 -- a token of this kind behind the name of a parameter, or behind a dimension: only a mark can stand there
 abbrev pub kind_named : List Param → Param → TokenKind → Parametric
@@ -98,7 +94,7 @@ name list p stars x = follows list (part_.Named (record p { stars = all_stars st
 
 -- a mark in the type of a parameter: one more star, or a mark behind a parameter without a name
 unfoldable pub mark_typed : List Param → Param → Stars → Mark → Parametric
-mark_typed list p stars m = cond (is_star m) (follows list (part_.Typed p (star stars)) 0) (named list (starred p stars) m)
+mark_typed list p stars m = cond (is_mark m mark.Star) (follows list (part_.Typed p (star stars)) 0) (named list (starred p stars) m)
 
 -- a token of this kind in the type of a parameter: a word, the name, or a mark
 abbrev pub kind_typed : List Param → Param → Stars → TokenKind → Parametric
@@ -121,13 +117,13 @@ size_by list p turn.Refused = turn.Refused
 unfoldable pub size : List Param → Param → Reading → Token → Parametric
 size list p r t = size_by list p (read_maybe r t closer.Bracket)
 
--- the next token of parameters, in each part of their reading
-abbrev pub part_fed : List Param → ParameterStage → Token → Parametric
-part_fed list part_.Starts t = first_token list t
-part_fed list (part_.Typed p stars) t = typed list p stars t
-part_fed list (part_.Named p) t = kind_named list p t.what
-part_fed list (part_.Size p r) t = size list p r t
+-- the next token of parameters, at each stage of their reading
+abbrev pub stage_fed : List Param → ParameterStage → Token → Parametric
+stage_fed list part_.Starts t = first_token list t
+stage_fed list (part_.Typed p stars) t = typed list p stars t
+stage_fed list (part_.Named p) t = kind_named list p t.what
+stage_fed list (part_.Size p r) t = size list p r t
 
 -- the next token of parameters
 unfoldable pub feed_parameters : Parameters → Token → Parametric
-feed_parameters ps t = part_fed ps.list ps.part t
+feed_parameters ps t = stage_fed ps.list ps.stage t

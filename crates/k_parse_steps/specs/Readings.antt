@@ -1,39 +1,33 @@
 -- Believed with a public law.
 -- How an expression is read up to the mark that closes it.
 use Rattle.std.specs.Prelude.{Bool, true, false, ◌&&◌, cond, nat_eq, length, Some, None}
-use Rattle.k_parse_steps.specs.Types.{Token, TokenKind, Mark, ExpressionStage, Reading, Fed, Read, Maybe, Closer}
-use Rattle.k_tree.specs.declared.tokens.TokenKind.TheVariants as token
+use Rattle.k_parse_steps.specs.Types.{Token, Mark, ExpressionStage, Reading, Fed, Read, Maybe, Closer}
 use Rattle.k_tree.specs.declared.tokens.mark.Mark.TheVariants as mark
 use Rattle.k_parse_steps.specs.declared.expression.ExpressionStage.TheVariants as now
 use Rattle.k_parse_steps.specs.declared.turn.Turn.TheVariants as turn
 use Rattle.k_parse_steps.specs.Expressions.{feed}
+use Rattle.k_parse_steps.specs.Tokens.{token_is_mark}
 use Rattle.k_parse_steps.specs.declared.reading.Closer.TheVariants as closer
 
--- is the mark the one that closes the expression?
-abbrev pub mark_closes : Closer → Mark → Bool
-mark_closes closer.Bracket mark.RightBracket = true
-mark_closes closer.Paren mark.RightParen = true
-mark_closes closer.Semicolon mark.Semicolon = true
-mark_closes closer.Colon mark.Colon = true
-mark_closes _ _ = false
+-- the mark that closes an expression
+abbrev pub closing : Closer → Mark
+closing closer.Bracket = mark.RightBracket
+closing closer.Paren = mark.RightParen
+closing closer.Semicolon = mark.Semicolon
+closing closer.Colon = mark.Colon
 
--- is a token of this kind the mark that closes the expression?
-abbrev pub kind_closes : Closer → TokenKind → Bool
-kind_closes c (token.Mark m) = mark_closes c m
-kind_closes c _ = false
-
--- is a token this mark?
+-- is a token the mark that closes an expression?
 unfoldable pub closes : Token → Closer → Bool
-closes t c = kind_closes c t.what
+closes t c = token_is_mark t.what (closing c)
 
--- is it the state where an operand begins?
+-- is it the stage where an operand begins?
 abbrev pub is_operand : ExpressionStage → Bool
 is_operand now.Operand = true
 is_operand _ = false
 
 -- has nothing been read yet?
 unfoldable pub is_fresh : Reading → Bool
-is_fresh r = is_operand r.state && nat_eq (length r.opens) 0
+is_fresh r = is_operand r.stage && nat_eq (length r.opens) 0
 
 -- the expression goes on, or it ended before the token, which must be the mark that closes it
 abbrev pub read_by : Fed → Bool → Read

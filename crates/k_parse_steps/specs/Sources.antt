@@ -6,21 +6,21 @@ use Rattle.k_tree.specs.declared.tokens.TokenKind.TheVariants as token
 use Rattle.k_tree.specs.declared.tokens.mark.Mark.TheVariants as mark
 use Rattle.k_tree.specs.declared.tree.unit.Item.TheVariants as item
 use Rattle.k_parse_steps.specs.Operators.{is_spec_word}
-use Rattle.k_parse_steps.specs.Expressions.{is_left_paren}
 use Rattle.k_parse_steps.specs.Declarations.{begin_declaration, feed_declaration}
 use Rattle.k_parse_steps.specs.declared.declaration.DeclarationStage.TheVariants as stage
 use Rattle.k_parse_steps.specs.declared.turn.Turn.TheVariants as turn
 use Rattle.k_parse_steps.specs.Parameters.{begin_parameters, feed_parameters}
 use Rattle.k_parse_steps.specs.Statements.{begin_body, feed_body}
 use Rattle.k_parse_steps.specs.declared.source.SourceStage.TheVariants as phase
+use Rattle.k_parse_steps.specs.Tokens.{token_is_mark}
 
--- the source goes on in this phase, and the token makes sure that a node lies at this level
+-- the source goes on at this stage, and the token makes sure that a node lies at this level
 abbrev pub goes_on : List Item → SourceStage → ℕ → Sourced
-goes_on items p reach = turn.Goes (record { items = items; phase = p }) reach
+goes_on items p reach = turn.Goes (record { items = items; stage = p }) reach
 
 -- nothing was read yet
 abbrev pub begin_source : Source
-begin_source = record { items = []; phase = phase.Starts }
+begin_source = record { items = []; stage = phase.Starts }
 
 -- one more item was read to its end, and the next one begins (C17 6.9)
 abbrev pub item_done : List Item → Item → Sourced
@@ -67,7 +67,7 @@ declares_by items p turn.Refused = turn.Refused
 -- a token in an item that may be a declaration or a function
 unfoldable pub declares : List Item → Place → Declaration → Token → Sourced
 declares items p d t =
-    cond (is_left_paren t.what && is_titled d) (titled items p d) (declares_by items p (feed_declaration d t))
+    cond (token_is_mark t.what mark.LeftParen && is_titled d) (titled items p d) (declares_by items p (feed_declaration d t))
 
 -- the head of a function with its parameters
 abbrev pub head_of : Title → Params → Head
@@ -108,14 +108,14 @@ body_by items p h q turn.Refused = turn.Refused
 unfoldable pub in_body : List Item → Place → Head → Body → Token → Sourced
 in_body items p h b t = body_by items p h t.place (feed_body b t)
 
--- the next token of a source, in each phase of its reading
-abbrev pub phase_fed : List Item → SourceStage → Token → Sourced
-phase_fed items phase.Starts t = starts items t
-phase_fed items (phase.Declares p d) t = declares items p d t
-phase_fed items (phase.Parameters p title ps) t = parameters items p title ps t
-phase_fed items (phase.Headed p h) t = headed items p h t
-phase_fed items (phase.Body p h b) t = in_body items p h b t
+-- the next token of a source, at each stage of its reading
+abbrev pub stage_fed : List Item → SourceStage → Token → Sourced
+stage_fed items phase.Starts t = starts items t
+stage_fed items (phase.Declares p d) t = declares items p d t
+stage_fed items (phase.Parameters p title ps) t = parameters items p title ps t
+stage_fed items (phase.Headed p h) t = headed items p h t
+stage_fed items (phase.Body p h b) t = in_body items p h b t
 
 -- the next token of a source
 unfoldable pub feed_source : Source → Token → Sourced
-feed_source s t = phase_fed s.items s.phase t
+feed_source s t = stage_fed s.items s.stage t

@@ -4,6 +4,7 @@ use Rattle.std.specs.Prelude.{Bool, true, false, ◌&&◌, nat_eq, List, [], ◌
 use Rattle.k_parse_steps.specs.Types.{Stars, Word}
 use Rattle.k_tree.specs.declared.tokens.word.Word.TheVariants as word
 use Rattle.k_parse_steps.specs.Operators.{is_spec_word}
+use Rattle.k_parse_steps.specs.Tokens.{is_word}
 
 -- no star was read yet
 abbrev pub no_stars : Stars
@@ -21,13 +22,8 @@ star s = record { done = all_stars s; pending = true }
 abbrev pub constant : Stars → Stars
 constant s = record { done = s.done ++ true ∷ []; pending = false }
 
--- is it `const`?
-abbrev pub is_const : Word → Bool
-is_const word.Const = true
-is_const _ = false
-
 -- a word behind these specifiers and stars: `const` behind a star, or one more specifier before the first star, where one may stand; or it can't stand there
 unfoldable pub type_word : List Word → Stars → Bool → Word → Option (List Word × Stars)
 type_word specs stars more w =
-    cond stars.pending (cond (is_const w) (Some (specs, constant stars)) None)
+    cond stars.pending (cond (is_word w word.Const) (Some (specs, constant stars)) None)
     (cond (nat_eq (length stars.done) 0 && (more && is_spec_word w)) (Some (specs ++ w ∷ [], stars)) None)

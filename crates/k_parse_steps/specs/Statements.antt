@@ -9,10 +9,10 @@ use Rattle.k_tree.specs.declared.tree.statement.First.TheVariants as first
 use Rattle.k_tree.specs.declared.tree.statement.Stmt.TheVariants as stmt
 use Rattle.k_tree.specs.declared.tree.statement.Part.TheVariants as part_
 use Rattle.k_tree.specs.Places.{stmt_place}
-use Rattle.k_parse_steps.specs.Operators.{is_spec_word, is_semicolon, is_left_brace, is_right_brace}
+use Rattle.k_parse_steps.specs.Operators.{is_spec_word}
 use Rattle.k_num.specs.Top.{top}
 use Rattle.k_parse_steps.specs.Level.{plus}
-use Rattle.k_parse_steps.specs.Expressions.{begin, feed, is_left_paren, is_sizeof}
+use Rattle.k_parse_steps.specs.Expressions.{begin, feed}
 use Rattle.k_parse_steps.specs.declared.turn.Turn.TheVariants as turn
 use Rattle.k_parse_steps.specs.Readings.{closes, is_fresh, read_needed, read_maybe}
 use Rattle.k_parse_steps.specs.declared.reading.Closer.TheVariants as closer
@@ -21,6 +21,7 @@ use Rattle.k_parse_steps.specs.declared.statement.Frame.TheVariants as frame
 use Rattle.k_parse_steps.specs.declared.statement.Tested.TheVariants as tested
 use Rattle.k_parse_steps.specs.declared.statement.BlockStage.TheVariants as step
 use Rattle.k_parse_steps.specs.declared.statement.clause.Fitted.TheVariants as closed
+use Rattle.k_parse_steps.specs.Tokens.{is_mark, is_word, token_is_mark, token_is_word}
 
 -- statements of a block, in their order
 abbrev pub Parts : Type 0
@@ -30,9 +31,9 @@ Parts = List Stmt
 abbrev pub Frames : Type 0
 Frames = List Frame
 
--- the block goes on at this step, and the token makes sure that a node lies at this level
+-- the block goes on at this stage, and the token makes sure that a node lies at this level
 abbrev pub steps : Parts → Frames → BlockStage → ℕ → Stepped
-steps ps s n reach = turn.Goes (record { parts = ps; frames = s; step = n }) reach
+steps ps s n reach = turn.Goes (record { parts = ps; frames = s; stage = n }) reach
 
 -- this statement was read to its end
 abbrev pub whole : Parts → Frames → Stmt → Stepped
@@ -52,7 +53,7 @@ inner s = plus (level s) 1
 
 -- the opening brace was read, and no statement yet
 abbrev pub begin_body : Body
-begin_body = record { parts = []; frames = []; step = step.Begins }
+begin_body = record { parts = []; frames = []; stage = step.Begins }
 
 -- the expression goes on, or its semicolon was read and it is a statement, or the token can't stand there (C17 6.8.3)
 abbrev pub value_by : Parts → Frames → Place → Read → Stepped
@@ -65,14 +66,14 @@ unfoldable pub value : Parts → Frames → Place → Reading → Token → Step
 value ps s p r t = value_by ps s p (read_needed r t closer.Semicolon)
 
 -- the value of `return` goes on, or the semicolon was read, or the token can't stand there (C17 6.8.6.4)
-abbrev pub returned_by : Parts → Frames → Place → Maybe → Stepped
-returned_by ps s p (turn.Goes r reach) = steps ps s (step.Return p r) reach
-returned_by ps s p (turn.Done e) = whole ps s (stmt.Return p e)
-returned_by ps s p turn.Refused = turn.Refused
+abbrev pub in_return_by : Parts → Frames → Place → Maybe → Stepped
+in_return_by ps s p (turn.Goes r reach) = steps ps s (step.Return p r) reach
+in_return_by ps s p (turn.Done e) = whole ps s (stmt.Return p e)
+in_return_by ps s p turn.Refused = turn.Refused
 
 -- a token behind `return` (C17 6.8.6.4)
-unfoldable pub returned : Parts → Frames → Place → Reading → Token → Stepped
-returned ps s p r t = returned_by ps s p (read_maybe r t closer.Semicolon)
+unfoldable pub in_return : Parts → Frames → Place → Reading → Token → Stepped
+in_return ps s p r t = in_return_by ps s p (read_maybe r t closer.Semicolon)
 
 -- the declaration goes on, or its semicolon was read, or the token can't stand there (C17 6.8.2)
 abbrev pub local_by : Parts → Frames → Place → Declared → Stepped
@@ -168,13 +169,13 @@ block_begins ps s p = await_part ps s (frame.Block p []) (level s)
 -- a mark where a statement begins: `;`, `{`, `}` or the first token of an expression
 unfoldable pub mark_begins : Parts → Frames → Token → Mark → Stepped
 mark_begins ps s t m =
-    cond (is_semicolon m) (empty ps s t.place)
-    (cond (is_left_brace m) (block_begins ps s t.place) (cond (is_right_brace m) (block_ends ps s) (expression ps s t)))
+    cond (is_mark m mark.Semicolon) (empty ps s t.place)
+    (cond (is_mark m mark.LeftBrace) (block_begins ps s t.place) (cond (is_mark m mark.RightBrace) (block_ends ps s) (expression ps s t)))
 
 -- a token of this kind where a statement begins: a mark, a word, or the first token of an expression
 abbrev pub begins_by : Parts → Frames → Token → TokenKind → Stepped
 begins_by ps s t (token.Mark m) = mark_begins ps s t m
-begins_by ps s t (token.Word w) = cond (is_sizeof w) (expression ps s t) (keyword ps s w t.place)
+begins_by ps s t (token.Word w) = cond (is_word w word.Sizeof) (expression ps s t) (keyword ps s w t.place)
 begins_by ps s t k = expression ps s t
 
 -- a token where a statement begins (C17 6.8)
@@ -185,7 +186,7 @@ begins ps s t = begins_by ps s t t.what
 
 -- the token behind a word that a test belongs to: only `(` can stand there
 unfoldable pub opened : Parts → Frames → Tested → Token → Stepped
-opened ps s x t = cond (is_left_paren t.what) (steps ps s (step.Test x (begin 0 (inner s))) 0) turn.Refused
+opened ps s x t = cond (token_is_mark t.what mark.LeftParen) (steps ps s (step.Test x (begin 0 (inner s))) 0) turn.Refused
 
 -- the `)` of a test was read: its statement is awaited, or behind `do` the semicolon, or the braces of a `switch` (C17 6.8.4, 6.8.5.1, 6.8.5.2)
 unfoldable pub test_done : Parts → Frames → Tested → Expr → Stepped
@@ -219,14 +220,9 @@ close f b other = closed.Part f b
 abbrev pub otherwise : Parts → Frames → Place → Expr → Stmt → Stepped
 otherwise ps s p e a = await_part ps s (frame.Else p e a) 0
 
--- is it `while`?
-abbrev pub is_while : TokenKind → Bool
-is_while (token.Word word.While) = true
-is_while _ = false
-
 -- the token behind the statement of `do`: only `while` can stand there (C17 6.8.5.2)
 unfoldable pub do_while : Parts → Frames → Place → Stmt → Token → Stepped
-do_while ps s p b t = cond (is_while t.what) (steps ps s (step.Keyword (tested.Do p b)) 0) turn.Refused
+do_while ps s p b t = cond (token_is_word t.what word.While) (steps ps s (step.Keyword (tested.Do p b)) 0) turn.Refused
 
 -- the token behind a statement of a block, where the next one begins or the block ends (C17 6.8.2)
 unfoldable pub more : Parts → Frames → Place → Parts → Stmt → Token → Stepped
@@ -235,11 +231,6 @@ more ps s p parts x t = begins ps (frame.Block p (parts ++ x ∷ []) ∷ s) t
 -- the token behind a statement in the braces of a `switch`, where the next one or a label begins or the braces end (C17 6.8.4.2)
 unfoldable pub more_switched : Parts → Frames → Place → Expr → List Part → Stmt → Token → Stepped
 more_switched ps s p e parts x t = begins ps (frame.Switch p e (parts ++ part_.Does (stmt_place x) x ∷ []) ∷ s) t
-
--- is it `else`?
-abbrev pub is_else : TokenKind → Bool
-is_else (token.Word word.Else) = true
-is_else _ = false
 
 -- the token behind a statement in a construct that isn't whole yet: `else`, the `while` of a `do`, or what follows in a block or `switch`
 unfoldable pub part : Parts → Frames → Frame → Stmt → Token → Stepped
@@ -257,13 +248,13 @@ closed_by ps s (closed.Part f a) t again = part ps s f a t
 -- the token behind a whole statement, which first ends each construct that is whole by it
 unfoldable pub behind : Parts → Frames → Stmt → Token → Stepped
 behind ps [] x t = begins (ps ++ x ∷ []) [] t
-behind ps (f ∷ s) x t = closed_by ps s (close f x (is_else t.what)) t (λ y. behind ps s y t)
+behind ps (f ∷ s) x t = closed_by ps s (close f x (token_is_word t.what word.Else)) t (λ y. behind ps s y t)
 
 -- the parts of a `for`
 
 -- the token behind `for`: only `(` can stand there (C17 6.8.5.3)
 unfoldable pub for_opened : Parts → Frames → Place → Token → Stepped
-for_opened ps s p t = cond (is_left_paren t.what) (steps ps s (step.Start p (begin 0 (inner s))) 0) turn.Refused
+for_opened ps s p t = cond (token_is_mark t.what mark.LeftParen) (steps ps s (step.Start p (begin 0 (inner s))) 0) turn.Refused
 
 -- the first part of a `for` was read, and the second one begins (C17 6.8.5.3)
 abbrev pub second_begins : Parts → Frames → Place → First → Stepped
@@ -334,14 +325,9 @@ third ps s p start test r t = third_by ps s p start test (read_maybe r t closer.
 
 -- the braces of a `switch`
 
--- is it `{`?
-abbrev pub is_brace : TokenKind → Bool
-is_brace (token.Mark mark.LeftBrace) = true
-is_brace _ = false
-
 -- the token behind the parentheses of a `switch`: only `{` can stand there (C17 6.8.4.2)
 unfoldable pub braces : Parts → Frames → Place → Expr → Token → Stepped
-braces ps s p e t = cond (is_brace t.what) (await_part ps s (frame.Switch p e []) 0) turn.Refused
+braces ps s p e t = cond (token_is_mark t.what mark.LeftBrace) (await_part ps s (frame.Switch p e []) 0) turn.Refused
 
 -- a label was read in the braces of a `switch`, and the next part begins (C17 6.8.1)
 unfoldable pub labelled : Parts → Frames → Part → Stepped
@@ -378,18 +364,18 @@ in_for ps s (step.Second p start r) t = second ps s p start r t
 in_for ps s (step.Third p start test r) t = third ps s p start test r t
 in_for ps s x t = in_switch ps s x t
 
--- the next token of the block of a function, at each step of its reading
-abbrev pub step_fed : Parts → Frames → BlockStage → Token → Stepped
-step_fed ps s step.Begins t = begins ps s t
-step_fed ps s (step.Whole x) t = behind ps s x t
-step_fed ps s (step.Value p r) t = value ps s p r t
-step_fed ps s (step.Keyword x) t = opened ps s x t
-step_fed ps s (step.Test x r) t = test ps s x r t
-step_fed ps s (step.Semicolon x) t = semicolon ps s x t
-step_fed ps s (step.Return p r) t = returned ps s p r t
-step_fed ps s (step.Local p d) t = local ps s p d t
-step_fed ps s x t = in_for ps s x t
+-- the next token of the block of a function, at each stage of its reading
+abbrev pub stage_fed : Parts → Frames → BlockStage → Token → Stepped
+stage_fed ps s step.Begins t = begins ps s t
+stage_fed ps s (step.Whole x) t = behind ps s x t
+stage_fed ps s (step.Value p r) t = value ps s p r t
+stage_fed ps s (step.Keyword x) t = opened ps s x t
+stage_fed ps s (step.Test x r) t = test ps s x r t
+stage_fed ps s (step.Semicolon x) t = semicolon ps s x t
+stage_fed ps s (step.Return p r) t = in_return ps s p r t
+stage_fed ps s (step.Local p d) t = local ps s p d t
+stage_fed ps s x t = in_for ps s x t
 
 -- the next token of a function's block
 unfoldable pub feed_body : Body → Token → Stepped
-feed_body b t = step_fed b.parts b.frames b.step t
+feed_body b t = stage_fed b.parts b.frames b.stage t

@@ -93,7 +93,7 @@ pub struct Site {
 pub struct Reading {
     pub site: Site,
     pub opens: Stack<Open>,
-    pub state: ExpressionStage,
+    pub stage: ExpressionStage,
 }
 
 /// What a token does in an expression. It is done before the token, which belongs to what stands around it.

@@ -15,4 +15,5 @@ pub mod reading;
 pub mod source;
 pub mod stars;
 pub mod statement;
+pub mod tokens;
 pub mod turn;

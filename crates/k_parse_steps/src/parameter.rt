@@ -23,7 +23,7 @@ pub enum ParameterStage {
 #[derive(Drop)]
 pub struct Parameters {
     pub list: Seq<Param>,
-    pub part: ParameterStage,
+    pub stage: ParameterStage,
 }
 
 /// What a token does among parameters. They are done with the closing parenthesis.

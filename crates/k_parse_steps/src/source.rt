@@ -49,7 +49,7 @@ pub enum SourceStage {
 #[derive(Drop)]
 pub struct Source {
     pub items: Seq<Item>,
-    pub phase: SourceStage,
+    pub stage: SourceStage,
 }
 
 /// What a token does in a source. It is done with the end.

@@ -3,6 +3,7 @@ ghost use Rattle.std.specs.Prelude.{◌≡◌, [], IfOk, false};
 ghost use Rattle.k_parse_steps.specs.Stars as spec;
 
 use crate::operators::is_spec;
+use crate::tokens::is_word;
 use k_num::{NoMemory, Seq};
 use k_tree::Word;
 use std::alloc::Global;
@@ -70,7 +71,7 @@ pub fn type_word(
     ensures { IfOk result (λ read. read ≡ spec.type_word specs stars more word) }
 {
     if stars.pending {
-        if !matches!(word, Word::Const) {
+        if !is_word(word, Word::Const) {
             return Ok(None);
         }
         let stars = constant(stars)?;

@@ -145,7 +145,7 @@ pub enum BlockStage {
 pub struct Body {
     pub parts: Seq<Stmt>,
     pub frames: Stack<Frame>,
-    pub step: BlockStage,
+    pub stage: BlockStage,
 }
 
 /// What a token does in the block of a function. It is done with its closing brace.

@@ -79,7 +79,7 @@ framed (Goes held u) m s = refl
 framed (Stops end w) m s = refl
 
 -- a function whose nodes are within the limit is entered
-pub entered_as : (program : Program) (inner : Calls) (number : ℕ) (place : Place) (f : TFunc) (args : List (Option Held)) (m : Machine) (s : State) → is_too_large f s.world ≡ false
+pub entered_as : (program : Program) (inner : Calls) (number : ℕ) (place : Place) (f : TFunc) (args : List (Option Held)) (m : Machine) (s : State) → is_too_large s.world f.nodes ≡ false
     → follow (follow (enters_function program inner number place f args s) gives_operand) (goes m.setting m.runner.tasks m.runner.rest m.frames)
     ≡ follow (follow (runs program inner number f (entered f args s)) gives_result) (behind_all (frame_of m (caller_of s) ∷ m.frames))
 entered_as program inner number place f args m s fits =
@@ -88,7 +88,7 @@ entered_as program inner number place f args m s fits =
     ∙ framed (runs program inner number f (entered f args s)) m s
 
 -- a function whose nodes are not
-pub overflowed : (program : Program) (inner : Calls) (number : ℕ) (place : Place) (f : TFunc) (args : List (Option Held)) (m : Machine) (s : State) → is_too_large f s.world ≡ true
+pub overflowed : (program : Program) (inner : Calls) (number : ℕ) (place : Place) (f : TFunc) (args : List (Option Held)) (m : Machine) (s : State) → is_too_large s.world f.nodes ≡ true
     → follow (follow (enters_function program inner number place f args s) gives_operand) (goes m.setting m.runner.tasks m.runner.rest m.frames) ≡ Stops (Trapped StackOverflow place) s.world
 overflowed program inner number place f args m s large =
     ap (λ (b : Bool). follow (follow ((if b then traps StackOverflow place s else back_to s (runs program inner number f (entered f args s)))) gives_operand)
@@ -101,7 +101,7 @@ no_rest w b (Stops end v) = refl
 
 -- A function was entered, and begins: the rest of the run is its own, and then that of its caller.
 pub called_in : (r : Result Given Stop) (m : Machine) (number : ℕ) (place : Place) (f : TFunc) (args : List (Option Held)) (less : ℕ) (caller : Caller) (s : State) (n new : Machine)
-    → is_too_large f m.runner.evaluator.world ≡ false → caller ≡ caller_of m.runner.evaluator → s ≡ entered f args m.runner.evaluator
+    → is_too_large m.runner.evaluator.world f.nodes ≡ false → caller ≡ caller_of m.runner.evaluator → s ≡ entered f args m.runner.evaluator
     → Called (record m { runner = record m.runner { evaluator = s } }) number f caller n → m.setting.around.allowed - 1 ≡ less → new.setting ≡ n.setting → new.frames ≡ n.frames
     → Resumes (tabled_of new.setting) r (called (tabled_of n.setting) f n.runner.evaluator) n.runner.rest new.runner.tasks new.runner.rest new.runner.evaluator
     → Steps r (follow (follow (enters_function (program_of m.setting.around) (calls less (program_of m.setting.around)) number place f args m.runner.evaluator) gives_operand)

@@ -1,2 +1,3 @@
+pub mod RowLaws
 pub mod Truths
 pub mod ValueRows

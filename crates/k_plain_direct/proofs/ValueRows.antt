@@ -1,40 +1,27 @@
 -- What an expression comes to, by what its operands came to.
-use Rattle.std.proofs.Common.{ℕ, ◌≡◌, ◌∙◌, true, false, Option, Result, sym, ap, subst}
+use Rattle.std.proofs.Common.{◌≡◌, ◌∙◌, Bool, true, Option, Result, sym, ap, subst}
 use Rattle.k_num.specs.declared.numbers.Kind.{Kind}
-use Rattle.k_num.specs.declared.place.Place.{Place}
-use Rattle.k_optab.specs.declared.class.Class.TheVariants as class
 use Rattle.k_types_meaning.specs.declared.tree.expression.Change.{Change}
 use Rattle.k_types_meaning.specs.declared.tree.expression.Node.{Node}
 use Rattle.k_types_meaning.specs.declared.tree.expression.TExpr.{TExpr}
-use Rattle.k_world.specs.declared.act.ActRef.TheVariants as borrowed
 use Rattle.k_world.specs.declared.answer.Stop.{Stop}
 use Rattle.k_evaluation.specs.declared.operand.Operand.{Operand}
 use Rattle.k_evaluation.specs.declared.operand.Target.{Target}
 use Rattle.k_evaluation.specs.Assignments.{behind_changed, changes_old}
 use Rattle.k_evaluation.specs.Flows.{Within, means}
-use Rattle.k_evaluation.specs.Meanings.{behind_one, kind_of, scale_of}
-use Rattle.k_evaluation.specs.Operators.{distance_on, kind_or_int, truth_of, truth_on}
-use Rattle.k_evaluation.specs.Places.{behind_base, element_at}
+use Rattle.k_evaluation.specs.Meanings.{Meaning, kind_of}
+use Rattle.k_evaluation.specs.Operators.{kind_or_int, truth_of, truth_on}
 use Rattle.k_evaluation.specs.States.{State, Outcome, Goes, follow}
-use Rattle.k_plain_state.specs.declared.making.Making.{Making}
 use Rattle.k_plain_direct.specs.ComesInto.{ComesInto}
-use Rattle.k_plain_direct.specs.Makings.{made_on_two}
+use Rattle.k_plain_direct.specs.declared.row.Designator.{Designator}
+use Rattle.k_plain_direct.specs.declared.row.Form.{Form}
+use Rattle.k_plain_direct.specs.declared.row.Row.{Row}
+use Rattle.k_plain_direct.specs.Forms.{designator_in, form_value, meant, place_by}
 
 module _ (w : Within) (s : State) where
   -- a value that was computed, by the equation of its box
   came : (e x : TExpr) (a : Operand) (u v : State) → x ≡ e → (means w x).value true u ≡ Goes a v → (means w e).value true u ≡ Goes a v
   came e x a u v is value_is = ap (λ (e : TExpr). (means w e).value true u) (sym is) ∙ value_is
-
-  -- an element behind its base and its index
-  pub element_came : {U : Type 0} (r : Result U Stop) (out : Target) (base by x y : TExpr) (place : Place) (scale : ℕ) (a b : Operand) (u v s' : State)
-      → x ≡ base → (means w x).value true s ≡ Goes a u → y ≡ by → (means w y).value true u ≡ Goes b v → scale ≡ scale_of (means w base).node.of
-      → ComesInto r out (element_at w.program place scale a b v) s'
-      → ComesInto r out (follow ((means w base).value true s) (behind_base w.program place (scale_of (means w base).node.of) (means w by))) s'
-  element_came r out base by x y place scale a b u v s' x_is a_is y_is b_is scale_is come =
-      subst (λ (o : Outcome Target). ComesInto r out o s')
-      (sym (ap (λ (o : Outcome Operand). follow o (behind_base w.program place (scale_of (means w base).node.of) (means w by))) (came base x a s u x_is a_is)
-      ∙ (ap (λ (o : Outcome Operand). follow o (element_at w.program place (scale_of (means w base).node.of) a)) (came by y b u v y_is b_is)
-      ∙ ap (λ (k : ℕ). element_at w.program place k a b v) (sym scale_is)))) come
 
   -- the right operand of `&&` and `||`
   pub truth_came : {U : Type 0} (r : Result U Stop) (out : Operand) (right x : TExpr) (node : Node) (kind : Kind) (b : Operand) (u s' : State)
@@ -56,10 +43,17 @@ module _ (w : Within) (s : State) where
       ∙ (ap (λ (o : Outcome Operand). follow o (changes_old w.program node change (kind_of (means w right).node.of) target)) (came right y by u v y_is by_is)
       ∙ ap (λ (k : Option Kind). changes_old w.program node change k target by v) (sym kind_is)))) come
 
-  -- a difference of pointers
-  pub distance_came : {U : Type 0} (r : Result U Stop) (out : Operand) (a b : TExpr) (node : Node) (making : Making) (s' : State)
-      → making ≡ record { class = class.Div; place = node.place; act = borrowed.PtrDistance (scale_of (means w a).node.of) }
-      → ComesInto r out (follow ((means w a).value true s) (behind_one (means w b) (made_on_two w.program making false))) s'
-      → ComesInto r out (follow ((means w a).value true s) (behind_one (means w b) (distance_on w.program node.place (scale_of (means w a).node.of)))) s'
-  distance_came r out a b node making s' making_is come =
-      subst (λ (m : Making). ComesInto r out (follow ((means w a).value true s) (behind_one (means w b) (made_on_two w.program m false))) s') making_is come
+-- the value of an expression, by its form
+pub by_row : {U : Type 0} (w : Within) (s : State) (e : TExpr) (row : Row) (f : Form) (used : Bool) (r : Result U Stop) (out : Operand) (s' : State)
+    → means w e ≡ meant w row → row.1 ≡ f → ComesInto r out (form_value w row.0.now f used s) s' → ComesInto r out ((means w e).value used s) s'
+by_row w s e row f used r out s' is form_is come =
+    subst (λ (o : Outcome Operand). ComesInto r out o s')
+    (sym (ap (λ (m : Meaning). m.value used s) is ∙ ap (λ (f : Form). form_value w row.0.now f used s) form_is)) come
+
+-- the place of an expression, by its form
+pub place_by_row : {U : Type 0} (w : Within) (s : State) (e : TExpr) (row : Row) (found known : Option Designator) (r : Result U Stop) (out : Target) (s' : State)
+    → means w e ≡ meant w row → found ≡ designator_in row.1 → found ≡ known → ComesInto r out (place_by w row.0.now known s) s'
+    → ComesInto r out ((means w e).place s) s'
+place_by_row w s e row found known r out s' is found_is known_is come =
+    subst (λ (o : Outcome Target). ComesInto r out o s')
+    (sym (ap (λ (m : Meaning). m.place s) is ∙ ap (λ (d : Option Designator). place_by w row.0.now d s) (sym found_is ∙ known_is))) come

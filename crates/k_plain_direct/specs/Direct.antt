@@ -40,8 +40,3 @@ direct_step (TExpr-F.Comma node a b) = a && b
 -- neither a function of the source nor puts or printf is called in an expression
 abbrev pub is_direct : TExpr → Bool
 is_direct = fold-TExpr Bool direct_step
-
--- where it was found, this holds
-abbrev pub WhenTrue : Bool → Type 0 → Type 0
-WhenTrue true P = P
-WhenTrue false P = Unit {0}

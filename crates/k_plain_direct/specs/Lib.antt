@@ -1,4 +1,5 @@
 pub mod ComesInto
 pub mod Direct
+pub mod Forms
 pub mod Makings
 pub mod Rows

@@ -3,12 +3,16 @@
 #![tactic(auto)]
 
 mod evaluation;
+mod leaf;
 mod limit;
 mod making;
 mod operand;
 mod part;
+mod row;
 
 pub use evaluation::evaluate;
+pub use leaf::{do_with_place, do_with_value};
 pub use limit::is_direct;
-pub use making::{compute_one, distance, make_both, moving, node_of};
-pub use operand::{address_at, holds, object_value, same_truth, variable_value};
+pub use making::{make_both, node_of};
+pub use operand::{holds, object_value, same_truth, variable_value};
+pub use row::{Designator, Form, Leaf, OnList, OnPlace, OnValue, Row, row_of};

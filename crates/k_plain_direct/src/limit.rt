@@ -1,6 +1,7 @@
 //! Which expressions are evaluated as they are nested.
 ghost use Rattle.std.specs.Prelude.{◌≡◌, true, IfSome};
-ghost use Rattle.k_plain_direct.specs.Direct.{WhenTrue, is_direct as direct_meant};
+ghost use Rattle.std.specs.Bool.{OnTrue};
+ghost use Rattle.k_plain_direct.specs.Direct.{is_direct as direct_meant};
 
 use k_types_meaning::TExpr;
 
@@ -63,7 +64,7 @@ fn room_behind(e: &TExpr, room: u32) -> Option<u32>
 
 /// Whether an expression is evaluated as it is nested: it is direct, and no larger than the limit.
 pub fn is_direct(e: &TExpr) -> bool
-    ensures { WhenTrue result (direct_meant e.now ≡ true) }
+    ensures { OnTrue result (direct_meant e.now ≡ true) }
 {
     room_behind(e, MOST).is_some()
 }

@@ -5,13 +5,14 @@ ghost use Rattle.k_evaluation.specs.Flows.{Within, means};
 ghost use Rattle.k_evaluation.specs.Meanings.{scale_of as scale_meant};
 ghost use Rattle.k_plain_state.specs.Arounds.{program_of};
 ghost use Rattle.k_plain_state.specs.Comes.{Comes};
+ghost use Rattle.k_evaluation.specs.Operators.{class_of as class_meant};
 ghost use Rattle.k_optab.specs.declared.class.Class.TheVariants.{Div, Simple};
-ghost use Rattle.k_world.specs.declared.act.ActRef.TheVariants.{Offset, PtrDistance};
+ghost use Rattle.k_world.specs.declared.act.ActRef.TheVariants as borrowed;
 
 use k_evaluation::Operand;
-use k_num::Box;
+use k_num::{Bin, Box, Kind, Place, Un};
 use k_optab::Class;
-use k_plain_state::{Around, Evaluator, Making, scale_of};
+use k_plain_state::{Around, Evaluator, Making, class_of, scale_of};
 use k_types_meaning::{Node, TExpr};
 use k_world::{ActRef, Stop};
 
@@ -54,9 +55,49 @@ pub fn node_of(e: &TExpr) -> Node
     }
 }
 
+/// The numbers that one element has of what an expression points to.
+pub fn element_scale(base: &Box<TExpr>) -> u32
+    ensures { (w : Within) → result ≡ scale_meant (means w base.now).node.of }
+{
+    scale_of(node_of(base.get()).of)
+}
+
+/// `- ~ !` in a kind.
+pub fn unary(place: Place, op: Un, kind: Kind) -> Making
+    ensures { result ≡ record { class = Simple; place = place; act = borrowed.Unary op kind } }
+{
+    Making {
+        class: Class::Simple,
+        place,
+        act: ActRef::Unary(op, kind),
+    }
+}
+
+/// A binary operator on numbers of a kind.
+pub fn binary(place: Place, op: Bin, kind: Kind) -> Making
+    ensures { result ≡ record { class = class_meant op; place = place; act = borrowed.Binary op kind } }
+{
+    Making {
+        class: class_of(op),
+        place,
+        act: ActRef::Binary(op, kind),
+    }
+}
+
+/// A comparison of pointers.
+pub fn comparison(place: Place, op: Bin) -> Making
+    ensures { result ≡ record { class = Simple; place = place; act = borrowed.PtrCompare op } }
+{
+    Making {
+        class: Class::Simple,
+        place,
+        act: ActRef::PtrCompare(op),
+    }
+}
+
 /// A pointer is moved forward or back, by elements of its type.
 pub fn moving(node: Node, minus: bool) -> Making
-    ensures { result ≡ record { class = Simple; place = node.place; act = Offset minus (scale_meant node.of) } }
+    ensures { result ≡ record { class = Simple; place = node.place; act = borrowed.Offset minus (scale_meant node.of) } }
 {
     Making {
         class: Class::Simple,
@@ -70,13 +111,13 @@ pub fn moving(node: Node, minus: bool) -> Making
 
 /// The difference of two pointers, in elements of the type of the left one.
 pub fn distance(node: Node, left: &Box<TExpr>) -> Making
-    ensures { (w : Within) → result ≡ record { class = Div; place = node.place; act = PtrDistance (scale_meant (means w left.now).node.of) } }
+    ensures { (w : Within) → result ≡ record { class = Div; place = node.place; act = borrowed.PtrDistance (scale_meant (means w left.now).node.of) } }
 {
     Making {
         class: Class::Div,
         place: node.place,
         act: ActRef::PtrDistance {
-            scale: scale_of(node_of(left.get()).of),
+            scale: element_scale(left),
         },
     }
 }

@@ -11,10 +11,11 @@ use Rattle.k_mem.specs.declared.start.Start.TheVariants.{Literal}
 use Rattle.k_mem.specs.Memory.{Object, Memory, live_elements}
 use Rattle.k_mem.specs.Calls.{push_of}
 use Rattle.k_world.specs.declared.value.Held.{Held}
+use Rattle.k_world.specs.Values.{pointer_to}
 use Rattle.k_world.specs.Worlds.{World, with_events}
 use Rattle.k_world.specs.Changes.{with_elements, object_made, objects_kept}
 use Rattle.k_evaluation.specs.States.{State, Goes, Stops}
-use Rattle.k_evaluation.specs.Objects.{made_object, makes_object, makes_string, pointer_to}
+use Rattle.k_evaluation.specs.Objects.{made_object, makes_object, makes_string}
 
 -- the elements that a memory has more are the world's, whatever happened before
 elements_framed : (events : List Event) (w : World) (count : ℕ) (m : Option Memory)
@@ -31,7 +32,7 @@ made_framed events w v start count is = elements_framed events w count (push_of 
 pub makes_framed : (vars : List (Option Held)) (events : List Event) (w v : World) (place : Place) (start : Start) (count : ℕ)
     → object_made w start count ≡ Some v
     → makes_object place start count (record { vars = vars; world = with_events events w })
-    ≡ Goes (pointer_to w.memory.made) (record { vars = vars; world = with_events events v })
+    ≡ Goes (pointer_to w.memory.made 0) (record { vars = vars; world = with_events events v })
 makes_framed vars events w v place start count is =
     ap (made_object place (record { vars = vars; world = with_events events w })) (made_framed events w v start count is)
 

@@ -18,7 +18,7 @@ use k_evaluation::{Operand, Target};
 use k_num::{NoMemory, Place, Seq, Stack};
 use k_optab::{Class, Event, of};
 use k_types_meaning::{Node, TVariable};
-use k_world::{ActRef, Held, Read, RunState, Stop, Value, sources};
+use k_world::{ActRef, Held, Read, RunState, Stop, sources};
 use std::alloc::Global;
 use std::marker::Model;
 
@@ -115,17 +115,14 @@ impl<'a> Evaluator<'a> {
         }
     }
 
-    /// A variable as a place.
+    /// A variable as a place. The address of one that is memory is read by the operation that uses it.
     pub fn variable_place(&self, around: &Around<'a>, node: Node, number: u32) -> Target
         ensures { Goes result self.now ≡ place_meant (program_of around.now) node number (is_register_meant around.now.variables.now number) self.now }
     {
         if is_register(around.variables, number) {
             Target::InRegister(number, flag(around.marks.broken.as_slice(), node.number))
         } else {
-            match self.variable(number) {
-                Some(home) => Target::InMemory(Operand::Holding(home)),
-                None => Target::InMemory(Operand::Constant(Value::Number(0))),
-            }
+            Target::InMemory(Operand::Register(number, false))
         }
     }
 

@@ -1,5 +1,5 @@
 //! Calls: what a function begins with, and what its caller goes on with (C17 6.5.2.2, 6.9.1).
-ghost use Rattle.std.specs.Prelude.{◌≡◌, ◌+◌, IfOk};
+ghost use Rattle.std.specs.Prelude.{◌≡◌, ◌+◌, take, IfOk};
 ghost use Rattle.k_evaluation.specs.Calls.{function_region as region_meant, unset, with_arguments};
 ghost use Rattle.k_evaluation.specs.Loops.{loop_region as loop_region_meant};
 ghost use Rattle.k_plain_state.specs.Frames.{slots_of as slots_meant};
@@ -16,6 +16,14 @@ pub struct Caller {
     pub control: Option<u64>,
     pub calls: u64,
     pub size: u64,
+}
+
+/// The arguments that have a parameter, of which there are so many.
+pub fn passed_to(mut args: Seq<Option<Held>>, params: u32) -> Seq<Option<Held>>
+    ensures { result ≡ take params args }
+{
+    args.truncate(params as usize);
+    args
 }
 
 /// What the variables of a function hold as it begins: its arguments in the first ones, and nothing in the others.

@@ -21,25 +21,25 @@ use Rattle.k_evaluation.specs.Flows.{Doing, Within, jumps_of_all}
 use Rattle.k_evaluation.specs.Loops.{do_loop, while_loop}
 use Rattle.k_evaluation.specs.Statements.{compound, does, does_step, for_loop, if_else, if_jumps, part_step}
 use Rattle.k_evaluation.specs.Switches.{PartDoing, AStatement, statements_of, switch}
-use Rattle.k_plain_direct.specs.Direct.{WhenTrue}
+use Rattle.std.specs.Bool.{OnTrue}
 use Rattle.k_plain_statements.specs.Noted.{Fits, FitsAll, FitsBody, FitsElse, FitsFunctions, FitsPart, FitsParts, IsNoted, if_by, jumps_or, leaving, noted, noted_jumps, noted_step, part_does, part_of, same, same_jumps, switch_by, tabled}
 use Rattle.k_plain_statements.proofs.JumpLaws.{from_item}
 use Rattle.k_plain_statements.proofs.Meant.{meant_Block, meant_Break, meant_Continue, meant_Declare, meant_DoWhile, meant_Empty, meant_Expr, meant_For, meant_If, meant_Return, meant_Switch, meant_While, part_Case, part_Default, part_Does}
 
 -- what follows from what was found
-pub when : (b : Bool) (A B : Type 0) → (A → B) → WhenTrue b A → WhenTrue b B
+pub when : (b : Bool) (A B : Type 0) → (A → B) → OnTrue b A → OnTrue b B
 when true A B f a = f a
 when false A B f a = tt
 
 -- two things were found
-pub both_true : (a b all : Bool) (A B : Type 0) → all ≡ (a && b) → WhenTrue a A → WhenTrue b B → WhenTrue all (A × B)
-both_true true true all A B is a b = subst (λ (x : Bool). WhenTrue x (A × B)) (sym is) (a, b)
-both_true true false all A B is a b = subst (λ (x : Bool). WhenTrue x (A × B)) (sym is) tt
-both_true false b all A B is a y = subst (λ (x : Bool). WhenTrue x (A × B)) (sym is) tt
+pub both_true : (a b all : Bool) (A B : Type 0) → all ≡ (a && b) → OnTrue a A → OnTrue b B → OnTrue all (A × B)
+both_true true true all A B is a b = subst (λ (x : Bool). OnTrue x (A × B)) (sym is) (a, b)
+both_true true false all A B is a b = subst (λ (x : Bool). OnTrue x (A × B)) (sym is) tt
+both_true false b all A B is a y = subst (λ (x : Bool). OnTrue x (A × B)) (sym is) tt
 
 -- it was found
-pub was_true : (b : Bool) (A : Type 0) → b ≡ true → WhenTrue b A → A
-was_true b A is a = subst (λ (x : Bool). WhenTrue x A) is a
+pub was_true : (b : Bool) (A : Type 0) → b ≡ true → OnTrue b A → A
+was_true b A is a = subst (λ (x : Bool). OnTrue x A) is a
 
 -- truths that are compared as the same
 same_is : (a b : Bool) → same a b ≡ true → a ≡ b
@@ -71,7 +71,7 @@ jumps_are_same a b is =
     }
 
 -- an entry that was compared
-pub entry_is : (t : List Jumps) (n : ℕ) (there j : Jumps) (r : Bool) → slice_get t n ≡ Some there → r ≡ same_jumps there j → WhenTrue r (IsNoted t n j)
+pub entry_is : (t : List Jumps) (n : ℕ) (there j : Jumps) (r : Bool) → slice_get t n ≡ Some there → r ≡ same_jumps there j → OnTrue r (IsNoted t n j)
 entry_is t n there j true is r_is = ap (λ (o : Option Jumps). jumps_or j o) is ∙ jumps_are_same there j (sym r_is)
 entry_is t n there j false is r_is = tt
 

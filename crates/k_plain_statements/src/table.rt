@@ -1,6 +1,6 @@
 //! The table of jumps of a source, made once and checked, so that no statement that runs pays for text that does not (C17 6.8.6).
 ghost use Rattle.std.specs.Prelude.{◌≡◌, ◌&&◌, IfOk};
-ghost use Rattle.k_plain_direct.specs.Direct.{WhenTrue};
+ghost use Rattle.std.specs.Bool.{OnTrue};
 ghost use Rattle.k_plain_statements.specs.Noted.{Fits, FitsAll, FitsBody, FitsElse, FitsFunctions, FitsPart, FitsParts, IsNoted, same as same_meant, same_jumps as same_jumps_meant};
 
 use crate::jumps::{
@@ -120,7 +120,7 @@ fn same_jumps(a: Jumps, b: Jumps) -> bool
 
 /// Whether a table has these jumps at the number of a statement, or none.
 fn is_noted(table: &[Jumps], spot: Spot, jumps: Jumps) -> bool
-    ensures { WhenTrue result (IsNoted table.now spot.number jumps) }
+    ensures { OnTrue result (IsNoted table.now spot.number jumps) }
 {
     match noted_at(table, spot) {
         None => true,
@@ -138,7 +138,7 @@ fn both(a: bool, b: bool) -> bool
 /// Whether a table has the right jumps at the number of each `if`, loop and switch in a statement, or none.
 #[cycle(fitting)]
 fn fits(s: &TStmt, table: &[Jumps]) -> bool
-    ensures { WhenTrue result (Fits table.now s.now) }
+    ensures { OnTrue result (Fits table.now s.now) }
 {
     match s {
         TStmt::Expr { .. }
@@ -171,7 +171,7 @@ fn fits(s: &TStmt, table: &[Jumps]) -> bool
 /// The same of the body of a loop, whose own entry is the loop's.
 #[cycle(fitting)]
 fn fits_body(body: &Box<TStmt>, spot: Spot, table: &[Jumps]) -> bool
-    ensures { WhenTrue result (FitsBody table.now spot.number body.now) }
+    ensures { OnTrue result (FitsBody table.now spot.number body.now) }
 {
     let noted = is_noted(table, spot, jumps_of(body.get(), table));
     both(noted, fits(body.get(), table))
@@ -180,7 +180,7 @@ fn fits_body(body: &Box<TStmt>, spot: Spot, table: &[Jumps]) -> bool
 /// The same of statements.
 #[cycle(fitting)]
 fn fits_all(parts: &Seq<TStmt>, table: &[Jumps]) -> bool
-    ensures { WhenTrue result (FitsAll table.now parts.now) }
+    ensures { OnTrue result (FitsAll table.now parts.now) }
 {
     for s in parts.as_slice() {
         if !fits(s, table) {
@@ -193,7 +193,7 @@ fn fits_all(parts: &Seq<TStmt>, table: &[Jumps]) -> bool
 /// The same of a statement that may be left out.
 #[cycle(fitting)]
 fn fits_else(s: &Option<Box<TStmt>>, table: &[Jumps]) -> bool
-    ensures { WhenTrue result (FitsElse table.now s.now) }
+    ensures { OnTrue result (FitsElse table.now s.now) }
 {
     match s {
         None => true,
@@ -204,7 +204,7 @@ fn fits_else(s: &Option<Box<TStmt>>, table: &[Jumps]) -> bool
 /// The same of the parts of a switch.
 #[cycle(fitting)]
 fn fits_parts(parts: &Seq<TPart>, table: &[Jumps]) -> bool
-    ensures { WhenTrue result (FitsParts table.now parts.now) }
+    ensures { OnTrue result (FitsParts table.now parts.now) }
 {
     for part in parts.as_slice() {
         if !fits_part(part, table) {
@@ -217,7 +217,7 @@ fn fits_parts(parts: &Seq<TPart>, table: &[Jumps]) -> bool
 /// The same of a part of a switch.
 #[cycle(fitting)]
 fn fits_part(part: &TPart, table: &[Jumps]) -> bool
-    ensures { WhenTrue result (FitsPart table.now part.now) }
+    ensures { OnTrue result (FitsPart table.now part.now) }
 {
     match part {
         TPart::Case { .. } | TPart::Default { .. } => true,
@@ -227,7 +227,7 @@ fn fits_part(part: &TPart, table: &[Jumps]) -> bool
 
 /// The same of the bodies of functions.
 fn fits_functions(functions: &Seq<TFunc>, table: &[Jumps]) -> bool
-    ensures { WhenTrue result (FitsFunctions table.now functions.now) }
+    ensures { OnTrue result (FitsFunctions table.now functions.now) }
 {
     for f in functions.as_slice() {
         if !fits_all(&f.body, table) {

@@ -11,11 +11,9 @@ use Rattle.k_evaluation.specs.States.{State, Outcome, Goes, Stops, Part, follow,
 use Rattle.k_plain_state.specs.Comes.{Comes}
 use Rattle.k_plain_tasks.specs.declared.given.Given.{Given}
 use Rattle.k_plain_tasks.specs.declared.given.Given.TheVariants as given
-use Rattle.k_plain_tasks.specs.declared.plan.Plan.TheVariants as plan
 use Rattle.k_plain_tasks.specs.declared.task.Task.{Task}
 use Rattle.k_plain_tasks.specs.Givens.{gives_list, gives_operand, gives_target, list_in, operand_in, start, target_in}
 use Rattle.k_plain_tasks.specs.Leads.{Leads, performs, placed, valued}
-use Rattle.k_plain_tasks.specs.Plans.{planned}
 use Rattle.k_plain_tasks.specs.Tasks.{works}
 
 -- what is done with an operand, of what is given
@@ -82,9 +80,9 @@ behind_task w (Stops end v) t before behind = refl
 
 -- Two tasks were put on the stack.
 pub waits_two : (w : Within) (s : State) (a b : Task) (before after : List Task) → after ≡ a ∷ b ∷ before
-    → Leads w (Ok start) (planned w (plan.Two a b) s) before after s
+    → Leads w (Ok start) (follow (works w a start s) (works w b)) before after s
 waits_two w s a b before after is =
-    subst (λ (after : List Task). Leads w (Ok start) (planned w (plan.Two a b) s) before after s) (sym is)
+    subst (λ (after : List Task). Leads w (Ok start) (follow (works w a start s) (works w b)) before after s) (sym is)
     (λ behind. behind_task w (works w a start s) b before behind)
 
 -- A part was begun behind a task.

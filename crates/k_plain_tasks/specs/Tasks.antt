@@ -1,16 +1,17 @@
 -- For contracts between crates: nobody has to believe it.
 -- What is still to be done, as parts of a run.
-use Rattle.std.specs.Prelude.{◌∷◌, map, drop, None}
+use Rattle.std.specs.Prelude.{◌∷◌, map, drop}
 use Rattle.k_world.specs.declared.act.Out.TheVariants as out
 use Rattle.k_evaluation.specs.declared.operand.Target.TheVariants.{InMemory}
-use Rattle.k_evaluation.specs.Assignments.{writes, behind_place, changes_old, behind_changed, after_place, one}
+use Rattle.k_evaluation.specs.Assignments.{writes, behind_place, changes_old, behind_changed}
 use Rattle.k_evaluation.specs.Flows.{Within, means}
-use Rattle.k_evaluation.specs.Library.{outputs, puts_byte, chunk_of}
+use Rattle.k_evaluation.specs.Library.{outputs, chunk_of}
 use Rattle.k_evaluation.specs.Meanings.{nothing, value_at, behind_one, in_turn, tests}
-use Rattle.k_evaluation.specs.Operators.{behind_test, arm_by, converts}
-use Rattle.k_evaluation.specs.Places.{address_at, behind_base, element_at}
+use Rattle.k_evaluation.specs.Operators.{behind_test, arm_by}
+use Rattle.k_evaluation.specs.Places.{behind_base, element_at}
 use Rattle.k_evaluation.specs.States.{Part, ◌>>=◌, gives, settles}
-use Rattle.k_plain_direct.specs.Makings.{made_on_one, made_on_two}
+use Rattle.k_plain_direct.specs.Forms.{on_place, on_value}
+use Rattle.k_plain_direct.specs.Makings.{made_on_two}
 use Rattle.k_plain_tasks.specs.declared.given.Given.{Given}
 use Rattle.k_plain_tasks.specs.declared.task.ValueTask.{ValueTask}
 use Rattle.k_plain_tasks.specs.declared.task.ValueTask.TheVariants as value
@@ -29,15 +30,13 @@ abbrev pub value_task : Within → ValueTask → Given → Part Given
 value_task w (value.Value e used) g = (means w e.now).value used >>= gives_operand
 value_task w (value.Place e) g = (means w e.now).place >>= gives_target
 value_task w (value.Read node used) g = value_at w.program node used (target_in g) >>= gives_operand
-value_task w (value.One m) g = made_on_one w.program m (operand_in g) >>= gives_operand
+value_task w (value.One place how) g = on_value w.program place how (operand_in g) >>= gives_operand
 value_task w (value.Second m swapped e) g = behind_one (means w e.now) (made_on_two w.program m swapped) (operand_in g) >>= gives_operand
 value_task w (value.Both m swapped a) g = made_on_two w.program m swapped a (operand_in g) >>= gives_operand
 value_task w (value.Index place scale e) g = behind_base w.program place scale (means w e.now) (operand_in g) >>= gives_target
 value_task w (value.Element place scale a) g = element_at w.program place scale a (operand_in g) >>= gives_target
 value_task w value.Pointed g = gives_target (InMemory (operand_in g))
-value_task w value.Address g = gives_operand (address_at (target_in g))
 value_task w value.Unused g = gives_operand nothing
-value_task w (value.Convert place kind) g = converts w.program place kind (operand_in g) >>= gives_operand
 
 -- what is still to be done of what depends on a condition
 abbrev pub branch_task : Within → BranchTask → Given → Part Given
@@ -53,15 +52,13 @@ assignment_task w (assignment.Assign place e) g = behind_place w.program place (
 assignment_task w (assignment.Write place target) g = writes w.program place target (operand_in g) >>= gives_operand
 assignment_task w (assignment.AssignBy node change e) g = behind_changed w.program node change (means w e.now) (target_in g) >>= gives_operand
 assignment_task w (assignment.Change node change from target) g = changes_old w.program node change from target (operand_in g) >>= gives_operand
-assignment_task w (assignment.Pre node change) g = changes_old w.program node change None (target_in g) one >>= gives_operand
-assignment_task w (assignment.Post node change used) g = after_place w.program node change used (target_in g) >>= gives_operand
+assignment_task w (assignment.OnPlace node how used) g = on_place w.program node how used (target_in g) >>= gives_operand
 
 -- what is still to be done of a call
 abbrev pub call_task : Within → CallTask → Given → Part Given
 call_task w (call.Arguments es n) g = in_turn (map (means w) (drop n es.now)) >>= gives_list
 call_task w (call.Rest es n) g = (in_turn (map (means w) (drop n es.now)) >>= λ rest. gives (operand_in g ∷ rest)) >>= gives_list
 call_task w (call.Kept a) g = gives_list (a ∷ list_in g)
-call_task w (call.Put place) g = puts_byte w.program place (operand_in g) >>= gives_operand
 call_task w (call.Print place format) g = outputs w.program place (out.Format (map chunk_of format.now)) (list_in g) >>= gives_operand
 
 -- what is still to be done

@@ -6,7 +6,6 @@
 mod early;
 mod expression;
 mod given;
-mod plan;
 mod step;
 mod task;
 mod text;

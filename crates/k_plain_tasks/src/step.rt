@@ -15,7 +15,9 @@ use crate::task::{AssignTask, BranchTask, CallTask, Task, ValueTask};
 use k_evaluation::{Operand, Target};
 use k_num::{Bin, Box, Place, Seq, Stack};
 use k_optab::Class;
-use k_plain_direct::{address_at, compute_one, holds, make_both, node_of, same_truth};
+use k_plain_direct::{
+    OnValue, do_with_place, do_with_value, holds, make_both, node_of, same_truth,
+};
 use k_plain_state::{Around, Evaluator, Making, kind_of, kind_or_int};
 use k_types_meaning::{Node, TExpr, TType};
 use k_world::{ActRef, Stop, Value};
@@ -42,7 +44,9 @@ pub fn step_value<'a>(
         ValueTask::Read(node, used) => {
             give(state.value_at(around, node, used, given.into_target()))
         }
-        ValueTask::One(making) => { give(compute_one(state, around, making, given.into_operand())) }
+        ValueTask::One(place, how) => {
+            give(do_with_value(state, around, place, how, given.into_operand()))
+        }
         ValueTask::Second(making, swapped, e) => {
             let a = given.into_operand();
             second(state, around, tasks, making, swapped, a, e)
@@ -58,13 +62,9 @@ pub fn step_value<'a>(
             give_place(state.offset(around, place, false, scale, pointer, given.into_operand()))
         }
         ValueTask::Pointed => Ok(Given::Target(Target::InMemory(given.into_operand()))),
-        ValueTask::Address => Ok(Given::Operand(address_at(given.into_target()))),
         ValueTask::Unused => {
             drop(given);
             Ok(Given::Operand(Operand::Constant(Value::Number(0))))
-        }
-        ValueTask::Convert(place, kind) => {
-            give(state.convert(around, place, kind, given.into_operand()))
         }
     }
 }
@@ -242,7 +242,7 @@ fn arm<'a>(
             value_first(
                 e,
                 true,
-                Task::OfValue(ValueTask::One(making)),
+                Task::OfValue(ValueTask::One(node.place, OnValue::Make(making))),
                 state,
                 around,
                 tasks,
@@ -291,18 +291,8 @@ pub fn step_assignment<'a>(
         AssignTask::Change(node, change, kind, target) => {
             give(state.change_old(around, node, change, kind, target, given.into_operand()))
         }
-        AssignTask::Pre(node, change) => {
-            give(state.change_old(
-                around,
-                node,
-                change,
-                None,
-                given.into_target(),
-                Operand::Constant(Value::Number(1)),
-            ))
-        }
-        AssignTask::Post(node, change, used) => {
-            give(state.after_place(around, node, change, used, given.into_target()))
+        AssignTask::OnPlace(node, how, used) => {
+            give(do_with_place(state, around, &node, how, used, given.into_target()))
         }
     }
 }
@@ -333,7 +323,6 @@ pub fn step_call<'a>(
             list.push(a)?;
             Ok(Given::List(list))
         }
-        CallTask::Put(place) => { give(state.put_byte(around, place, given.into_operand())) }
         CallTask::Print(place, format) => {
             give(state.print(around, place, format, given.into_list(alloc)))
         }

@@ -2,6 +2,7 @@
 
 use k_evaluation::{Operand, Target};
 use k_num::{Box, Kind, Place, Seq};
+use k_plain_direct::{OnPlace, OnValue};
 use k_plain_state::Making;
 use k_types_meaning::{Change, Node, Piece, TExpr};
 
@@ -14,8 +15,8 @@ pub enum ValueTask<'a> {
     Place(&'a Box<TExpr>),
     /// The value of a place is read, if it is used.
     Read(Node, bool),
-    /// An operation is made on what is given.
-    One(Making),
+    /// Something is done with what is given.
+    One(Place, OnValue),
     /// The second operand is evaluated, and then an operation is made on both, or on the second and the first.
     Second(Making, bool, &'a Box<TExpr>),
     /// An operation is made on this and on what is given, or the other way round.
@@ -26,12 +27,8 @@ pub enum ValueTask<'a> {
     Element(Place, u32, Operand),
     /// What is given is the address of a place.
     Pointed,
-    /// The address of the place is the value.
-    Address,
     /// The value is not used.
     Unused,
-    /// What is given is converted to a kind, if there is one.
-    Convert(Place, Option<Kind>),
 }
 
 /// What is still to be done of what depends on a condition.
@@ -56,10 +53,8 @@ pub enum AssignTask<'a> {
     AssignBy(Node, Change, &'a Box<TExpr>),
     /// A place is changed by what is given, whose kind is this.
     Change(Node, Change, Option<Kind>, Target),
-    /// `++ place`, `-- place` behind the place.
-    Pre(Node, Change),
-    /// `place ++`, `place --` behind the place, whose value is used or not.
-    Post(Node, Change, bool),
+    /// Something is done with the place that is given, whose value is used or not.
+    OnPlace(Node, OnPlace, bool),
 }
 
 /// What is still to be done of a call.
@@ -71,8 +66,6 @@ pub enum CallTask<'a> {
     Rest(&'a Seq<TExpr>, usize),
     /// This argument stands before those that are given.
     Kept(Operand),
-    /// `putchar` of what is given.
-    Put(Place),
     /// `printf` of the arguments that are given.
     Print(Place, &'a Seq<Piece>),
 }

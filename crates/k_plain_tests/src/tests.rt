@@ -1,5 +1,4 @@
 //! Runs of sources, one file for each part of the evaluation.
-mod acts;
 mod assignments;
 mod calls;
 mod choices;
@@ -12,9 +11,7 @@ mod limits;
 mod listed;
 mod loops;
 mod memory;
-mod objects;
 mod places;
 mod switches;
 mod traps;
-mod traps_by_name;
 mod values;

@@ -1,7 +1,8 @@
 -- The events that the parts of a run add: where a part goes on, each region that was entered since was left; each region that was entered is one
 -- that the policy allows; and each entry is paid for by an operation, but for those on credit. A part may have some to spare for what follows.
-use Rattle.std.proofs.Common.{◌≡◌, ℕ, ◌+◌, ◌*◌, ◌≤◌, ℤ, List, [], ◌∷◌, ◌++◌, map, length, Option, Some, None, Bool, true, false, refl, sym, ◌∙◌, ap, subst, append_assoc, mul-add, arith}
+use Rattle.std.proofs.Common.{◌≡◌, ℕ, ◌+◌, ◌*◌, ◌≤◌, List, [], ◌∷◌, ◌++◌, map, length, Option, Some, None, Bool, true, false, refl, sym, ◌∙◌, ap, subst, append_assoc, mul-add, arith}
 use Rattle.std.proofs.lemmas.List.{append-nil, length-append}
+use Rattle.k_num.specs.declared.initial.Initial.{Initial}
 use Rattle.k_num.specs.declared.place.Place.{Place}
 use Rattle.k_optab.specs.declared.class.Class.{Class}
 use Rattle.k_optab.specs.declared.event.Event.{Event}
@@ -28,7 +29,7 @@ use Rattle.k_world.proofs.Sound.{operation_cases}
 use Rattle.k_evaluation.specs.declared.operand.Operand.{Operand}
 use Rattle.k_evaluation.specs.declared.operand.Operand.TheVariants.{Holding}
 use Rattle.k_evaluation.specs.States.{Program, State, Outcome, Goes, Stops, Part, follow, ◌>>=◌, gives, traps, read, made, makes, computes, sets, region, control, settles, settled, exits}
-use Rattle.k_evaluation.specs.Objects.{made_object, makes_object, with_values_at, fills, live, keeps, block, with_string, makes_string}
+use Rattle.k_evaluation.specs.Objects.{made_object, makes_object, with_items_at, fills, live, keeps, block, with_string, makes_string}
 use Rattle.k_regions.specs.Laws.{entries}
 use Rattle.k_evaluation.proofs.Kept.{balanced_both, op_alone, region_events}
 
@@ -178,12 +179,12 @@ makes_string_still place bytes = record {
   still = λ s. object_still place (length (bytes ++ 0 ∷ [])) s (with_string s.world.memory (bytes ++ 0 ∷ []));
 }
 
-filled_same : (v : Value) (values : List ℤ) (w : World) → (with_values_at v values w).events ≡ w.events
-filled_same (value.Number z) values w = refl
-filled_same (value.Pointer p) values w = refl
+filled_same : (v : Value) (items : List Initial) (w : World) → (with_items_at v items w).events ≡ w.events
+filled_same (value.Number z) items w = refl
+filled_same (value.Pointer p) items w = refl
 
-pub fills_still : (home : Held) (values : List ℤ) → IsStill (fills home values)
-fills_still home values = record { still = λ s. filled_same home.value values s.world }
+pub fills_still : (home : Held) (items : List Initial) → IsStill (fills home items)
+fills_still home items = record { still = λ s. filled_same home.value items s.world }
 
 settles_still : (stays : Bool) (c : Option ℕ) → IsStill (settles stays c)
 settles_still true c = record { still = λ s. refl }
@@ -250,8 +251,8 @@ module _ (P : Policy) where
   pub makes_object_adds : (place : Place) (start : Start) (count : ℕ) → Adds P (makes_object place start count)
   makes_object_adds place start count = still_adds (makes_object place start count) (makes_object_still place start count)
 
-  pub fills_adds : (home : Held) (values : List ℤ) → Adds P (fills home values)
-  fills_adds home values = still_adds (fills home values) (fills_still home values)
+  pub fills_adds : (home : Held) (items : List Initial) → Adds P (fills home items)
+  fills_adds home items = still_adds (fills home items) (fills_still home items)
 
   -- what stands between two parts that need no credit
   pub between_spends : {A B C : Type 0} (w : ℕ) (first : Part A) (middle : A → Part B) (last : A → B → Part C) → Adds P first → ((a : A) → Spends P w 0 (middle a))

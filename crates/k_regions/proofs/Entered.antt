@@ -276,7 +276,7 @@ module _ (P : Policy) where
     begins_object_adds d init.Nothing home = gives_adds P {A = Unit {0}} tt
     begins_object_adds d (init.Value e) home = initialises_adds d e (InMemory (Constant home.value))
     begins_object_adds d (init.Elements items) home =
-        then_adds P (fills home (values_from 0 items)) (λ done. stores_items here home items) (fills_adds P home (values_from 0 items)) (λ done. stores_items_adds home items)
+        then_adds P (fills home (values_from items)) (λ done. stores_items here home items) (fills_adds P home (values_from items)) (λ done. stores_items_adds home items)
 
     declares_by_adds : (d : TDeclarator) (n : ℕ) → Adds P (declares_by here d n)
     declares_by_adds d zero = begins_register_adds d d.init
@@ -545,7 +545,7 @@ module _ (P : Policy) where
 
     enters_adds : (inner : Calls) (number : ℕ) (place : Place) (f : TFunc) (args : List (Option Held)) → CallsAdd P inner → FunctionHolds number f
         → Spends P P.price 0 (enters_function program inner number place f args)
-    enters_adds inner number place f args c h = record { adds = λ s. by s (is_too_large f s.world) }
+    enters_adds inner number place f args c h = record { adds = λ s. by s (is_too_large s.world f.nodes) }
       where
         by : (s : State) (b : Bool) → Leaves P P.price 0 s.world.events (if b then traps StackOverflow place s else back_to s (runs program inner number f (entered f args s)))
         by s true = (credited P P.price (traps StackOverflow place) (traps_adds P {A = Operand} StackOverflow place)).adds s

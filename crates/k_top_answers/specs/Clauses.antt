@@ -1,9 +1,10 @@
 -- Believed with the theorem on the top call.
 -- THE THEOREM on `kremlin`: each clause is one sentence.
-use Rattle.std.specs.Prelude.{ℕ, ◌≡◌, ◌≢◌, ◌+◌, ◌⊎◌, ◌||◌, ◌==◌, Bool, false, IsSome, List, [], Option, Some, None}
+use Rattle.std.specs.Prelude.{ℕ, ◌≡◌, ◌≢◌, ◌+◌, ◌⊎◌, ◌||◌, ◌==◌, Bool, false, IsSome, List, [], ◌++◌, Option, Some, None}
 use Rattle.std.specs.Io.KnownBytes.{IsAtEnd}
 use Rattle.k_edge.specs.Fault.{Rose}
 use Rattle.k_edge.specs.FilesWords.{Counts, FilesState, Has, KeepsOthers}
+use Rattle.k_edge.specs.declared.request.Request.{Request}
 use Rattle.k_edge.specs.ReadAll.{Draws, DrawsTooMany, DrawsWithin}
 use Rattle.k_edge.specs.SinkWords.{SinkState, Grows, GrowsInPart}
 use Rattle.k_edge.specs.SourceWords.{SourceState}
@@ -13,6 +14,7 @@ use Rattle.k_top_answers.specs.declared.failure.Failure.{Failure}
 use Rattle.k_top_answers.specs.declared.failure.Failure.TheVariants as why
 use Rattle.k_top_answers.specs.Answers.{CallsForFiles, CallsForInput, IsAnswer}
 use Rattle.k_top_answers.specs.Failures.{failure_line, status_of}
+use Rattle.k_top_answers.specs.Requests.{AreToLoad, EndsAt, IsFront, saves_of}
 use Rattle.k_top_answers.specs.Steps.{Outside, input_limit}
 
 -- what is known of all that lies outside the call
@@ -153,6 +155,29 @@ abbrev pub KeepsFiles : Cause → ℕ → (Answer → Type 0) → FilesState →
 KeepsFiles save_fault status answers old new = (answer : Answer) → answers answer → KeepsAllBut answer.saved old new
 KeepsFiles cause status answers old new = (status ≡ 0) ⊎ (new.held ≡ old.held)
 
+-- how far the requests went: through all loads and the save, unless no memory was found; to a file that is missing or too long, or to a load that
+-- failed; through the loads where the input was not read or the output not put; and through the save where that failed
+abbrev pub GoesFar : Cause → ℕ → (Answer → Type 0) → List Request → List Request → Type 0
+GoesFar nothing status answers loads made =
+    (answer : Answer) → answers answer → IsFront made (loads ++ saves_of answer.saved) × (status ≢ 8 → made ≡ loads ++ saves_of answer.saved)
+GoesFar miss status answers loads made = IsFront made loads × ((answer : Answer) → answers answer → EndsAt answer.failure made)
+GoesFar long status answers loads made = IsFront made loads × ((answer : Answer) → answers answer → EndsAt answer.failure made)
+GoesFar load_fault status answers loads made = IsFront made loads × (made ≢ [])
+GoesFar read_fault status answers loads made = made ≡ loads
+GoesFar put_fault status answers loads made = made ≡ loads
+GoesFar save_fault status answers loads made = (answer : Answer) → answers answer → made ≡ loads ++ saves_of answer.saved
+
+-- REQUESTS. The call asked the files for a front of what the words have loaded and the answer saves, in order and each once: for all of it, unless
+-- something went wrong outside or no memory was found
+pub record AsksFiles (words : List (List ℕ)) (cause : Cause) (status : ℕ) (answers : Answer → Type 0) (old new : FilesState) : Type 0 where
+  -- what the words have loaded
+  pub loads : List Request
+  pub named : AreToLoad words loads
+  -- what the call asked for
+  pub made : List Request
+  pub asked : new.requests ≡ old.requests ++ made
+  pub far : GoesFar cause status answers loads made
+
 -- the run came to its end, and its output was put, in whole or in part
 abbrev pub HasRun : ℕ → Type 0
 HasRun status = (status ≡ 0) ⊎ (status ≡ 1) ⊎ (status ≡ 2) ⊎ (status ≡ 7)
@@ -186,5 +211,6 @@ pub record Keeps (words : List (List ℕ)) (status : ℕ) (old new : World) : Ty
   pub answered : IsAnswered (IsAnswer words outside) status old new
   pub part : PutsPart cause (IsAnswer words outside) old.out new.out
   pub files : KeepsFiles cause status (IsAnswer words outside) old.files new.files
+  pub requests : AsksFiles words cause status (IsAnswer words outside) old.files new.files
   pub input : ReadsInput words outside status old.input new.input
   pub told : TellsFault status old.err new.err

@@ -3,5 +3,6 @@ pub mod Failures
 pub mod Steps
 pub mod Texts
 pub mod Answers
+pub mod Requests
 pub mod Clauses
 pub mod Laws

@@ -402,8 +402,8 @@ can_For spot turns f test step a h = stmt_first (stmt.For spot turns f test step
     record {
       made = stmt.For (spot_number spot number) s.loops g.made x.made y.made z.made;
       behind = z.behind;
-      numbered = numbers_For number spot turns s.loops f g.made test step x.made y.made a z.made s y.behind z.behind
-          (clauses_numbered f g.made test step x.made y.made s.loops s l g.behind x.behind y.behind refl refl g.numbered x.numbered y.numbered) z.numbered;
+      numbered = numbers_For number spot turns s.loops f g.made test step x.made y.made a z.made s l y.behind z.behind refl refl
+          (clauses_numbered f g.made test step x.made y.made l g.behind x.behind y.behind g.numbered x.numbered y.numbered) z.numbered;
     })
 
 -- a `switch`

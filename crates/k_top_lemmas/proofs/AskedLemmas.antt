@@ -1,10 +1,12 @@
 -- What finding the answer to the words comes to.
-use Rattle.std.proofs.Common.{ℕ, ◌≡◌, ◌≤◌, pos, length, Bool, true, false, ◌||◌, MatchBool, if◌then◌else◌, nat_eq, is_some, codes, ap, refl, sym, subst, List, [], ◌∷◌, Option, Some, None, Result, Ok, Err, inl, inr}
+use Rattle.std.proofs.Common.{ℕ, ◌≡◌, ◌≢◌, ◌≤◌, pos, length, Bool, true, false, ◌||◌, MatchBool, if◌then◌else◌, nat_eq, is_some, codes, ap, refl, sym, subst, ◌∙◌, List, [], ◌∷◌, Option, Some, None, Result, Ok, Err, inl, inr}
 use Rattle.std.specs.Prelude.{⊤}
 use Rattle.std.proofs.lemmas.Slice.Eq.{slice_eq-Decides}
 use Rattle.std.specs.Cmp.{unsigned_Decides}
 use Rattle.std.specs.Cmp.Lexicographic.{pointwise}
-use Rattle.k_edge.specs.FilesWords.{FilesState, Has, Loads}
+use Rattle.k_edge.specs.FilesWords.{FilesState, Has, Loads, after}
+use Rattle.k_edge.specs.declared.request.Request.{Request}
+use Rattle.k_edge.specs.declared.request.Request.TheVariants.{Load}
 use Rattle.k_edge.specs.SinkWords.{SinkState}
 use Rattle.k_edge.specs.declared.files.LoadFault.{LoadFault}
 use Rattle.k_edge.specs.declared.files.LoadFault.TheVariants as load
@@ -15,7 +17,7 @@ use Rattle.k_dict_saved.specs.declared.saved.Saved.{Saved}
 use Rattle.k_ending.specs.declared.ending.End.{End}
 use Rattle.k_ending.specs.declared.ending.End.TheVariants as end
 use Rattle.k_types_calls.specs.Getchar.{calls_getchar}
-use Rattle.k_words.proofs.OneAnswer.{answer_is_unique}
+use Rattle.k_words.proofs.OneAnswer.{answer_exists, answer_is_unique}
 use Rattle.k_words.specs.About.{asked_for, is}
 use Rattle.k_words.specs.Words as words
 use Rattle.k_words.specs.Words.{command_fault, command_of}
@@ -31,11 +33,13 @@ use Rattle.k_top_answers.specs.declared.failure.Failure.TheVariants as why
 use Rattle.k_top_lemmas.specs.declared.running.Ready.{Ready}
 use Rattle.k_top_answers.specs.Answers.{AnswersAsked, AnswersJob, AnswersProfile, AnswersRun, AnswersWords, CallsForFiles, CallsForInput, IsAnswer, IsListed, JobCalls, JobLoads, done, refusal}
 use Rattle.k_top_answers.specs.Failures.{failure_of_load, failure_of_saved, failure_of_usage}
+use Rattle.k_top_answers.specs.Requests.{AreToLoad, loads_of}
 use Rattle.k_top_lemmas.specs.Parts.{Delivers, EndsAs, GivesText, ShowsFile, running_of}
 use Rattle.k_top_lemmas.specs.Phases.{Around, Everywhere, FailsBefore, FindsAnswer, FindsJob, InputDone, IsEnd, IsView, MakesDemo, MakesReady, Performs, View, no_view, of_files}
 use Rattle.k_top_answers.specs.Steps.{AnswersInput, AnswersRead, AnswersRunning, Outside, Running, profile_limit, run_of}
 use Rattle.k_top_lemmas.proofs.ProgramLemmas.{long_of, one_seen}
 use Rattle.k_top_lemmas.proofs.ReadyLemmas.{not_seen, refusal_maps}
+use Rattle.k_top_lemmas.proofs.Requesting.{after_none, front_same, some_asked}
 use Rattle.k_top_lemmas.proofs.StepLemmas.{absent, loaded, program_maps, too_long}
 
 -- what a program that is ready to run answers is carried over
@@ -62,11 +66,12 @@ module _ (F G : Failure → Type 0) (on_failure : (failure : Failure) → F fail
       outside latency file holds
 
 -- no memory was found behind the input
-behind_input : (loads : Type 0) (calls : Outside → Type 0) (view : View) (old new : Around) → loads → new.files ≡ old.files
-    → InputDone calls view old.input new.input → FailsBefore why.NoMemory loads calls view old new
-behind_input loads calls view old new loaded same (inl (input, calls_not)) = inl (loaded, same, input)
-behind_input loads calls view old new loaded same (inr (bytes, is, called, (draws, fits, at_end, faultless))) =
-    inr (inl (called, same, ((bytes.items, draws, fits), faultless)))
+behind_input : (loads : Type 0) (all : List Request) (calls : Outside → Type 0) (view : View) (old new : Around) → loads → new.files ≡ after all old.files
+    → InputDone calls view old.input new.input → FailsBefore why.NoMemory loads (λ named. named ≡ all) calls view old new
+behind_input loads all calls view old new loaded same (inl (input, calls_not)) =
+    inl (loaded, (all, refl, (all, front_same all all refl, same)), input)
+behind_input loads all calls view old new loaded same (inr (bytes, is, called, (draws, fits, at_end, faultless))) =
+    inr (inl (called, (all, refl, same), ((bytes.items, draws, fits), faultless)))
 
 module _ (file : List ℕ) (latency : Option (List ℕ)) (steps depth : ℕ) (old new : Around) where
   -- RUN
@@ -96,7 +101,7 @@ module _ (file : List ℕ) (latency : Option (List ℕ)) (steps depth : ℕ) (ol
     view,
     is_view,
     (
-      same,
+      (loads_of (job.Run file steps depth latency dict save), refl, same),
       input,
       run_ends dict save answer (running_of r) (run_of (running_of r)).end is,
       λ outside shows.
@@ -121,7 +126,7 @@ module _ (file : List ℕ) (latency : Option (List ℕ)) (steps depth : ℕ) (ol
 
   pub run_short : (dict : Bool) (save : Option (List ℕ)) (r : Ready) → MakesReady (Ok r) file latency steps old new
       → FindsJob (Err why.NoMemory) (job.Run file steps depth latency dict save) old new
-  run_short dict save r (view, is_view, (same, input, runs)) = (view, is_view, (behind_input _ _ view old new tt same input, tt))
+  run_short dict save r (view, is_view, (same, input, runs)) = (view, is_view, (behind_input _ _ _ view old new tt same input, tt))
 
   -- GRAPH
   graph_ends : (answer : Answer) (r : Running) → IsListed depth answer r → IsEnd answer
@@ -138,7 +143,7 @@ module _ (file : List ℕ) (latency : Option (List ℕ)) (steps depth : ℕ) (ol
     view,
     is_view,
     (
-      same,
+      (loads_of (job.Graph file steps depth latency), refl, same),
       input,
       graph_ends answer (running_of r) is,
       λ outside shows.
@@ -160,7 +165,7 @@ module _ (file : List ℕ) (latency : Option (List ℕ)) (steps depth : ℕ) (ol
   )
 
   pub graph_short : (r : Ready) → MakesReady (Ok r) file latency steps old new → FindsJob (Err why.NoMemory) (job.Graph file steps depth latency) old new
-  graph_short r (view, is_view, (same, input, runs)) = (view, is_view, (behind_input _ _ view old new tt same input, tt))
+  graph_short r (view, is_view, (same, input, runs)) = (view, is_view, (behind_input _ _ _ view old new tt same input, tt))
 
 -- nothing was seen
 nothing_seen : (old : Around) → IsView no_view old
@@ -185,7 +190,7 @@ module _ (file : List ℕ) (dict : Bool) (old new : Around) (same_input : new.in
     of_files (one_seen file None),
     record { files = (has, tt, tt); input = not_seen old.input.left },
     (
-      inl (tt, (rose, same), same_input),
+      inl (tt, (Load file ∷ [], refl, (Load file ∷ [], (front_same (Load file ∷ []) (Load file ∷ []) refl, ([], refl)), (rose, same))), same_input),
       λ outside shows. absent (λ other. refusal (why.Absent file) ≡ refusal other) outside profile_limit file _ shows.files.0 refl,
     ),
   )
@@ -194,31 +199,46 @@ module _ (file : List ℕ) (dict : Bool) (old new : Around) (same_input : new.in
         of_files (one_seen file (Some long.0)),
         record { files = (long.1, tt, tt); input = not_seen old.input.left },
         (
-          inl (tt, (rose, same), same_input),
+          inl (tt, (Load file ∷ [], refl, (Load file ∷ [], (front_same (Load file ∷ []) (Load file ∷ []) refl, ([], refl)), (rose, same))), same_input),
           λ outside shows. too_long (λ other. refusal (why.FileLong file) ≡ refusal other) outside profile_limit file _ long.0 shows.files.0 long.2 refl,
         ),
       )
-  show_unloaded load.Failed (rose, same) =
-      (of_files [], record { files = tt; input = not_seen old.input.left }, (inl (tt, (rose, same), same_input), tt))
-  show_unloaded load.Memory same = (of_files [], record { files = tt; input = not_seen old.input.left }, (inl (tt, same, same_input), tt))
+  show_unloaded load.Failed (rose, same) = (
+    of_files [],
+    record { files = tt; input = not_seen old.input.left },
+    (inl (tt, (Load file ∷ [], refl, (Load file ∷ [], (front_same (Load file ∷ []) (Load file ∷ []) refl, some_asked (Load file) []), (rose, same))), same_input), tt),
+  )
+  show_unloaded load.Memory (inl same) = (
+    of_files [],
+    record { files = tt; input = not_seen old.input.left },
+    (inl (tt, (Load file ∷ [], refl, (Load file ∷ [], front_same (Load file ∷ []) (Load file ∷ []) refl, same)), same_input), tt),
+  )
+  show_unloaded load.Memory (inr same) = (
+    of_files [],
+    record { files = tt; input = not_seen old.input.left },
+    (inl (tt, (Load file ∷ [], refl, ([], (Load file ∷ [], refl), same ∙ after_none old.files)), same_input), tt),
+  )
 
   -- bytes that spell no profile
-  show_refused : (bytes : List ℕ) → Has old.files.held file (Some bytes) → length bytes ≤ profile_limit → new.files ≡ old.files → (fault : SavedFault)
+  show_refused : (bytes : List ℕ) → Has old.files.held file (Some bytes) → length bytes ≤ profile_limit → new.files ≡ after (Load file ∷ []) old.files → (fault : SavedFault)
       → Reads bytes (Err fault) → FindsJob (Err (failure_of_saved fault)) (job.Show file dict) old new
   show_refused bytes has fits same (saved.NotSaved place) is = (
     of_files (one_seen file (Some bytes)),
     record { files = (has, tt, tt); input = not_seen old.input.left },
-    (inl (tt, same, same_input), with_bytes bytes has fits (refusal (why.Saved place)) (Err place) (is, refl)),
+    (inl (tt, (Load file ∷ [], refl, (Load file ∷ [], refl, same)), same_input), with_bytes bytes has fits (refusal (why.Saved place)) (Err place) (is, refl)),
   )
-  show_refused bytes has fits same saved.Memory is =
-      (of_files (one_seen file (Some bytes)), record { files = (has, tt, tt); input = not_seen old.input.left }, (inl (tt, same, same_input), tt))
+  show_refused bytes has fits same saved.Memory is = (
+    of_files (one_seen file (Some bytes)),
+    record { files = (has, tt, tt); input = not_seen old.input.left },
+    (inl (tt, (Load file ∷ [], refl, (Load file ∷ [], front_same (Load file ∷ []) (Load file ∷ []) refl, same)), same_input), tt),
+  )
 
   pub show_found : (result : Result Answer Failure) → ShowsFile result file dict old.files new.files → FindsJob result (job.Show file dict) old new
   show_found (Ok answer) (bytes, (has, fits, same), (profile, (reads, (text, report, is)))) = (
     of_files (one_seen file (Some bytes.items)),
     record { files = (has, tt, tt); input = not_seen old.input.left },
     (
-      same,
+      (Load file ∷ [], refl, same),
       shown_input (of_files (one_seen file (Some bytes.items))),
       record {
         steps = 0;
@@ -241,14 +261,14 @@ demo_found (Ok answer) number loops old new same (is_end, answers) = (
   no_view,
   nothing_seen old,
   (
-    ap (λ (a : Around). a.files) same,
+    ([], refl, ap (λ (a : Around). a.files) same ∙ after_none old.files),
     inl (ap (λ (a : Around). a.input) same, λ outside shows calls. calls),
     is_end,
     λ outside shows. answers outside,
   ),
 )
 demo_found (Err failure) number loops old new same (silent, refuses) =
-    (no_view, nothing_seen old, (inr (inr (silent, same)), refusal_maps _ _ failure (λ answers outside shows. answers outside) refuses))
+    (no_view, nothing_seen old, (inr (inr (silent, refusal_maps _ _ failure (λ answers. refl) refuses, same)), refusal_maps _ _ failure (λ answers outside shows. answers outside) refuses))
 
 -- a job, or something in its place
 abbrev job_in : Job → Result Job Usage → Job
@@ -271,39 +291,44 @@ module _ (list : List (List ℕ)) (asked : Job) (none : asked_for list ≡ None)
   input_for view (inl (same, calls_not)) = inl (same, λ outside shows calls. calls_not outside shows (calls_for outside calls))
   input_for view (inr (bytes, is, calls, reads)) = inr (bytes, is, (λ outside shows. (asked, is_words, calls outside shows)), reads)
 
-  before_for : (failure : Failure) (view : View) → FailsBefore failure (JobLoads asked) (λ outside. JobCalls outside asked) view old new
-      → FailsBefore failure (CallsForFiles list) (CallsForInput list) view old new
-  before_for failure view (inl (loads, after, input)) = inl ((asked, is_words, loads), after, input)
-  before_for failure view (inr (inl (calls, same, after))) = inr (inl ((λ outside shows. (asked, is_words, calls outside shows)), same, after))
-  before_for failure view (inr (inr silent)) = inr (inr silent)
+  named_for : (loads : List Request) → loads ≡ loads_of asked → AreToLoad list loads
+  named_for loads is = inl (asked, is_words, is)
+
+  before_for : (failure : Failure) (view : View)
+      → FailsBefore failure (JobLoads asked) (λ loads. loads ≡ loads_of asked) (λ outside. JobCalls outside asked) view old new
+      → FailsBefore failure (CallsForFiles list) (AreToLoad list) (CallsForInput list) view old new
+  before_for failure view (inl (loads, (all, is, stops), input)) = inl ((asked, is_words, loads), (all, named_for all is, stops), input)
+  before_for failure view (inr (inl (calls, (all, is, same), rest))) =
+      inr (inl ((λ outside shows. (asked, is_words, calls outside shows)), (all, named_for all is, same), rest))
+  before_for failure view (inr (inr (silent, none, same))) = inr (inr (silent, refusal_maps _ _ failure (named_for []) none, same))
 
   pub job_found : (result : Result Answer Failure) → FindsJob result asked old new → FindsAnswer result list old new
-  job_found (Ok answer) (view, is_view, (same, input, is_end, answers)) =
-      (view, is_view, (same, input_for view input, is_end, λ outside shows. job_answers outside answer (answers outside shows)))
+  job_found (Ok answer) (view, is_view, ((all, is, same), input, is_end, answers)) =
+      (view, is_view, ((all, named_for all is, same), input_for view input, is_end, λ outside shows. job_answers outside answer (answers outside shows)))
   job_found (Err failure) (view, is_view, (before, refuses)) =
       (view, is_view, (before_for failure view before, refusal_maps _ _ failure (λ everywhere outside shows. job_answers outside (refusal failure) (everywhere outside shows)) refuses))
 
 -- WORDS THAT ARE WRONG ask nothing of the outside
 module _ (list : List (List ℕ)) (none : asked_for list ≡ None) (old new : Around) (same : new ≡ old) where
-  refused_words : (fault : Usage) → words.IsAnswer list (Err fault) → ((outside : Outside) → AnswersWords outside (refusal (why.Usage fault)) (Err fault))
+  refused_words : (fault : Usage) → fault ≢ usage.Memory → words.IsAnswer list (Err fault) → ((outside : Outside) → AnswersWords outside (refusal (why.Usage fault)) (Err fault))
       → FindsAnswer (Err (why.Usage fault)) list old new
-  refused_words fault is answers = (
+  refused_words fault other is answers = (
     no_view,
     nothing_seen old,
     (
-      inr (inr (tt, same)),
+      inr (inr (tt, inr (fault, other, is, refl), same)),
       λ outside shows.
           subst (λ a. AnswersAsked list outside (refusal (why.Usage fault)) a) (sym none) (Err fault, is, answers outside),
     ),
   )
 
   pub usage_found : (fault : Usage) → words.IsAnswer list (Err fault) → FindsAnswer (Err (failure_of_usage fault)) list old new
-  usage_found usage.Memory is = (no_view, nothing_seen old, (inr (inr (tt, same)), tt))
-  usage_found usage.NoCommand is = refused_words usage.NoCommand is (λ outside. refl)
-  usage_found (usage.UnknownWord index) is = refused_words (usage.UnknownWord index) is (λ outside. refl)
-  usage_found (usage.BadNumber index) is = refused_words (usage.BadNumber index) is (λ outside. refl)
-  usage_found (usage.Twice index) is = refused_words (usage.Twice index) is (λ outside. refl)
-  usage_found usage.NoFile is = refused_words usage.NoFile is (λ outside. refl)
+  usage_found usage.Memory is = (no_view, nothing_seen old, (inr (inr (tt, tt, same)), tt))
+  usage_found usage.NoCommand is = refused_words usage.NoCommand (λ e. cc) is (λ outside. refl)
+  usage_found (usage.UnknownWord index) is = refused_words (usage.UnknownWord index) (λ e. cc) is (λ outside. refl)
+  usage_found (usage.BadNumber index) is = refused_words (usage.BadNumber index) (λ e. cc) is (λ outside. refl)
+  usage_found (usage.Twice index) is = refused_words (usage.Twice index) (λ e. cc) is (λ outside. refl)
+  usage_found usage.NoFile is = refused_words usage.NoFile (λ e. cc) is (λ outside. refl)
 
 -- a word that is one of the texts that ask for a text is no command
 same_text : (word text : List ℕ) → pointwise nat_eq word text ≡ true → command_of text ≡ None → command_of word ≡ None
@@ -344,6 +369,14 @@ no_job (word ∷ []) x text asked (right, gives) =
     let differs : true ≡ false = ap is_some wrong in cc
 no_job (word ∷ more ∷ others) x text asked is = (let wrong : false ≡ true = ap is_some text in cc)
 
+-- so they have nothing loaded
+no_loads : (list : List (List ℕ)) (x : Asked) → asked_for list ≡ Some x → AreToLoad list []
+no_loads list x text = by_answer (answer_exists list)
+  where
+    by_answer : (read : Result Job Usage) × words.IsAnswer list read × (read ≢ Err usage.Memory) → AreToLoad list []
+    by_answer (Ok asked, is, other) = absurd (no_job list x text asked is)
+    by_answer (Err fault, is, other) = inr (fault, (λ e. other (ap Err e)), is, refl)
+
 -- THE WORDS ask for a text on the program itself
 pub text_found : (list : List (List ℕ)) (x : Asked) (answer : Answer) → asked_for list ≡ Some x → IsEnd answer
     → ((outside : Outside) → AnswersAsked list outside answer (Some x)) → (old new : Around) → new ≡ old → FindsAnswer (Ok answer) list old new
@@ -351,7 +384,7 @@ text_found list x answer text is_end answers old new same = (
   no_view,
   nothing_seen old,
   (
-    ap (λ (a : Around). a.files) same,
+    ([], no_loads list x text, ap (λ (a : Around). a.files) same ∙ after_none old.files),
     inl (ap (λ (a : Around). a.input) same, λ outside shows calls. no_job list x text calls.0 calls.1),
     is_end,
     λ outside shows.
@@ -361,7 +394,7 @@ text_found list x answer text is_end answers old new same = (
 
 -- no memory was found, and nothing was asked of the outside
 pub short_of_memory : (list : List (List ℕ)) (old new : Around) → new ≡ old → FindsAnswer (Err why.NoMemory) list old new
-short_of_memory list old new same = (no_view, nothing_seen old, (inr (inr (tt, same)), tt))
+short_of_memory list old new same = (no_view, nothing_seen old, (inr (inr (tt, tt, same)), tt))
 
 -- such a text was given, or no memory was found for it
 pub text_told : (list : List (List ℕ)) (x : Asked) (text : List ℕ) → asked_for list ≡ Some x
@@ -379,15 +412,8 @@ text_told list x text asked answers (Ok answer) is old new same =
 text_told list x text asked answers (Err failure) is old new same =
     subst (λ (f : Failure). FindsAnswer (Err f) list old new) (sym is) (short_of_memory list old new same)
 
--- AN ANSWER that was found, and then delivered: finding it left the files as they were
+-- AN ANSWER that was found, and then delivered
 pub found_delivered : (words : List (List ℕ)) (answer : Answer) (delivered result : Result ⊤ Failure) (old mid : Around) (files : FilesState) (out out' : SinkState)
     → FindsAnswer (Ok answer) words old mid → Delivers delivered answer mid.files files out out' → EndsAs result delivered answer
     → Performs result words old (record { files = files; input = mid.input }) out out'
-found_delivered words answer delivered result old mid files out out' (view, is_view, (same, input, is_end, answers)) delivers ends =
-    inr (
-      answer,
-      delivered,
-      (view, is_view, (refl, input, is_end, answers)),
-      subst (λ (f : FilesState). Delivers delivered answer f files out out') same delivers,
-      ends,
-    )
+found_delivered words answer delivered result old mid files out out' found delivers ends = inr (answer, delivered, mid.files, found, delivers, ends)

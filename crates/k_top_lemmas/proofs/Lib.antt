@@ -1,3 +1,4 @@
+mod Requesting
 pub mod Growing
 pub mod TextLemmas
 pub mod LatencyLemmas
@@ -18,4 +19,5 @@ pub mod AskedLemmas
 mod Sounding
 mod OneSummary
 pub mod OneAnswer
+mod Delivering
 pub mod Keeping

@@ -2,6 +2,7 @@
 use Rattle.std.proofs.Common.{ℕ, ◌≡◌, ◌≤◌, ◌<◌, ◌⊎◌, Bool, true, false, MatchBool, IsTrue, refl, ap, arith, sym, subst, ◌∙◌, List, [], ◌++◌, length, Option, Some, None, Ok, Err, Vec, Global, inl, inr}
 use Rattle.std.proofs.lemmas.List.{length-append, append-nil}
 use Rattle.std.specs.Io.KnownBytes.{IsAtEnd}
+use Rattle.k_edge.specs.FilesWords.{after}
 use Rattle.k_edge.specs.ReadAll.{DrawsFrom, DrawsTooMany, ReadsAll}
 use Rattle.k_edge.specs.SourceWords.{SourceState}
 use Rattle.k_edge.specs.declared.reading.ReadAllFault.{ReadAllFault}
@@ -14,6 +15,7 @@ use Rattle.k_top_lemmas.specs.declared.program.Program.{Program}
 use Rattle.k_top_lemmas.specs.declared.running.Ready.{Ready}
 use Rattle.k_top_answers.specs.Answers.{FilesCall}
 use Rattle.k_top_answers.specs.Failures.{failure_of_reading}
+use Rattle.k_top_answers.specs.Requests.{files_of}
 use Rattle.k_top_lemmas.specs.Parts.{IfRefusal, ReadsWhere, running_of}
 use Rattle.k_top_lemmas.specs.Phases.{AreTold, Around, Everywhere, IsToldInput, MakesReady, ReadsProgram, Seen, Shows, of_files}
 use Rattle.k_top_answers.specs.Steps.{AnswersInput, AnswersProgram, AnswersRead, AnswersRunning, Outside, Running, input_limit}
@@ -49,11 +51,11 @@ files_shown outside files input shows = record { files = shows.files; input = tt
 -- THE PROGRAM is not read
 pub program_failed : (failure : Failure) (file : List ℕ) (latency : Option (List ℕ)) (steps : ℕ) (old new : Around)
     → ReadsProgram (Err failure) file latency old.files new.files → new.input ≡ old.input → MakesReady (Err failure) file latency steps old new
-program_failed failure file latency steps old new (files, told, (after, refusal)) same = (
+program_failed failure file latency steps old new (files, told, (stops, refusal)) same = (
   of_files files,
   record { files = told; input = not_seen old.input.left },
   (
-    inl (tt, after, same),
+    inl (tt, (files_of file latency, refl, stops), same),
     refusal_maps _ _ failure
         (λ fails outside shows. program_maps (λ other. other ≡ failure) (λ other. other ≡ failure) (λ latencies typed. ⊥)
         (λ latencies typed. AnswersInput (λ other. other ≡ failure) outside typed (λ input. ⊥))
@@ -99,7 +101,7 @@ all_drawn (Some told) left' bytes (rest, is, left) end =
     is ∙ ap (λ later. bytes ++ later) none ∙ append-nil bytes
 
 module _ (file : List ℕ) (latency : Option (List ℕ)) (steps : ℕ) (p : Program) (files : List Seen) (old new : Around) (told : AreTold old.files.held files)
-    (same : new.files ≡ old.files)
+    (same : new.files ≡ after (files_of file latency) old.files)
     (reads : Everywhere (of_files files) (λ outside. AnswersProgram (λ failure. ⊥) outside file latency (λ latencies typed. (latencies ≡ p.latencies) × (typed ≡ p.typed))))
   where
     -- what the input decides
@@ -127,15 +129,15 @@ module _ (file : List ℕ) (latency : Option (List ℕ)) (steps : ℕ) (p : Prog
     by_fault : calls_getchar p.typed ≡ true → (fault : ReadAllFault) → ReadsAll (Err fault) input_limit old.input new.input
         → MakesReady (Err (failure_of_reading fault)) file latency steps old new
     by_fault is reading.ReadFault (draws, rose) =
-        (of_files files, record { files = told; input = not_seen old.input.left }, (inr (inl (calls_input None is, same, (draws, rose))), tt))
+        (of_files files, record { files = told; input = not_seen old.input.left }, (inr (inl (calls_input None is, (files_of file latency, refl, same), (draws, rose))), tt))
     by_fault is reading.Memory (draws, faultless) =
-        (of_files files, record { files = told; input = not_seen old.input.left }, (inr (inl (calls_input None is, same, (draws, faultless))), tt))
+        (of_files files, record { files = told; input = not_seen old.input.left }, (inr (inl (calls_input None is, (files_of file latency, refl, same), (draws, faultless))), tt))
     by_fault is reading.TooLong (draws, faultless) =
         let many = too_many old.input new.input draws in (
           record { files = files; input = Some many.0 },
           record { files = told; input = many.1 },
           (
-            inr (inl (calls_input (Some many.0) is, same, (draws, faultless))),
+            inr (inl (calls_input (Some many.0) is, (files_of file latency, refl, same), (draws, faultless))),
             λ outside shows.
                 with_input (λ other. other ≡ why.InputLong) (λ running. ⊥) outside (files_shown outside files (Some many.0) shows)
                 (by_test (λ other. other ≡ why.InputLong) (λ input. ⊥) outside true is (inl (subst (λ bytes. input_limit < length bytes) shows.input many.2, refl))),

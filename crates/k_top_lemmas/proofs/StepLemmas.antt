@@ -1,10 +1,11 @@
 -- What the steps of the call answer, once it is known what they come to.
-use Rattle.std.proofs.Common.{ℕ, ◌≡◌, ◌≢◌, ◌≤◌, ◌<◌, sym, subst, List, [], ◌∷◌, length, Option, Some, None, Result, Ok, Err, inl, inr}
+use Rattle.std.proofs.Common.{ℕ, ◌≡◌, ◌≢◌, ◌≤◌, ◌<◌, refl, sym, subst, List, [], ◌∷◌, length, Option, Some, None, Result, Ok, Err, inl, inr}
 use Rattle.k_optab.specs.Latencies.{standard_latencies}
 use Rattle.k_optab.specs.TomlTable.{IsRefused, IsTold}
 use Rattle.k_optab.specs.declared.toml_table.TableFault.{TableFault}
 use Rattle.k_optab.specs.declared.toml_table.TableFault.TheVariants as table
-use Rattle.k_edge.specs.FilesWords.{FilesState}
+use Rattle.k_edge.specs.FilesWords.{FilesState, after}
+use Rattle.k_edge.specs.declared.request.Request.{Request}
 use Rattle.k_tree.specs.declared.tokens.Token.{Token}
 use Rattle.k_tree.specs.declared.tree.unit.Unit as tree
 use Rattle.k_lex.specs.Tokens.{tokens}
@@ -15,7 +16,7 @@ use Rattle.k_types_meaning.specs.declared.fault.TypeFault.{TypeFault}
 use Rattle.k_types_meaning.specs.declared.tree.unit.TUnit.{TUnit}
 use Rattle.k_top_answers.specs.declared.failure.Failure.{Failure}
 use Rattle.k_top_answers.specs.declared.failure.Failure.TheVariants as why
-use Rattle.k_top_lemmas.specs.Phases.{FilesAfter, IsQuiet}
+use Rattle.k_top_lemmas.specs.Phases.{IsQuiet, LoadsStop}
 use Rattle.k_top_answers.specs.Steps.{AnswersFile, AnswersFound, AnswersLatency, AnswersProgram, AnswersSource, AnswersTable, AnswersTokens, AnswersTree, AnswersTyped, Outside, file_limit}
 
 module _ (failed : Failure → Type 0) (outside : Outside) (limit : ℕ) (file : List ℕ) (next : List ℕ → Type 0) where
@@ -57,23 +58,23 @@ pub refused : (failed : Failure → Type 0) (next : List ℕ → Type 0) (bytes 
     → failed (why.Table fault) → AnswersTable failed next bytes
 refused failed next bytes fault other is holds = inr (fault, other, is, holds)
 
--- a failure of a source asks nothing of the files
-module _ (failure : Failure) (old new : FilesState) (same : new ≡ old) where
-  typed_fails : (unit : tree.Unit) (fs : List TypeFault) → AnswersTyped (λ other. other ≡ failure) (λ source. ⊥) unit fs → FilesAfter failure old new
+-- a failure of a source comes behind all loads
+module _ (failure : Failure) (loads : List Request) (old new : FilesState) (same : new ≡ after loads old) where
+  typed_fails : (unit : tree.Unit) (fs : List TypeFault) → AnswersTyped (λ other. other ≡ failure) (λ source. ⊥) unit fs → LoadsStop failure loads old new
   typed_fails unit [] (typed, is, holds) = absurd holds
-  typed_fails unit (fault ∷ fs) is = subst (λ f. FilesAfter f old new) is same
+  typed_fails unit (fault ∷ fs) is = subst (λ f. LoadsStop f loads old new) is (loads, refl, same)
 
-  tree_fails : (found : Result tree.Unit ParseFault) → AnswersTree (λ other. other ≡ failure) (λ source. ⊥) found → FilesAfter failure old new
-  tree_fails (Err fault) is = subst (λ f. FilesAfter f old new) is same
+  tree_fails : (found : Result tree.Unit ParseFault) → AnswersTree (λ other. other ≡ failure) (λ source. ⊥) found → LoadsStop failure loads old new
+  tree_fails (Err fault) is = subst (λ f. LoadsStop f loads old new) is (loads, refl, same)
   tree_fails (Ok unit) holds = typed_fails unit (faults unit) holds
 
-  tokens_fail : (found : Result (List Token) LexFault) → AnswersTokens (λ other. other ≡ failure) (λ source. ⊥) found → FilesAfter failure old new
-  tokens_fail (Err fault) is = subst (λ f. FilesAfter f old new) is same
+  tokens_fail : (found : Result (List Token) LexFault) → AnswersTokens (λ other. other ≡ failure) (λ source. ⊥) found → LoadsStop failure loads old new
+  tokens_fail (Err fault) is = subst (λ f. LoadsStop f loads old new) is (loads, refl, same)
   tokens_fail (Ok list) (found, is, holds) = tree_fails found holds
 
-pub source_fails : (failure : Failure) (bytes : List ℕ) (old new : FilesState) → new ≡ old → AnswersSource (λ other. other ≡ failure) (λ source. ⊥) bytes
-    → FilesAfter failure old new
-source_fails failure bytes old new same holds = tokens_fail failure old new same (tokens bytes) holds
+pub source_fails : (failure : Failure) (bytes : List ℕ) (loads : List Request) (old new : FilesState) → new ≡ after loads old → AnswersSource (λ other. other ≡ failure) (λ source. ⊥) bytes
+    → LoadsStop failure loads old new
+source_fails failure bytes loads old new same holds = tokens_fail failure loads old new same (tokens bytes) holds
 
 -- and nothing of the outside at all
 module _ (failure : Failure) where

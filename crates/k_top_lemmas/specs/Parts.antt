@@ -42,7 +42,7 @@ use Rattle.k_top_answers.specs.declared.failure.Failure.TheVariants as why
 use Rattle.k_top_lemmas.specs.declared.program.Program.{Program}
 use Rattle.k_top_lemmas.specs.declared.running.Ready.{Ready}
 use Rattle.k_top_answers.specs.Answers.{AnswersProfile, done}
-use Rattle.k_top_answers.specs.Clauses.{HoldsAfter, Told}
+use Rattle.k_top_answers.specs.Clauses.{Told}
 use Rattle.k_top_answers.specs.Failures.{failure_line, failure_of_load, failure_of_put, failure_of_reading, failure_of_save, failure_of_saved, failure_of_table, failure_status}
 use Rattle.k_top_answers.specs.Steps.{AnswersSource, Running, file_limit, input_limit, profile_limit}
 use Rattle.k_top_answers.specs.Texts.{plan_line, tree_lines}
@@ -176,9 +176,14 @@ PutsAll (Ok done) bytes old new = Grows old.written bytes new.written × (new.fa
 PutsAll (Err put.Failed) bytes old new = (bytes ≢ []) × GrowsInPart old.written bytes new.written × Rose old.faults new.faults
 PutsAll (Err put.Memory) bytes old new = GrowsInPart old.written bytes new.written × (new.faults ≡ old.faults)
 
+-- the file of an answer was saved, if it has one
+abbrev pub HasSaved : Option SavedFile → FilesState → FilesState → Type 0
+HasSaved None old new = new ≡ old
+HasSaved (Some file) old new = Saves (Ok tt) file.name file.bytes old new
+
 -- what saving the file of an answer comes to
 abbrev pub SavesFile : Result ⊤ Failure → Option SavedFile → FilesState → FilesState → Type 0
-SavesFile (Ok done) saved old new = HoldsAfter saved old new × (new.counts ≡ old.counts)
+SavesFile (Ok done) saved old new = HasSaved saved old new
 SavesFile (Err failure) None old new = ⊥
 SavesFile (Err failure) (Some file) old new = (fault : SaveFault) × (failure ≡ failure_of_save fault) × Saves (Err fault) file.name file.bytes old new
 

@@ -1,9 +1,10 @@
 -- For contracts between crates: nobody has to believe it.
 -- What was seen of the outside while the answer was found, and what holds wherever that is so. The theorem on `kremlin` speaks of none of this.
-use Rattle.std.specs.Prelude.{ℕ, ⊤, ◌≡◌, ◌≢◌, ◌⊎◌, List, [], ◌∷◌, Option, Some, None, Result, Ok, Err, Vec}
+use Rattle.std.specs.Prelude.{ℕ, ⊤, ◌≡◌, ◌≢◌, ◌⊎◌, List, [], ◌∷◌, ◌++◌, Option, Some, None, Result, Ok, Err, Vec}
 use Rattle.std.specs.declared.alloc.Global.{Global}
 use Rattle.k_edge.specs.Fault.{Rose}
-use Rattle.k_edge.specs.FilesWords.{FilesState, Has}
+use Rattle.k_edge.specs.FilesWords.{FilesState, Has, after}
+use Rattle.k_edge.specs.declared.request.Request.{Request}
 use Rattle.k_edge.specs.ReadAll.{DrawsTooMany, DrawsWithin, ReadsAll}
 use Rattle.k_edge.specs.SinkWords.{SinkState}
 use Rattle.k_edge.specs.SourceWords.{SourceState}
@@ -19,6 +20,7 @@ use Rattle.k_top_answers.specs.Answers.{AnswersJob, CallsForFiles, CallsForInput
 use Rattle.k_top_answers.specs.Clauses.{MayGive}
 use Rattle.k_top_answers.specs.Failures.{failure_of_end}
 use Rattle.k_top_lemmas.specs.Parts.{Delivers, EndsAs, IfRefusal, running_of}
+use Rattle.k_top_answers.specs.Requests.{AreToLoad, EndsAt, IsFront, files_of, loads_of}
 use Rattle.k_top_answers.specs.Steps.{AnswersProgram, AnswersRunning, Outside, input_limit}
 
 -- what was seen of a file: its name, and its content, where it has some
@@ -79,27 +81,42 @@ no_view = record { files = []; input = None }
 abbrev pub of_files : List Seen → View
 of_files files = record { files = files; input = None }
 
--- what a failure leaves of the files, where they were only read
-abbrev pub FilesAfter : Failure → FilesState → FilesState → Type 0
-FilesAfter (why.Absent file) old new =
-    Rose old.counts.misses new.counts.misses × (new ≡ record old { counts = record old.counts { misses = new.counts.misses } })
-FilesAfter (why.FileLong file) old new =
-    Rose old.counts.longs new.counts.longs × (new ≡ record old { counts = record old.counts { longs = new.counts.longs } })
-FilesAfter why.ReadFault old new =
-    Rose old.counts.load_faults new.counts.load_faults × (new ≡ record old { counts = record old.counts { load_faults = new.counts.load_faults } })
-FilesAfter why.InputLong old new = ⊥
-FilesAfter why.WriteFault old new = ⊥
-FilesAfter (why.Trapped trap place) old new = ⊥
-FilesAfter (why.OutOfSteps steps) old new = ⊥
-FilesAfter failure old new = new ≡ old
+-- what a failure leaves of the files, where they were only read by these requests
+abbrev pub FilesAfter : Failure → List Request → FilesState → FilesState → Type 0
+FilesAfter (why.Absent file) made old new =
+    Rose old.counts.misses new.counts.misses
+    × (new ≡ record old { counts = record old.counts { misses = new.counts.misses }; requests = old.requests ++ made })
+FilesAfter (why.FileLong file) made old new =
+    Rose old.counts.longs new.counts.longs
+    × (new ≡ record old { counts = record old.counts { longs = new.counts.longs }; requests = old.requests ++ made })
+FilesAfter why.ReadFault made old new =
+    Rose old.counts.load_faults new.counts.load_faults
+    × (new ≡ record old { counts = record old.counts { load_faults = new.counts.load_faults }; requests = old.requests ++ made })
+FilesAfter why.InputLong made old new = ⊥
+FilesAfter why.WriteFault made old new = ⊥
+FilesAfter (why.Trapped trap place) made old new = ⊥
+FilesAfter (why.OutOfSteps steps) made old new = ⊥
+FilesAfter failure made old new = new ≡ after made old
+
+-- of the files to load, a failure comes behind these requests
+abbrev pub Stops : Failure → List Request → List Request → Type 0
+Stops (why.Absent file) loads made = IsFront made loads × EndsAt (Some (why.Absent file)) made
+Stops (why.FileLong file) loads made = IsFront made loads × EndsAt (Some (why.FileLong file)) made
+Stops why.ReadFault loads made = IsFront made loads × (made ≢ [])
+Stops why.NoMemory loads made = IsFront made loads
+Stops failure loads made = made ≡ loads
+
+-- what a failure leaves of the files, of which these were to be loaded
+abbrev pub LoadsStop : Failure → List Request → FilesState → FilesState → Type 0
+LoadsStop failure loads old new = (made : List Request) × Stops failure loads made × FilesAfter failure made old new
 
 -- what reading the two files of a program comes to, where this was seen of them
 abbrev pub ProgramSeen : Result Program Failure → List Seen → List ℕ → Option (List ℕ) → FilesState → FilesState → Type 0
 ProgramSeen (Ok p) files file latency old new =
-    (new ≡ old) × Everywhere (of_files files)
+    (new ≡ after (files_of file latency) old) × Everywhere (of_files files)
     (λ outside. AnswersProgram (λ failure. ⊥) outside file latency (λ latencies typed. (latencies ≡ p.latencies) × (typed ≡ p.typed)))
 ProgramSeen (Err failure) files file latency old new =
-    FilesAfter failure old new × IfRefusal failure (Everywhere (of_files files)
+    LoadsStop failure (files_of file latency) old new × IfRefusal failure (Everywhere (of_files files)
     (λ outside. AnswersProgram (λ other. other ≡ failure) outside file latency (λ latencies typed. ⊥)))
 
 -- what reading the two files of a program comes to
@@ -122,13 +139,17 @@ IsQuiet (why.Usage fault) = Unit {0}
 IsQuiet why.NoMemory = Unit {0}
 IsQuiet failure = ⊥
 
--- WHAT A FAILURE LEAVES of files and input before anything is put: files were read, as `loads` says; or they were, and then the input, which is asked
--- for in every outside that holds what was seen; or nothing was asked of the outside
-abbrev pub FailsBefore : Failure → Type 0 → (Outside → Type 0) → View → Around → Around → Type 0
-FailsBefore failure loads calls view old new =
-    (loads × FilesAfter failure old.files new.files × (new.input ≡ old.input))
-    ⊎ (Everywhere view calls × (new.files ≡ old.files) × InputAfter failure old.input new.input)
-    ⊎ (IsQuiet failure × (new ≡ old))
+-- all files were loaded that are to be
+abbrev pub LoadsAll : (List Request → Type 0) → FilesState → FilesState → Type 0
+LoadsAll named old new = (loads : List Request) × named loads × (new ≡ after loads old)
+
+-- WHAT A FAILURE LEAVES of files and input before anything is put: files were read, as `loads` says, of those that are `named`; or all of them were, and
+-- then the input, which is asked for in every outside that holds what was seen; or nothing was asked of the outside
+abbrev pub FailsBefore : Failure → Type 0 → (List Request → Type 0) → (Outside → Type 0) → View → Around → Around → Type 0
+FailsBefore failure loads named calls view old new =
+    (loads × ((all : List Request) × named all × LoadsStop failure all old.files new.files) × (new.input ≡ old.input))
+    ⊎ (Everywhere view calls × LoadsAll named old.files new.files × InputAfter failure old.input new.input)
+    ⊎ (IsQuiet failure × IfRefusal failure (named []) × (new ≡ old))
 
 -- the input was read to its end, where it is asked for, and is else as it was
 abbrev pub InputDone : (Outside → Type 0) → View → SourceState → SourceState → Type 0
@@ -139,10 +160,10 @@ InputDone calls view old new =
 -- what making a program ready to run comes to, where this was seen
 abbrev pub ReadySeen : Result Ready Failure → View → List ℕ → Option (List ℕ) → ℕ → Around → Around → Type 0
 ReadySeen (Ok r) view file latency steps old new =
-    (new.files ≡ old.files) × InputDone (λ outside. FilesCall outside file latency) view old.input new.input
+    (new.files ≡ after (files_of file latency) old.files) × InputDone (λ outside. FilesCall outside file latency) view old.input new.input
     × Everywhere view (λ outside. AnswersRunning (λ failure. ⊥) outside file latency steps (λ running. running ≡ running_of r))
 ReadySeen (Err failure) view file latency steps old new =
-    FailsBefore failure (Unit {0}) (λ outside. FilesCall outside file latency) view old new
+    FailsBefore failure (Unit {0}) (λ loads. loads ≡ files_of file latency) (λ outside. FilesCall outside file latency) view old new
     × IfRefusal failure (Everywhere view (λ outside. AnswersRunning (λ other. other ≡ failure) outside file latency steps (λ running. ⊥)))
 
 -- what making a program ready to run comes to
@@ -157,22 +178,23 @@ pub record IsEnd (answer : Answer) : Type 0 where
   pub saves : (answer.failure ≡ None) ⊎ (answer.saved ≡ None)
 
 -- what finding an answer comes to, where this was seen: an answer that is no refusal, or a failure before anything was put
-abbrev pub AnswerSeen : Result Answer Failure → Type 0 → (Outside → Type 0) → (Outside → Answer → Type 0) → View → Around → Around → Type 0
-AnswerSeen (Ok answer) loads calls answers view old new =
-    (new.files ≡ old.files) × InputDone calls view old.input new.input × IsEnd answer × Everywhere view (λ outside. answers outside answer)
-AnswerSeen (Err failure) loads calls answers view old new =
-    FailsBefore failure loads calls view old new × IfRefusal failure (Everywhere view (λ outside. answers outside (refusal failure)))
+abbrev pub AnswerSeen : Result Answer Failure → Type 0 → (List Request → Type 0) → (Outside → Type 0) → (Outside → Answer → Type 0)
+    → View → Around → Around → Type 0
+AnswerSeen (Ok answer) loads named calls answers view old new =
+    LoadsAll named old.files new.files × InputDone calls view old.input new.input × IsEnd answer × Everywhere view (λ outside. answers outside answer)
+AnswerSeen (Err failure) loads named calls answers view old new =
+    FailsBefore failure loads named calls view old new × IfRefusal failure (Everywhere view (λ outside. answers outside (refusal failure)))
 
 -- what finding the answer to a job comes to
 abbrev pub FindsJob : Result Answer Failure → Job → Around → Around → Type 0
 FindsJob result asked old new =
     (view : View) × IsView view old
-    × AnswerSeen result (JobLoads asked) (λ outside. JobCalls outside asked) (λ outside answer. AnswersJob outside answer asked) view old new
+    × AnswerSeen result (JobLoads asked) (λ loads. loads ≡ loads_of asked) (λ outside. JobCalls outside asked) (λ outside answer. AnswersJob outside answer asked) view old new
 
 -- what finding the answer to the words comes to
 abbrev pub FindsAnswer : Result Answer Failure → List (List ℕ) → Around → Around → Type 0
 FindsAnswer result words old new =
-    (view : View) × IsView view old × AnswerSeen result (CallsForFiles words) (CallsForInput words) (IsAnswer words) view old new
+    (view : View) × IsView view old × AnswerSeen result (CallsForFiles words) (AreToLoad words) (CallsForInput words) (IsAnswer words) view old new
 
 -- what the answer of `demo` comes to: it asks nothing of the outside
 abbrev pub MakesDemo : Result Answer Failure → ℕ → ℕ → Type 0
@@ -183,6 +205,6 @@ MakesDemo (Err failure) number loops = IsQuiet failure × IfRefusal failure ((ou
 abbrev pub Performs : Result ⊤ Failure → List (List ℕ) → Around → Around → SinkState → SinkState → Type 0
 Performs result words old new out out' =
     ((failure : Failure) × (result ≡ Err failure) × FindsAnswer (Err failure) words old new × (out' ≡ out))
-    ⊎ ((answer : Answer) × (delivered : Result ⊤ Failure)
-    × FindsAnswer (Ok answer) words old (record { files = old.files; input = new.input })
-    × Delivers delivered answer old.files new.files out out' × EndsAs result delivered answer)
+    ⊎ ((answer : Answer) × (delivered : Result ⊤ Failure) × (mid : FilesState)
+    × FindsAnswer (Ok answer) words old (record { files = mid; input = new.input })
+    × Delivers delivered answer mid new.files out out' × EndsAs result delivered answer)

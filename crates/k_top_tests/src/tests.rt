@@ -1,12 +1,9 @@
 //! What the top call answers, and what it asks of the outside.
-mod about;
 mod asked;
 mod commands;
 mod endings;
 mod faults;
-mod jobs;
 mod long;
-mod made;
 mod noted;
 mod programs;
 mod saves;

@@ -1,6 +1,7 @@
 -- File objects that are declared one after the other.
-use Rattle.std.proofs.Common.{◌≡◌, inl, inr, ℕ, ℤ, true, ◌+◌, ◌<◌, ◌≤◌, List, [], ◌∷◌, ◌++◌, Ok, drop, get_or, length, refl, sym, ap, ◌∙◌, subst, append_assoc, append-nil}
+use Rattle.std.proofs.Common.{◌≡◌, inl, inr, ℕ, true, ◌+◌, ◌<◌, ◌≤◌, List, [], ◌∷◌, ◌++◌, Ok, drop, get_or, length, refl, sym, ap, ◌∙◌, subst, append_assoc, append-nil}
 use Rattle.std.proofs.lemmas.List.{drop_all, length-append}
+use Rattle.k_num.specs.declared.initial.Initial.{Initial}
 use Rattle.k_tree.specs.declared.tree.declaration.Declarator.{Declarator}
 use Rattle.k_types_meaning.specs.declared.fault.TypeFault.{TypeFault}
 use Rattle.k_types_meaning.specs.declared.types.TType.{TType}
@@ -49,7 +50,7 @@ known_with names objects functions = record { names = names; objects = objects; 
 
 -- a file object was declared
 pub place_goes : (s : Saying) (names : Names) (n : ℕ) (functions : List (List ℕ)) (d : Declarator) (b : Begun) (object : Object) (behind : Names)
-    → (of : TType) (count : ℕ) (first : List ℤ)
+    → (of : TType) (count : ℕ) (first : List Initial)
     → declarator_judged true s n names d ≡ Fine object → object.place ≡ d.place → object.of ≡ b.of → object.init ≡ b.init → behind ≡ names_behind true s n names d
     → of ≡ told b.of → count ≡ count_of b.of → first ≡ first_values b.init
     → PlacesObject (Ok (record { place = d.place; of = of; elements = count; first = first })) behind (object_placed s (known_with names n functions) d)

@@ -1,9 +1,10 @@
 -- Believed with the theorem on the top call.
 -- *Typing* of initialisers (C17 6.7.9): braces are nested as the dimensions, and a string begins an array of char.
-use Rattle.std.specs.Prelude.{ℕ, zero, suc, ◌+◌, ◌-◌, nat_le, Bool, ◌&&◌, ◌||◌, not, if◌then◌else◌, ℤ, pos, List, [], ◌∷◌, ◌++◌, map, length, replicate, is_some, Option, Some, None}
-use Rattle.std.specs.List.{concat}
+use Rattle.std.specs.Prelude.{ℕ, zero, suc, ◌+◌, nat_le, Bool, ◌&&◌, ◌||◌, not, if◌then◌else◌, ℤ, pos, List, [], ◌∷◌, ◌++◌, map, length, is_some, Option, Some, None}
+use Rattle.std.specs.List.{concat, flat_map}
 use Rattle.k_num.specs.declared.numbers.Kind.{Kind}
 use Rattle.k_num.specs.declared.numbers.Kind.TheVariants.{I8}
+use Rattle.k_num.specs.declared.initial.Initial.{Initial}
 use Rattle.k_num.specs.declared.place.Place.{Place}
 use Rattle.k_num.specs.Kind.{converted}
 use Rattle.k_tree.specs.declared.tree.expression.Expr.{Expr, fold-Expr}
@@ -174,21 +175,27 @@ abbrev pub first_given : Option Init → Option ℕ
 first_given None = None
 first_given (Some init) = first_step (out-Init init)
 
--- an element of a file object: the value of an item, which is a constant
+-- the value of a constant; no other expression stands where a file object begins
 abbrev pub constant_or_zero : Option ℤ → ℤ
 constant_or_zero None = pos 0
 constant_or_zero (Some z) = z
 
--- C17 6.7.9p21: the elements of an object from this one on, as items give them: zeros where none does, and none behind the last
-abbrev pub elements_from : ℕ → List TItem → List ℤ
-elements_from n [] = []
-elements_from n (item.Bytes m bytes ∷ items) =
-    replicate (m - n) (pos 0) ++ (map (λ b. converted I8 (pos b)) bytes ++ elements_from (m + length bytes) items)
-elements_from n (item.Value p m tree ∷ items) =
-    replicate (m - n) (pos 0) ++ (constant_or_zero (constant tree) ∷ elements_from (m + 1) items)
+-- C17 6.7.9p11: the number that an expression gives to the element of this number
+abbrev pub value_for : ℕ → TExpr → Initial
+value_for n e = record { element = n; number = constant_or_zero (constant e) }
 
--- C17 6.7.9p4, p10: the values with which a file object begins, from its first element on
-abbrev pub first_values : TInit → List ℤ
+-- C17 6.7.9p14: the numbers that the bytes of a string give to the elements of an array of char, from this one on
+abbrev pub bytes_from : ℕ → List ℕ → List Initial
+bytes_from n [] = []
+bytes_from n (b ∷ bytes) = record { element = n; number = converted I8 (pos b) } ∷ bytes_from (n + 1) bytes
+
+-- C17 6.7.9p17: the numbers that an item of braces gives
+abbrev pub item_numbers : TItem → List Initial
+item_numbers (item.Bytes n bytes) = bytes_from n bytes
+item_numbers (item.Value p n e) = value_for n e ∷ []
+
+-- C17 6.7.9p4, p10, p21: the numbers with which elements of a file object begin, in the order of its elements; all others begin with 0
+abbrev pub first_values : TInit → List Initial
 first_values begins.Nothing = []
-first_values (begins.Value tree) = constant_or_zero (constant tree) ∷ []
-first_values (begins.Elements items) = elements_from 0 items
+first_values (begins.Value e) = value_for 0 e ∷ []
+first_values (begins.Elements items) = flat_map item_numbers items

@@ -156,14 +156,6 @@ list_lent A bare numbers xs ys ws s t is same h =
     subst (λ (l : List A). Renumbers (List A) (map bare) (λ m. listed (map numbers m)) l ws s t) is h in
     subst (λ (l : List A). Renumbers (List A) (map bare) (λ m. listed (map numbers m)) xs l s t) (sym (lent A xs ws (same ∙ ap length is))) g
 
--- with one item more, which was taken away and put back
-pub list_taken : (A : Type 0) (bare : A → A) (numbers : A → Numbers) (xs ys : List A) (i : ℕ) (d taken done y : A) (s m t : Counts) → i < length ys
-    → taken ≡ get_or ys i d → y ≡ done → SoFar A bare numbers xs ys i s m → Renumbers A bare numbers taken done m t
-    → SoFar A bare numbers xs (set ys i y) (i + 1) s t
-list_taken A bare numbers xs ys i d taken done y s m t within was put h k =
-    let of_item : Renumbers A bare numbers (get_or ys i d) done m t = subst (λ (a : A). Renumbers A bare numbers a done m t) was k in
-    list_more A bare numbers xs ys i y d s m t within h (subst (λ (b : A). Renumbers A bare numbers (get_or ys i d) b m t) (sym put) of_item)
-
 -- what is not visited yet is as it was, with one item more visited
 pub unvisited_more : (A : Type 0) (xs ys : List A) (i : ℕ) (y : A)
     → (length ys ≡ length xs) × ((k : ℕ) (d : A) → i ≤ k → get_or ys k d ≡ get_or xs k d)
@@ -172,3 +164,19 @@ unvisited_more A xs ys i y h = (
   length-set ys i y ∙ h.0,
   λ k d above. get_or-set_other ys i k y d (λ (e : k ≡ i). omega (arith, e, above)) ∙ h.1 k d (omega (arith, above)),
 )
+
+-- what was lent is known by another name
+pub renumbers_of : (A : Type 0) (bare : A → A) (numbers : A → Numbers) (a d b : A) (s t : Counts) → a ≡ d
+    → Renumbers A bare numbers a b s t → Renumbers A bare numbers d b s t
+renumbers_of A bare numbers a d b s t is h = record { same = h.same ∙ ap bare is; counted = h.counted }
+
+-- what it ends as, under another name
+pub ends_as : (A : Type 0) (bare : A → A) (numbers : A → Numbers) (number : ℕ) (a b f : A) (s t : Counts)
+    → RenumbersBehind A bare numbers number a f s t → b ≡ f → RenumbersBehind A bare numbers number a b s t
+ends_as A bare numbers number a b f s t h is = subst (λ (x : A). RenumbersBehind A bare numbers number a x s t) (sym is) h
+
+-- what is known to be of some form, and ends as another one
+pub renumbers_as : (A : Type 0) (bare : A → A) (numbers : A → Numbers) (a d b f : A) (s t : Counts) → Renumbers A bare numbers d f s t → a ≡ d → b ≡ f
+    → Renumbers A bare numbers a b s t
+renumbers_as A bare numbers a d b f s t h is ended =
+    subst (λ (x : A). Renumbers A bare numbers a x s t) (sym ended) (record { same = h.same ∙ sym (ap bare is); counted = h.counted })

@@ -29,6 +29,10 @@ pair_numbered a b x y s m t h k = record {
   counted = both_counted (expr_numbers x) (expr_numbers y) s m t h.counted k.counted;
 }
 
+-- the same where both are known by other names
+pub pair_of : (a b c d x y : TExpr) (s t : Counts) → a ≡ c → b ≡ d → NumbersPair a b x y s t → NumbersPair c d x y s t
+pair_of a b c d x y s t p q h = record { left = h.left ∙ ap bare_expr p; right = h.right ∙ ap bare_expr q; counted = h.counted }
+
 -- an expression `e` without operands becomes `f`
 none_numbered : (number : ℕ) (e f b : TExpr) (s : Counts) → bare_expr e ≡ b → bare_expr f ≡ b → expr_numbers f ≡ node_before number nothing
     → NumbersOperands number e f s s

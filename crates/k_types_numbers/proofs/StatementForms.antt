@@ -143,35 +143,39 @@ numbers_DoWhile number spot old turns b y a x s l m t is moved k h =
     }
 
 -- what stands in the parentheses of a `for`
-pub clauses_numbered : (f g : TFirst) (a b x y : Option TExpr) (turns : ℕ) (s l m n t : Counts) → turns ≡ s.loops → l ≡ loop_counted s
-    → NumbersFirst f g l m → NumbersOption a x m n → NumbersOption b y n t → NumbersClauses f a b turns g x y s t
-clauses_numbered f g a b x y turns s l m n t is moved h j k = record {
+pub clauses_numbered : (f g : TFirst) (a b x y : Option TExpr) (l m n t : Counts) → NumbersFirst f g l m → NumbersOption a x m n → NumbersOption b y n t
+    → NumbersClauses f a b g x y l t
+clauses_numbered f g a b x y l m n t h j k = record {
   first_same = h.same;
   test_same = j.same;
   step_same = k.same;
-  counted = loop_first (before (first_numbers g) (before (option_numbers x) (option_numbers y))) turns s l t is moved
-      (both_counted (first_numbers g) (before (option_numbers x) (option_numbers y)) l m t h.counted
-      (both_counted (option_numbers x) (option_numbers y) m n t j.counted k.counted));
+  counted = both_counted (first_numbers g) (before (option_numbers x) (option_numbers y)) l m t h.counted
+      (both_counted (option_numbers x) (option_numbers y) m n t j.counted k.counted);
 }
 
--- four parts in a row behind a loop
-in_a_row : (turns : ℕ) (a b c d : Numbers) → before (one_loop turns (before a (before b c))) d ≡ one_loop turns (before a (before b (before c d)))
-in_a_row turns a b c d =
-    sym (before-assoc (one_loop turns nothing) (before a (before b c)) d) ∙ ap (λ (n : Numbers). one_loop turns n)
-    (sym (before-assoc a (before b c) d) ∙ ap (λ (n : Numbers). before a n) (sym (before-assoc b c d)))
+-- the same where they are known by other names
+pub clauses_of : (f h g : TFirst) (a c x b d y : Option TExpr) (s t : Counts) → f ≡ h → a ≡ c → b ≡ d → NumbersClauses f a b g x y s t → NumbersClauses h c d g x y s t
+clauses_of f h g a c x b d y s t p q r k =
+    record { first_same = k.first_same ∙ ap bare_first p; test_same = k.test_same ∙ ap bare_option q; step_same = k.step_same ∙ ap bare_option r; counted = k.counted }
+
+-- four parts in a row
+in_a_row : (a b c d : Numbers) → before (before a (before b c)) d ≡ before a (before b (before c d))
+in_a_row a b c d = sym (before-assoc a (before b c) d) ∙ ap (λ (n : Numbers). before a n) (sym (before-assoc b c d))
 
 -- a `for` loop
-pub numbers_For : (number : ℕ) (spot : Spot) (old turns : ℕ) (f g : TFirst) (a b x y : Option TExpr) (c z : TStmt) (s m t : Counts)
-    → NumbersClauses f a b turns g x y s m → NumbersStmt c z m t → NumbersBehind number (stmt.For spot old f a b c) (stmt.For (spot_number spot number) turns g x y z) s t
-numbers_For number spot old turns f g a b x y c z s m t h k =
+pub numbers_For : (number : ℕ) (spot : Spot) (old turns : ℕ) (f g : TFirst) (a b x y : Option TExpr) (c z : TStmt) (s l m t : Counts) → turns ≡ s.loops → l ≡ loop_counted s
+    → NumbersClauses f a b g x y l m → NumbersStmt c z m t → NumbersBehind number (stmt.For spot old f a b c) (stmt.For (spot_number spot number) turns g x y z) s t
+numbers_For number spot old turns f g a b x y c z s l m t is moved h k =
     let made : stmt.For (bare_spot spot) 0 (bare_first g) (bare_option x) (bare_option y) (bare_stmt z) ≡ stmt.For (bare_spot spot) 0 (bare_first f) (bare_option a) (bare_option b) (bare_stmt c) =
     λ i. stmt.For (bare_spot spot) 0 (h.first_same i) (h.test_same i) (h.step_same i) (k.same i) in
+    let parts : Numbers = before (first_numbers g) (before (option_numbers x) (before (option_numbers y) (stmt_numbers z))) in
     record {
-      parts = one_loop turns (before (first_numbers g) (before (option_numbers x) (before (option_numbers y) (stmt_numbers z))));
+      parts = one_loop turns parts;
       same = done_For TPart TStmt bare_part_step bare_stmt_step (spot_number spot number) turns g x y z ∙ (made ∙ sym (done_For TPart TStmt bare_part_step bare_stmt_step spot old f a b c));
       listed = done_For Numbers Numbers part_numbers_step stmt_numbers_step (spot_number spot number) turns g x y z;
-      counted = subst (λ (n : Numbers). Counted n s t) (in_a_row turns (first_numbers g) (option_numbers x) (option_numbers y) (stmt_numbers z))
-          (both_counted (one_loop turns (before (first_numbers g) (before (option_numbers x) (option_numbers y)))) (stmt_numbers z) s m t h.counted k.counted);
+      counted = loop_first parts turns s l t is moved
+          (subst (λ (n : Numbers). Counted n l t) (in_a_row (first_numbers g) (option_numbers x) (option_numbers y) (stmt_numbers z))
+          (both_counted (before (first_numbers g) (before (option_numbers x) (option_numbers y))) (stmt_numbers z) l m t h.counted k.counted));
     }
 
 -- a `switch`

@@ -84,12 +84,12 @@ NumbersDeclared = Renumbers (List TDeclarator) bare_declared declared_numbers
 abbrev pub NumbersFirst : TFirst → TFirst → Counts → Counts → Type 0
 NumbersFirst = Renumbers TFirst bare_first first_numbers
 
--- What stands in the parentheses of a `for` is numbered, the loop itself first.
-pub record NumbersClauses (first : TFirst) (test step : Option TExpr) (turns : ℕ) (begun : TFirst) (tested stepped : Option TExpr) (s t : Counts) : Type 0 where
+-- What stands in the parentheses of a `for` is numbered in its order.
+pub record NumbersClauses (first : TFirst) (test step : Option TExpr) (begun : TFirst) (tested stepped : Option TExpr) (s t : Counts) : Type 0 where
   pub first_same : bare_first begun ≡ bare_first first
   pub test_same : bare_option tested ≡ bare_option test
   pub step_same : bare_option stepped ≡ bare_option step
-  pub counted : Counted (one_loop turns (before (first_numbers begun) (before (option_numbers tested) (option_numbers stepped)))) s t
+  pub counted : Counted (before (first_numbers begun) (before (option_numbers tested) (option_numbers stepped))) s t
 
 -- a statement is numbered
 abbrev pub NumbersStmt : TStmt → TStmt → Counts → Counts → Type 0

@@ -1,26 +1,11 @@
 //! Numbering of expressions (C17 6.5).
-ghost use Rattle.std.specs.Prelude.{◌≡◌, IfOk, OnOk};
+ghost use Rattle.std.specs.Prelude.{◌≡◌, OnOk};
 ghost use Rattle.k_types_numbers.specs.Renumbering.{NumbersExpr, NumbersExprs, NumbersOperands, NumbersOption, NumbersPair};
 
 use crate::counts::Counts;
-use k_num::{Box, NoMemory, Place};
-use k_types_meaning::{Node, TExpr, TType};
+use k_num::{Box, NoMemory};
+use k_types_meaning::TExpr;
 use std::alloc::Global;
-use std::mem;
-
-/// Numbers an expression and its operands.
-pub fn number_expr(expr: &mut TExpr, alloc: Global, counts: &mut Counts) -> Result<(), NoMemory>
-    ensures { OnOk result (NumbersExpr expr.old expr.new counts.old counts.new) }
-{
-    let taken = mem::replace(expr, blank());
-    match numbered(taken, alloc, counts) {
-        Ok(done) => {
-            drop(mem::replace(expr, done));
-            Ok(())
-        }
-        Err(NoMemory) => Err(NoMemory),
-    }
-}
 
 /// Numbers expressions in their order.
 #[cycle(expressions)]
@@ -28,284 +13,245 @@ fn number_exprs(exprs: &mut [TExpr], alloc: Global, counts: &mut Counts) -> Resu
     ensures { OnOk result (NumbersExprs exprs.old exprs.new counts.old counts.new) }
 {
     for expr in exprs.iter_mut() {
-        let taken = mem::replace(expr, blank());
-        match numbered(taken, alloc, counts) {
-            Ok(done) => drop(mem::replace(expr, done)),
-            Err(NoMemory) => return Err(NoMemory),
-        }
+        number_expr(expr, alloc, counts)?;
     }
     Ok(())
 }
 
 /// Numbers an expression in a box.
 #[cycle(expressions)]
-pub fn boxed(expr: Box<TExpr>, alloc: Global, counts: &mut Counts) -> Result<Box<TExpr>, NoMemory>
-    ensures { IfOk result (λ e. NumbersExpr expr e counts.old counts.new) }
+pub fn number_boxed(
+    expr: &mut Box<TExpr>,
+    alloc: Global,
+    counts: &mut Counts,
+) -> Result<(), NoMemory>
+    ensures { OnOk result (NumbersExpr expr.old expr.new counts.old counts.new) }
 {
-    match numbered(expr.into_inner(), alloc, counts) {
-        Ok(done) => Box::new(alloc, done),
-        Err(NoMemory) => Err(NoMemory),
-    }
+    number_expr(expr.get_mut(), alloc, counts)
 }
 
 /// Numbers two expressions in boxes, the first one first.
 #[cycle(expressions)]
-fn pair(
-    left: Box<TExpr>,
-    right: Box<TExpr>,
+fn number_pair(
+    left: &mut Box<TExpr>,
+    right: &mut Box<TExpr>,
     alloc: Global,
     counts: &mut Counts,
-) -> Result<(Box<TExpr>, Box<TExpr>), NoMemory>
-    ensures { IfOk result (λ both. NumbersPair left right both.0 both.1 counts.old counts.new) }
+) -> Result<(), NoMemory>
+    ensures { OnOk result (NumbersPair left.old right.old left.new right.new counts.old counts.new) }
 {
-    let left = boxed(left, alloc, counts)?;
-    let right = boxed(right, alloc, counts)?;
-    Ok((left, right))
+    number_boxed(left, alloc, counts)?;
+    number_boxed(right, alloc, counts)?;
+    Ok(())
 }
 
-/// An expression with its numbers: its own one first, then those of its operands.
+/// Numbers an expression: its own number comes first, then those of its operands.
 #[cycle(expressions)]
-pub fn numbered(expr: TExpr, alloc: Global, counts: &mut Counts) -> Result<TExpr, NoMemory>
-    ensures { IfOk result (λ e. NumbersExpr expr e counts.old counts.new) }
+pub fn number_expr(expr: &mut TExpr, alloc: Global, counts: &mut Counts) -> Result<(), NoMemory>
+    ensures { OnOk result (NumbersExpr expr.old expr.new counts.old counts.new) }
 {
-    match counts.node() {
-        Ok(number) => with_operands(expr, number, alloc, counts),
-        Err(NoMemory) => {
-            drop(expr);
-            Err(NoMemory)
-        }
-    }
+    let number = counts.node()?;
+    number_operands(expr, number, alloc, counts)
 }
 
-/// An expression with this number, whose operands are numbered.
+/// Gives an expression this number, and numbers its operands.
 #[cycle(expressions)]
-fn with_operands(
-    expr: TExpr,
+fn number_operands(
+    expr: &mut TExpr,
     number: u32,
     alloc: Global,
     counts: &mut Counts,
-) -> Result<TExpr, NoMemory>
-    ensures { IfOk result (λ e. NumbersOperands number expr e counts.old counts.new) }
+) -> Result<(), NoMemory>
+    ensures { OnOk result (NumbersOperands number expr.old expr.new counts.old counts.new) }
 {
     match expr {
-        TExpr::Number { node, value } => {
-            Ok(TExpr::Number {
-                node: Node { number, ..node },
-                value,
-            })
+        TExpr::Number { node, .. } => {
+            node.number = number;
+            Ok(())
+        }
+        TExpr::Object {
+            node,
+            object: _object,
+        } => {
+            node.number = number;
+            Ok(())
+        }
+        TExpr::Variable {
+            node,
+            variable: _variable,
+        } => {
+            node.number = number;
+            Ok(())
+        }
+        TExpr::Getchar { node } => {
+            node.number = number;
+            Ok(())
         }
         TExpr::Str {
             node,
-            string: _,
+            string,
             bytes,
         } => {
-            let string = counts.string(alloc, node.place, &bytes)?;
-            Ok(TExpr::Str {
-                node: Node { number, ..node },
-                string,
-                bytes,
-            })
-        }
-        TExpr::Object { node, object } => {
-            Ok(TExpr::Object {
-                node: Node { number, ..node },
-                object,
-            })
-        }
-        TExpr::Variable { node, variable } => {
-            Ok(TExpr::Variable {
-                node: Node { number, ..node },
-                variable,
-            })
-        }
-        TExpr::Index { node, base, index } => {
-            let (base, index) = pair(base, index, alloc, counts)?;
-            Ok(TExpr::Index {
-                node: Node { number, ..node },
-                base,
-                index,
-            })
+            node.number = number;
+            *string = counts.string(alloc, node.place, bytes)?;
+            Ok(())
         }
         TExpr::Call {
             node,
-            function,
-            mut args,
+            function: _function,
+            args,
         } => {
+            node.number = number;
             number_exprs(args.as_mut_slice(), alloc, counts)?;
-            Ok(TExpr::Call {
-                node: Node { number, ..node },
-                function,
-                args,
-            })
-        }
-        TExpr::Getchar { node } => {
-            Ok(TExpr::Getchar {
-                node: Node { number, ..node },
-            })
-        }
-        TExpr::Putchar { node, of } => {
-            let of = boxed(of, alloc, counts)?;
-            Ok(TExpr::Putchar {
-                node: Node { number, ..node },
-                of,
-            })
-        }
-        TExpr::Puts { node, of } => {
-            let of = boxed(of, alloc, counts)?;
-            Ok(TExpr::Puts {
-                node: Node { number, ..node },
-                of,
-            })
+            Ok(())
         }
         TExpr::Printf {
             node,
-            format,
-            mut args,
+            format: _format,
+            args,
         } => {
+            node.number = number;
             number_exprs(args.as_mut_slice(), alloc, counts)?;
-            Ok(TExpr::Printf {
-                node: Node { number, ..node },
-                format,
-                args,
-            })
+            Ok(())
         }
-        TExpr::Post { node, change, of } => {
-            let of = boxed(of, alloc, counts)?;
-            Ok(TExpr::Post {
-                node: Node { number, ..node },
-                change,
-                of,
-            })
+        TExpr::Putchar { node, of } => {
+            node.number = number;
+            number_boxed(of, alloc, counts)?;
+            Ok(())
         }
-        TExpr::Pre { node, change, of } => {
-            let of = boxed(of, alloc, counts)?;
-            Ok(TExpr::Pre {
-                node: Node { number, ..node },
-                change,
-                of,
-            })
+        TExpr::Puts { node, of } => {
+            node.number = number;
+            number_boxed(of, alloc, counts)?;
+            Ok(())
+        }
+        TExpr::Post {
+            node,
+            change: _change,
+            of,
+        } => {
+            node.number = number;
+            number_boxed(of, alloc, counts)?;
+            Ok(())
+        }
+        TExpr::Pre {
+            node,
+            change: _change,
+            of,
+        } => {
+            node.number = number;
+            number_boxed(of, alloc, counts)?;
+            Ok(())
         }
         TExpr::Address { node, of } => {
-            let of = boxed(of, alloc, counts)?;
-            Ok(TExpr::Address {
-                node: Node { number, ..node },
-                of,
-            })
+            node.number = number;
+            number_boxed(of, alloc, counts)?;
+            Ok(())
         }
         TExpr::Deref { node, of } => {
-            let of = boxed(of, alloc, counts)?;
-            Ok(TExpr::Deref {
-                node: Node { number, ..node },
-                of,
-            })
+            node.number = number;
+            number_boxed(of, alloc, counts)?;
+            Ok(())
         }
         TExpr::Plus { node, of } => {
-            let of = boxed(of, alloc, counts)?;
-            Ok(TExpr::Plus {
-                node: Node { number, ..node },
-                of,
-            })
+            node.number = number;
+            number_boxed(of, alloc, counts)?;
+            Ok(())
         }
-        TExpr::Unary { node, op, kind, of } => {
-            let of = boxed(of, alloc, counts)?;
-            Ok(TExpr::Unary {
-                node: Node { number, ..node },
-                op,
-                kind,
-                of,
-            })
+        TExpr::Unary {
+            node,
+            op: _op,
+            kind: _kind,
+            of,
+        } => {
+            node.number = number;
+            number_boxed(of, alloc, counts)?;
+            Ok(())
         }
         TExpr::Convert { node, of } => {
-            let of = boxed(of, alloc, counts)?;
-            Ok(TExpr::Convert {
-                node: Node { number, ..node },
-                of,
-            })
+            node.number = number;
+            number_boxed(of, alloc, counts)?;
+            Ok(())
         }
         TExpr::Cast { node, of } => {
-            let of = boxed(of, alloc, counts)?;
-            Ok(TExpr::Cast {
-                node: Node { number, ..node },
-                of,
-            })
+            node.number = number;
+            number_boxed(of, alloc, counts)?;
+            Ok(())
+        }
+        TExpr::Index { node, base, index } => {
+            node.number = number;
+            number_pair(base, index, alloc, counts)?;
+            Ok(())
         }
         TExpr::Binary {
             node,
-            op,
-            kind,
+            op: _op,
+            kind: _kind,
             left,
             right,
         } => {
-            let (left, right) = pair(left, right, alloc, counts)?;
-            Ok(TExpr::Binary {
-                node: Node { number, ..node },
-                op,
-                kind,
-                left,
-                right,
-            })
+            node.number = number;
+            number_pair(left, right, alloc, counts)?;
+            Ok(())
         }
         TExpr::Both { node, left, right } => {
-            let (left, right) = pair(left, right, alloc, counts)?;
-            Ok(TExpr::Both {
-                node: Node { number, ..node },
-                left,
-                right,
-            })
+            node.number = number;
+            number_pair(left, right, alloc, counts)?;
+            Ok(())
         }
         TExpr::Either { node, left, right } => {
-            let (left, right) = pair(left, right, alloc, counts)?;
-            Ok(TExpr::Either {
-                node: Node { number, ..node },
-                left,
-                right,
-            })
+            node.number = number;
+            number_pair(left, right, alloc, counts)?;
+            Ok(())
         }
         TExpr::Forward { node, left, right } => {
-            let (left, right) = pair(left, right, alloc, counts)?;
-            Ok(TExpr::Forward {
-                node: Node { number, ..node },
-                left,
-                right,
-            })
+            node.number = number;
+            number_pair(left, right, alloc, counts)?;
+            Ok(())
         }
         TExpr::Onto { node, left, right } => {
-            let (left, right) = pair(left, right, alloc, counts)?;
-            Ok(TExpr::Onto {
-                node: Node { number, ..node },
-                left,
-                right,
-            })
+            node.number = number;
+            number_pair(left, right, alloc, counts)?;
+            Ok(())
         }
         TExpr::Back { node, left, right } => {
-            let (left, right) = pair(left, right, alloc, counts)?;
-            Ok(TExpr::Back {
-                node: Node { number, ..node },
-                left,
-                right,
-            })
+            node.number = number;
+            number_pair(left, right, alloc, counts)?;
+            Ok(())
         }
         TExpr::PtrCompare {
             node,
-            op,
+            op: _op,
             left,
             right,
         } => {
-            let (left, right) = pair(left, right, alloc, counts)?;
-            Ok(TExpr::PtrCompare {
-                node: Node { number, ..node },
-                op,
-                left,
-                right,
-            })
+            node.number = number;
+            number_pair(left, right, alloc, counts)?;
+            Ok(())
         }
         TExpr::PtrDistance { node, left, right } => {
-            let (left, right) = pair(left, right, alloc, counts)?;
-            Ok(TExpr::PtrDistance {
-                node: Node { number, ..node },
-                left,
-                right,
-            })
+            node.number = number;
+            number_pair(left, right, alloc, counts)?;
+            Ok(())
+        }
+        TExpr::Assign { node, left, right } => {
+            node.number = number;
+            number_pair(left, right, alloc, counts)?;
+            Ok(())
+        }
+        TExpr::AssignBy {
+            node,
+            change: _change,
+            left,
+            right,
+        } => {
+            node.number = number;
+            number_pair(left, right, alloc, counts)?;
+            Ok(())
+        }
+        TExpr::Comma { node, left, right } => {
+            node.number = number;
+            number_pair(left, right, alloc, counts)?;
+            Ok(())
         }
         TExpr::Cond {
             node,
@@ -313,72 +259,27 @@ fn with_operands(
             then,
             other,
         } => {
-            let test = boxed(test, alloc, counts)?;
-            let (then, other) = pair(then, other, alloc, counts)?;
-            Ok(TExpr::Cond {
-                node: Node { number, ..node },
-                test,
-                then,
-                other,
-            })
-        }
-        TExpr::Assign { node, left, right } => {
-            let (left, right) = pair(left, right, alloc, counts)?;
-            Ok(TExpr::Assign {
-                node: Node { number, ..node },
-                left,
-                right,
-            })
-        }
-        TExpr::AssignBy {
-            node,
-            change,
-            left,
-            right,
-        } => {
-            let (left, right) = pair(left, right, alloc, counts)?;
-            Ok(TExpr::AssignBy {
-                node: Node { number, ..node },
-                change,
-                left,
-                right,
-            })
-        }
-        TExpr::Comma { node, left, right } => {
-            let (left, right) = pair(left, right, alloc, counts)?;
-            Ok(TExpr::Comma {
-                node: Node { number, ..node },
-                left,
-                right,
-            })
+            node.number = number;
+            number_boxed(test, alloc, counts)?;
+            number_pair(then, other, alloc, counts)?;
+            Ok(())
         }
     }
 }
 
 /// Numbers an expression where there is one.
-pub fn optional(
-    expr: Option<Box<TExpr>>,
+pub fn number_option(
+    expr: &mut Option<Box<TExpr>>,
     alloc: Global,
     counts: &mut Counts,
-) -> Result<Option<Box<TExpr>>, NoMemory>
-    ensures { IfOk result (λ e. NumbersOption expr e counts.old counts.new) }
+) -> Result<(), NoMemory>
+    ensures { OnOk result (NumbersOption expr.old expr.new counts.old counts.new) }
 {
     match expr {
-        None => Ok(None),
+        None => Ok(()),
         Some(expr) => {
-            let expr = boxed(expr, alloc, counts)?;
-            Ok(Some(expr))
+            number_boxed(expr, alloc, counts)?;
+            Ok(())
         }
-    }
-}
-
-/// An expression that stands where another one is taken away.
-fn blank() -> TExpr {
-    TExpr::Getchar {
-        node: Node {
-            number: 0,
-            place: Place { line: 1, column: 1 },
-            of: TType::Void,
-        },
     }
 }

@@ -1,14 +1,13 @@
 //! Numbering of statements (C17 6.8).
-ghost use Rattle.std.specs.Prelude.{IfOk, OnOk};
+ghost use Rattle.std.specs.Prelude.{◌≡◌, OnOk};
 ghost use Rattle.k_types_numbers.specs.Renumbering.{NumbersBehind, NumbersClauses, NumbersFirst, NumbersPart, NumbersParts, NumbersStmt, NumbersStmts};
 
 use crate::counts::Counts;
 use crate::declaration::number_declared;
-use crate::expression::{boxed, numbered, optional};
-use k_num::{Box, NoMemory, Place};
-use k_types_meaning::{Spot, TExpr, TFirst, TPart, TStmt};
+use crate::expression::{number_boxed, number_expr, number_option};
+use k_num::{Box, NoMemory};
+use k_types_meaning::{TExpr, TFirst, TPart, TStmt};
 use std::alloc::Global;
-use std::mem;
 
 /// Numbers statements in their order.
 #[cycle(statements)]
@@ -16,63 +15,56 @@ pub fn number_stmts(stmts: &mut [TStmt], alloc: Global, counts: &mut Counts) -> 
     ensures { OnOk result (NumbersStmts stmts.old stmts.new counts.old counts.new) }
 {
     for stmt in stmts.iter_mut() {
-        let taken = mem::replace(stmt, blank());
-        match numbered_stmt(taken, alloc, counts) {
-            Ok(done) => drop(mem::replace(stmt, done)),
-            Err(NoMemory) => return Err(NoMemory),
-        }
+        number_stmt(stmt, alloc, counts)?;
     }
     Ok(())
 }
 
 /// Numbers a statement in a box.
 #[cycle(statements)]
-fn boxed_stmt(stmt: Box<TStmt>, alloc: Global, counts: &mut Counts) -> Result<Box<TStmt>, NoMemory>
-    ensures { IfOk result (λ s. NumbersStmt stmt s counts.old counts.new) }
+fn number_boxed_stmt(
+    stmt: &mut Box<TStmt>,
+    alloc: Global,
+    counts: &mut Counts,
+) -> Result<(), NoMemory>
+    ensures { OnOk result (NumbersStmt stmt.old stmt.new counts.old counts.new) }
 {
-    match numbered_stmt(stmt.into_inner(), alloc, counts) {
-        Ok(done) => Box::new(alloc, done),
-        Err(NoMemory) => Err(NoMemory),
-    }
+    number_stmt(stmt.get_mut(), alloc, counts)
 }
 
-/// A statement with its numbers: its own one first, then those of its parts.
+/// Numbers a statement: its own number comes first, then those of its parts.
 #[cycle(statements)]
-fn numbered_stmt(stmt: TStmt, alloc: Global, counts: &mut Counts) -> Result<TStmt, NoMemory>
-    ensures { IfOk result (λ s. NumbersStmt stmt s counts.old counts.new) }
+fn number_stmt(stmt: &mut TStmt, alloc: Global, counts: &mut Counts) -> Result<(), NoMemory>
+    ensures { OnOk result (NumbersStmt stmt.old stmt.new counts.old counts.new) }
 {
-    match counts.node() {
-        Ok(number) => with_parts(stmt, number, alloc, counts),
-        Err(NoMemory) => {
-            drop(stmt);
-            Err(NoMemory)
-        }
-    }
+    let number = counts.node()?;
+    number_behind(stmt, number, alloc, counts)
 }
 
-/// A statement with this number, whose parts are numbered.
+/// Gives a statement this number, and numbers its parts.
 #[cycle(statements)]
-fn with_parts(
-    stmt: TStmt,
+fn number_behind(
+    stmt: &mut TStmt,
     number: u32,
     alloc: Global,
     counts: &mut Counts,
-) -> Result<TStmt, NoMemory>
-    ensures { IfOk result (λ s. NumbersBehind number stmt s counts.old counts.new) }
+) -> Result<(), NoMemory>
+    ensures { OnOk result (NumbersBehind number stmt.old stmt.new counts.old counts.new) }
 {
     match stmt {
         TStmt::Expr { spot, value } => {
-            let spot = Spot { number, ..spot };
-            let value = boxed(value, alloc, counts)?;
-            Ok(TStmt::Expr { spot, value })
+            spot.number = number;
+            number_boxed(value, alloc, counts)?;
+            Ok(())
         }
-        TStmt::Empty { spot } => Ok(TStmt::Empty {
-            spot: Spot { number, ..spot },
-        }),
-        TStmt::Block { spot, mut parts } => {
-            let spot = Spot { number, ..spot };
+        TStmt::Empty { spot } => {
+            spot.number = number;
+            Ok(())
+        }
+        TStmt::Block { spot, parts } => {
+            spot.number = number;
             number_stmts(parts.as_mut_slice(), alloc, counts)?;
-            Ok(TStmt::Block { spot, parts })
+            Ok(())
         }
         TStmt::If {
             spot,
@@ -80,117 +72,83 @@ fn with_parts(
             then,
             other,
         } => {
-            let spot = Spot { number, ..spot };
-            let test = boxed(test, alloc, counts)?;
-            let then = boxed_stmt(then, alloc, counts)?;
+            spot.number = number;
+            number_boxed(test, alloc, counts)?;
+            number_boxed_stmt(then, alloc, counts)?;
             match other {
-                None => Ok(TStmt::If {
-                    spot,
-                    test,
-                    then,
-                    other: None,
-                }),
+                None => Ok(()),
                 Some(other) => {
-                    let other = boxed_stmt(other, alloc, counts)?;
-                    Ok(TStmt::If {
-                        spot,
-                        test,
-                        then,
-                        other: Some(other),
-                    })
+                    number_boxed_stmt(other, alloc, counts)?;
+                    Ok(())
                 }
             }
         }
         TStmt::While {
             spot,
-            turns: _,
+            turns,
             test,
             body,
         } => {
-            let spot = Spot { number, ..spot };
-            let turns = counts.turns()?;
-            let test = boxed(test, alloc, counts)?;
-            let body = boxed_stmt(body, alloc, counts)?;
-            Ok(TStmt::While {
-                spot,
-                turns,
-                test,
-                body,
-            })
+            spot.number = number;
+            *turns = counts.turns()?;
+            number_boxed(test, alloc, counts)?;
+            number_boxed_stmt(body, alloc, counts)?;
+            Ok(())
         }
         TStmt::DoWhile {
             spot,
-            turns: _,
+            turns,
             body,
             test,
         } => {
-            let spot = Spot { number, ..spot };
-            let turns = counts.turns()?;
-            let body = boxed_stmt(body, alloc, counts)?;
-            let test = boxed(test, alloc, counts)?;
-            Ok(TStmt::DoWhile {
-                spot,
-                turns,
-                body,
-                test,
-            })
+            spot.number = number;
+            *turns = counts.turns()?;
+            number_boxed_stmt(body, alloc, counts)?;
+            number_boxed(test, alloc, counts)?;
+            Ok(())
         }
         TStmt::For {
             spot,
-            turns: _,
+            turns,
             first,
             test,
             step,
             body,
         } => {
-            let spot = Spot { number, ..spot };
-            let (turns, first, test, step) = clauses(first, test, step, alloc, counts)?;
-            match boxed_stmt(body, alloc, counts) {
-                Ok(body) => Ok(TStmt::For {
-                    spot,
-                    turns,
-                    first,
-                    test,
-                    step,
-                    body,
-                }),
-                Err(NoMemory) => {
-                    drop(first);
-                    Err(NoMemory)
-                }
-            }
+            spot.number = number;
+            *turns = counts.turns()?;
+            number_clauses(first, test, step, alloc, counts)?;
+            number_boxed_stmt(body, alloc, counts)?;
+            Ok(())
         }
         TStmt::Switch {
             spot,
-            kind,
+            kind: _kind,
             on,
-            mut parts,
+            parts,
         } => {
-            let spot = Spot { number, ..spot };
-            let on = boxed(on, alloc, counts)?;
+            spot.number = number;
+            number_boxed(on, alloc, counts)?;
             number_parts(parts.as_mut_slice(), alloc, counts)?;
-            Ok(TStmt::Switch {
-                spot,
-                kind,
-                on,
-                parts,
-            })
+            Ok(())
         }
-        TStmt::Break { spot } => Ok(TStmt::Break {
-            spot: Spot { number, ..spot },
-        }),
-        TStmt::Continue { spot } => Ok(TStmt::Continue {
-            spot: Spot { number, ..spot },
-        }),
+        TStmt::Break { spot } => {
+            spot.number = number;
+            Ok(())
+        }
+        TStmt::Continue { spot } => {
+            spot.number = number;
+            Ok(())
+        }
         TStmt::Return { spot, value } => {
-            let spot = Spot { number, ..spot };
-            let value = optional(value, alloc, counts)?;
-            Ok(TStmt::Return { spot, value })
+            spot.number = number;
+            number_option(value, alloc, counts)?;
+            Ok(())
         }
-        TStmt::Declare { spot, mut list } => {
-            let spot = Spot { number, ..spot };
+        TStmt::Declare { spot, list } => {
+            spot.number = number;
             number_declared(list.as_mut_slice(), alloc, counts)?;
-            Ok(TStmt::Declare { spot, list })
+            Ok(())
         }
     }
 }
@@ -201,93 +159,58 @@ fn number_parts(parts: &mut [TPart], alloc: Global, counts: &mut Counts) -> Resu
     ensures { OnOk result (NumbersParts parts.old parts.new counts.old counts.new) }
 {
     for part in parts.iter_mut() {
-        let taken = mem::replace(part, TPart::Default { place: START });
-        match numbered_part(taken, alloc, counts) {
-            Ok(done) => drop(mem::replace(part, done)),
-            Err(NoMemory) => return Err(NoMemory),
-        }
+        number_part(part, alloc, counts)?;
     }
     Ok(())
 }
 
-/// A part of a `switch` with its numbers. Labels have none.
+/// Numbers a part of a `switch`. Labels have no number.
 #[cycle(statements)]
-fn numbered_part(part: TPart, alloc: Global, counts: &mut Counts) -> Result<TPart, NoMemory>
-    ensures { IfOk result (λ p. NumbersPart part p counts.old counts.new) }
+fn number_part(part: &mut TPart, alloc: Global, counts: &mut Counts) -> Result<(), NoMemory>
+    ensures { OnOk result (NumbersPart part.old part.new counts.old counts.new) }
 {
     match part {
-        TPart::Case { place, value } => Ok(TPart::Case { place, value }),
-        TPart::Default { place } => Ok(TPart::Default { place }),
-        TPart::Does { place, stmt } => {
-            let stmt = boxed_stmt(stmt, alloc, counts)?;
-            Ok(TPart::Does { place, stmt })
+        TPart::Case { .. } => Ok(()),
+        TPart::Default { .. } => Ok(()),
+        TPart::Does {
+            place: _place,
+            stmt,
+        } => {
+            number_boxed_stmt(stmt, alloc, counts)?;
+            Ok(())
         }
     }
 }
 
-/// The number of a `for`, and its first part, test and step with their numbers.
-fn clauses(
-    first: TFirst,
-    test: Option<Box<TExpr>>,
-    step: Option<Box<TExpr>>,
+/// Numbers the first part, the test and the step of a `for`.
+fn number_clauses(
+    first: &mut TFirst,
+    test: &mut Option<Box<TExpr>>,
+    step: &mut Option<Box<TExpr>>,
     alloc: Global,
     counts: &mut Counts,
-) -> Result<(u32, TFirst, Option<Box<TExpr>>, Option<Box<TExpr>>), NoMemory>
-    ensures { IfOk result (λ r. NumbersClauses first test step r.0 r.1 r.2 r.3 counts.old counts.new) }
+) -> Result<(), NoMemory>
+    ensures { OnOk result (NumbersClauses first.old test.old step.old first.new test.new step.new counts.old counts.new) }
 {
-    let turns = match counts.turns() {
-        Ok(turns) => turns,
-        Err(NoMemory) => {
-            drop(first);
-            return Err(NoMemory);
-        }
-    };
-    let first = match numbered_first(first, alloc, counts) {
-        Ok(first) => first,
-        Err(NoMemory) => return Err(NoMemory),
-    };
-    let test = match optional(test, alloc, counts) {
-        Ok(test) => test,
-        Err(NoMemory) => {
-            drop(first);
-            return Err(NoMemory);
-        }
-    };
-    match optional(step, alloc, counts) {
-        Ok(step) => Ok((turns, first, test, step)),
-        Err(NoMemory) => {
-            drop(first);
-            Err(NoMemory)
-        }
-    }
+    number_first(first, alloc, counts)?;
+    number_option(test, alloc, counts)?;
+    number_option(step, alloc, counts)?;
+    Ok(())
 }
 
-/// The first part of a `for` with its numbers.
-fn numbered_first(first: TFirst, alloc: Global, counts: &mut Counts) -> Result<TFirst, NoMemory>
-    ensures { IfOk result (λ f. NumbersFirst first f counts.old counts.new) }
+/// Numbers the first part of a `for`.
+fn number_first(first: &mut TFirst, alloc: Global, counts: &mut Counts) -> Result<(), NoMemory>
+    ensures { OnOk result (NumbersFirst first.old first.new counts.old counts.new) }
 {
     match first {
-        TFirst::Nothing => Ok(TFirst::Nothing),
-        TFirst::Value(value) => match numbered(value, alloc, counts) {
-            Ok(value) => Ok(TFirst::Value(value)),
-            Err(NoMemory) => Err(NoMemory),
-        },
-        TFirst::Declare(mut list) => {
-            number_declared(list.as_mut_slice(), alloc, counts)?;
-            Ok(TFirst::Declare(list))
+        TFirst::Nothing => Ok(()),
+        TFirst::Value(value) => {
+            number_expr(value, alloc, counts)?;
+            Ok(())
         }
-    }
-}
-
-/// The first place of a source.
-const START: Place = Place { line: 1, column: 1 };
-
-/// A statement that stands where another one is taken away.
-fn blank() -> TStmt {
-    TStmt::Empty {
-        spot: Spot {
-            number: 0,
-            place: START,
-        },
+        TFirst::Declare(list) => {
+            number_declared(list.as_mut_slice(), alloc, counts)?;
+            Ok(())
+        }
     }
 }

@@ -2,6 +2,7 @@ mod Examples
 pub mod Alike
 pub mod Effects
 pub mod Elements
+pub mod Filled
 pub mod Listed
 pub mod MoreOperations
 pub mod Near

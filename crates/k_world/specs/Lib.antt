@@ -2,7 +2,9 @@ pub mod Acts
 pub mod Answers
 pub mod Changes
 pub mod Classes
+pub mod Limits
 pub mod Operands
 pub mod Operations
+pub mod Values
 pub mod WorldLaws
 pub mod Worlds

@@ -50,3 +50,8 @@ sources reads hidden control = sources_before reads (source_before hidden false 
 abbrev pub value_in : Option Held → Option Value
 value_in None = None
 value_in (Some held) = Some held.value
+
+-- what the slot of a number holds that may not be there
+abbrev pub held_by : Option (Option Held) → Option Held
+held_by None = None
+held_by (Some slot) = slot

@@ -1,6 +1,6 @@
 -- Believed with the theorem on the top call.
 -- The world that operations act on.
-use Rattle.std.specs.Prelude.{ℕ, ◌≡◌, List, [], length, Option, None}
+use Rattle.std.specs.Prelude.{ℕ, ◌≡◌, List, [], ◌∷◌, ◌++◌, length, Option, None}
 use Rattle.k_optab.specs.declared.event.Event.{Event}
 use Rattle.k_mem.specs.Memory.{Memory, live_elements}
 
@@ -45,3 +45,7 @@ HasOrigins w = length w.origins ≡ live_elements w.memory
 -- the world with these events in place of its own
 abbrev pub with_events : List Event → World → World
 with_events events w = record w { events = events }
+
+-- the world behind an event that is no operation
+abbrev pub with_event : Event → World → World
+with_event e w = record w { events = w.events ++ e ∷ [] }

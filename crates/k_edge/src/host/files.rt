@@ -1,14 +1,15 @@
 //! An adapter over the files of the host.
-ghost use Rattle.std.specs.Prelude.{◌≡◌, ◌≤◌, None, IfOk, vec_len};
+ghost use Rattle.std.specs.Prelude.{◌≡◌, ◌≤◌, [], None, IfOk, vec_len};
 ghost use Rattle.k_edge.specs.HostWords.{host_files};
 
 use crate::count::risen;
-use crate::{Files, LoadFault, SaveFault};
+use crate::request::{note_load, note_save};
+use crate::{Files, LoadFault, Request, SaveFault};
 use std::alloc::Global;
 use std::io::{self, ErrorKind, Read, Write};
 use std::{fs, rt};
 
-/// The files of the host, opened by the runtime.
+/// The files of the host, opened by the runtime. Where no memory is found to note what is asked, nothing is opened.
 #[derive(Debug, Drop)]
 pub struct HostFiles<R> {
     runtime: R,
@@ -16,21 +17,26 @@ pub struct HostFiles<R> {
     save_faults: u64,
     misses: u64,
     longs: u64,
+    requests: Vec<Request>,
 }
 
-impl<R: rt::Files> HostFiles<R> {
+impl<R: rt::Files + AllocGlobal> HostFiles<R> {
+    /// No request was made, and nothing has gone wrong.
     pub fn new(runtime: R) -> HostFiles<R>
         ensures { host_files result ≡ record {
           held = None;
           counts = record { load_faults = 0; save_faults = 0; misses = 0; longs = 0 };
+          requests = [];
         } }
     {
+        let requests = Vec::new(runtime.alloc());
         HostFiles {
             runtime,
             load_faults: 0,
             save_faults: 0,
             misses: 0,
             longs: 0,
+            requests,
         }
     }
 }
@@ -84,6 +90,9 @@ impl<R: rt::Files> Files for HostFiles<R> {
     ghost seen = { host_files };
 
     fn load(&mut self, alloc: Global, name: &str, limit: u64) -> Result<Vec<u8>, LoadFault> {
+        if note_load(&mut self.requests, name).is_err() {
+            return Err(LoadFault::Memory);
+        }
         let loaded = read_file(&self.runtime, alloc, name, limit);
         match loaded {
             Err(LoadFault::Absent) => self.misses = risen(self.misses),
@@ -95,6 +104,9 @@ impl<R: rt::Files> Files for HostFiles<R> {
     }
 
     fn save(&mut self, _alloc: Global, name: &str, bytes: &[u8]) -> Result<(), SaveFault> {
+        if note_save(&mut self.requests, name).is_err() {
+            return Err(SaveFault::Memory);
+        }
         let saved = write_file(&self.runtime, name, bytes);
         if saved == Err(SaveFault::Failed) {
             self.save_faults = risen(self.save_faults);

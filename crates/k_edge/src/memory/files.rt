@@ -6,7 +6,8 @@ ghost use Rattle.k_edge.specs.Calls.{next_fails, after_call};
 ghost use Rattle.k_edge.specs.MemoryWords.{content_of, LoadFailsAsListed, SaveFailsAsListed};
 
 use crate::count::{Calls, risen};
-use crate::{Files, LoadFault, SaveFault};
+use crate::request::{note_load, note_save};
+use crate::{Files, LoadFault, Request, SaveFault};
 use k_num::{NoMemory, Seq, Text};
 use std::alloc::Global;
 use std::marker::Model;
@@ -24,6 +25,7 @@ pub struct SureFiles {
     files: Vec<File>,
     misses: u64,
     longs: u64,
+    requests: Vec<Request>,
 }
 
 impl Model for SureFiles {
@@ -31,17 +33,18 @@ impl Model for SureFiles {
 
     ghost Value = { SureHeld };
 
-    ghost view = { λ f. record { files = f.files.items; misses = f.misses; longs = f.longs } };
+    ghost view = { λ f. record { files = f.files.items; misses = f.misses; longs = f.longs; requests = f.requests.items } };
 }
 
 impl SureFiles {
     pub fn new(alloc: Global) -> Result<SureFiles, NoMemory>
-        ensures { IfOk result (λ files. files ≡ record { files = []; misses = 0; longs = 0 }) }
+        ensures { IfOk result (λ files. files ≡ record { files = []; misses = 0; longs = 0; requests = [] }) }
     {
         Ok(SureFiles {
             files: Vec::new(alloc),
             misses: 0,
             longs: 0,
+            requests: Vec::new(alloc),
         })
     }
 
@@ -80,6 +83,9 @@ impl Files for SureFiles {
     ghost seen = { sure_files };
 
     fn load(&mut self, alloc: Global, name: &str, limit: u64) -> Result<Vec<u8>, LoadFault> {
+        if note_load(&mut self.requests, name).is_err() {
+            return Err(LoadFault::Memory);
+        }
         let Some(file) = find(self.files.as_slice(), name) else {
             self.misses = risen(self.misses);
             return Err(LoadFault::Absent);
@@ -95,6 +101,9 @@ impl Files for SureFiles {
     }
 
     fn save(&mut self, _alloc: Global, name: &str, bytes: &[u8]) -> Result<(), SaveFault> {
+        if note_save(&mut self.requests, name).is_err() {
+            return Err(SaveFault::Memory);
+        }
         match self.add(name, bytes) {
             Ok(()) => Ok(()),
             Err(NoMemory) => Err(SaveFault::Memory),
@@ -123,7 +132,7 @@ impl MemFiles {
     /// `failing` has the numbers of the calls that fail: loads and saves are counted together, from 0.
     pub fn new(alloc: Global, failing: &[u64]) -> Result<MemFiles, NoMemory>
         ensures { IfOk result (λ files. files ≡ record {
-          held = record { files = []; misses = 0; longs = 0 };
+          held = record { files = []; misses = 0; longs = 0; requests = [] };
           load_faults = 0;
           save_faults = 0;
           calls = record { next = 0; failing = failing.now };
@@ -161,6 +170,9 @@ impl Files for MemFiles {
         ensures counted { self.new.calls ≡ after_call self.old.calls }
     {
         if self.calls.fails() {
+            if note_load(&mut self.files.requests, name).is_err() {
+                return Err(LoadFault::Memory);
+            }
             self.load_faults = risen(self.load_faults);
             return Err(LoadFault::Failed);
         }
@@ -173,6 +185,9 @@ impl Files for MemFiles {
         ensures counted { self.new.calls ≡ after_call self.old.calls }
     {
         if self.calls.fails() {
+            if note_save(&mut self.files.requests, name).is_err() {
+                return Err(SaveFault::Memory);
+            }
             self.save_faults = risen(self.save_faults);
             return Err(SaveFault::Failed);
         }

@@ -11,7 +11,8 @@ use k_parse_steps::expression::call::Called;
 use k_parse_steps::expression::plug::Plugged;
 use k_parse_steps::expression::{ExpressionStage, Fed, Open, Site, Term};
 use k_parse_steps::level::{above, plus};
-use k_parse_steps::operators::{is_bracket, is_question, is_step, takes};
+use k_parse_steps::operators::{is_step, takes};
+use k_parse_steps::tokens::is_mark;
 use k_parse_steps::turn::Turn;
 use k_tree::{Expr, Mark, Token, TokenKind};
 use std::alloc::Global;
@@ -48,9 +49,9 @@ fn take(
 fn operator_opens(op: Mark, left: Term, place: Place) -> Open
     ensures { result ≡ spec.operator_opens op left place }
 {
-    if is_bracket(op) {
+    if is_mark(op, Mark::LeftBracket) {
         Open::Index { place, base: left }
-    } else if is_question(op) {
+    } else if is_mark(op, Mark::Question) {
         Open::Then { place, test: left }
     } else {
         Open::Infix { place, op, left }

@@ -9,8 +9,9 @@ use crate::expression::{goes, hole, level, refused};
 use k_num::{Box, NoMemory, Place, Seq, Stack, Text};
 use k_parse_steps::expression::{ExpressionStage, Fed, Open, Site, Term};
 use k_parse_steps::level::plus;
-use k_parse_steps::operators::{is_close, is_open, is_spec, is_step};
+use k_parse_steps::operators::{is_spec, is_step};
 use k_parse_steps::stars::no_stars;
+use k_parse_steps::tokens::{is_mark, is_word};
 use k_parse_steps::turn::Turn;
 use k_tree::{Expr, Mark, Token, TokenKind, Word};
 use std::alloc::Global;
@@ -122,10 +123,10 @@ fn mark(
 ) -> Result<Fed, NoMemory>
     ensures { IfOk result (λ fed. fed ≡ spec.mark_operand site opens mark place) }
 {
-    if is_open(mark) {
+    if is_mark(mark, Mark::LeftParen) {
         return opened(site, opens, place);
     }
-    if is_close(mark) {
+    if is_mark(mark, Mark::RightParen) {
         return no_arguments(alloc, site, opens);
     }
     if is_prefix(mark) {
@@ -157,13 +158,6 @@ fn is_before_type(site: Site, opens: &mut Stack<Open>) -> Result<bool, NoMemory>
     }
 }
 
-/// Is it `sizeof`?
-fn is_sizeof(word: Word) -> bool
-    ensures { result ≡ spec.is_sizeof word }
-{
-    matches!(word, Word::Sizeof)
-}
-
 /// A keyword where an operand begins.
 #[tactic(auto, unfolding(k_parse_steps::specs::Expressions::word_operand))]
 fn word(
@@ -175,7 +169,7 @@ fn word(
 ) -> Result<Fed, NoMemory>
     ensures { IfOk result (λ fed. fed ≡ spec.word_operand site opens word place) }
 {
-    if is_sizeof(word) {
+    if is_word(word, Word::Sizeof) {
         let reach = level(site, &opens)?;
         opens.push(Open::Sizeof { place })?;
         return Ok(goes(site, opens, ExpressionStage::Operand, reach));

@@ -1,6 +1,7 @@
 //! The name of a type, in a cast or behind `sizeof` (C17 6.7.7).
 ghost use Rattle.std.specs.Prelude.{◌≡◌, IfOk};
 ghost use Rattle.k_parse_steps.specs.Expressions as spec;
+ghost use Rattle.k_parse_steps.specs.declared.expression.Open.TheVariants as open_;
 
 use crate::expression::{goes, refused};
 use k_num::{Box, NoMemory, Place, Seq, Stack};
@@ -57,33 +58,27 @@ fn close_over(
         }
         Some(around) => {
             opens.push(around)?;
-            cast(
-                site,
-                opens,
-                Open::Cast {
-                    place,
-                    specs,
-                    stars,
-                },
-            )
+            cast(site, opens, place, specs, stars)
         }
-        None => cast(
-            site,
-            opens,
-            Open::Cast {
-                place,
-                specs,
-                stars,
-            },
-        ),
+        None => cast(site, opens, place, specs, stars),
     }
 }
 
 /// A cast awaits its operand.
-fn cast(site: Site, mut opens: Stack<Open>, around: Open) -> Result<Fed, NoMemory>
-    ensures { IfOk result (λ fed. fed ≡ spec.cast_opened site opens around) }
+fn cast(
+    site: Site,
+    mut opens: Stack<Open>,
+    place: Place,
+    specs: Seq<Word>,
+    stars: Seq<bool>,
+) -> Result<Fed, NoMemory>
+    ensures { IfOk result (λ fed. fed ≡ spec.cast_opened site opens (open_.Cast place specs stars)) }
 {
-    opens.push(around)?;
+    opens.push(Open::Cast {
+        place,
+        specs,
+        stars,
+    })?;
     Ok(goes(site, opens, ExpressionStage::Operand, 0))
 }
 

@@ -9,9 +9,10 @@ use crate::statement::{await_part, inner_level, level, steps, whole};
 use k_num::{Box, NoMemory, Place, Seq, Stack};
 use k_parse_declarations::declaration::begin_declaration;
 use k_parse_expressions::expression::{begin_boxed, feed_boxed};
-use k_parse_steps::operators::{is_left_brace, is_right_brace, is_semicolon, is_spec};
+use k_parse_steps::operators::is_spec;
 use k_parse_steps::reading::Read;
 use k_parse_steps::statement::{BlockStage, Frame, Stepped, Tested};
+use k_parse_steps::tokens::{is_mark, is_word};
 use k_parse_steps::turn::Turn;
 use k_tree::{Mark, Stmt, Token, TokenKind, Word};
 use std::alloc::Global;
@@ -28,43 +29,19 @@ fn is_in_block(frames: &Stack<Frame>) -> bool
 #[tactic(auto, unfolding(k_parse_steps::specs::Statements::block_ends))]
 fn block_ends(
     alloc: Global,
-    parts: Seq<Stmt>,
+    outer: Seq<Stmt>,
     mut frames: Stack<Frame>,
 ) -> Result<Stepped, NoMemory>
-    ensures { IfOk result (λ fed. fed ≡ spec.block_ends parts frames) }
+    ensures { IfOk result (λ fed. fed ≡ spec.block_ends outer frames) }
 {
     match frames.pop() {
-        None => Ok(Turn::Done(parts)),
-        Some(
-            Frame::Block {
-                place,
-                parts: inner,
-            },
-        ) => whole(
-            alloc,
-            parts,
-            frames,
-            Stmt::Block {
-                place,
-                parts: inner,
-            },
-        ),
-        Some(
-            Frame::Switch {
-                place,
-                on,
-                parts: inner,
-            },
-        ) => whole(
-            alloc,
-            parts,
-            frames,
-            Stmt::Switch {
-                place,
-                on,
-                parts: inner,
-            },
-        ),
+        None => Ok(Turn::Done(outer)),
+        Some(Frame::Block { place, parts }) => {
+            whole(alloc, outer, frames, Stmt::Block { place, parts })
+        }
+        Some(Frame::Switch { place, on, parts }) => {
+            whole(alloc, outer, frames, Stmt::Switch { place, on, parts })
+        }
         Some(frame) => {
             drop(frame);
             Ok(Turn::Refused)
@@ -226,11 +203,11 @@ fn mark_begins(
 ) -> Result<Stepped, NoMemory>
     ensures { IfOk result (λ fed. fed ≡ spec.mark_begins parts frames token.now mark) }
 {
-    if is_semicolon(mark) {
+    if is_mark(mark, Mark::Semicolon) {
         empty(alloc, parts, frames, token.place)
-    } else if is_left_brace(mark) {
+    } else if is_mark(mark, Mark::LeftBrace) {
         block_begins(alloc, parts, frames, token.place)
-    } else if is_right_brace(mark) {
+    } else if is_mark(mark, Mark::RightBrace) {
         block_ends(alloc, parts, frames)
     } else {
         expression(alloc, parts, frames, token)
@@ -267,7 +244,7 @@ pub fn begins(
     match &token.what {
         TokenKind::Mark(mark) => mark_begins(alloc, parts, frames, token, *mark),
         TokenKind::Word(word) => {
-            if matches!(word, Word::Sizeof) {
+            if is_word(*word, Word::Sizeof) {
                 expression(alloc, parts, frames, token)
             } else {
                 keyword(alloc, parts, frames, *word, token.place)

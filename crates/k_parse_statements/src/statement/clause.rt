@@ -1,6 +1,7 @@
 //! Tests in parentheses, and the token behind a statement.
 ghost use Rattle.std.specs.Prelude.{◌≡◌, IfOk};
 ghost use Rattle.k_parse_steps.specs.Statements as spec;
+ghost use Rattle.k_parse_steps.specs.declared.statement.Frame.TheVariants as frame_;
 ghost use Rattle.k_parse_steps.specs.declared.statement.clause.Fitted.TheVariants as fit;
 
 use crate::statement::begin::begins;
@@ -8,13 +9,14 @@ use crate::statement::switch::more_switched;
 use crate::statement::{await_part, inner_level, steps};
 use k_num::{Box, NoMemory, Place, Seq, Stack};
 use k_parse_expressions::expression::begin_boxed;
-use k_parse_expressions::reading::{is_left_paren, read_needed};
+use k_parse_expressions::reading::read_needed;
 use k_parse_steps::expression::Reading;
 use k_parse_steps::reading::{Closer, Read};
 use k_parse_steps::statement::clause::Fitted;
 use k_parse_steps::statement::{BlockStage, Frame, Stepped, Tested};
+use k_parse_steps::tokens::{token_is_mark, token_is_word};
 use k_parse_steps::turn::Turn;
-use k_tree::{Expr, Stmt, Token, TokenKind, Word};
+use k_tree::{Expr, Mark, Stmt, Token, Word};
 use std::alloc::Global;
 
 /// The parenthesis of a test.
@@ -28,7 +30,7 @@ pub fn opened(
 ) -> Result<Stepped, NoMemory>
     ensures { IfOk result (λ fed. fed ≡ spec.opened parts frames tested token.now) }
 {
-    if !is_left_paren(token) {
+    if !token_is_mark(token, Mark::LeftParen) {
         return Ok(Turn::Refused);
     }
     let reading = begin_boxed(alloc, 0, inner_level(&frames)?)?;
@@ -50,8 +52,8 @@ fn test_done(
         Tested::If { place } => await_part(parts, frames, Frame::Then { place, test }, 0),
         Tested::While { place } => await_part(parts, frames, Frame::While { place, test }, 0),
         Tested::Switch { place } => {
-            let step = BlockStage::Braces { place, on: test };
-            Ok(steps(parts, frames, step, 0))
+            let stage = BlockStage::Braces { place, on: test };
+            Ok(steps(parts, frames, stage, 0))
         }
         Tested::Do { place, body } => {
             let stmt = Box::new(alloc, Stmt::DoWhile { place, body, test })?;
@@ -80,39 +82,37 @@ pub fn test(
     }
 }
 
-/// Is a token `else`?
-fn is_else(token: &Token) -> bool
-    ensures { result ≡ spec.is_else token.now.what }
-{
-    matches!(token.what, TokenKind::Word(Word::Else))
-}
-
-/// Is a token `while`?
-fn is_while(token: &Token) -> bool
-    ensures { result ≡ spec.is_while token.now.what }
-{
-    matches!(token.what, TokenKind::Word(Word::While))
-}
-
-/// A statement that ends is put into the statement around it; `other` says whether `else` follows.
+/// The first statement of an `if` ends; `has_else` says whether `else` follows.
 #[tactic(auto, unfolding(k_parse_steps::specs::Statements::close))]
-fn close(alloc: Global, frame: Frame, stmt: Box<Stmt>, other: bool) -> Result<Fitted, NoMemory>
-    ensures { IfOk result (λ made. made ≡ spec.close frame stmt other) }
+fn then_ends(
+    alloc: Global,
+    place: Place,
+    test: Box<Expr>,
+    then: Box<Stmt>,
+    has_else: bool,
+) -> Result<Fitted, NoMemory>
+    ensures { IfOk result (λ made. made ≡ spec.close (frame_.Then place test) «then» has_else) }
+{
+    if has_else {
+        let frame = Frame::Then { place, test };
+        return Ok(Fitted::Part { frame, stmt: then });
+    }
+    let whole = Stmt::If {
+        place,
+        test,
+        then,
+        other: None,
+    };
+    fitted(alloc, whole)
+}
+
+/// A statement that ends is put into the statement around it; `has_else` says whether `else` follows.
+#[tactic(auto, unfolding(k_parse_steps::specs::Statements::close))]
+fn close(alloc: Global, frame: Frame, stmt: Box<Stmt>, has_else: bool) -> Result<Fitted, NoMemory>
+    ensures { IfOk result (λ made. made ≡ spec.close frame stmt has_else) }
 {
     match frame {
-        Frame::Then { place, test } => {
-            if other {
-                let frame = Frame::Then { place, test };
-                return Ok(Fitted::Part { frame, stmt });
-            }
-            let whole = Stmt::If {
-                place,
-                test,
-                then: stmt,
-                other: None,
-            };
-            fitted(alloc, whole)
-        }
+        Frame::Then { place, test } => then_ends(alloc, place, test, stmt, has_else),
         Frame::Else { place, test, then } => {
             let whole = Stmt::If {
                 place,
@@ -123,12 +123,8 @@ fn close(alloc: Global, frame: Frame, stmt: Box<Stmt>, other: bool) -> Result<Fi
             fitted(alloc, whole)
         }
         Frame::While { place, test } => {
-            let whole = Stmt::While {
-                place,
-                test,
-                body: stmt,
-            };
-            fitted(alloc, whole)
+            let body = stmt;
+            fitted(alloc, Stmt::While { place, test, body })
         }
         Frame::For {
             place,
@@ -181,7 +177,7 @@ fn do_while(
 ) -> Stepped
     ensures { result ≡ spec.do_while parts frames place body token.now }
 {
-    if !is_while(token) {
+    if !token_is_word(token, Word::While) {
         return Turn::Refused;
     }
     let tested = Tested::Do { place, body };
@@ -256,7 +252,7 @@ pub fn behind(
         parts.push(stmt.into_inner())?;
         return begins(alloc, parts, frames, token);
     };
-    match close(alloc, frame, stmt, is_else(token))? {
+    match close(alloc, frame, stmt, token_is_word(token, Word::Else))? {
         Fitted::Whole { stmt } => behind(alloc, parts, frames, stmt, token),
         Fitted::Part { frame, stmt } => part(alloc, parts, frames, frame, stmt, token),
     }

@@ -9,14 +9,15 @@ use crate::statement::{await_part, inner_level, steps};
 use k_num::{Box, NoMemory, Place, Seq, Stack};
 use k_parse_declarations::declaration::{Boxed, begin_declaration, feed_declaration};
 use k_parse_expressions::expression::begin_boxed;
-use k_parse_expressions::reading::{is_fresh, is_left_paren, read_maybe};
+use k_parse_expressions::reading::{is_fresh, read_maybe};
 use k_parse_steps::declaration::Declaration;
 use k_parse_steps::expression::Reading;
 use k_parse_steps::operators::is_spec;
 use k_parse_steps::reading::{Closer, Maybe};
 use k_parse_steps::statement::{BlockStage, Frame, Stepped};
+use k_parse_steps::tokens::token_is_mark;
 use k_parse_steps::turn::Turn;
-use k_tree::{Expr, First, Stmt, Token, TokenKind, Word};
+use k_tree::{Expr, First, Mark, Stmt, Token, TokenKind, Word};
 use std::alloc::Global;
 
 /// The parenthesis of a `for`.
@@ -30,7 +31,7 @@ fn opened(
 ) -> Result<Stepped, NoMemory>
     ensures { IfOk result (λ fed. fed ≡ spec.for_opened parts frames place token.now) }
 {
-    if !is_left_paren(token) {
+    if !token_is_mark(token, Mark::LeftParen) {
         return Ok(Turn::Refused);
     }
     let reading = begin_boxed(alloc, 0, inner_level(&frames)?)?;
@@ -48,12 +49,12 @@ fn second_begins(
     ensures { IfOk result (λ fed. fed ≡ spec.second_begins parts frames place start) }
 {
     let reading = begin_boxed(alloc, 0, inner_level(&frames)?)?;
-    let step = BlockStage::Second {
+    let stage = BlockStage::Second {
         place,
         start,
         reading,
     };
-    Ok(steps(parts, frames, step, 0))
+    Ok(steps(parts, frames, stage, 0))
 }
 
 fn first_of(alloc: Global, value: Option<Box<Expr>>) -> Result<Box<First>, NoMemory>
@@ -93,8 +94,8 @@ fn declaration_begins(
     ensures { IfOk result (λ fed. fed ≡ spec.steps parts frames (stages.Declares place (begin_declaration word (spec.inner frames))) 0) }
 {
     let declaration = begin_declaration(alloc, word, inner_level(&frames)?)?;
-    let step = BlockStage::Declares { place, declaration };
-    Ok(steps(parts, frames, step, 0))
+    let stage = BlockStage::Declares { place, declaration };
+    Ok(steps(parts, frames, stage, 0))
 }
 
 /// A token in the first part of a `for`.
@@ -138,8 +139,8 @@ fn declares(
 {
     match feed_declaration(alloc, declaration, token)? {
         Turn::Goes(declaration, reach) => {
-            let step = BlockStage::Declares { place, declaration };
-            Ok(steps(parts, frames, step, reach))
+            let stage = BlockStage::Declares { place, declaration };
+            Ok(steps(parts, frames, stage, reach))
         }
         Turn::Done((specs, list)) => {
             let first = Box::new(alloc, First::Declare(specs, list))?;
@@ -164,22 +165,22 @@ fn second(
 {
     match read_maybe(alloc, reading, token, Closer::Semicolon)? {
         Turn::Goes(reading, reach) => {
-            let step = BlockStage::Second {
+            let stage = BlockStage::Second {
                 place,
                 start,
                 reading,
             };
-            Ok(steps(parts, frames, step, reach))
+            Ok(steps(parts, frames, stage, reach))
         }
         Turn::Done(test) => {
             let reading = begin_boxed(alloc, 0, inner_level(&frames)?)?;
-            let step = BlockStage::Third {
+            let stage = BlockStage::Third {
                 place,
                 start,
                 test,
                 reading,
             };
-            Ok(steps(parts, frames, step, 0))
+            Ok(steps(parts, frames, stage, 0))
         }
         Turn::Refused => Ok(Turn::Refused),
     }
@@ -221,13 +222,13 @@ fn third(
 {
     match read_maybe(alloc, reading, token, Closer::Paren)? {
         Turn::Goes(reading, reach) => {
-            let step = BlockStage::Third {
+            let stage = BlockStage::Third {
                 place,
                 start,
                 test,
                 reading,
             };
-            Ok(steps(parts, frames, step, reach))
+            Ok(steps(parts, frames, stage, reach))
         }
         Turn::Done(value) => body_begins(parts, frames, place, start, test, value),
         Turn::Refused => Ok(Turn::Refused),
@@ -240,12 +241,12 @@ pub fn in_for(
     alloc: Global,
     parts: Seq<Stmt>,
     frames: Stack<Frame>,
-    step: BlockStage,
+    stage: BlockStage,
     token: &Token,
 ) -> Result<Stepped, NoMemory>
-    ensures { IfOk result (λ fed. fed ≡ spec.in_for parts frames step token.now) }
+    ensures { IfOk result (λ fed. fed ≡ spec.in_for parts frames stage token.now) }
 {
-    match step {
+    match stage {
         BlockStage::For { place } => opened(alloc, parts, frames, place, token),
         BlockStage::Start { place, reading } => start(alloc, parts, frames, place, reading, token),
         BlockStage::Declares { place, declaration } => {
@@ -262,6 +263,6 @@ pub fn in_for(
             test,
             reading,
         } => third(alloc, parts, frames, place, start, test, reading, token),
-        step => in_switch(alloc, parts, frames, step, token),
+        stage => in_switch(alloc, parts, frames, stage, token),
     }
 }

@@ -10,8 +10,9 @@ use k_parse_expressions::reading::{closes, read_needed};
 use k_parse_steps::expression::Reading;
 use k_parse_steps::reading::{Closer, Read};
 use k_parse_steps::statement::{BlockStage, Frame, Stepped};
+use k_parse_steps::tokens::token_is_mark;
 use k_parse_steps::turn::Turn;
-use k_tree::{Expr, Mark, Part, Stmt, Token, TokenKind};
+use k_tree::{Expr, Mark, Part, Stmt, Token};
 use std::alloc::Global;
 
 /// Does a label stand here as well?
@@ -51,13 +52,6 @@ pub fn default_begins(parts: Seq<Stmt>, frames: Stack<Frame>, place: Place) -> S
     steps(parts, frames, BlockStage::Default { place }, 0)
 }
 
-/// Is a token `{`?
-fn is_brace(token: &Token) -> bool
-    ensures { result ≡ spec.is_brace token.now.what }
-{
-    matches!(token.what, TokenKind::Mark(Mark::LeftBrace))
-}
-
 /// The opening brace of a `switch`.
 #[tactic(auto, unfolding(k_parse_steps::specs::Statements::braces))]
 fn braces(
@@ -70,7 +64,7 @@ fn braces(
 ) -> Result<Stepped, NoMemory>
     ensures { IfOk result (λ fed. fed ≡ spec.braces parts frames place on token.now) }
 {
-    if !is_brace(token) {
+    if !token_is_mark(token, Mark::LeftBrace) {
         return Ok(Turn::Refused);
     }
     let frame = Frame::Switch {
@@ -187,19 +181,19 @@ pub fn in_switch(
     alloc: Global,
     parts: Seq<Stmt>,
     frames: Stack<Frame>,
-    step: BlockStage,
+    stage: BlockStage,
     token: &Token,
 ) -> Result<Stepped, NoMemory>
-    ensures { IfOk result (λ fed. fed ≡ spec.in_switch parts frames step token.now) }
+    ensures { IfOk result (λ fed. fed ≡ spec.in_switch parts frames stage token.now) }
 {
-    match step {
+    match stage {
         BlockStage::Braces { place, on } => braces(alloc, parts, frames, place, on, token),
         BlockStage::Case { place, reading } => case_value(
             alloc, parts, frames, place, reading, token,
         ),
         BlockStage::Default { place } => default_label(alloc, parts, frames, place, token),
-        step => {
-            drop(step);
+        stage => {
+            drop(stage);
             Ok(Turn::Refused)
         }
     }

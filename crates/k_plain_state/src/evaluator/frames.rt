@@ -2,7 +2,8 @@
 ghost use Rattle.std.specs.Prelude.{◌≡◌, ◌^◌, ◌<◌, ◌≤◌, [], ◌∷◌, length, take, IfOk, OnOk};
 ghost use Rattle.k_optab.specs.declared.class.Class.TheVariants as class;
 ghost use Rattle.k_world.specs.declared.act.Act.TheVariants as act;
-ghost use Rattle.k_evaluation.specs.Calls.{calls_operation, entered, is_too_large as is_too_large_meant, serves, serves_by, stores_argument};
+ghost use Rattle.k_world.specs.Limits.{is_too_large as is_too_large_meant};
+ghost use Rattle.k_evaluation.specs.Calls.{calls_operation, entered, serves, serves_by, stores_argument};
 ghost use Rattle.k_evaluation.specs.Declarations.{stores};
 ghost use Rattle.k_evaluation.specs.States.{makes, settles, Goes};
 ghost use Rattle.k_plain_state.specs.Arounds.{program_of};
@@ -11,7 +12,7 @@ ghost use Rattle.k_plain_state.specs.Frames.{caller_of, restored};
 
 use super::Evaluator;
 use crate::around::Around;
-use crate::frame::{Caller, slots_of, variables_of};
+use crate::frame::{Caller, passed_to, slots_of, variables_of};
 use crate::making::Making;
 use k_evaluation::Operand;
 use k_mem::Start;
@@ -98,12 +99,12 @@ impl<'a> Evaluator<'a> {
 
     /// Whether the functions of the live calls and this one have too many nodes together.
     pub fn is_too_large(&self, f: &TFunc) -> bool
-        ensures { result ≡ is_too_large_meant f.now self.now.world }
+        ensures { result ≡ is_too_large_meant self.now.world f.now.nodes }
     {
         self.world.size().saturating_add(u64::from(f.nodes)) > NODE_LIMIT
     }
 
-    /// A function begins, with these arguments; what its caller goes on with is answered.
+    /// A function begins, with these arguments in its parameters; what its caller goes on with is answered.
     pub fn begin_call(&mut self, f: &TFunc, args: Seq<Option<Held>>) -> Result<Caller, NoMemory>
         ensures caller { IfOk result (λ caller. caller ≡ caller_of self.old) }
         ensures new { OnOk result (self.new ≡ entered f.now args self.old) }
@@ -117,6 +118,7 @@ impl<'a> Evaluator<'a> {
         ) else {
             return Err(NoMemory);
         };
+        let args = passed_to(args, f.params);
         let vars = variables_of(args, f.variables.as_slice())?;
         let vars = Seq::from_vec(self.replace_variables(vars));
         self.world.set_calls(more, larger);

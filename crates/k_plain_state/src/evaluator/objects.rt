@@ -2,8 +2,9 @@
 ghost use Rattle.std.specs.Prelude.{◌≡◌, ◌∷◌, [], ◌++◌, min, IfOk};
 ghost use Rattle.k_mem.specs.Calls.{HasLength};
 ghost use Rattle.k_world.specs.Changes.{object_filled};
+ghost use Rattle.k_world.specs.Values.{pointer_to as pointer_meant};
 ghost use Rattle.k_evaluation.specs.Declarations.{values_from};
-ghost use Rattle.k_evaluation.specs.Objects.{fills, keeps, live as live_meant, makes_object, makes_string, pointer_to as pointer_meant};
+ghost use Rattle.k_evaluation.specs.Objects.{fills, keeps, live as live_meant, makes_object, makes_string};
 ghost use Rattle.k_evaluation.specs.Runs.{starts_object, starts_objects, starts_strings};
 ghost use Rattle.k_evaluation.specs.States.{Goes};
 ghost use Rattle.k_plain_state.specs.Comes.{Comes};
@@ -12,14 +13,14 @@ use super::Evaluator;
 use crate::values::values_of;
 use k_ending::{End, Trap};
 use k_mem::{Pointer, PushFault, Start};
-use k_num::{NoMemory, Place, Seq};
+use k_num::{Initial, NoMemory, Place, Seq};
 use k_types_meaning::{TItem, TObject, TString};
 use k_world::{Held, Stop, Value};
 use std::alloc::Global;
 
 /// A pointer to the first element of an object, which no operation gave.
 fn pointer_to(object: u64) -> Held
-    ensures { result ≡ pointer_meant object }
+    ensures { result ≡ pointer_meant object 0 }
 {
     Held {
         value: Value::Pointer(Pointer { object, offset: 0 }),
@@ -90,30 +91,30 @@ impl<'a> Evaluator<'a> {
         }
     }
 
-    /// The elements of an object are set to these values from the first on, and to 0 beyond them. An object that is dead or
-    /// cannot be written is answered as want of memory: none is set that was not just made to be written.
-    pub fn fill(&mut self, home: Held, values: &[i128]) -> Result<(), Stop>
-        ensures { Comes result (fills home values.now self.old) self.new }
+    /// All elements of an object are 0, but for those that items name. An object that is dead or cannot be written is answered as
+    /// want of memory: none is set that was not just made to be written.
+    pub fn fill(&mut self, home: Held, items: &[Initial]) -> Result<(), Stop>
+        ensures { Comes result (fills home items.now self.old) self.new }
     {
         match home.value {
             Value::Number(_) => Ok(()),
-            Value::Pointer(pointer) => self.fill_object(pointer.object, values),
+            Value::Pointer(pointer) => self.fill_object(pointer.object, items),
         }
     }
 
     /// The elements of the object of this number are set.
-    fn fill_object(&mut self, object: u64, values: &[i128]) -> Result<(), Stop>
-        ensures { Comes result (Goes tt (record self.old { world = object_filled self.old.world object values.now })) self.new }
+    fn fill_object(&mut self, object: u64, items: &[Initial]) -> Result<(), Stop>
+        ensures { Comes result (Goes tt (record self.old { world = object_filled self.old.world object items.now })) self.new }
     {
-        match self.world.fill_object(object, values) {
+        match self.world.fill_object(object, items) {
             Ok(()) => Ok(()),
             Err(_) => Err(Stop::Memory),
         }
     }
 
-    /// The elements of an array are set with which it begins: the bytes of strings, and zeros.
+    /// The elements of an array are set with which it begins: the bytes of strings, and zeros beside them.
     pub fn fill_items(&mut self, home: Held, items: &Seq<TItem>) -> Result<(), Stop>
-        ensures { Comes result (fills home (values_from 0 items.now) self.old) self.new }
+        ensures { Comes result (fills home (values_from items.now) self.old) self.new }
     {
         let values = values_of(self.alloc, items)?;
         self.fill(home, values.as_slice())

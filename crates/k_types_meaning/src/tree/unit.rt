@@ -2,7 +2,7 @@
 
 use crate::tree::statement::TStmt;
 use crate::types::TType;
-use k_num::{Place, Seq, Text};
+use k_num::{Initial, Place, Seq, Text};
 
 /// A variable of a function: a parameter or a declared variable. It stands where its declarator stands, a
 /// parameter at its first token.
@@ -22,8 +22,8 @@ pub struct TObject {
     /// The type of its value; of an array that of the pointer that it gives.
     pub of: TType,
     pub elements: u32,
-    /// The values of its elements from 0 on. All elements beyond are 0.
-    pub first: Seq<i128>,
+    /// The numbers with which elements begin, in the order of the elements. All others begin with 0.
+    pub first: Seq<Initial>,
 }
 
 /// A string that is an object.

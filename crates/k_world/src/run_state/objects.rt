@@ -1,12 +1,12 @@
 //! The objects of a running program's state: made, set and let die without an operation.
 ghost use Rattle.std.specs.Prelude.{◌≡◌, ◌+◌, ◌^◌, ◌<◌, ◌≤◌, ◌++◌, length, replicate, vec_len, IfOk, OnOk, OnErr};
-ghost use Rattle.k_mem.specs.Calls.{HasLength, fill_of, push_of};
-ghost use Rattle.k_world.specs.Changes.{object_filled, object_made, objects_kept, without_origins};
+ghost use Rattle.k_mem.specs.Calls.{HasLength, fill_of, push_of, stored};
+ghost use Rattle.k_world.specs.Changes.{item_stored, memory_filled, object_filled, object_made, objects_kept, without_origins};
 ghost use Rattle.k_world.specs.Worlds.{HasOrigins};
 
 use super::RunState;
-use k_mem::{MemTrap, PushFault, Start};
-use k_num::NoMemory;
+use k_mem::{MemTrap, Objects, Pointer, PushFault, Start};
+use k_num::{Initial, NoMemory};
 
 impl<'a> RunState<'a> {
     /// Makes an object and answers its number. No operation gave its elements.
@@ -28,11 +28,11 @@ impl<'a> RunState<'a> {
         }
     }
 
-    /// Sets all elements of an object: to the values from the first on, and to 0 beyond them. No operation gave them. Values past
-    /// the last element are left out. A dead object is refused, and then a literal's.
-    pub fn fill_object(&mut self, object: u64, values: &[i128]) -> Result<(), MemTrap>
+    /// Sets all elements of an object: to 0, and then those that items name to their numbers, in the order of the items. No
+    /// operation gave them. Items past the object's end are left out. A dead object is refused, and then a literal's.
+    pub fn fill_object(&mut self, object: u64, items: &[Initial]) -> Result<(), MemTrap>
         ensures answer { HasOrigins self.old → result ≡ fill_of self.old.memory object }
-        ensures ok { OnOk result (self.new ≡ object_filled self.old object values.now) }
+        ensures ok { OnOk result (self.new ≡ object_filled self.old object items.now) }
         ensures err { OnErr result (self.new ≡ self.old) }
     {
         let first = self.objects.first_element(object)? as usize;
@@ -40,7 +40,7 @@ impl<'a> RunState<'a> {
         if first + count > self.origins.len() {
             return Err(MemTrap::OutOfBounds);
         }
-        self.objects.fill(object, values)?;
+        fill_items(&mut self.objects, object, items)?;
         clear_origins(&mut self.origins, first, count);
         Ok(())
     }
@@ -63,6 +63,46 @@ fn append_none(origins: &mut Vec<Option<u64>>, count: u32) -> Result<(), NoMemor
 {
     origins.resize(origins.len() + count as usize, None)?;
     Ok(())
+}
+
+/// All elements of an object are 0, and then those that items name have their numbers.
+#[tactic(auto, using(crate::proofs::Filled::filled_writable))]
+fn fill_items(objects: &mut Objects, object: u64, items: &[Initial]) -> Result<(), MemTrap>
+    ensures answer { result ≡ fill_of objects.old object }
+    ensures ok { OnOk result (objects.new ≡ memory_filled objects.old object items.now) }
+    ensures err { OnErr result (objects.new ≡ objects.old) }
+{
+    objects.fill(object, &[])?;
+    for item in items {
+        store_item(objects, object, item);
+    }
+    Ok(())
+}
+
+/// An element of an object that may be written has a number from now on, if the object has that element.
+fn store_item(objects: &mut Objects, object: u64, item: &Initial)
+    requires { fill_of objects.old object ≡ Ok tt }
+    ensures stored { objects.new ≡ item_stored object objects.old item.now }
+    ensures writable { fill_of objects.new object ≡ Ok tt }
+{
+    let at = Pointer {
+        object,
+        offset: u64::from(item.element),
+    };
+    store_at(objects, at, item.number);
+}
+
+/// An element of an object that may be written has this number from now on, if the object has that element.
+#[tactic(auto, using(crate::proofs::Filled::store_refused, crate::proofs::Filled::stored_writable))]
+fn store_at(objects: &mut Objects, at: Pointer, number: i128)
+    requires { fill_of objects.old at.object ≡ Ok tt }
+    ensures stored { objects.new ≡ stored objects.old at number }
+    ensures writable { fill_of objects.new at.object ≡ Ok tt }
+{
+    match objects.store(at, number) {
+        Ok(_) => {}
+        Err(_) => {}
+    }
 }
 
 /// So many elements from the first on were given by no operation.

@@ -1,5 +1,6 @@
 use Rattle.std.proofs.Common.{◌+◌, ◌*◌, max}
 use Rattle.k_types_meaning.specs.declared.tree.expression.TExpr.{size-TExpr}
+use Rattle.k_plain_direct.specs.Forms.{designator_depth}
 use Rattle.k_plain_direct.proofs.evaluation.+evaluation.Given as goal
 
 abbrev pub decreases-value_into : goal.decreases-value_into
@@ -11,26 +12,20 @@ decreases-operand_into a = 8 * size-TExpr a.e.now + 1
 abbrev pub decreases-place_into : goal.decreases-place_into
 decreases-place_into a = 8 * size-TExpr a.e.now
 
+abbrev pub decreases-designated_into : goal.decreases-designated_into
+decreases-designated_into a = 8 * designator_depth a.designator + 4
+
+abbrev pub decreases-read : goal.decreases-read
+decreases-read a = 8 * designator_depth a.designator + 4
+
 abbrev pub decreases-pointed : goal.decreases-pointed
 decreases-pointed a = 8 * size-TExpr a.of.now + 2
-
-abbrev pub decreases-address : goal.decreases-address
-decreases-address a = 8 * size-TExpr a.of.now + 2
-
-abbrev pub decreases-byte_put : goal.decreases-byte_put
-decreases-byte_put a = 8 * size-TExpr a.of.now + 2
 
 abbrev pub decreases-one : goal.decreases-one
 decreases-one a = 8 * size-TExpr a.of.now + 2
 
-abbrev pub decreases-converted : goal.decreases-converted
-decreases-converted a = 8 * size-TExpr a.of.now + 2
-
-abbrev pub decreases-before : goal.decreases-before
-decreases-before a = 8 * size-TExpr a.of.now + 2
-
-abbrev pub decreases-after : goal.decreases-after
-decreases-after a = 8 * size-TExpr a.of.now + 2
+abbrev pub decreases-with_place : goal.decreases-with_place
+decreases-with_place a = 8 * size-TExpr a.of.now + 2
 
 abbrev pub decreases-unused : goal.decreases-unused
 decreases-unused a = 8 * size-TExpr a.of.now + 2
@@ -40,9 +35,6 @@ decreases-truth a = 8 * size-TExpr a.right.now + 2
 
 abbrev pub decreases-pointed_value : goal.decreases-pointed_value
 decreases-pointed_value a = 8 * size-TExpr a.of.now + 3
-
-abbrev pub decreases-cast : goal.decreases-cast
-decreases-cast a = 8 * size-TExpr a.of.now + 3
 
 abbrev pub decreases-arm : goal.decreases-arm
 decreases-arm a = 8 * size-TExpr a.e.now + 3
@@ -76,18 +68,3 @@ decreases-choose a = 8 * max (size-TExpr a.test.now) (max (size-TExpr a.then.now
 
 abbrev pub decreases-conditional : goal.decreases-conditional
 decreases-conditional a = 8 * max (size-TExpr a.test.now) (max (size-TExpr a.then.now) (size-TExpr a.other.now)) + 5
-
-abbrev pub decreases-unary : goal.decreases-unary
-decreases-unary a = 8 * size-TExpr a.of.now + 3
-
-abbrev pub decreases-binary : goal.decreases-binary
-decreases-binary a = 8 * max (size-TExpr a.left.now) (size-TExpr a.right.now) + 3
-
-abbrev pub decreases-compared : goal.decreases-compared
-decreases-compared a = 8 * max (size-TExpr a.left.now) (size-TExpr a.right.now) + 3
-
-abbrev pub decreases-moved : goal.decreases-moved
-decreases-moved a = 8 * max (size-TExpr a.left.now) (size-TExpr a.right.now) + 3
-
-abbrev pub decreases-distanced : goal.decreases-distanced
-decreases-distanced a = 8 * max (size-TExpr a.left.now) (size-TExpr a.right.now) + 3

@@ -1,59 +1,93 @@
-use Rattle.std.proofs.Common.{◌<◌, ◌≤◌, length, arith}
+use Rattle.std.proofs.Common.{◌∙◌, ◌<◌, ◌≤◌, length, rules, arith, sym}
 use Rattle.k_types_numbers.specs.Renumbering.{bare_declarator, declarator_numbers}
-use Rattle.k_types_numbers.proofs.CountingLaws.{list_done, list_lent, list_taken, numbered_of, unvisited_more}
-use Rattle.k_types_numbers.proofs.StatementForms.{numbers_Empty, numbers_Block, alone_of, else_of, numbers_While, numbers_DoWhile, numbers_For, numbers_Switch, numbers_Break, numbers_Continue, numbers_Declare}
+use Rattle.k_types_numbers.proofs.CountingLaws.{ends_as, list_done, list_lent, list_more, numbered_of, renumbers_as, renumbers_of, unvisited_more}
+use Rattle.k_types_numbers.proofs.StatementForms.{alone_of, clauses_of, else_of, numbers_Block, numbers_Break, numbers_Continue, numbers_Declare, numbers_DoWhile, numbers_Empty, numbers_Expr, numbers_For, numbers_Return, numbers_Switch, numbers_While, part_does}
 use Rattle.k_types_numbers.proofs.statement.+statements.Goals as goal
 
-pub with_parts-returns-in-Empty : goal.with_parts-returns-in-Empty
-with_parts-returns-in-Empty t c =
-    numbered_of _ _ _ _ _ _ _ _ _ c.in-Empty.is (numbers_Empty _ _ c.args.counts.now)
+pub number_behind-returns-in-Empty : goal.number_behind-returns-in-Empty
+number_behind-returns-in-Empty t c =
+    ends_as _ _ _ _ _ _ _ _ _ (numbered_of _ _ _ _ _ _ _ _ _ c.in-Empty.is
+    (numbers_Empty _ _ c.args.counts.now)) (search rules)
 
-pub with_parts-returns-in-Break : goal.with_parts-returns-in-Break
-with_parts-returns-in-Break t c =
-    numbered_of _ _ _ _ _ _ _ _ _ c.in-Break.is (numbers_Break _ _ c.args.counts.now)
+pub number_behind-returns-in-Break : goal.number_behind-returns-in-Break
+number_behind-returns-in-Break t c =
+    ends_as _ _ _ _ _ _ _ _ _ (numbered_of _ _ _ _ _ _ _ _ _ c.in-Break.is
+    (numbers_Break _ _ c.args.counts.now)) (search rules)
 
-pub with_parts-returns-in-Continue : goal.with_parts-returns-in-Continue
-with_parts-returns-in-Continue t c =
-    numbered_of _ _ _ _ _ _ _ _ _ c.in-Continue.is (numbers_Continue _ _ c.args.counts.now)
+pub number_behind-returns-in-Continue : goal.number_behind-returns-in-Continue
+number_behind-returns-in-Continue t c =
+    ends_as _ _ _ _ _ _ _ _ _ (numbered_of _ _ _ _ _ _ _ _ _ c.in-Continue.is
+    (numbers_Continue _ _ c.args.counts.now)) (search rules)
 
-pub with_parts-returns-in_ok-number_stmts-in-Block : goal.with_parts-returns-in_ok-number_stmts-in-Block
-with_parts-returns-in_ok-number_stmts-in-Block t c =
-    numbered_of _ _ _ _ _ _ _ _ _ c.in-Block.is
-    (numbers_Block _ _ _ _ _ _ (list_lent _ _ _ c.in-Block.parts _ _ _ _ c.as_mut_slice.ensures.value c.number_stmts.auto.stmts c.in_ok-number_stmts-in-Block.ensures))
+pub number_behind-returns-in_ok-number_boxed-in-Expr : goal.number_behind-returns-in_ok-number_boxed-in-Expr
+number_behind-returns-in_ok-number_boxed-in-Expr t c =
+    ends_as _ _ _ _ _ _ _ _ _ (numbered_of _ _ _ _ _ _ _ _ _ c.in-Expr.is
+    (numbers_Expr _ _ _ _ _ _ (renumbers_of _ _ _ _ _ _ _ _ c.in-Expr.value-is c.in_ok-number_boxed-in-Expr.ensures))) (search rules)
 
-pub with_parts-returns-in-None : goal.with_parts-returns-in-None
-with_parts-returns-in-None t c =
-    alone_of _ _ _ _ _ _ _ _ _ _ _ c.in-If.is c.in-None.is c.in_ok-test-in-If.ensures c.in_ok-then-in-If.ensures
+pub number_behind-returns-in_ok-number_stmts-in-Block : goal.number_behind-returns-in_ok-number_stmts-in-Block
+number_behind-returns-in_ok-number_stmts-in-Block t c =
+    ends_as _ _ _ _ _ _ _ _ _ (numbered_of _ _ _ _ _ _ _ _ _ c.in-Block.is
+    (numbers_Block _ _ _ _ _ _
+    (list_lent _ _ _ c.in-Block.parts _ _ _ _ (c.as_mut_slice.ensures.value ∙ c.in-Block.parts-is) c.number_stmts.auto.stmts c.in_ok-number_stmts-in-Block.ensures))) (search rules)
 
-pub with_parts-returns-in_ok-other-in-Some : goal.with_parts-returns-in_ok-other-in-Some
-with_parts-returns-in_ok-other-in-Some t c =
-    else_of _ _ _ _ _ _ _ _ _ _ _ _ _ _ c.in-If.is c.in-Some.is c.in_ok-test-in-If.ensures c.in_ok-then-in-If.ensures c.in_ok-other-in-Some.ensures
+pub number_behind-returns-in-None : goal.number_behind-returns-in-None
+number_behind-returns-in-None t c =
+    ends_as _ _ _ _ _ _ _ _ _
+    (alone_of _ _ _ _ _ _ _ _ _ _ _ c.in-If.is (sym c.in-If.other-is ∙ c.in-None.is)
+    (renumbers_of _ _ _ _ _ _ _ _ c.in-If.test-is c.in_ok-number_boxed-in-If.ensures)
+    (renumbers_of _ _ _ _ _ _ _ _ c.in-If.then-is c.in_ok-number_boxed_stmt-in-If.ensures))
+    (search rules)
 
-pub with_parts-returns-in_ok-body-in-While : goal.with_parts-returns-in_ok-body-in-While
-with_parts-returns-in_ok-body-in-While t c =
-    numbered_of _ _ _ _ _ _ _ _ _ c.in-While.is
-    (numbers_While _ _ _ _ _ _ _ _ _ _ _ _ c.in_ok-turns-in-While.ensures.0 c.in_ok-turns-in-While.ensures.1 c.in_ok-test-in-While.ensures c.in_ok-body-in-While.ensures)
+pub number_behind-returns-in_ok-number_boxed_stmt-in-Some : goal.number_behind-returns-in_ok-number_boxed_stmt-in-Some
+number_behind-returns-in_ok-number_boxed_stmt-in-Some t c =
+    ends_as _ _ _ _ _ _ _ _ _
+    (else_of _ _ _ _ _ _ _ _ _ _ _ _ _ _ c.in-If.is (sym c.in-If.other-is ∙ c.in-Some.is)
+    (renumbers_of _ _ _ _ _ _ _ _ c.in-If.test-is c.in_ok-number_boxed-in-If.ensures)
+    (renumbers_of _ _ _ _ _ _ _ _ c.in-If.then-is c.in_ok-number_boxed_stmt-in-If.ensures)
+    (renumbers_of _ _ _ _ _ _ _ _ c.in-Some.other-is c.in_ok-number_boxed_stmt-in-Some.ensures))
+    (search rules)
 
-pub with_parts-returns-in_ok-test-in-DoWhile : goal.with_parts-returns-in_ok-test-in-DoWhile
-with_parts-returns-in_ok-test-in-DoWhile t c =
-    numbered_of _ _ _ _ _ _ _ _ _ c.in-DoWhile.is
-    (numbers_DoWhile _ _ _ _ _ _ _ _ _ _ _ _ c.in_ok-turns-in-DoWhile.ensures.0 c.in_ok-turns-in-DoWhile.ensures.1 c.in_ok-body-in-DoWhile.ensures c.in_ok-test-in-DoWhile.ensures)
+pub number_behind-returns-in_ok-number_boxed_stmt-in-While : goal.number_behind-returns-in_ok-number_boxed_stmt-in-While
+number_behind-returns-in_ok-number_boxed_stmt-in-While t c =
+    ends_as _ _ _ _ _ _ _ _ _ (numbered_of _ _ _ _ _ _ _ _ _ c.in-While.is
+    (numbers_While _ _ _ _ _ _ _ _ _ _ _ _ c.in_ok-turns-in-While.ensures.0 c.in_ok-turns-in-While.ensures.1
+    (renumbers_of _ _ _ _ _ _ _ _ c.in-While.test-is c.in_ok-number_boxed-in-While.ensures)
+    (renumbers_of _ _ _ _ _ _ _ _ c.in-While.body-is c.in_ok-number_boxed_stmt-in-While.ensures))) (search rules)
 
-pub with_parts-returns-in-Ok : goal.with_parts-returns-in-Ok
-with_parts-returns-in-Ok t c =
-    numbered_of _ _ _ _ _ _ _ _ _ c.in-For.is (numbers_For _ _ _ _ _ _ _ _ _ _ _ _ _ _ _ c.in_ok-turns-in-For.ensures c.in-Ok.ensures)
+pub number_behind-returns-in_ok-number_boxed-in-DoWhile : goal.number_behind-returns-in_ok-number_boxed-in-DoWhile
+number_behind-returns-in_ok-number_boxed-in-DoWhile t c =
+    ends_as _ _ _ _ _ _ _ _ _ (numbered_of _ _ _ _ _ _ _ _ _ c.in-DoWhile.is
+    (numbers_DoWhile _ _ _ _ _ _ _ _ _ _ _ _ c.in_ok-turns-in-DoWhile.ensures.0 c.in_ok-turns-in-DoWhile.ensures.1
+    (renumbers_of _ _ _ _ _ _ _ _ c.in-DoWhile.body-is c.in_ok-number_boxed_stmt-in-DoWhile.ensures)
+    (renumbers_of _ _ _ _ _ _ _ _ c.in-DoWhile.test-is c.in_ok-number_boxed-in-DoWhile.ensures))) (search rules)
 
-pub with_parts-returns-in_ok-number_parts-in-Switch : goal.with_parts-returns-in_ok-number_parts-in-Switch
-with_parts-returns-in_ok-number_parts-in-Switch t c =
-    numbered_of _ _ _ _ _ _ _ _ _ c.in-Switch.is
-    (numbers_Switch _ _ _ _ _ _ _ _ _ _ c.in_ok-on-in-Switch.ensures
-    (list_lent _ _ _ c.in-Switch.parts _ _ _ _ c.as_mut_slice-in-Switch.ensures.value c.number_parts.auto.parts c.in_ok-number_parts-in-Switch.ensures))
+pub number_behind-returns-in_ok-number_boxed_stmt-in-For : goal.number_behind-returns-in_ok-number_boxed_stmt-in-For
+number_behind-returns-in_ok-number_boxed_stmt-in-For t c =
+    ends_as _ _ _ _ _ _ _ _ _ (numbered_of _ _ _ _ _ _ _ _ _ c.in-For.is
+    (numbers_For _ _ _ _ _ _ _ _ _ _ _ _ _ _ _ _ c.in_ok-turns-in-For.ensures.0 c.in_ok-turns-in-For.ensures.1
+    (clauses_of _ _ _ _ _ _ _ _ _ _ _ c.in-For.first-is c.in-For.test-is c.in-For.step-is c.in_ok-number_clauses-in-For.ensures)
+    (renumbers_of _ _ _ _ _ _ _ _ c.in-For.body-is c.in_ok-number_boxed_stmt-in-For.ensures))) (search rules)
 
-pub with_parts-returns-in_ok-number_declared-in-Declare : goal.with_parts-returns-in_ok-number_declared-in-Declare
-with_parts-returns-in_ok-number_declared-in-Declare t c =
-    numbered_of _ _ _ _ _ _ _ _ _ c.in-Declare.is
+pub number_behind-returns-in_ok-number_parts-in-Switch : goal.number_behind-returns-in_ok-number_parts-in-Switch
+number_behind-returns-in_ok-number_parts-in-Switch t c =
+    ends_as _ _ _ _ _ _ _ _ _ (numbered_of _ _ _ _ _ _ _ _ _ c.in-Switch.is
+    (numbers_Switch _ _ _ _ _ _ _ _ _ _ (renumbers_of _ _ _ _ _ _ _ _ c.in-Switch.on-is c.in_ok-number_boxed-in-Switch.ensures)
+    (list_lent _ _ _ c.in-Switch.parts _ _ _ _ (c.as_mut_slice-in-Switch.ensures.value ∙ c.in-Switch.parts-is) c.number_parts.auto.parts c.in_ok-number_parts-in-Switch.ensures))) (search rules)
+
+pub number_behind-returns-in_ok-number_option-in-Return : goal.number_behind-returns-in_ok-number_option-in-Return
+number_behind-returns-in_ok-number_option-in-Return t c =
+    ends_as _ _ _ _ _ _ _ _ _ (numbered_of _ _ _ _ _ _ _ _ _ c.in-Return.is
+    (numbers_Return _ _ _ _ _ _ (renumbers_of _ _ _ _ _ _ _ _ c.in-Return.value-is c.in_ok-number_option-in-Return.ensures))) (search rules)
+
+pub number_behind-returns-in_ok-number_declared-in-Declare : goal.number_behind-returns-in_ok-number_declared-in-Declare
+number_behind-returns-in_ok-number_declared-in-Declare t c =
+    ends_as _ _ _ _ _ _ _ _ _ (numbered_of _ _ _ _ _ _ _ _ _ c.in-Declare.is
     (numbers_Declare _ _ _ _ _ _
-    (list_lent _ bare_declarator declarator_numbers c.in-Declare.list _ _ _ _ c.as_mut_slice-in-Declare.ensures.value c.number_declared.auto.list c.in_ok-number_declared-in-Declare.ensures))
+    (list_lent _ bare_declarator declarator_numbers c.in-Declare.list _ _ _ _ (c.as_mut_slice-in-Declare.ensures.value ∙ c.in-Declare.list-is) c.number_declared.auto.list c.in_ok-number_declared-in-Declare.ensures))) (search rules)
+
+pub number_part-returns-in_ok-number_boxed_stmt-in-Does : goal.number_part-returns-in_ok-number_boxed_stmt-in-Does
+number_part-returns-in_ok-number_boxed_stmt-in-Does t c =
+    renumbers_as _ _ _ _ _ _ _ _ _ (part_does c.in-Does._place _ _ _ _ c.in_ok-number_boxed_stmt-in-Does.ensures) (search rules) (search rules)
 
 pub number_parts-returns : goal.number_parts-returns
 number_parts-returns t c =
@@ -64,7 +98,7 @@ pub number_parts-loop-part-preserved : goal.number_parts-loop-part-preserved
 number_parts-loop-part-preserved t c =
     let within : c.loop-part.part-index < length c.loop-part.parts = omega arith in (
       unvisited_more _ _ _ _ _ c.loop-part.invariant.0,
-      list_taken _ _ _ _ _ _ _ _ _ _ _ _ _ within c.replace-taken.ensures.value c.replace.ensures.after c.loop-part.invariant.1 c.in-Ok.ensures,
+      list_more _ _ _ _ _ _ _ _ _ _ _ within c.loop-part.invariant.1 c.in_ok-number_part.ensures,
     )
 
 pub number_stmts-returns : goal.number_stmts-returns
@@ -76,5 +110,5 @@ pub number_stmts-loop-stmt-preserved : goal.number_stmts-loop-stmt-preserved
 number_stmts-loop-stmt-preserved t c =
     let within : c.loop-stmt.stmt-index < length c.loop-stmt.stmts = omega arith in (
       unvisited_more _ _ _ _ _ c.loop-stmt.invariant.0,
-      list_taken _ _ _ _ _ _ _ _ _ _ _ _ _ within c.replace-taken.ensures.value c.replace.ensures.after c.loop-stmt.invariant.1 c.in-Ok.ensures,
+      list_more _ _ _ _ _ _ _ _ _ _ _ within c.loop-stmt.invariant.1 c.in_ok-number_stmt.ensures,
     )

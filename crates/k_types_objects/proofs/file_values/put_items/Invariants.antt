@@ -1,6 +1,7 @@
 use Rattle.std.proofs.Common.{◌≡◌, ◌++◌, drop}
-use Rattle.k_types_meaning.specs.Initialisers.{elements_from}
+use Rattle.std.specs.List.{flat_map}
+use Rattle.k_types_meaning.specs.Initialisers.{item_numbers}
 use Rattle.k_types_objects.proofs.file_values.put_items.Given as goal
 
 abbrev pub invariant-loop-item : goal.invariant-loop-item
-invariant-loop-item l = l.values ++ elements_from l.next (drop l.item-index l.items) ≡ l.fn.values ++ elements_from 0 l.items
+invariant-loop-item l = l.numbers ++ flat_map item_numbers (drop l.item-index l.items) ≡ l.fn.numbers ++ flat_map item_numbers l.items

@@ -1,0 +1,14 @@
+pub mod Assignments
+pub mod Declarations
+pub mod Expressions
+pub mod Functions
+pub mod Library
+pub mod Loops
+pub mod Lowered
+pub mod Operators
+pub mod Pieces
+pub mod Places
+pub mod Programs
+pub mod Statements
+pub mod Stretches
+pub mod Switches

@@ -1,0 +1,15 @@
+pub mod Alike
+pub mod Bared
+pub mod Calling
+pub mod Expressions
+pub mod Functions
+pub mod Initialisers
+pub mod Named
+pub mod Numbers
+pub mod Operands
+pub mod Operations
+pub mod Placing
+pub mod Ready
+pub mod Signatures
+pub mod Sources
+pub mod Statements

@@ -1,0 +1,4 @@
+pub mod Costs
+pub mod Fits
+pub mod Laws
+pub mod Placed

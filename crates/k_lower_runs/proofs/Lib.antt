@@ -1,0 +1,11 @@
+pub mod AssignmentRows
+pub mod Combined
+pub mod Expressions
+pub mod Instructions
+pub mod Leads
+pub mod LibraryRows
+pub mod OperatorRows
+pub mod PlaceRows
+pub mod TestRows
+pub mod Tested
+pub mod Values

@@ -1,0 +1,4 @@
+pub mod Doing
+pub mod Following
+pub mod Laws
+pub mod Sound

@@ -1,0 +1,15 @@
+pub mod Arms
+pub mod Blocks
+pub mod Booleans
+pub mod Declared
+pub mod ExpressionRows
+pub mod Expressions
+pub mod Functions
+pub mod Loops
+pub mod Programs
+pub mod Segments
+pub mod Spans
+pub mod Stands
+pub mod Statements
+pub mod Switches
+pub mod Texts

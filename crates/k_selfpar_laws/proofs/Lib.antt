@@ -1,0 +1,2 @@
+pub mod ByPaths
+pub mod Examples

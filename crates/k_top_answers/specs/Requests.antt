@@ -1,0 +1,51 @@
+-- Believed with the theorem on the top call.
+-- Which files are asked for: those that the words have loaded, in order, and then the one that the answer saves.
+use Rattle.std.specs.Prelude.{ℕ, ◌≡◌, ◌≢◌, ◌⊎◌, if◌then◌else◌, nat_eq, List, [], ◌∷◌, ◌++◌, Option, Some, None, Ok, Err}
+use Rattle.std.specs.Cmp.Lexicographic.{pointwise}
+use Rattle.k_edge.specs.declared.request.Request.{Request}
+use Rattle.k_edge.specs.declared.request.Request.TheVariants.{Load, Save}
+use Rattle.k_words.specs.Words as words
+use Rattle.k_words.specs.declared.job.Job.{Job}
+use Rattle.k_words.specs.declared.job.Job.TheVariants as job
+use Rattle.k_words.specs.declared.usage.Usage.{Usage}
+use Rattle.k_words.specs.declared.usage.Usage.TheVariants as usage
+use Rattle.k_top_answers.specs.declared.answer.SavedFile.{SavedFile}
+use Rattle.k_top_answers.specs.declared.failure.Failure.{Failure}
+use Rattle.k_top_answers.specs.declared.failure.Failure.TheVariants as why
+
+-- the table to load behind a source: the one that is named, where that is another file
+abbrev pub table_of : List ℕ → Option (List ℕ) → List Request
+table_of file None = []
+table_of file (Some name) = if pointwise nat_eq name file then [] else Load name ∷ []
+
+-- the files to load for a program: its source, and then its table
+abbrev pub files_of : List ℕ → Option (List ℕ) → List Request
+files_of file latency = Load file ∷ table_of file latency
+
+-- THE FILES TO LOAD for a job, in order
+abbrev pub loads_of : Job → List Request
+loads_of (job.Run file steps depth latency dict save) = files_of file latency
+loads_of (job.Graph file steps depth latency) = files_of file latency
+loads_of (job.Show file dict) = Load file ∷ []
+loads_of (job.Demo number loops) = []
+
+-- these are the files to load for the words: those of the job that they ask for, and none where a word is wrong
+abbrev pub AreToLoad : List (List ℕ) → List Request → Type 0
+AreToLoad list loads =
+    ((asked : Job) × words.IsAnswer list (Ok asked) × (loads ≡ loads_of asked))
+    ⊎ ((fault : Usage) × (fault ≢ usage.Memory) × words.IsAnswer list (Err fault) × (loads ≡ []))
+
+-- THE FILE TO SAVE of an answer, where it has one
+abbrev pub saves_of : Option SavedFile → List Request
+saves_of None = []
+saves_of (Some file) = Save file.name ∷ []
+
+-- some requests are a front of others
+abbrev pub IsFront : List Request → List Request → Type 0
+IsFront made all = (rest : List Request) × (all ≡ made ++ rest)
+
+-- the last of these requests is to load the file that a failure names
+abbrev pub EndsAt : Option Failure → List Request → Type 0
+EndsAt (Some (why.Absent file)) made = (before : List Request) × (made ≡ before ++ Load file ∷ [])
+EndsAt (Some (why.FileLong file)) made = (before : List Request) × (made ≡ before ++ Load file ∷ [])
+EndsAt failure made = ⊥

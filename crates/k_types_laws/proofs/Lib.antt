@@ -1,0 +1,4 @@
+pub mod BeginningsElaborate
+pub mod DeclaredElaborate
+pub mod SizesElaborate
+pub mod Strings

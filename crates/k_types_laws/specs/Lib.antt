@@ -1,0 +1,4 @@
+pub mod Beginnings
+pub mod Declarators
+pub mod Laws
+pub mod Sizes

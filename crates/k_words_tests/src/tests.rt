@@ -1,0 +1,4 @@
+//! One file for what is tested.
+mod about;
+mod jobs;
+mod made;

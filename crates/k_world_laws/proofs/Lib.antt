@@ -1,0 +1,4 @@
+pub mod Kept
+pub mod Leaving
+pub mod Results
+pub mod Seen
