@@ -1,7 +1,7 @@
 -- What is taken by one read after another.
-use Rattle.std.proofs.Common.{◌≡◌, ℕ, ◌≤◌, List, ◌++◌, length, take, drop, Option, Some, None, arith, ap, sym, ◌∙◌, append_assoc}
+use Rattle.std.proofs.Common.{◌≡◌, ◌≢◌, ℕ, zero, suc, ◌≤◌, List, ◌++◌, length, take, drop, Option, Some, None, arith, refl, ap, sym, ◌∙◌, append_assoc}
 use Rattle.std.proofs.lemmas.List.{length-append, length-take-le, take-append-drop}
-use Rattle.k_edge.specs.SourceWords.{SourceState, Takes, ReadsBytes}
+use Rattle.k_edge.specs.SourceWords.{SourceState, Takes, ReadsBytes, ended_after}
 use Rattle.k_edge.specs.ReadAll.{DrawsFrom, Draws}
 
 -- n bytes taken behind these
@@ -24,3 +24,8 @@ draws_more n old_buffer buffer bytes old mid new drawn within reads = record {
   left = taken_more n old_buffer buffer bytes old.left mid.left new.left drawn.left reads.takes;
   counted = omega (arith, drawn.counted, reads.counts, length-append bytes (take n buffer), length-take-le n buffer within);
 }
+
+-- a read of some bytes doesn't tell the end
+pub not_ended : (count n size : ℕ) → n ≢ 0 → ended_after count n size ≡ count
+not_ended count zero size some = absurd (some refl)
+not_ended count (suc n) size some = refl

@@ -16,7 +16,7 @@ reader_of s = s.inner
 
 -- what is known of a source over a reader: its counts
 abbrev pub std_source : {R : Type 0} → StdSource R → SourceState
-std_source s = record { left = None; faults = s.faults; taken = s.taken }
+std_source s = record { left = None; faults = s.faults; taken = s.taken; ended = s.ended }
 
 -- the writer under a sink
 abbrev pub writer_of : {W : Type 0} → StdSink W → W

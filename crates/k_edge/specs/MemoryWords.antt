@@ -16,25 +16,27 @@ use Rattle.k_edge.specs.FilesWords.{FilesState}
 use Rattle.k_edge.specs.declared.memory.files.File.{File}
 use Rattle.k_edge.specs.declared.request.Request.{Request}
 
--- a source that never fails: the bytes left, and how many were taken
+-- a source that never fails: the bytes left, how many were taken, and how many reads told the end
 pub record SureBytes : Type 0 where
   pub left : List ℕ
   pub taken : ℕ
+  pub ended : ℕ
 
 -- what is known of a source that never fails
 abbrev pub sure_source : SureBytes → SourceState
-sure_source s = record { left = Some s.left; faults = 0; taken = s.taken }
+sure_source s = record { left = Some s.left; faults = 0; taken = s.taken; ended = s.ended }
 
 -- a source that fails at listed calls
 pub record MemBytes : Type 0 where
   pub left : List ℕ
   pub taken : ℕ
+  pub ended : ℕ
   pub faults : ℕ
   pub calls : Schedule
 
 -- what is known of a source that fails at listed calls
 abbrev pub mem_source : MemBytes → SourceState
-mem_source s = record { left = Some s.left; faults = s.faults; taken = s.taken }
+mem_source s = record { left = Some s.left; faults = s.faults; taken = s.taken; ended = s.ended }
 
 -- a sink that fails at listed calls
 pub record MemWritten : Type 0 where

@@ -1,7 +1,8 @@
-//! Counts of faults, and which calls of an object in memory fail.
+//! Counts of faults and of ends, and which calls of an object in memory fail.
 ghost use Rattle.std.specs.Prelude.{◌≡◌, ◌+◌, ◌-◌, ◌^◌, min, IfOk};
 ghost use Rattle.k_edge.specs.Fault.{Rose};
 ghost use Rattle.k_edge.specs.Calls.{next_fails, after_call};
+ghost use Rattle.k_edge.specs.SourceWords.{ended_after};
 
 use k_num::NoMemory;
 use std::alloc::Global;
@@ -12,6 +13,18 @@ pub fn risen(count: u64) -> u64
     ensures { Rose count result }
 {
     count.saturating_add(1)
+}
+
+/// The count of reads that told the end, behind one of `count` bytes into a buffer of `size` bytes. It stays at
+/// the greatest number once it has reached it.
+pub fn ended_after(ended: u64, count: usize, size: usize) -> u64
+    ensures { result ≡ ended_after ended count size }
+{
+    if count == 0 && size != 0 {
+        ended.saturating_add(1)
+    } else {
+        ended
+    }
 }
 
 /// Which calls fail, by their numbers.

@@ -10,12 +10,11 @@ use Rattle.k_types_meaning.specs.declared.tree.declaration.TItem.TheVariants as 
 use Rattle.k_types_meaning.specs.declared.tree.expression.TExpr.{TExpr}
 use Rattle.k_types_meaning.specs.declared.tree.statement.TFirst.{TFirst}
 use Rattle.k_types_meaning.specs.declared.tree.statement.TFirst.TheVariants as first
-use Rattle.k_code.specs.declared.instruction.Arg.TheVariants.{Reg}
 use Rattle.k_code.specs.declared.instruction.Do.TheVariants.{Address, Fill, Forget, ObjectOpen, Store}
 use Rattle.k_code.specs.declared.instruction.Home.TheVariants.{Local}
 use Rattle.k_evaluation.specs.Declarations.{elements_of, values_from}
 use Rattle.k_lower_code.specs.Expressions.{lowered}
-use Rattle.k_lower_code.specs.Lowered.{Lowered, Designated, InRegister, InMemory}
+use Rattle.k_lower_code.specs.Lowered.{Lowered, Designated, InRegister}
 use Rattle.k_lower_code.specs.Assignments.{writes}
 use Rattle.k_lower_code.specs.Pieces.{Piece, only, ◌>>>◌, does, sets}
 use Rattle.k_lower_code.specs.Stretches.{Inside, Stretch, of_piece, nothing_done, behind}
@@ -32,7 +31,7 @@ temporary w = length w.vars
 abbrev pub drops : Inside → TExpr → Piece (Unit {0})
 drops w e = (means w e).value false (temporary w) >>> λ a. only tt
 
--- a variable is initialised at its declarator: a register by a move, memory by a store
+-- a register is initialised at its declarator, by a move
 abbrev pub initialises : Inside → TDeclarator → TExpr → Designated → Piece (Unit {0})
 initialises w d e target =
     (means w e).value true (temporary w) >>> λ a. writes w.program d.place false (temporary w) target a >>> λ v. only tt
@@ -43,12 +42,16 @@ begins_register w d init.Nothing = does w.program d.place (Forget d.variable)
 begins_register w d (init.Value e) = initialises w d e (InRegister d.variable false)
 begins_register w d (init.Elements items) = only tt
 
--- an item of braces that is no string is stored, at its own place, in an element of the call's object of this number
-abbrev pub stores_item : Inside → ℕ → TItem → Piece (Unit {0})
-stores_item w object (item.Bytes n bytes) = only tt
-stores_item w object (item.Value place n e) =
+-- a value is stored, at this place, in an element of the call's object of this number
+abbrev pub stores_at : Inside → Place → ℕ → ℕ → TExpr → Piece (Unit {0})
+stores_at w place object n e =
     (means w e).value true (temporary w) >>> λ a. sets w.program place (Address (Local object) n) (temporary w + 1) >>> λ address.
     does w.program place (Store address a None)
+
+-- an item of braces that is no string is stored, at its own place, in an element of that object
+abbrev pub stores_item : Inside → ℕ → TItem → Piece (Unit {0})
+stores_item w object (item.Bytes n bytes) = only tt
+stores_item w object (item.Value place n e) = stores_at w place object n e
 
 -- the items that are no strings, in text order
 abbrev pub stores_items : Inside → ℕ → List TItem → Piece (Unit {0})
@@ -58,7 +61,7 @@ stores_items w object (i ∷ items) = stores_item w object i >>> λ done. stores
 -- the call's object of this number begins unset, by a store, or as an array
 abbrev pub begins_object : Inside → TDeclarator → ℕ → TInit → Piece (Unit {0})
 begins_object w d object init.Nothing = only tt
-begins_object w d object (init.Value e) = initialises w d e (InMemory (Reg d.variable false))
+begins_object w d object (init.Value e) = stores_at w d.place object 0 e
 begins_object w d object (init.Elements items) =
     does w.program d.place (Fill object (values_from items)) >>> λ filled. stores_items w object items
 

@@ -14,7 +14,7 @@ use Rattle.k_code.specs.declared.instruction.Do.TheVariants.{Input, Output, Call
 use Rattle.k_evaluation.specs.Library.{chunk_of}
 use Rattle.k_evaluation.specs.States.{Program}
 use Rattle.k_lower_code.specs.Lowered.{Lowered, only_value, on_one, in_turn}
-use Rattle.k_lower_code.specs.Pieces.{Piece, only, ◌>>>◌, does, sets, settled, if_used}
+use Rattle.k_lower_code.specs.Pieces.{Piece, only, ◌>>>◌, does, sets, settled, if_used, nothing}
 
 -- an output of these arguments
 abbrev pub outputs : Program → Place → Out → ℕ → List Arg → Piece Arg
@@ -47,10 +47,16 @@ returned_to ttype.Void used r = None
 returned_to (ttype.Number kind) used r = if_used used r
 returned_to (ttype.Pointer target) used r = if_used used r
 
+-- the value of a call: of void there is none
+abbrev pub value_returned : TType → ℕ → Arg
+value_returned ttype.Void r = nothing
+value_returned (ttype.Number kind) r = Reg r false
+value_returned (ttype.Pointer target) r = Reg r false
+
 -- a call behind its arguments: the caller gets its control source back
 abbrev pub calls_with : Program → Node → ℕ → Bool → ℕ → List Arg → Piece Arg
 calls_with program node f used r args =
-    settled program node.place (does program node.place (Call f args (returned_to node.of used r)) >>> λ done. only (Reg r false))
+    settled program node.place (does program node.place (Call f args (returned_to node.of used r)) >>> λ done. only (value_returned node.of r))
 
 -- a call of a function of the source
 unfoldable pub call : Program → Node → ℕ → List Lowered → Lowered

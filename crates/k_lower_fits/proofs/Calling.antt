@@ -36,7 +36,7 @@ use Rattle.k_lower_fits.proofs.Operands.{IsCallee, NameFits}
 use Rattle.k_lower_fits.proofs.Ready.{May, number_has_values, pays_less, pays_arguments, sum_cons, Ready, IfReady, AllReady, Good, good_by, good_within, atom, of_one, in_its_kind, is_passed, all_fit, all_paid}
 
 -- the first of two of which the second is not
-first_of_both : (a b : Bool) → b ≡ false → (a || b) ≡ true → a ≡ true
+pub first_of_both : (a b : Bool) → b ≡ false → (a || b) ≡ true → a ≡ true
 first_of_both true b none h = refl
 first_of_both false b none h = absurd (let e : false ≡ true = sym none ∙ h in cc)
 

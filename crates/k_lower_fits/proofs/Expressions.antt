@@ -1,5 +1,5 @@
 -- The typed tree of an expression fits, and its nodes pay for it, where the names that are known are there and its calls are of functions that are defined.
-use Rattle.std.proofs.Common.{◌≡◌, ℕ, ◌+◌, List, [], ◌∷◌, ◌++◌, map, refl, sym, subst, arith}
+use Rattle.std.proofs.Common.{◌≡◌, ℕ, ◌+◌, List, ◌∷◌, ◌++◌, map, refl, sym, subst, arith}
 use Rattle.std.specs.Prelude.{sum}
 use Rattle.k_tree.specs.declared.tree.expression.Expr.{Expr}
 use Rattle.k_tree.specs.declared.tree.expression.Expr.TheVariants as expr
@@ -22,23 +22,7 @@ use Rattle.k_lower_fits.proofs.Named.{NamesEach}
 use Rattle.k_lower_fits.proofs.Operands.{NameFits, name_good, number_good, char_good, string_good, index_good, unary_good, post_good, pre_good, sizeof_good, sizeof_type_good, cast_good}
 use Rattle.k_lower_fits.proofs.Operations.{binary_good, cond_good, assign_good, comma_good}
 use Rattle.k_lower_fits.proofs.Ready.{Good, good_within}
-
--- CALLS of two parts
-pub calls_front : (P : Called → Type 0) (xs ys : List Called) → AllOf P (xs ++ ys) → AllOf P xs
-calls_front P [] ys h = tt
-calls_front P (x ∷ xs) ys h = (h.0, calls_front P xs ys h.1)
-
-pub calls_behind : (P : Called → Type 0) (xs ys : List Called) → AllOf P (xs ++ ys) → AllOf P ys
-calls_behind P [] ys h = h
-calls_behind P (x ∷ xs) ys h = calls_behind P xs ys h.1
-
-pub calls_of_two : (P : Called → Type 0) (all xs ys : List Called) → all ≡ xs ++ ys → AllOf P all → AllOf P xs × AllOf P ys
-calls_of_two P all xs ys is h =
-    let k : AllOf P (xs ++ ys) = subst (AllOf P) is h in
-    (calls_front P xs ys k, calls_behind P xs ys k)
-
-pub calls_same : (P : Called → Type 0) (all xs : List Called) → all ≡ xs → AllOf P all → AllOf P xs
-calls_same P all xs is h = subst (AllOf P) is h
+use Rattle.k_lower_fits.proofs.Split as split
 
 module _ (limits : Limits) (defined : List (List ℕ)) where
   -- the names that are known are there
@@ -60,10 +44,10 @@ module _ (limits : Limits) (defined : List (List ℕ)) where
   C calls = AllOf (IsDefined defined) calls
 
   two_calls : (e a b : Expr) → expr_calls e ≡ expr_calls a ++ expr_calls b → C (expr_calls e) → C (expr_calls a) × C (expr_calls b)
-  two_calls e a b is h = calls_of_two (IsDefined defined) (expr_calls e) (expr_calls a) (expr_calls b) is h
+  two_calls e a b is h = split.two (IsDefined defined) (expr_calls e) (expr_calls a) (expr_calls b) is h
 
   one_call : (e a : Expr) → expr_calls e ≡ expr_calls a → C (expr_calls e) → C (expr_calls a)
-  one_call e a is h = calls_same (IsDefined defined) (expr_calls e) (expr_calls a) is h
+  one_call e a is h = split.same (IsDefined defined) (expr_calls e) (expr_calls a) is h
 
   mutual
     pub expr_good : (names : Names) (e : Expr) (v : Typed) → NamesFit names → AreDefined (expr_calls e) → Elab names e v → Good limits (expr_count e) v
@@ -85,7 +69,7 @@ module _ (limits : Limits) (defined : List (List ℕ)) where
         (index_good limits p (expr_count a) (expr_count b) x y (expr_good names a x fit c.0 l) (expr_good names b y fit c.1 r))
     expr_good _ _ _ fit calls (call names p f args xs v all is) =
         let here : C (record { name = f; place = p } ∷ all_calls (map expr_calls args)) =
-        calls_same (IsDefined defined) (expr_calls (expr.Call p f args)) (record { name = f; place = p } ∷ all_calls (map expr_calls args)) (expr_Call (List Called) expr_calls_step p f args) calls in
+        split.same (IsDefined defined) (expr_calls (expr.Call p f args)) (record { name = f; place = p } ∷ all_calls (map expr_calls args)) (expr_Call (List Called) expr_calls_step p f args) calls in
         makes (expr.Call p f args) (1 + sum (map expr_count args)) (call_rule names p f xs) v (expr_Call ℕ count.expr_step p f args) is
         (call_good limits defined names p f (map expr_count args) xs fit here.0 (all_good names args xs fit here.1 all))
     expr_good _ _ _ fit calls (postfix names p op a x v l is) =
@@ -110,11 +94,11 @@ module _ (limits : Limits) (defined : List (List ℕ)) where
         makes (expr.Binary p op a b) (1 + expr_count a + expr_count b) (binary_rule p op x y) v (expr_Binary ℕ count.expr_step p op a b) is
         (binary_good limits p op (expr_count a) (expr_count b) x y (expr_good names a x fit c.0 l) (expr_good names b y fit c.1 r))
     expr_good _ _ _ fit calls (conditional names p a b c x y z v l r s is) =
-        let here = calls_of_two (IsDefined defined) (expr_calls (expr.Cond p a b c)) (expr_calls a) (expr_calls b ++ expr_calls c) (expr_Cond (List Called) expr_calls_step p a b c) calls in
+        let here = split.two (IsDefined defined) (expr_calls (expr.Cond p a b c)) (expr_calls a) (expr_calls b ++ expr_calls c) (expr_Cond (List Called) expr_calls_step p a b c) calls in
         makes (expr.Cond p a b c) (1 + expr_count a + expr_count b + expr_count c) (cond_rule p x y z) v (expr_Cond ℕ count.expr_step p a b c) is
         (cond_good limits p (expr_count a) (expr_count b) (expr_count c) x y z (expr_good names a x fit here.0 l)
-        (expr_good names b y fit (calls_front (IsDefined defined) (expr_calls b) (expr_calls c) here.1) r)
-        (expr_good names c z fit (calls_behind (IsDefined defined) (expr_calls b) (expr_calls c) here.1) s))
+        (expr_good names b y fit (split.front (IsDefined defined) (expr_calls b) (expr_calls c) here.1) r)
+        (expr_good names c z fit (split.behind (IsDefined defined) (expr_calls b) (expr_calls c) here.1) s))
     expr_good _ _ _ fit calls (assignment names p op a b x y v l r is) =
         let c = two_calls (expr.Assign p op a b) a b (expr_Assign (List Called) expr_calls_step p op a b) calls in
         makes (expr.Assign p op a b) (1 + expr_count a + expr_count b) (assign_rule p op x y) v (expr_Assign ℕ count.expr_step p op a b) is
@@ -127,5 +111,5 @@ module _ (limits : Limits) (defined : List (List ℕ)) where
     all_good : (names : Names) (es : List Expr) (vs : List Typed) → NamesFit names → AreDefined (all_calls (map expr_calls es)) → ElabAll names es vs → AllGood limits (map expr_count es) vs
     all_good _ _ _ fit calls (no_args names) = tt
     all_good _ _ _ fit calls (more_args names e es v vs x xs) =
-        let c = calls_of_two (IsDefined defined) (expr_calls e ++ all_calls (map expr_calls es)) (expr_calls e) (all_calls (map expr_calls es)) refl calls in
+        let c = split.two (IsDefined defined) (expr_calls e ++ all_calls (map expr_calls es)) (expr_calls e) (all_calls (map expr_calls es)) refl calls in
         (expr_good names e v fit c.0 x, all_good names es vs fit c.1 xs)

@@ -30,11 +30,11 @@ use Rattle.k_types_meaning.specs.ElaboratedUnits.{IsDefined, ElabObjects, ElabIt
 use Rattle.k_types_meaning.proofs.Fine.{AllOf}
 use Rattle.k_lower_fits.specs.Costs.{body_cost, registers_of, instructions_of}
 use Rattle.k_lower_fits.specs.Fits.{Callee, Limits, callee, has_values, body_fits}
-use Rattle.k_lower_fits.proofs.Expressions.{calls_of_two, calls_behind}
 use Rattle.k_lower_fits.proofs.Named.{ScopeEach, NamesEach, found_in, entered_each}
 use Rattle.k_lower_fits.proofs.Operands.{NameFits}
 use Rattle.k_lower_fits.proofs.Ready.{sum_cons}
 use Rattle.k_lower_fits.proofs.Signatures.{shape, shape_of, settled, or_first, first_head, item_settled, entered_here, signature_shape, function_may, prototype_may}
+use Rattle.k_lower_fits.proofs.Split as split
 use Rattle.k_lower_fits.proofs.Statements.{Comes, Held, max_above, stmts_come}
 
 -- a text is itself
@@ -93,7 +93,7 @@ function_shape _ _ _ _ _ _ _ _ (definition listed again names p head body close 
 )
 
 -- a declared function is settled
-settled_here : (listed : List (List ℕ)) (names : Names) (head : Head) (items : List Item) → settled (names_behind_head listed names head) items head.name ≡ Some (shape (signature listed names head))
+pub settled_here : (listed : List (List ℕ)) (names : Names) (head : Head) (items : List Item) → settled (names_behind_head listed names head) items head.name ≡ Some (shape (signature listed names head))
 settled_here listed names head items =
     ap (λ (o : Option Meaning). or_first o (first_head items head.name))
     (entered_here head.name (meaning.Function (signature listed names head)) names head.name
@@ -256,25 +256,22 @@ second_none None None is = refl
 second_none None (Some m) is = absurd cc
 second_none (Some m) b is = absurd cc
 
-module _ (C : List ℕ → Option Callee) (listed : List (List ℕ)) (total : ℕ) where
-  abbrev FileFits : Names → Type 0
-  FileFits names = NamesEach (FileName C listed total) names
+none_here : (names : Names) (x : List ℕ) → meaning_here names x ≡ None → is_some (meaning_in library x) ≡ false
+none_here [] x is = ap is_some is
+none_here (scope ∷ names) x is = second_none (meaning_in scope x) (meaning_in library x) is
 
-  none_here : (names : Names) (x : List ℕ) → meaning_here names x ≡ None → is_some (meaning_in library x) ≡ false
-  none_here [] x is = ap is_some is
-  none_here (scope ∷ names) x is = second_none (meaning_in scope x) (meaning_in library x) is
-
-  of_scope : (scope : Scope) (x : List ℕ) (s : Signature) (o : Option Meaning) → meaning_in scope x ≡ o → ScopeEach (FileName C listed total) scope
+module _ (P : List ℕ → Meaning → Type 0) (apart : (x : List ℕ) (s : Signature) → P x (meaning.Function s) → is_some (meaning_in library x) ≡ false) where
+  of_scope : (scope : Scope) (x : List ℕ) (s : Signature) (o : Option Meaning) → meaning_in scope x ≡ o → ScopeEach P scope
       → or_meaning o (meaning_in library x) ≡ Some (meaning.Function s) → is_some (meaning_in library x) ≡ false
-  of_scope scope x s None there h is = absurd (library_has_none x s is)
-  of_scope scope x s (Some m) there h is =
-      (found_in (FileName C listed total) scope x (meaning.Function s) h (there ∙ is)).0
+  of_scope scope x s None at h is = absurd (library_has_none x s is)
+  of_scope scope x s (Some m) at h is = apart x s (found_in P scope x (meaning.Function s) h (at ∙ is))
 
-  function_here : (names : Names) (x : List ℕ) (s : Signature) → FileFits names → meaning_here names x ≡ Some (meaning.Function s) → is_some (meaning_in library x) ≡ false
+  function_here : (names : Names) (x : List ℕ) (s : Signature) → NamesEach P names → meaning_here names x ≡ Some (meaning.Function s) → is_some (meaning_in library x) ≡ false
   function_here [] x s h is = absurd (library_has_none x s is)
   function_here (scope ∷ names) x s h is = of_scope scope x s (meaning_in scope x) refl h.0 is
 
-  not_library : (names : Names) (x : List ℕ) (f : Signature) (again : Bool) (o : Option Meaning) → meaning_here names x ≡ o → FileFits names → MayDeclare f again o → is_some (meaning_in library x) ≡ false
+  pub not_library : (names : Names) (x : List ℕ) (f : Signature) (again : Bool) (o : Option Meaning) → meaning_here names x ≡ o → NamesEach P names → MayDeclare f again o
+      → is_some (meaning_in library x) ≡ false
   not_library names x _ _ _ is fit (first_declared f again) = none_here names x is
   not_library names x _ _ _ is fit (declared_alike f g same) = function_here names x g fit is
 
@@ -299,7 +296,7 @@ head_fits : (C : List ℕ → Option Callee) (listed : List (List ℕ)) (all : �
     → NamesEach (FileName C listed all) names → NamesEach (FileName C listed all) (names_behind_head listed names head)
 head_fits C listed all names head again items may is fit =
     entered_each (FileName C listed all) head.name (meaning.Function (signature listed names head)) names
-    (not_library C listed all names head.name (signature listed names head) again (meaning_here names head.name) refl fit may, refl, sym (is head.name) ∙ settled_here listed names head items) fit
+    (not_library (FileName C listed all) (λ x s h. h.0) names head.name (signature listed names head) again (meaning_here names head.name) refl fit may, refl, sym (is head.name) ∙ settled_here listed names head items) fit
 
 item_good : (C : List ℕ → Option Callee) (all : ℕ) (callees : List Callee) (listed : List (List ℕ)) (known : FileKnown) (i : Item) (parts : Parts) (after : FileKnown) (items : List Item)
     → ElabItem listed known i parts after → ((x : List ℕ) → is_name listed x ≡ true → slice_get callees (place_in listed x) ≡ C x) → ((x : List ℕ) → settled after.names items x ≡ C x)
@@ -311,7 +308,7 @@ item_good C all callees _ _ _ _ _ items (function listed known p head body close
         function_good all callees listed again known.names p head body close f x
             (λ limits many same. file_fits C listed all callees there limits many same known.names fit)
             (λ limits many same. file_fits C listed all callees there limits many same (names_behind_head listed known.names head) behind)
-            (calls_behind (IsDefined listed) (params_calls head.params) (all_calls (map stmt_calls body)) calls),
+            (split.behind (IsDefined listed) (params_calls head.params) (all_calls (map stmt_calls body)) calls),
         tt,
       ),
       behind,
@@ -323,19 +320,15 @@ item_good C all callees _ _ _ _ _ items (objects listed known p specs list parts
     let r = objects_good C listed all (saying true specs) known list parts after x few fit in
     (subst (AllOf (FunctionGood all callees)) (sym (no_functions (saying true specs) known list parts after x)) tt, r.0, r.1)
 
-both_good : (P : TFunc → Type 0) (fs gs : List TFunc) → AllOf P fs → AllOf P gs → AllOf P (fs ++ gs)
-both_good P [] gs h k = k
-both_good P (f ∷ fs) gs h k = (h.0, both_good P fs gs h.1 k)
-
 pub items_good : (C : List ℕ → Option Callee) (all : ℕ) (callees : List Callee) (listed : List (List ℕ)) (known : FileKnown) (items : List Item) (parts : Parts) (after : FileKnown)
     → ElabItems listed known items parts after → ((x : List ℕ) → is_name listed x ≡ true → slice_get callees (place_in listed x) ≡ C x) → ((x : List ℕ) → settled known.names items x ≡ C x)
     → known.objects + length parts.objects ≤ all → NamesEach (FileName C listed all) known.names → AllOf (IsDefined listed) (all_calls (map item_calls items)) → AllOf (FunctionGood all callees) parts.functions
 items_good C all callees _ _ _ _ _ (no_items listed known) there is few fit calls = tt
 items_good C all callees _ _ _ _ _ (more_items listed known i items a b middle after x xs) there is few fit calls =
-    let c = calls_of_two (IsDefined listed) (item_calls i ++ all_calls (map item_calls items)) (item_calls i) (all_calls (map item_calls items)) refl calls in
+    let c = split.two (IsDefined listed) (item_calls i ++ all_calls (map item_calls items)) (item_calls i) (all_calls (map item_calls items)) refl calls in
     let total : length (a.objects ++ b.objects) ≡ length a.objects + length b.objects = length-append a.objects b.objects in
     let next : (y : List ℕ) → settled middle.names items y ≡ C y = λ y. item_settled listed known i a middle x items y ∙ is y in
     let first = item_good C all callees listed known i a middle items x there next (omega (arith, few, total)) fit c.0 in
     let count : middle.objects ≡ known.objects + length a.objects = first.2 in
-    both_good (FunctionGood all callees) a.functions b.functions first.0
+    split.joined (FunctionGood all callees) a.functions b.functions first.0
     (items_good C all callees listed middle items b after xs there next (omega (arith, few, total, count)) first.1 c.1)

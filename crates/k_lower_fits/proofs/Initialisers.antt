@@ -32,8 +32,9 @@ use Rattle.k_types_meaning.proofs.Elaborates.{expressions_elaborate}
 use Rattle.k_types_meaning.proofs.Fine.{AllOf, Anything, IfFine, IfThere, anything, both_has, cond_has, if_fine, then_has}
 use Rattle.k_lower_fits.specs.Costs.{Cost, and_own, above, free, in_row, of_item, expr_cost, item_cost, init_cost}
 use Rattle.k_lower_fits.specs.Fits.{Limits, expr_fits, item_fits, items_fit, init_fits}
-use Rattle.k_lower_fits.proofs.Expressions.{NamesFit, AreDefined, calls_of_two, expr_good}
+use Rattle.k_lower_fits.proofs.Expressions.{NamesFit, AreDefined, expr_good}
 use Rattle.k_lower_fits.proofs.Ready.{Ready, IfReady, Good, PaysAll, is_passed, sum_cons}
+use Rattle.k_lower_fits.proofs.Split as split
 
 -- what items take together
 abbrev row : List TItem → Cost
@@ -178,7 +179,7 @@ module _ (limits : Limits) (defined : List (List ℕ)) (names : Names) (fit : Na
   all_given : (xs : List ((i : Init) × GivenGood i)) → D (all_calls (map init_calls (inits xs))) → AllGive limits (map init_count (inits xs)) (map (giving names) (inits xs))
   all_given [] calls = tt
   all_given (x ∷ xs) calls =
-      let c = calls_of_two (IsDefined defined) (init_calls x.0 ++ all_calls (map init_calls (inits xs))) (init_calls x.0) (all_calls (map init_calls (inits xs))) refl calls in
+      let c = split.two (IsDefined defined) (init_calls x.0 ++ all_calls (map init_calls (inits xs))) (init_calls x.0) (all_calls (map init_calls (inits xs))) refl calls in
       (x.1 c.0, all_given xs c.1)
 
   abbrev Layer : Init-F Init → Type 0
@@ -206,7 +207,7 @@ module _ (limits : Limits) (defined : List (List ℕ)) (names : Names) (fit : Na
   all_giving : (items : List Init) → D (all_calls (map init_calls items)) → AllGive limits (map init_count items) (map (giving names) items)
   all_giving [] calls = tt
   all_giving (i ∷ items) calls =
-      let c = calls_of_two (IsDefined defined) (init_calls i ++ all_calls (map init_calls items)) (init_calls i) (all_calls (map init_calls items)) refl calls in
+      let c = split.two (IsDefined defined) (init_calls i ++ all_calls (map init_calls items)) (init_calls i) (all_calls (map init_calls items)) refl calls in
       (giving_good i c.0, all_giving items c.1)
 
   abbrev BeginsGood : ℕ → Beginning → Type 0

@@ -12,4 +12,5 @@ pub mod Placing
 pub mod Ready
 pub mod Signatures
 pub mod Sources
+pub mod Split
 pub mod Statements

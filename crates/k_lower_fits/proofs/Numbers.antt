@@ -20,6 +20,7 @@ use Rattle.k_types_meaning.specs.declared.tree.unit.TString.{TString}
 use Rattle.k_types_meaning.specs.declared.tree.unit.TUnit.{TUnit}
 use Rattle.k_types_meaning.specs.Numbered.{Numbers, before, listed, numbers_from, CountsUp, IsNumbered, expr_numbers, expr_numbers_step, option_numbers, item_numbers, init_numbers, declared_numbers, first_numbers, stmt_numbers, stmt_numbers_step, part_numbers_step, if_listed, function_numbers, functions_numbers}
 use Rattle.k_types_meaning.proofs.Fine.{AllOf}
+use Rattle.k_lower_fits.proofs.Split as split
 
 -- as many strings as numbers of strings
 abbrev Even : Numbers → Type 0
@@ -183,14 +184,6 @@ below_end : (n k m : ℕ) → n + k ≤ m → AllOf (λ x. x < m) (numbers_from 
 below_end n zero m less = tt
 below_end n (suc k) m less = (omega (arith, less), below_end (suc n) k m (omega (arith, less)))
 
-front : (m : ℕ) (xs ys : List ℕ) → AllOf (λ x. x < m) (xs ++ ys) → AllOf (λ x. x < m) xs
-front m [] ys h = tt
-front m (x ∷ xs) ys h = (h.0, front m xs ys h.1)
-
-rest_of : (m : ℕ) (xs ys : List ℕ) → AllOf (λ x. x < m) (xs ++ ys) → AllOf (λ x. x < m) ys
-rest_of m [] ys h = h
-rest_of m (x ∷ xs) ys h = rest_of m xs ys h.1
-
 each : (m : ℕ) (xs : List ℕ) → AllOf (λ x. x < m) xs → All (λ x. x < m) xs
 each m [] h = All-nil (λ x. x < m)
 each m (x ∷ xs) h = All-cons (λ y. y < m) x xs h.0 (each m xs h.1)
@@ -202,14 +195,14 @@ counted m xs is many = subst (AllOf (λ x. x < m)) (sym is) (below_end 0 (length
 strings_in : (m : ℕ) (fs : List TFunc) (n : ℕ) (f : TFunc) → slice_get fs n ≡ Some f → AllOf (λ x. x < m) (functions_numbers fs).strings → AllOf (λ x. x < m) (function_numbers f).strings
 strings_in m [] n f there h = absurd (none-some f there)
 strings_in m (g ∷ fs) zero f there h =
-    subst (λ (x : TFunc). AllOf (λ y. y < m) (function_numbers x).strings) (same_Some g f there) (front m (function_numbers g).strings (functions_numbers fs).strings h)
-strings_in m (g ∷ fs) (suc n) f there h = strings_in m fs n f there (rest_of m (function_numbers g).strings (functions_numbers fs).strings h)
+    subst (λ (x : TFunc). AllOf (λ y. y < m) (function_numbers x).strings) (same_Some g f there) (split.front (λ y. y < m) (function_numbers g).strings (functions_numbers fs).strings h)
+strings_in m (g ∷ fs) (suc n) f there h = strings_in m fs n f there (split.behind (λ y. y < m) (function_numbers g).strings (functions_numbers fs).strings h)
 
 loops_in : (m : ℕ) (fs : List TFunc) (n : ℕ) (f : TFunc) → slice_get fs n ≡ Some f → AllOf (λ x. x < m) (functions_numbers fs).loops → AllOf (λ x. x < m) (function_numbers f).loops
 loops_in m [] n f there h = absurd (none-some f there)
 loops_in m (g ∷ fs) zero f there h =
-    subst (λ (x : TFunc). AllOf (λ y. y < m) (function_numbers x).loops) (same_Some g f there) (front m (function_numbers g).loops (functions_numbers fs).loops h)
-loops_in m (g ∷ fs) (suc n) f there h = loops_in m fs n f there (rest_of m (function_numbers g).loops (functions_numbers fs).loops h)
+    subst (λ (x : TFunc). AllOf (λ y. y < m) (function_numbers x).loops) (same_Some g f there) (split.front (λ y. y < m) (function_numbers g).loops (functions_numbers fs).loops h)
+loops_in m (g ∷ fs) (suc n) f there h = loops_in m fs n f there (split.behind (λ y. y < m) (function_numbers g).loops (functions_numbers fs).loops h)
 
 pub strings_below : (unit : TUnit) (n : ℕ) (f : TFunc) → IsNumbered unit → slice_get unit.functions n ≡ Some f → All (λ x. x < length unit.strings) (function_numbers f).strings
 strings_below unit n f h there =

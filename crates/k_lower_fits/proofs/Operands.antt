@@ -28,7 +28,7 @@ use Rattle.k_types_meaning.specs.Conversions.{Typed, at, in_kind}
 use Rattle.k_types_meaning.specs.Made.{Fine, refused}
 use Rattle.k_types_meaning.specs.Names.{Names, meaning_in, meaning_of, library}
 use Rattle.k_types_meaning.specs.Operands as operands
-use Rattle.k_types_meaning.specs.Operands.{named, name_rule, number_rule, char_rule, string_type, string_rule, element_at, indexed, index_rule, pointed_to, addressed, of_number, plus_of, unary_kind, unary_of, unary_rule, written, step_operator, step_change, stepped, post_rule, pre_rule, size_number, sizeof_rule, size_named, sizeof_type_rule, cast_number, cast_pointer, cast_to, cast_rule}
+use Rattle.k_types_meaning.specs.Operands.{named, name_rule, number_rule, char_rule, string_type, string_rule, element_at, indexed, index_rule, pointed_to, addressed, of_number, plus_of, unary_kind, unary_of, unary_rule, written, step_change, stepped, post_rule, pre_rule, size_number, sizeof_rule, size_named, sizeof_type_rule, cast_number, cast_pointer, cast_to, cast_rule}
 use Rattle.k_types_meaning.specs.Specifiers.{type_named}
 use Rattle.k_types_meaning.specs.Types.{decayed, equal_element, number_kind, pointed, as_type, size_of, told, pointer_to}
 use Rattle.k_types_meaning.specs.Units.{is_name}

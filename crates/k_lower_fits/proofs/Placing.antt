@@ -1,5 +1,5 @@
 -- Declarations in the functions of a source that the grammar gives stand where they may.
-use Rattle.std.proofs.Common.{◌≡◌, ℕ, zero, suc, Bool, true, false, ◌&&◌, List, [], ◌∷◌, ◌++◌, map, slice_get, Some, None, refl, sym, ◌∙◌, ap, subst}
+use Rattle.std.proofs.Common.{◌≡◌, ℕ, zero, suc, Bool, true, false, ◌&&◌, List, [], ◌∷◌, map, slice_get, Some, None, refl, sym, ◌∙◌, ap, subst}
 use Rattle.std.specs.Prelude.{All}
 use Rattle.std.proofs.lemmas.Bool.{and_from}
 use Rattle.std.proofs.lemmas.List.Elements.{All-head, All-tail}
@@ -15,7 +15,7 @@ use Rattle.k_tree.specs.declared.tree.statement.Stmt.TheVariants as stmt
 use Rattle.k_tree.specs.declared.tree.unit.Head.{Head}
 use Rattle.k_tree.specs.declared.tree.unit.Item.{Item}
 use Rattle.k_tree.specs.Ranked as ranked
-use Rattle.k_tree.specs.Ranked.{RankedStmt, RankedParts, RankedSwitch, RankedItem, RankedUnit}
+use Rattle.k_tree.specs.Ranked.{RankedStmt, RankedParts, RankedSwitch, RankedItem}
 use Rattle.k_tree.proofs.Folds as folds
 use Rattle.k_types_meaning.specs.declared.tree.statement.TPart.{TPart, fold-TPart}
 use Rattle.k_types_meaning.specs.declared.tree.statement.TPart.TheOpen.{TStmt-F}
@@ -38,6 +38,7 @@ use Rattle.k_lower_fits.specs.Laws.{DeclarationsArePlaced}
 use Rattle.k_lower_fits.specs.Placed.{Placing, all_placed, option_placed, placed_step, placed_part, stmt_placed, body_placed}
 use Rattle.k_lower_fits.proofs.Bared.{bare_stmt_form, stmt_same}
 use Rattle.k_lower_fits.proofs.Functions.{no_functions}
+use Rattle.k_lower_fits.proofs.Split.{joined}
 
 -- THE SAME of trees of syntax
 abbrev source_step : Stmt-F Placing Placing → Placing
@@ -178,10 +179,6 @@ function_placed : (listed : List (List ℕ)) (again : Bool) (names : Names) (p :
 function_placed _ _ _ _ _ _ _ _ (definition listed again names p head body close types inside of trees after given declares stmts) is =
     ap (all_placed true) (stmts_kept (within of) (known_to_body listed names head inside) body trees after stmts) ∙ parts_right body is
 
-both_placed : (fs gs : List TFunc) → AllOf IsPlaced fs → AllOf IsPlaced gs → AllOf IsPlaced (fs ++ gs)
-both_placed [] gs h k = k
-both_placed (f ∷ fs) gs h k = (h.0, both_placed fs gs h.1 k)
-
 item_right : (listed : List (List ℕ)) (known : FileKnown) (i : Item) (parts : Parts) (after : FileKnown) → ElabItem listed known i parts after → RankedItem i → AllOf IsPlaced parts.functions
 item_right _ _ _ _ _ (function listed known p head body close f x) is = (function_placed listed (is_name known.functions head.name) known.names p head body close f x is.1, tt)
 item_right _ _ _ _ _ (prototype_alone listed known p head x) is = tt
@@ -190,7 +187,7 @@ item_right _ _ _ _ _ (objects listed known p specs list parts after x) is = subs
 items_right : (listed : List (List ℕ)) (known : FileKnown) (items : List Item) (parts : Parts) (after : FileKnown) → ElabItems listed known items parts after → All RankedItem items → AllOf IsPlaced parts.functions
 items_right _ _ _ _ _ (no_items listed known) is = tt
 items_right _ _ _ _ _ (more_items listed known i items a b middle after x xs) is =
-    both_placed a.functions b.functions (item_right listed known i a middle x (All-head RankedItem i items is)) (items_right listed middle items b after xs (All-tail RankedItem i items is))
+    joined IsPlaced a.functions b.functions (item_right listed known i a middle x (All-head RankedItem i items is)) (items_right listed middle items b after xs (All-tail RankedItem i items is))
 
 -- THEIR NUMBERS change nothing
 keeps : (y : TStmt-F Placing Placing) → placed_step (bare_stmt_form y) ≡ placed_step y

@@ -1,7 +1,6 @@
 -- Each function of a source without faults fits and is small.
 use Rattle.std.proofs.Common.{◌≡◌, ℕ, zero, suc, ◌+◌, ◌*◌, ◌≤◌, max, true, List, [], ◌∷◌, map, length, slice_get, Option, Some, refl, sym, ◌∙◌, ap, subst, arith}
 use Rattle.std.specs.Prelude.{All}
-use Rattle.std.proofs.lemmas.List.Elements.{All-head, All-tail}
 use Rattle.std.proofs.lemmas.Option.{none-some, same_Some}
 use Rattle.k_tree.specs.declared.tree.unit.Unit as source
 use Rattle.k_types_meaning.specs.declared.tree.unit.TFunc.{TFunc}
@@ -22,12 +21,9 @@ use Rattle.k_lower_fits.proofs.Alike.{body_costs, body_fit}
 use Rattle.k_lower_fits.proofs.Functions.{FunctionGood, called_at, items_good, items_named, items_shaped, limits_with}
 use Rattle.k_lower_fits.proofs.Numbers.{loops_below, strings_below}
 use Rattle.k_lower_fits.proofs.Signatures.{settled}
+use Rattle.k_lower_fits.proofs.Split.{all_of}
 
-all_of : (P : Called → Type 0) (xs : List Called) → All P xs → AllOf P xs
-all_of P [] h = tt
-all_of P (x ∷ xs) h = (All-head P x xs h, all_of P xs (All-tail P x xs h))
-
-unit_calls : (P : Called → Type 0) (unit : source.Unit) → All P (calls_of_unit unit) → AllOf P (all_calls (map item_calls unit.items))
+pub unit_calls : (P : Called → Type 0) (unit : source.Unit) → All P (calls_of_unit unit) → AllOf P (all_calls (map item_calls unit.items))
 unfolding calls_of_unit
 unit_calls P unit h = all_of P (all_calls (map item_calls unit.items)) h
 
@@ -51,7 +47,7 @@ numbered objects callees f h = record {
   instructions = subst (λ (c : Cost). of_function + of_parameter * f.params + c.instructions ≤ 512 * f.nodes) (body_costs f.body) h.instructions;
 }
 
-same_callees : (fs : List TFunc) → map callee (map bare_function fs) ≡ map callee fs
+pub same_callees : (fs : List TFunc) → map callee (map bare_function fs) ≡ map callee fs
 same_callees [] = refl
 same_callees (f ∷ fs) = ap (λ (cs : List Callee). callee f ∷ cs) (same_callees fs)
 

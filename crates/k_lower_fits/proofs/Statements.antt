@@ -12,7 +12,7 @@ use Rattle.k_tree.specs.declared.tree.statement.Part.{Part, fold-Part}
 use Rattle.k_tree.specs.declared.tree.statement.Part.TheVariants as part
 use Rattle.k_tree.specs.declared.tree.statement.Stmt.{Stmt}
 use Rattle.k_tree.specs.declared.tree.statement.Stmt.TheVariants as stmt
-use Rattle.k_tree.specs.Count.{expr_count, option_count, dims_count, initialised_count, declarator_count, declarators_count, first_count, stmt_count, part_count, of_option}
+use Rattle.k_tree.specs.Count.{expr_count, option_count, initialised_count, declarator_count, declarators_count, first_count, stmt_count, part_count}
 use Rattle.k_tree.specs.Count as count
 use Rattle.k_tree.proofs.Folds as folds
 use Rattle.k_types_meaning.specs.declared.names.Meaning.TheVariants as meaning
@@ -39,12 +39,13 @@ use Rattle.k_types_meaning.proofs.Fine.{AllOf, IfFine, IfThere}
 use Rattle.k_types_meaning.proofs.Folds.{done_Expr, done_Empty, done_Block, done_alone, done_else, done_While, done_DoWhile, done_For, done_Switch, done_Break, done_Continue, done_Return, done_Declare, part_Case, part_Default, part_Does}
 use Rattle.k_lower_fits.specs.Costs.{Cost, free, then_, above, and_own, with_registers, in_row, of_statement, of_part, of_declarator, expr_cost, option_cost, init_cost, declared_cost, first_cost, stmt_cost, stmt_cost_step, part_cost_step}
 use Rattle.k_lower_fits.specs.Fits.{Limits, Site, Standing, expr_fits, option_fits, init_fits, declarator_fits, declared_fit, first_fits, return_fits, in_loop, in_switch, all_stand, stmt_fits, stmt_step, part_step, has_values}
-use Rattle.k_lower_fits.proofs.Expressions.{NamesFit, calls_of_two, calls_front, calls_behind, calls_same, expr_good}
+use Rattle.k_lower_fits.proofs.Expressions.{NamesFit, expr_good}
 use Rattle.k_lower_fits.proofs.Initialisers.{InitGood, begun_good}
 use Rattle.k_lower_fits.proofs.Named.{entered_each}
 use Rattle.k_lower_fits.proofs.Operands.{NameFits}
 use Rattle.k_lower_fits.proofs.Operations.{passed_to}
 use Rattle.k_lower_fits.proofs.Ready.{number_has_values, Ready, IfReady, Good, sum_cons, in_its_kind, is_passed, unused}
+use Rattle.k_lower_fits.proofs.Split as split
 
 -- SO MANY NODES pay for what stands between `before` variables and `after` variables
 pub record Pays (before after n : ℕ) (c : Cost) : Type 0 where
@@ -216,7 +217,7 @@ module _ (limits : Limits) (defined : List (List ℕ)) where
             let below : n < limits.variables = omega (arith, count, less) in
             let good : InitGood limits (initialised_count d.init) o.init =
             object_good false s n known.names d o x (entered_each (NameFits limits defined) d.name (meaning.Variable n o.of (object_fixed s.fixed d.stars)) known.names below fit)
-            (calls_behind (IsDefined defined) (dims_calls d.dims) (start_calls d.init) calls) in
+            (split.behind (IsDefined defined) (dims_calls d.dims) (start_calls d.init) calls) in
             let r : (init_cost o.init).registers ≤ 2 * initialised_count d.init = good.pays.registers in
             let i : (init_cost o.init).instructions ≤ 20 * initialised_count d.init = good.pays.instructions in
             record {
@@ -230,7 +231,7 @@ module _ (limits : Limits) (defined : List (List ℕ)) where
       → Comes known after (declarators_count ds) (declared_cost ts) (declared_fit limits ts)
   declared_comes _ _ _ _ _ (none_declared s known) calls = nothing known
   declared_comes _ _ _ _ _ (more_declared s known d ds o ts after x rest) calls =
-      let c = calls_of_two (IsDefined defined) (declarator_calls d ++ declarators_calls ds) (declarator_calls d) (declarators_calls ds) refl calls in
+      let c = split.two (IsDefined defined) (declarator_calls d ++ declarators_calls ds) (declarator_calls d) (declarators_calls ds) refl calls in
       let total : sum (declarator_count d ∷ map declarator_count ds) ≡ declarator_count d + declarators_count ds = sum_cons (declarator_count d) (map declarator_count ds) in
       wider known after (declarator_count d + declarators_count ds) (declarators_count (d ∷ ds)) (then_ (and_own of_declarator (init_cost o.init)) (declared_cost ts))
       (declarator_fits limits (variable_tree known o) && declared_fit limits ts) (omega (arith, total))
@@ -317,7 +318,7 @@ module _ (limits : Limits) (defined : List (List ℕ)) where
   mutual
     pub stmt_comes : (around : Around) (known : Known) (s : Stmt) (t : TStmt) (after : Known) → ElabStmt around known s t after → D (stmt_calls s) → Gives around → StmtComes around known s t after
     stmt_comes _ _ _ _ _ (expression around known p e v x) calls gives =
-        let c = calls_same (IsDefined defined) (stmt_calls (stmt.Expr p e)) (expr_calls e) (folds.stmt_Expr (List Called) (List Called) part_calls_step stmt_calls_step p e) calls in
+        let c = split.same (IsDefined defined) (stmt_calls (stmt.Expr p e)) (expr_calls e) (folds.stmt_Expr (List Called) (List Called) part_calls_step stmt_calls_step p e) calls in
         stmt_by around known (stmt.Expr p e) (typed.Expr (spot p) v.tree) (taking known v) (1 + expr_count e) (and_own of_statement (expr_cost v.tree)) (λ site. expr_fits limits v.tree false)
         (folds.stmt_Expr ℕ ℕ count.part_step count.stmt_step p e) (done_Expr Cost Cost part_cost_step stmt_cost_step (spot p) v.tree) (done_Expr Standing Standing part_step (stmt_step limits) (spot p) v.tree)
         (one known (taking known v) (expr_count e) (1 + expr_count e) (expr_cost v.tree) (expr_fits limits v.tree false) (omega arith) (dropped_comes known e v c x))
@@ -326,14 +327,14 @@ module _ (limits : Limits) (defined : List (List ℕ)) where
         (folds.stmt_Empty ℕ ℕ count.part_step count.stmt_step p) (done_Empty Cost Cost part_cost_step stmt_cost_step (spot p)) (done_Empty Standing Standing part_step (stmt_step limits) (spot p))
         (alone known true refl)
     stmt_comes _ _ _ _ _ (block around known p parts trees inside xs) calls gives =
-        let c = calls_same (IsDefined defined) (stmt_calls (stmt.Block p parts)) (all_calls (map stmt_calls parts)) (folds.stmt_Block (List Called) (List Called) part_calls_step stmt_calls_step p parts) calls in
+        let c = split.same (IsDefined defined) (stmt_calls (stmt.Block p parts)) (all_calls (map stmt_calls parts)) (folds.stmt_Block (List Called) (List Called) part_calls_step stmt_calls_step p parts) calls in
         stmt_by around known (stmt.Block p parts) (typed.Block (spot p) trees) (leaving known inside) (1 + sum (map stmt_count parts)) (and_own of_statement (in_row (map stmt_cost trees)))
         (λ site. all_stand site (map (stmt_fits limits) trees))
         (folds.stmt_Block ℕ ℕ count.part_step count.stmt_step p parts) (done_Block Cost Cost part_cost_step stmt_cost_step (spot p) trees) (done_Block Standing Standing part_step (stmt_step limits) (spot p) trees)
         (one known (leaving known inside) (sum (map stmt_count parts)) (1 + sum (map stmt_count parts)) (in_row (map stmt_cost trees)) (all_stand (site_of around) (map (stmt_fits limits) trees)) (omega arith)
         (scope known inside (sum (map stmt_count parts)) (in_row (map stmt_cost trees)) (all_stand (site_of around) (map (stmt_fits limits) trees)) (stmts_come around (opened known) parts trees inside xs c gives)))
     stmt_comes _ _ _ _ _ (if_alone around known p e s v kind t after x number a) calls gives =
-        let c = calls_of_two (IsDefined defined) (stmt_calls (stmt.If p e s None)) (expr_calls e) (stmt_calls s ++ []) (folds.if_alone (List Called) (List Called) part_calls_step stmt_calls_step p e s) calls in
+        let c = split.two (IsDefined defined) (stmt_calls (stmt.If p e s None)) (expr_calls e) (stmt_calls s ++ []) (folds.if_alone (List Called) (List Called) part_calls_step stmt_calls_step p e s) calls in
         stmt_by around known (stmt.If p e s None) (typed.If (spot p) v.tree t None) after (1 + expr_count e + stmt_count s + 0) (and_own of_statement (then_ (expr_cost v.tree) (then_ (stmt_cost t) free)))
         (λ site. expr_fits limits v.tree true && (stmt_fits limits t site && true))
         (folds.if_alone ℕ ℕ count.part_step count.stmt_step p e s) (done_alone Cost Cost part_cost_step stmt_cost_step (spot p) v.tree t) (done_alone Standing Standing part_step (stmt_step limits) (spot p) v.tree t)
@@ -342,9 +343,9 @@ module _ (limits : Limits) (defined : List (List ℕ)) where
         (both known (taking known v) after (expr_count e) (stmt_count s + 0) (expr_cost v.tree) (then_ (stmt_cost t) free) (expr_fits limits v.tree true) (stmt_fits limits t (site_of around) && true)
         (used_comes known e v kind c.0 x number)
         (both (taking known v) after after (stmt_count s) 0 (stmt_cost t) free (stmt_fits limits t (site_of around)) true
-        (stmt_comes around (taking known v) s t after a (calls_front (IsDefined defined) (stmt_calls s) [] c.1) gives) (nothing after))))
+        (stmt_comes around (taking known v) s t after a (split.front (IsDefined defined) (stmt_calls s) [] c.1) gives) (nothing after))))
     stmt_comes _ _ _ _ _ (if_else around known p e s other v kind t u middle after x number a b) calls gives =
-        let c = calls_of_two (IsDefined defined) (stmt_calls (stmt.If p e s (Some other))) (expr_calls e) (stmt_calls s ++ stmt_calls other) (folds.if_else (List Called) (List Called) part_calls_step stmt_calls_step p e s other) calls in
+        let c = split.two (IsDefined defined) (stmt_calls (stmt.If p e s (Some other))) (expr_calls e) (stmt_calls s ++ stmt_calls other) (folds.if_else (List Called) (List Called) part_calls_step stmt_calls_step p e s other) calls in
         stmt_by around known (stmt.If p e s (Some other)) (typed.If (spot p) v.tree t (Some u)) after (1 + expr_count e + stmt_count s + stmt_count other)
         (and_own of_statement (then_ (expr_cost v.tree) (then_ (stmt_cost t) (stmt_cost u))))
         (λ site. expr_fits limits v.tree true && (stmt_fits limits t site && stmt_fits limits u site))
@@ -354,10 +355,10 @@ module _ (limits : Limits) (defined : List (List ℕ)) where
         (both known (taking known v) after (expr_count e) (stmt_count s + stmt_count other) (expr_cost v.tree) (then_ (stmt_cost t) (stmt_cost u)) (expr_fits limits v.tree true)
         (stmt_fits limits t (site_of around) && stmt_fits limits u (site_of around)) (used_comes known e v kind c.0 x number)
         (both (taking known v) middle after (stmt_count s) (stmt_count other) (stmt_cost t) (stmt_cost u) (stmt_fits limits t (site_of around)) (stmt_fits limits u (site_of around))
-        (stmt_comes around (taking known v) s t middle a (calls_front (IsDefined defined) (stmt_calls s) (stmt_calls other) c.1) gives)
-        (stmt_comes around middle other u after b (calls_behind (IsDefined defined) (stmt_calls s) (stmt_calls other) c.1) gives))))
+        (stmt_comes around (taking known v) s t middle a (split.front (IsDefined defined) (stmt_calls s) (stmt_calls other) c.1) gives)
+        (stmt_comes around middle other u after b (split.behind (IsDefined defined) (stmt_calls s) (stmt_calls other) c.1) gives))))
     stmt_comes _ _ _ _ _ (while_loop around known p e s v kind t after x number a) calls gives =
-        let c = calls_of_two (IsDefined defined) (stmt_calls (stmt.While p e s)) (expr_calls e) (stmt_calls s) (folds.stmt_While (List Called) (List Called) part_calls_step stmt_calls_step p e s) calls in
+        let c = split.two (IsDefined defined) (stmt_calls (stmt.While p e s)) (expr_calls e) (stmt_calls s) (folds.stmt_While (List Called) (List Called) part_calls_step stmt_calls_step p e s) calls in
         stmt_by around known (stmt.While p e s) (typed.While (spot p) 0 v.tree t) after (1 + expr_count e + stmt_count s) (and_own of_statement (then_ (expr_cost v.tree) (stmt_cost t)))
         (λ site. expr_fits limits v.tree true && stmt_fits limits t in_loop)
         (folds.stmt_While ℕ ℕ count.part_step count.stmt_step p e s) (done_While Cost Cost part_cost_step stmt_cost_step (spot p) 0 v.tree t) (done_While Standing Standing part_step (stmt_step limits) (spot p) 0 v.tree t)
@@ -365,7 +366,7 @@ module _ (limits : Limits) (defined : List (List ℕ)) where
         (both known (taking known v) after (expr_count e) (stmt_count s) (expr_cost v.tree) (stmt_cost t) (expr_fits limits v.tree true) (stmt_fits limits t in_loop)
         (used_comes known e v kind c.0 x number) (stmt_comes (inside_loop around) (taking known v) s t after a c.1 gives)))
     stmt_comes _ _ _ _ _ (do_loop around known p s e t middle v kind a x number) calls gives =
-        let c = calls_of_two (IsDefined defined) (stmt_calls (stmt.DoWhile p s e)) (stmt_calls s) (expr_calls e) (folds.stmt_DoWhile (List Called) (List Called) part_calls_step stmt_calls_step p s e) calls in
+        let c = split.two (IsDefined defined) (stmt_calls (stmt.DoWhile p s e)) (stmt_calls s) (expr_calls e) (folds.stmt_DoWhile (List Called) (List Called) part_calls_step stmt_calls_step p s e) calls in
         stmt_by around known (stmt.DoWhile p s e) (typed.DoWhile (spot p) 0 t v.tree) (taking middle v) (1 + stmt_count s + expr_count e) (and_own of_statement (then_ (stmt_cost t) (expr_cost v.tree)))
         (λ site. stmt_fits limits t in_loop && expr_fits limits v.tree true)
         (folds.stmt_DoWhile ℕ ℕ count.part_step count.stmt_step p s e) (done_DoWhile Cost Cost part_cost_step stmt_cost_step (spot p) 0 t v.tree) (done_DoWhile Standing Standing part_step (stmt_step limits) (spot p) 0 t v.tree)
@@ -373,9 +374,9 @@ module _ (limits : Limits) (defined : List (List ℕ)) where
         (both known middle (taking middle v) (stmt_count s) (expr_count e) (stmt_cost t) (expr_cost v.tree) (stmt_fits limits t in_loop) (expr_fits limits v.tree true)
         (stmt_comes (inside_loop around) known s t middle a c.0 gives) (used_comes middle e v kind c.1 x number)))
     stmt_comes _ _ _ _ _ (for_loop around known p start test step s f a b t started tried went inside x y z body) calls gives =
-        let c = calls_of_two (IsDefined defined) (stmt_calls (stmt.For p start test step s)) (first_calls start) (option_calls test ++ (option_calls step ++ stmt_calls s))
+        let c = split.two (IsDefined defined) (stmt_calls (stmt.For p start test step s)) (first_calls start) (option_calls test ++ (option_calls step ++ stmt_calls s))
         (folds.stmt_For (List Called) (List Called) part_calls_step stmt_calls_step p start test step s) calls in
-        let d = calls_of_two (IsDefined defined) (option_calls test ++ (option_calls step ++ stmt_calls s)) (option_calls test) (option_calls step ++ stmt_calls s) refl c.1 in
+        let d = split.two (IsDefined defined) (option_calls test ++ (option_calls step ++ stmt_calls s)) (option_calls test) (option_calls step ++ stmt_calls s) refl c.1 in
         let n : ℕ = first_count start + (option_count test + (option_count step + stmt_count s)) in
         let cost : Cost = then_ (first_cost f) (then_ (option_cost a) (then_ (option_cost b) (stmt_cost t))) in
         let fits : Bool = first_fits limits f && (option_fits limits true a && (option_fits limits false b && stmt_fits limits t in_loop)) in
@@ -389,10 +390,10 @@ module _ (limits : Limits) (defined : List (List ℕ)) where
         (both started tried inside (option_count test) (option_count step + stmt_count s) (option_cost a) (then_ (option_cost b) (stmt_cost t)) (option_fits limits true a) (option_fits limits false b && stmt_fits limits t in_loop)
         (test_comes started test a tried y d.0)
         (both tried went inside (option_count step) (stmt_count s) (option_cost b) (stmt_cost t) (option_fits limits false b) (stmt_fits limits t in_loop)
-        (step_comes tried step b went z (calls_front (IsDefined defined) (option_calls step) (stmt_calls s) d.1))
-        (stmt_comes (inside_loop around) went s t inside body (calls_behind (IsDefined defined) (option_calls step) (stmt_calls s) d.1) gives))))))
+        (step_comes tried step b went z (split.front (IsDefined defined) (option_calls step) (stmt_calls s) d.1))
+        (stmt_comes (inside_loop around) went s t inside body (split.behind (IsDefined defined) (option_calls step) (stmt_calls s) d.1) gives))))))
     stmt_comes _ _ _ _ _ (switch_on around known p e parts v kind trees after x number xs) calls gives =
-        let c = calls_of_two (IsDefined defined) (stmt_calls (stmt.Switch p e parts)) (expr_calls e) (all_calls (map part_calls parts)) (folds.stmt_Switch (List Called) (List Called) part_calls_step stmt_calls_step p e parts) calls in
+        let c = split.two (IsDefined defined) (stmt_calls (stmt.Switch p e parts)) (expr_calls e) (all_calls (map part_calls parts)) (folds.stmt_Switch (List Called) (List Called) part_calls_step stmt_calls_step p e parts) calls in
         let on : TExpr = in_kind kind (promoted kind) v.tree in
         stmt_by around known (stmt.Switch p e parts) (typed.Switch (spot p) (promoted kind) on trees) after (1 + expr_count e + sum (map part_count parts))
         (and_own of_statement (then_ (above free (expr_cost on)) (in_row (map part_cost trees)))) (λ site. expr_fits limits on true && all_stand (in_switch site) (map part_fits trees))
@@ -417,14 +418,14 @@ module _ (limits : Limits) (defined : List (List ℕ)) where
         (folds.stmt_Return ℕ ℕ count.part_step count.stmt_step p None) (done_Return Cost Cost part_cost_step stmt_cost_step (spot p) None) (done_Return Standing Standing part_step (stmt_step limits) (spot p) None)
         (alone known (return_fits limits None) (ap not (gives ∙ ap (λ (c : CType). has_values (told c)) none)))
     stmt_comes _ _ _ _ _ (return_value around known p e v tree x gave) calls gives =
-        let c = calls_same (IsDefined defined) (stmt_calls (stmt.Return p (Some e))) (expr_calls e) (folds.stmt_Return (List Called) (List Called) part_calls_step stmt_calls_step p (Some e)) calls in
+        let c = split.same (IsDefined defined) (stmt_calls (stmt.Return p (Some e))) (expr_calls e) (folds.stmt_Return (List Called) (List Called) part_calls_step stmt_calls_step p (Some e)) calls in
         stmt_by around known (stmt.Return p (Some e)) (typed.Return (spot p) (Some tree)) (taking known v) (1 + expr_count e) (and_own of_statement (expr_cost tree)) (λ site. return_fits limits (Some tree))
         (folds.stmt_Return ℕ ℕ count.part_step count.stmt_step p (Some e)) (done_Return Cost Cost part_cost_step stmt_cost_step (spot p) (Some tree)) (done_Return Standing Standing part_step (stmt_step limits) (spot p) (Some tree))
         (one known (taking known v) (expr_count e) (1 + expr_count e) (expr_cost tree) (return_fits limits (Some tree)) (omega arith)
         (subst (λ (b : Bool). Comes known (taking known v) (expr_count e) (expr_cost tree) (b && expr_fits limits tree true)) (sym (gives ∙ passed_to limits around.result v tree gave))
         (ready_comes known v (expr_count e) tree (λ fit. subst (IfReady limits (expr_count e)) gave (is_passed limits (expr_count e) around.result v (expr_good limits defined known.names e v fit c x))))))
     stmt_comes _ _ _ _ _ (declaration around known p specs list trees after x) calls gives =
-        let c = calls_same (IsDefined defined) (stmt_calls (stmt.Declare p specs list)) (declarators_calls list) (folds.stmt_Declare (List Called) (List Called) part_calls_step stmt_calls_step p specs list) calls in
+        let c = split.same (IsDefined defined) (stmt_calls (stmt.Declare p specs list)) (declarators_calls list) (folds.stmt_Declare (List Called) (List Called) part_calls_step stmt_calls_step p specs list) calls in
         stmt_by around known (stmt.Declare p specs list) (typed.Declare (spot p) trees) after (1 + declarators_count list) (and_own of_statement (declared_cost trees)) (λ site. declared_fit limits trees)
         (folds.stmt_Declare ℕ ℕ count.part_step count.stmt_step p specs list) (done_Declare Cost Cost part_cost_step stmt_cost_step (spot p) trees) (done_Declare Standing Standing part_step (stmt_step limits) (spot p) trees)
         (one known after (declarators_count list) (1 + declarators_count list) (declared_cost trees) (declared_fit limits trees) (omega arith) (declared_comes (saying false specs) known list trees after x c))
@@ -433,7 +434,7 @@ module _ (limits : Limits) (defined : List (List ℕ)) where
         → Comes known after (sum (map stmt_count ss)) (in_row (map stmt_cost ts)) (all_stand (site_of around) (map (stmt_fits limits) ts))
     stmts_come _ _ _ _ _ (no_stmts around known) calls gives = nothing known
     stmts_come _ _ _ _ _ (more_stmts around known s ss t ts middle after x xs) calls gives =
-        let c = calls_of_two (IsDefined defined) (stmt_calls s ++ all_calls (map stmt_calls ss)) (stmt_calls s) (all_calls (map stmt_calls ss)) refl calls in
+        let c = split.two (IsDefined defined) (stmt_calls s ++ all_calls (map stmt_calls ss)) (stmt_calls s) (all_calls (map stmt_calls ss)) refl calls in
         let total : sum (stmt_count s ∷ map stmt_count ss) ≡ stmt_count s + sum (map stmt_count ss) = sum_cons (stmt_count s) (map stmt_count ss) in
         wider known after (stmt_count s + sum (map stmt_count ss)) (sum (stmt_count s ∷ map stmt_count ss)) (then_ (stmt_cost t) (in_row (map stmt_cost ts)))
         (stmt_fits limits t (site_of around) && all_stand (site_of around) (map (stmt_fits limits) ts)) (omega (arith, total))
@@ -451,7 +452,7 @@ module _ (limits : Limits) (defined : List (List ℕ)) where
         (folds.part_Default ℕ ℕ count.part_step count.stmt_step p) (part_Default Cost Cost part_cost_step stmt_cost_step p) (part_Default Standing Standing part_step (stmt_step limits) p)
         (label known known 0 0 refl refl (omega arith))
     part_comes _ _ _ _ _ _ _ _ (does around kind labels known p s t after x) calls gives =
-        let c = calls_same (IsDefined defined) (part_calls (part.Does p s)) (stmt_calls s) (folds.part_Does (List Called) (List Called) part_calls_step stmt_calls_step p s) calls in
+        let c = split.same (IsDefined defined) (part_calls (part.Does p s)) (stmt_calls s) (folds.part_Does (List Called) (List Called) part_calls_step stmt_calls_step p s) calls in
         part_by around known (part.Does p s) (typed_part.Does p t) after (1 + stmt_count s) (stmt_cost t) (stmt_fits limits t)
         (folds.part_Does ℕ ℕ count.part_step count.stmt_step p s) (part_Does Cost Cost part_cost_step stmt_cost_step p t) (part_Does Standing Standing part_step (stmt_step limits) p t)
         (wider known after (stmt_count s) (1 + stmt_count s) (stmt_cost t) (stmt_fits limits t (site_of around)) (omega arith) (stmt_comes around known s t after x c gives))
@@ -461,7 +462,7 @@ module _ (limits : Limits) (defined : List (List ℕ)) where
         → Comes known after (sum (map part_count xs)) (in_row (map part_cost ts)) (all_stand (site_of around) (map part_fits ts))
     parts_come _ _ _ _ _ _ _ (no_parts around kind labels known) calls gives = nothing known
     parts_come _ _ _ _ _ _ _ (more_parts around kind labels known x xs t ts labelled middle after a b) calls gives =
-        let c = calls_of_two (IsDefined defined) (part_calls x ++ all_calls (map part_calls xs)) (part_calls x) (all_calls (map part_calls xs)) refl calls in
+        let c = split.two (IsDefined defined) (part_calls x ++ all_calls (map part_calls xs)) (part_calls x) (all_calls (map part_calls xs)) refl calls in
         let total : sum (part_count x ∷ map part_count xs) ≡ part_count x + sum (map part_count xs) = sum_cons (part_count x) (map part_count xs) in
         wider known after (part_count x + sum (map part_count xs)) (sum (part_count x ∷ map part_count xs)) (then_ (part_cost t) (in_row (map part_cost ts)))
         (part_fits t (site_of around) && all_stand (site_of around) (map part_fits ts)) (omega (arith, total))

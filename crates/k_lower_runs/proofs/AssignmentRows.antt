@@ -37,8 +37,7 @@ use Rattle.k_lower_code.specs.Operators as op_code
 use Rattle.k_lower_code.specs.Places as place_code
 use Rattle.k_lower_code.specs.Pieces.{Piece, only, ◌>>>◌, does, instruction}
 use Rattle.k_lower_code.proofs.Sizes.{IsSized, binds_sized}
-use Rattle.k_lower_runs.proofs.Leads.{Registers, at, Agrees, Keeps, keeps_fewer, Leads, Follows, only_follows, binds}
-use Rattle.k_code.proofs.Kept.{OneFewer, operation_kept}
+use Rattle.k_lower_runs.proofs.Leads.{Registers, at, Agrees, Keeps, keeps_fewer, Leads, Follows, only_follows, binds, ends_at, Moves, operation_moves}
 use Rattle.k_world.specs.WorldLaws.{WhereMade}
 use Rattle.k_lower_runs.proofs.Leads.{goes_by_operation}
 use Rattle.k_lower_runs.proofs.Instructions.{slot_here, slot_there, operation_steps, operation_beside, operation_dropped}
@@ -65,7 +64,7 @@ set_length [] n slot = refl
 set_length (x ∷ slots) zero slot = refl
 set_length (x ∷ slots) (suc n) slot = ap suc (set_length slots n slot)
 
-module _ (code : Code) (count : ℕ) (program : Program) where
+module _ (code : Code) (deep count : ℕ) (program : Program) where
   -- a variable and its register are set
   pub agrees_set : (s : State) (registers : Registers) (n : ℕ) (slot : Option Held) → n < count → Agrees count s registers
       → Agrees count (record s { vars = slice_set s.vars n slot }) (with_slot n slot registers)
@@ -82,21 +81,21 @@ module _ (code : Code) (count : ℕ) (program : Program) where
   -- A VALUE IS WRITTEN to a variable by a move
   writes_register : (place : Place) (used : Bool) (r q n : ℕ) (broken other : Bool) → n < count → (P : Registers → Type 0) (o : Operand) (a : Arg)
       → ((registers : Registers) → P registers → Same count q registers o a)
-      → Follows code count r P (row.writes program place (target.InRegister n broken) o) (code_of.writes program place used r (InRegister n other) a) (λ v b new. IfUsed used count r v b new)
+      → Follows code deep count r P (row.writes program place (target.InRegister n broken) o) (code_of.writes program place used r (InRegister n other) a) (λ v b new. IfUsed used count r v b new)
   unfolding operation_of operands behind register_set
   writes_register place used r q n broken other below P o a from site first s registers has agrees p =
       lands (operation class.Move (latency program.latencies class.Move) place act.Move (map (read s) (o ∷ [])) s.world)
-      (operation_kept class.Move (latency program.latencies class.Move) place act.Move (map (read s) (o ∷ [])) s.world)
+      (operation_moves class.Move (latency program.latencies class.Move) place act.Move (map (read s) (o ∷ [])) s.world)
       (operation_steps code site first s registers program place class.Move act.Move (o ∷ []) (do_.Move a n) (has.0, tt) refl
-      (ap (λ x. x ∷ []) (reads_same count q q registers s o a (from registers p) agrees))) where
-        lands : (u : Made) → WhereMade OneFewer s.world u → step code (Going (at site first registers s.world)) ≡ by_operation code (instruction program place (do_.Move a n)) (at site first registers s.world) u
-            → Leads code count site (Going (at site first registers s.world)) (first + (1 + 0)) r registers (λ v new. IfUsed used count r v (Reg n false) new)
+      (ap (λ x. x ∷ []) (reads_same count q q registers s o a (from registers p) agrees.0))) where
+        lands : (u : Made) → WhereMade Moves s.world u → step code (Going (at site first registers s.world)) ≡ by_operation code (instruction program place (do_.Move a n)) (at site first registers s.world) u
+            → Leads code deep count site (Going (at site first registers s.world)) (first + (1 + 0)) r registers (λ v new. IfUsed used count r v (Reg n false) new)
             (follow (made s u) (λ h. sets n (Some h) >>= λ done. gives (Register n false)))
-        lands (Ends end w) made_it steps_to = (suc zero, steps_to)
+        lands (Ends end w) made_it steps_to = ends_at code (Going (at site first registers s.world)) end w (suc zero, steps_to)
         lands (Gives h w) made_it steps_to = (
           with_slot n (Some h) registers,
           (suc zero, steps_to ∙ ap (λ k. Going (at site k (with_slot n (Some h) registers) w)) (let e : first + 1 ≡ first + (1 + 0) = omega arith in e)),
-          (let set : Agrees count (record s { vars = slice_set s.vars n (Some h) }) (with_slot n (Some h) registers) = agrees_set s registers n (Some h) below agrees in
+          (let set : Agrees count (record s { vars = slice_set s.vars n (Some h) }) (with_slot n (Some h) registers) = agrees_set s registers n (Some h) below agrees.0 in
               record { length_is = set.length_is; hold = set.hold }),
           (λ k at_least low. slot_there n (Some h) registers k (λ same. omega (arith, same, at_least, below))),
           (λ is_used. variable n false below),
@@ -106,22 +105,22 @@ module _ (code : Code) (count : ℕ) (program : Program) where
   -- and to memory by a store
   writes_memory : (place : Place) (used : Bool) (r q : ℕ) → count ≤ r → (P : Registers → Type 0) (x : Operand) (y : Arg) (o : Operand) (a : Arg)
       → ((registers : Registers) → P registers → Same count r registers x y × Same count q registers o a)
-      → Follows code count r P (row.writes program place (target.InMemory x) o) (code_of.writes program place used r (InMemory y) a) (λ v b new. IfUsed used count r v b new)
+      → Follows code deep count r P (row.writes program place (target.InMemory x) o) (code_of.writes program place used r (InMemory y) a) (λ v b new. IfUsed used count r v b new)
   unfolding operation_of operands behind register_set
   writes_memory place true r q low P x y o a from =
-      under code count r P P (row.writes program place (target.InMemory x) o) (code_of.writes program place true r (InMemory y) a) (λ v b new. Same count r new v b) (λ v b new. IfUsed true count r v b new)
+      under code deep count r P P (row.writes program place (target.InMemory x) o) (code_of.writes program place true r (InMemory y) a) (λ v b new. Same count r new v b) (λ v b new. IfUsed true count r v b new)
       (λ registers p. p) (λ v new same is_used. same)
-      (computes_follow code count r P program place class.Store act.Store (x ∷ o ∷ []) (λ to. do_.Store y a (Some to)) low refl
+      (computes_follow code deep count r P program place class.Store act.Store (x ∷ o ∷ []) (λ to. do_.Store y a (Some to)) low refl
       (λ s registers agrees p. two_read s registers agrees (from registers p)) (λ held c. refl)) where
         two_read : (s : State) (registers : Registers) → Agrees count s registers → Same count r registers x y × Same count q registers o a
             → map (read s) (x ∷ o ∷ []) ≡ map (read_of registers) (y ∷ a ∷ [])
         two_read s registers agrees same = ap (λ z. z ∷ read s o ∷ []) (reads_same count r r registers s x y same.0 agrees) ∙ ap (λ z. read_of registers y ∷ z ∷ []) (reads_same count q q registers s o a same.1 agrees)
   writes_memory place false r q low P x y o a from =
-      binds code count r P (makes program class.Store place act.Store (x ∷ o ∷ [])) (does program place (do_.Store y a None)) (λ h u new. P new)
+      binds code deep count r P (makes program class.Store place act.Store (x ∷ o ∷ [])) (does program place (do_.Store y a None)) (λ h u new. P new)
       (λ h. gives (Holding h)) (λ u. only (Reg r false)) (λ v b new. IfUsed false count r v b new) (λ first. refl)
-      (operation_dropped code count r P program place class.Store act.Store (x ∷ o ∷ []) (do_.Store y a None) refl
+      (operation_dropped code deep count r P program place class.Store act.Store (x ∷ o ∷ []) (do_.Store y a None) refl
       (λ s registers agrees p. two_read s registers agrees (from registers p)) (λ held c. refl))
-      (λ h. only_follows code count r P (Holding h) (Reg r false) (λ v b new. IfUsed false count r v b new) (λ new p is_used. absurd (false≢true is_used))) where
+      (λ h. only_follows code deep count r P (Holding h) (Reg r false) (λ v b new. IfUsed false count r v b new) (λ new p is_used. absurd (false≢true is_used))) where
         two_read : (s : State) (registers : Registers) → Agrees count s registers → Same count r registers x y × Same count q registers o a
             → map (read s) (x ∷ o ∷ []) ≡ map (read_of registers) (y ∷ a ∷ [])
         two_read s registers agrees same = ap (λ z. z ∷ read s o ∷ []) (reads_same count r r registers s x y same.0 agrees) ∙ ap (λ z. read_of registers y ∷ z ∷ []) (reads_same count q q registers s o a same.1 agrees)
@@ -139,10 +138,10 @@ module _ (code : Code) (count : ℕ) (program : Program) where
   -- A VALUE IS WRITTEN to a place
   pub writes_follow : (place : Place) (used : Bool) (r q : ℕ) → count ≤ r → (P : Registers → Type 0) (t : Target) (d : Designated) (o : Operand) (a : Arg)
       → ((registers : Registers) → P registers → SamePlace count r registers t d × Same count q registers o a)
-      → Follows code count r P (row.writes program place t o) (code_of.writes program place used r d a) (λ v b new. IfUsed used count r v b new)
+      → Follows code deep count r P (row.writes program place t o) (code_of.writes program place used r d a) (λ v b new. IfUsed used count r v b new)
   writes_follow place used r q low P (target.InRegister n broken) (InRegister m other) o a from = λ site first s registers has agrees p.
       (let both : (n ≡ m) × (m < count) = of_both r registers (target.InRegister n broken) (InRegister m other) (from registers p).0 in
-      subst (λ k. Leads code count site (Going (at site first registers s.world)) (first + (code_of.writes program place used r (InRegister m other) a).size) r registers
+      subst (λ k. Leads code deep count site (Going (at site first registers s.world)) (first + (code_of.writes program place used r (InRegister m other) a).size) r registers
       (λ v new. IfUsed used count r v (Reg m false) new) (row.writes program place (target.InRegister k broken) o s)) (sym both.0)
       (writes_register place used r q m broken other both.1 P o a (λ registers p. (from registers p).1) site first s registers has agrees p))
   writes_follow place used r q low P (target.InMemory x) (InMemory y) o a from =
@@ -156,17 +155,17 @@ module _ (code : Code) (count : ℕ) (program : Program) where
   writes_sized place used r (InRegister n broken) a = λ first. refl
   writes_sized place used r (InMemory y) a = λ first. refl
 
-  pub assign_does : (node : Node) (m n : Meaning) (e f : Lowered) → Does code count m e → Does code count n f
-      → Does code count (row.assign program node m n) (code_of.assign program node e f)
+  pub assign_does : (node : Node) (m n : Meaning) (e f : Lowered) → Does code deep count m e → Does code deep count n f
+      → Does code deep count (row.assign program node m n) (code_of.assign program node e f)
   unfolding row.assign code_of.assign
-  assign_does node m n e f is other = only_value_does code count node (λ used. m.place >>= row.behind_place program node.place n) (λ used r. e.place r >>> code_of.behind_place program node.place f used r)
-      (λ used r low. binds code count r Always m.place (e.place r) (λ t d new. SamePlace count r new t d) (row.behind_place program node.place n)
+  assign_does node m n e f is other = only_value_does code deep count node (λ used. m.place >>= row.behind_place program node.place n) (λ used r. e.place r >>> code_of.behind_place program node.place f used r)
+      (λ used r low. binds code deep count r Always m.place (e.place r) (λ t d new. SamePlace count r new t d) (row.behind_place program node.place n)
       (code_of.behind_place program node.place f used r) (λ v b new. IfUsed used count r v b new) (is.place_sized r) (is.place r low)
-      (λ t. binds code count r (λ new. SamePlace count r new t (e.place r).gives) (n.value true) (f.value true (r + 1))
+      (λ t. binds code deep count r (λ new. SamePlace count r new t (e.place r).gives) (n.value true) (f.value true (r + 1))
       (λ o a new. Same count (r + 1) new o a × SamePlace count r new t (e.place r).gives) (row.writes program node.place t)
       (code_of.writes program node.place used r (e.place r).gives) (λ v b new. IfUsed used count r v b new) (other.value_sized true (r + 1))
-      (also code count r (n.value true) (f.value true (r + 1)) (λ o a new. Same count (r + 1) new o a) (λ new. SamePlace count r new t (e.place r).gives)
-      (λ old new keeps same. place_kept count r old new t (e.place r).gives low keeps same) (used_follows code count n f other (r + 1) (omega (arith, low))))
+      (also code deep count r (n.value true) (f.value true (r + 1)) (λ o a new. Same count (r + 1) new o a) (λ new. SamePlace count r new t (e.place r).gives)
+      (λ old new keeps same. place_kept count r old new t (e.place r).gives low keeps same) (used_follows code deep count n f other (r + 1) (omega (arith, low))))
       (λ o. writes_follow node.place used r (r + 1) low (λ new. Same count (r + 1) new o (f.value true (r + 1)).gives × SamePlace count r new t (e.place r).gives)
       t (e.place r).gives o (f.value true (r + 1)).gives (λ registers p. (p.1, p.0)))))
       (λ used r. binds_sized (e.place r) (code_of.behind_place program node.place f used r) (is.place_sized r)
@@ -176,14 +175,14 @@ module _ (code : Code) (count : ℕ) (program : Program) where
   -- the old value of a place that is changed, in a temporary of its own
   old_follows : (place : Place) (r q : ℕ) → count ≤ q → (P : Registers → Type 0) (t : Target) (d : Designated)
       → ((registers : Registers) → P registers → SamePlace count r registers t d)
-      → Follows code count q P (row.old_value program place t) (code_of.old_value program place q d) (λ o a new. Same count q new o a)
+      → Follows code deep count q P (row.old_value program place t) (code_of.old_value program place q d) (λ o a new. Same count q new o a)
   unfolding operation_of operands behind register_set
   old_follows place r q low P (target.InRegister n broken) (InRegister m other) from =
-      only_follows code count q P (Register n broken) (Reg m other) (λ o a new. Same count q new o a) (λ new p. by_place n broken m other new (from new p)) where
+      only_follows code deep count q P (Register n broken) (Reg m other) (λ o a new. Same count q new o a) (λ new p. by_place n broken m other new (from new p)) where
         by_place : (n : ℕ) (broken : Bool) (m : ℕ) (other : Bool) (new : Registers) → SamePlace count r new (target.InRegister n broken) (InRegister m other) → Same count q new (Register n broken) (Reg m other)
         by_place _ _ _ _ new (in_register n broken below) = variable n broken below
   old_follows place r q low P (target.InMemory x) (InMemory y) from =
-      computes_follow code count q P program place class.Load act.Load (x ∷ []) (λ to. do_.Load y to) low refl
+      computes_follow code deep count q P program place class.Load act.Load (x ∷ []) (λ to. do_.Load y to) low refl
       (λ s registers agrees p. ap (λ z. z ∷ []) (reads_same count r r registers s x y (of_both r registers (target.InMemory x) (InMemory y) (from registers p)) agrees)) (λ held c. refl)
   old_follows place r q low P (target.InRegister n broken) (InMemory y) from =
       λ site first s registers has agrees p. absurd (of_both r registers (target.InRegister n broken) (InMemory y) (from registers p))
@@ -195,33 +194,33 @@ module _ (code : Code) (count : ℕ) (program : Program) where
   old_sized place q (InMemory y) = λ first. refl
 
   -- conversions of the parts of a compound assignment
-  between_on_one : (place : Place) (from to : Kind) → OnOne code count (row.converts_between program place from to) (code_of.converts_between program place from to)
+  between_on_one : (place : Place) (from to : Kind) → OnOne code deep count (row.converts_between program place from to) (code_of.converts_between program place from to)
   between_on_one place from to = by_same (same_kind from to) where
-    by_same : (b : Bool) → OnOne code count (λ o. if b then gives o else op_row.converts program place (Some to) o) (λ r a. if b then only a else op_code.converts program place (Some to) r a)
-    by_same true = converts_on_one code count program place None
-    by_same false = converts_on_one code count program place (Some to)
+    by_same : (b : Bool) → OnOne code deep count (λ o. if b then gives o else op_row.converts program place (Some to) o) (λ r a. if b then only a else op_code.converts program place (Some to) r a)
+    by_same true = converts_on_one code deep count program place None
+    by_same false = converts_on_one code deep count program place (Some to)
 
-  side_on_one : (place : Place) (from : Option Kind) (to : Kind) → OnOne code count (row.converts_side program place from to) (code_of.converts_side program place from to)
-  side_on_one place None to = converts_on_one code count program place None
+  side_on_one : (place : Place) (from : Option Kind) (to : Kind) → OnOne code deep count (row.converts_side program place from to) (code_of.converts_side program place from to)
+  side_on_one place None to = converts_on_one code deep count program place None
   side_on_one place (Some from) to = between_on_one place from to
 
-  back_on_one : (place : Place) (from : Kind) (to : Option Kind) → OnOne code count (row.converts_back program place from to) (code_of.converts_back program place from to)
-  back_on_one place from None = converts_on_one code count program place None
+  back_on_one : (place : Place) (from : Kind) (to : Option Kind) → OnOne code deep count (row.converts_back program place from to) (code_of.converts_back program place from to)
+  back_on_one place from None = converts_on_one code deep count program place None
   back_on_one place from (Some to) = between_on_one place from to
 
   stays_there : (place : Place) (to : Kind) (q : ℕ) → count ≤ q → (o : Operand) (a : Arg)
-      → Follows code count (q + 2) (λ new. Same count q new o a) (gives o) (only a) (λ v c new. Within count q (q + 2) new v c)
-  stays_there place to q low o a = only_follows code count (q + 2) (λ new. Same count q new o a) o a (λ v c new. Within count q (q + 2) new v c)
+      → Follows code deep count (q + 2) (λ new. Same count q new o a) (gives o) (only a) (λ v c new. Within count q (q + 2) new v c)
+  stays_there place to q low o a = only_follows code deep count (q + 2) (λ new. Same count q new o a) o a (λ v c new. Within count q (q + 2) new v c)
       (λ new same. within_more count q q q (q + 2) new o a (omega arith) (omega arith) same)
 
   converted_there : (place : Place) (to : Kind) (q : ℕ) → count ≤ q → (o : Operand) (a : Arg)
-      → Follows code count (q + 2) (λ new. Same count q new o a) (op_row.converts program place (Some to) o) (op_code.converts program place (Some to) (q + 2) a) (λ v c new. Within count q (q + 2) new v c)
+      → Follows code deep count (q + 2) (λ new. Same count q new o a) (op_row.converts program place (Some to) o) (op_code.converts program place (Some to) (q + 2) a) (λ v c new. Within count q (q + 2) new v c)
   unfolding operation_of operands behind register_set
   converted_there place to q low o a =
-      under code count (q + 2) (λ new. Same count q new o a) (λ new. Same count q new o a) (op_row.converts program place (Some to) o) (op_code.converts program place (Some to) (q + 2) a)
+      under code deep count (q + 2) (λ new. Same count q new o a) (λ new. Same count q new o a) (op_row.converts program place (Some to) o) (op_code.converts program place (Some to) (q + 2) a)
       (λ v c new. Same count (q + 2) new v c) (λ v c new. Within count q (q + 2) new v c) (λ registers p. p)
       (λ v new same. within_more count (q + 2) (q + 2) q (q + 2) new v (Reg (q + 2) false) (omega arith) (omega arith) same)
-      (computes_follow code count (q + 2) (λ new. Same count q new o a) program place class.Conv (act.Convert to) (o ∷ []) (λ r. do_.Convert to a r) (omega (arith, low)) refl
+      (computes_follow code deep count (q + 2) (λ new. Same count q new o a) program place class.Conv (act.Convert to) (o ∷ []) (λ r. do_.Convert to a r) (omega (arith, low)) refl
       (λ s registers agrees same. ap (λ x. x ∷ []) (reads_same count q q registers s o a same agrees)) (λ held c. refl))
 
   side_sized : (place : Place) (from : Option Kind) (to : Kind) (r : ℕ) (a : Arg) → IsSized (code_of.converts_side program place from to r a)
@@ -229,10 +228,10 @@ module _ (code : Code) (count : ℕ) (program : Program) where
 
   -- the same of a right operand that stays where it is, or is converted in a temporary behind it
   side_follows : (place : Place) (from : Option Kind) (to : Kind) (q : ℕ) → count ≤ q → (o : Operand) (a : Arg)
-      → Follows code count (q + 2) (λ new. Same count q new o a) (row.converts_side program place from to o) (code_of.converts_side program place from to (q + 2) a) (λ v c new. Within count q (q + 2) new v c)
+      → Follows code deep count (q + 2) (λ new. Same count q new o a) (row.converts_side program place from to o) (code_of.converts_side program place from to (q + 2) a) (λ v c new. Within count q (q + 2) new v c)
   side_follows place None to q low o a = stays_there place to q low o a
   side_follows place (Some from) to q low o a = by_same (same_kind from to) where
-    by_same : (b : Bool) → Follows code count (q + 2) (λ new. Same count q new o a) (if b then gives o else op_row.converts program place (Some to) o)
+    by_same : (b : Bool) → Follows code deep count (q + 2) (λ new. Same count q new o a) (if b then gives o else op_row.converts program place (Some to) o)
         (if b then only a else op_code.converts program place (Some to) (q + 2) a) (λ v c new. Within count q (q + 2) new v c)
     by_same true = stays_there place to q low o a
     by_same false = converted_there place to q low o a
@@ -259,23 +258,23 @@ module _ (code : Code) (count : ℕ) (program : Program) where
     -- a piece that uses temporaries from k on keeps what stays with those before it
     beside : (k : ℕ) → q ≤ k → (P Q : Registers → Type 0) → ((old new : Registers) → Keeps count k old new → Q old → Q new)
         → (part : Part Operand) (piece : Piece Arg) (V : Operand → Arg → Registers → Type 0)
-        → Follows code count k (λ new. P new × Q new) part piece V → Follows code count q (λ new. P new × Q new) part piece (λ o a new. V o a new × Q new)
+        → Follows code deep count k (λ new. P new × Q new) part piece V → Follows code deep count q (λ new. P new × Q new) part piece (λ o a new. V o a new × Q new)
     beside k at_least P Q stays part piece V follows site first s registers has agrees both =
         from (part s) (follows site first s registers has agrees both) where
-          from : (o : Outcome Operand) → Leads code count site (Going (at site first registers s.world)) (first + piece.size) k registers (λ a new. V a piece.gives new) o
-              → Leads code count site (Going (at site first registers s.world)) (first + piece.size) q registers (λ a new. V a piece.gives new × Q new) o
+          from : (o : Outcome Operand) → Leads code deep count site (Going (at site first registers s.world)) (first + piece.size) k registers (λ a new. V a piece.gives new) o
+              → Leads code deep count site (Going (at site first registers s.world)) (first + piece.size) q registers (λ a new. V a piece.gives new × Q new) o
           from (Goes a x) leads = (leads.0, leads.1, leads.2, keeps_fewer count q k registers leads.0 at_least leads.3, (leads.4, stays registers leads.0 leads.3 both.1), leads.5)
           from (Stops end w) leads = leads
 
     -- before less
     less : (k : ℕ) (P Q : Registers → Type 0) (part : Part Operand) (piece : Piece Arg) (V : Operand → Arg → Registers → Type 0)
-        → ((registers : Registers) → Q registers → P registers) → Follows code count k P part piece V → Follows code count k Q part piece V
-    less k P Q part piece V from follows = under code count k P Q part piece V V from (λ v new given. given) follows
+        → ((registers : Registers) → Q registers → P registers) → Follows code deep count k P part piece V → Follows code deep count k Q part piece V
+    less k P Q part piece V from follows = under code deep count k P Q part piece V V from (λ v new given. given) follows
 
     -- an operation on the old value and the right operand, in the old value's register
-    on_both : (operation : Operand → Operand → Part Operand) (lowered : ℕ → Arg → Arg → Piece Arg) → OnTwo code count operation lowered
+    on_both : (operation : Operand → Operand → Part Operand) (lowered : ℕ → Arg → Arg → Piece Arg) → OnTwo code deep count operation lowered
         → (high : ℕ) (p : Operand) (b : Arg) (o : Operand) (a : Arg)
-        → Follows code count q (λ new. (Within count q high new o a × Same count (q + 1) new p b) × There new) (operation p o) (lowered (q + 1) b a)
+        → Follows code deep count q (λ new. (Within count q high new o a × Same count (q + 1) new p b) × There new) (operation p o) (lowered (q + 1) b a)
         (λ v c new. Same count (q + 1) new v c × There new)
     on_both operation lowered two high p b o a =
         beside (q + 1) (omega arith) (λ new. Within count q high new o a × Same count (q + 1) new p b) There
@@ -286,14 +285,14 @@ module _ (code : Code) (count : ℕ) (program : Program) where
         (two.follows (q + 1) (q + 1) (q + 1) q high (omega (arith, low, apart)) p b o a))
 
     operated : (op : Bin) (kind : Kind) (of : Option Kind) (x : Operand) (y : Arg) (z : Operand) (c : Arg)
-        → Follows code count q (λ new. (Within count q (q + 2) new z c × Same count (q + 1) new x y) × There new)
+        → Follows code deep count q (λ new. (Within count q (q + 2) new z c × Same count (q + 1) new x y) × There new)
         (op_row.binary_on program place op kind x z >>= row.converts_back program place kind of) (op_code.binary_on program place op kind (q + 1) y c >>> code_of.converts_back program place kind of (q + 1))
         (λ v c new. Same count (q + 1) new v c × There new)
     operated op kind of x y z c =
-        binds code count q (λ new. (Within count q (q + 2) new z c × Same count (q + 1) new x y) × There new) (op_row.binary_on program place op kind x z) (op_code.binary_on program place op kind (q + 1) y c)
+        binds code deep count q (λ new. (Within count q (q + 2) new z c × Same count (q + 1) new x y) × There new) (op_row.binary_on program place op kind x z) (op_code.binary_on program place op kind (q + 1) y c)
         (λ v e new. Same count (q + 1) new v e × There new) (row.converts_back program place kind of) (code_of.converts_back program place kind of (q + 1))
         (λ v c new. Same count (q + 1) new v c × There new) (λ first. refl)
-        (on_both (op_row.binary_on program place op kind) (op_code.binary_on program place op kind) (binary_on_two code count program place op kind) (q + 2) x y z c)
+        (on_both (op_row.binary_on program place op kind) (op_code.binary_on program place op kind) (binary_on_two code deep count program place op kind) (q + 2) x y z c)
         (λ v. beside (q + 1) (omega arith) (λ new. Same count (q + 1) new v (Reg (q + 1) false)) There
         (λ old new keeps there. there_kept old new (keeps_fewer count q (q + 1) old new (omega arith) keeps) there) (row.converts_back program place kind of v)
         (code_of.converts_back program place kind of (q + 1) (Reg (q + 1) false)) (λ v c new. Same count (q + 1) new v c)
@@ -302,17 +301,17 @@ module _ (code : Code) (count : ℕ) (program : Program) where
         ((back_on_one place kind of).follows (q + 1) (omega (arith, low, apart)) v (Reg (q + 1) false))))
 
     by_converted : (op : Bin) (kind : Kind) (of by_of : Option Kind) (x : Operand) (y : Arg) (o : Operand) (a : Arg)
-        → Follows code count q (λ new. Same count (q + 1) new x y × By o a new)
+        → Follows code deep count q (λ new. Same count (q + 1) new x y × By o a new)
         (row.converts_side program place by_of (row.side_kind op kind by_of) o >>= λ z. op_row.binary_on program place op kind x z >>= row.converts_back program place kind of)
         (code_of.converts_side program place by_of (row.side_kind op kind by_of) (q + 2) a >>> λ c. op_code.binary_on program place op kind (q + 1) y c >>> code_of.converts_back program place kind of (q + 1))
         (λ v c new. Same count (q + 1) new v c × There new)
     by_converted op kind of by_of x y o a =
-        binds code count q (λ new. Same count (q + 1) new x y × By o a new) (row.converts_side program place by_of (row.side_kind op kind by_of) o)
+        binds code deep count q (λ new. Same count (q + 1) new x y × By o a new) (row.converts_side program place by_of (row.side_kind op kind by_of) o)
         (code_of.converts_side program place by_of (row.side_kind op kind by_of) (q + 2) a) (λ z c new. (Within count q (q + 2) new z c × Same count (q + 1) new x y) × There new)
         (λ z. op_row.binary_on program place op kind x z >>= row.converts_back program place kind of)
         (λ c. op_code.binary_on program place op kind (q + 1) y c >>> code_of.converts_back program place kind of (q + 1))
         (λ v c new. Same count (q + 1) new v c × There new) (side_sized place by_of (row.side_kind op kind by_of) (q + 2) a)
-        (under code count q (λ new. Same count q new o a × (Same count (q + 1) new x y × There new)) (λ new. Same count (q + 1) new x y × By o a new)
+        (under code deep count q (λ new. Same count q new o a × (Same count (q + 1) new x y × There new)) (λ new. Same count (q + 1) new x y × By o a new)
         (row.converts_side program place by_of (row.side_kind op kind by_of) o) (code_of.converts_side program place by_of (row.side_kind op kind by_of) (q + 2) a)
         (λ z c new. Within count q (q + 2) new z c × (Same count (q + 1) new x y × There new)) (λ z c new. (Within count q (q + 2) new z c × Same count (q + 1) new x y) × There new)
         (λ registers all. (all.1.0, (all.0, all.1.1))) (λ z new given. ((given.0, given.1.0), given.1.1))
@@ -329,10 +328,10 @@ module _ (code : Code) (count : ℕ) (program : Program) where
         (λ z. operated op kind of x y z (code_of.converts_side program place by_of (row.side_kind op kind by_of) (q + 2) a).gives)
 
     combined_follows : (op : Bin) (kind : Kind) (of by_of : Option Kind) (p : Operand) (b : Arg) (o : Operand) (a : Arg)
-        → Follows code count q (λ new. Same count (q + 1) new p b × By o a new) (row.combined program place op kind of by_of p o) (code_of.combined program place op kind of by_of q b a)
+        → Follows code deep count q (λ new. Same count (q + 1) new p b × By o a new) (row.combined program place op kind of by_of p o) (code_of.combined program place op kind of by_of q b a)
         (λ v c new. Same count (q + 1) new v c × There new)
     combined_follows op kind of by_of p b o a =
-        binds code count q (λ new. Same count (q + 1) new p b × By o a new) (row.converts_side program place of kind p) (code_of.converts_side program place of kind (q + 1) b)
+        binds code deep count q (λ new. Same count (q + 1) new p b × By o a new) (row.converts_side program place of kind p) (code_of.converts_side program place of kind (q + 1) b)
         (λ x y new. Same count (q + 1) new x y × By o a new)
         (λ x. row.converts_side program place by_of (row.side_kind op kind by_of) o >>= λ z. op_row.binary_on program place op kind x z >>= row.converts_back program place kind of)
         (λ y. code_of.converts_side program place by_of (row.side_kind op kind by_of) (q + 2) a >>> λ c. op_code.binary_on program place op kind (q + 1) y c >>> code_of.converts_back program place kind of (q + 1))
@@ -344,17 +343,17 @@ module _ (code : Code) (count : ℕ) (program : Program) where
         (λ x. by_converted op kind of by_of x (code_of.converts_side program place of kind (q + 1) b).gives o a)
 
     moved_by : (minus : Bool) (of : TType) (p : Operand) (b : Arg) (o : Operand) (a : Arg)
-        → Follows code count q (λ new. Same count (q + 1) new p b × By o a new) (place_row.offset program place minus (scale_of of) p o) (place_code.offset program place minus (scale_of of) (q + 1) b a)
+        → Follows code deep count q (λ new. Same count (q + 1) new p b × By o a new) (place_row.offset program place minus (scale_of of) p o) (place_code.offset program place minus (scale_of of) (q + 1) b a)
         (λ v c new. Same count (q + 1) new v c × There new)
     moved_by minus of p b o a =
         less q (λ new. (Within count q q new o a × Same count (q + 1) new p b) × There new) (λ new. Same count (q + 1) new p b × By o a new)
         (place_row.offset program place minus (scale_of of) p o) (place_code.offset program place minus (scale_of of) (q + 1) b a) (λ v c new. Same count (q + 1) new v c × There new)
         (λ registers all. ((all.1.0, all.0), all.1.1))
-        (on_both (place_row.offset program place minus (scale_of of)) (place_code.offset program place minus (scale_of of)) (offset_on_two code count program place minus (scale_of of)) q p b o a)
+        (on_both (place_row.offset program place minus (scale_of of)) (place_code.offset program place minus (scale_of of)) (offset_on_two code deep count program place minus (scale_of of)) q p b o a)
 
     -- what a change makes of the old value and the right operand
     changed_follows : (change : Change) (of : TType) (by_of : Option Kind) (p : Operand) (b : Arg) (o : Operand) (a : Arg)
-        → Follows code count q (λ new. Same count (q + 1) new p b × By o a new) (row.changed program place change of by_of p o) (code_of.changed program place change of by_of q b a)
+        → Follows code deep count q (λ new. Same count (q + 1) new p b × By o a new) (row.changed program place change of by_of p o) (code_of.changed program place change of by_of q b a)
         (λ v c new. Same count (q + 1) new v c × There new)
     changed_follows (change.Number op kind) of by_of p b o a = combined_follows op kind (kind_of of) by_of p b o a
     changed_follows change.Forward of by_of p b o a = moved_by false of p b o a
@@ -376,20 +375,20 @@ module _ (code : Code) (count : ℕ) (program : Program) where
 
   -- a piece that uses temporaries behind one, after which something is so
   pub down : {A B : Type 0} (r : ℕ) (P : Registers → Type 0) (part : Part A) (piece : Piece B) (V : A → B → Registers → Type 0)
-      → Follows code count (r + 1) P part piece V → Follows code count r P part piece V
+      → Follows code deep count (r + 1) P part piece V → Follows code deep count r P part piece V
   down {A = A} r P part piece V follows site first s registers has agrees p =
       from (part s) (follows site first s registers has agrees p) where
-        from : (o : Outcome A) → Leads code count site (Going (at site first registers s.world)) (first + piece.size) (r + 1) registers (λ a new. V a piece.gives new) o
-            → Leads code count site (Going (at site first registers s.world)) (first + piece.size) r registers (λ a new. V a piece.gives new) o
+        from : (o : Outcome A) → Leads code deep count site (Going (at site first registers s.world)) (first + piece.size) (r + 1) registers (λ a new. V a piece.gives new) o
+            → Leads code deep count site (Going (at site first registers s.world)) (first + piece.size) r registers (λ a new. V a piece.gives new) o
         from (Goes a x) leads = (leads.0, leads.1, leads.2, keeps_fewer count r (r + 1) registers leads.0 (omega arith) leads.3, leads.4, leads.5)
         from (Stops end w) leads = leads
 
   -- A PLACE IS CHANGED, behind its right operand and its old value
   changes_follow : (node : Node) (change : Change) (by_of : Option Kind) (used : Bool) (r : ℕ) → count ≤ r → (t : Target) (d : Designated) (p : Operand) (b : Arg) (o : Operand) (a : Arg)
-      → Follows code count r (λ new. Same count ((r + 1) + 1) new p b × (Same count (r + 1) new o a × SamePlace count r new t d))
+      → Follows code deep count r (λ new. Same count ((r + 1) + 1) new p b × (Same count (r + 1) new o a × SamePlace count r new t d))
       (row.changes program node change by_of t o p) (code_of.changes program node change by_of used r d a b) (λ v c new. IfUsed used count r v c new)
   changes_follow node change by_of used r low t d p b o a =
-      binds code count r (λ new. Same count ((r + 1) + 1) new p b × (Same count (r + 1) new o a × SamePlace count r new t d))
+      binds code deep count r (λ new. Same count ((r + 1) + 1) new p b × (Same count (r + 1) new o a × SamePlace count r new t d))
       (row.changed program node.place change node.of by_of p o) (code_of.changed program node.place change node.of by_of (r + 1) b a)
       (λ v c new. Same count ((r + 1) + 1) new v c × SamePlace count r new t d) (row.writes program node.place t) (code_of.writes program node.place used r d)
       (λ v c new. IfUsed used count r v c new) (changed_sized node.place change node.of by_of (r + 1) b a)
@@ -408,27 +407,27 @@ module _ (code : Code) (count : ℕ) (program : Program) where
 
   -- and behind its right operand alone
   changes_old_follow : (node : Node) (change : Change) (by_of : Option Kind) (used : Bool) (r : ℕ) → count ≤ r → (t : Target) (d : Designated) (o : Operand) (a : Arg)
-      → Follows code count r (λ new. Same count (r + 1) new o a × SamePlace count r new t d)
+      → Follows code deep count r (λ new. Same count (r + 1) new o a × SamePlace count r new t d)
       (row.changes_old program node change by_of t o) (code_of.changes_old program node change by_of used r d a) (λ v c new. IfUsed used count r v c new)
   changes_old_follow node change by_of used r low t d o a =
-      binds code count r (λ new. Same count (r + 1) new o a × SamePlace count r new t d) (row.old_value program node.place t) (code_of.old_value program node.place (r + 2) d)
+      binds code deep count r (λ new. Same count (r + 1) new o a × SamePlace count r new t d) (row.old_value program node.place t) (code_of.old_value program node.place (r + 2) d)
       (λ p b new. Same count ((r + 1) + 1) new p b × (Same count (r + 1) new o a × SamePlace count r new t d))
       (row.changes program node change by_of t o) (code_of.changes program node change by_of used r d a) (λ v c new. IfUsed used count r v c new)
       (old_sized node.place (r + 2) d)
       (old_beside site_free)
       (λ p. changes_follow node change by_of used r low t d p (code_of.old_value program node.place (r + 2) d).gives o a)
     where
-      site_free : Follows code count (r + 2) (λ new. SamePlace count r new t d) (row.old_value program node.place t) (code_of.old_value program node.place (r + 2) d) (λ p b new. Same count (r + 2) new p b)
+      site_free : Follows code deep count (r + 2) (λ new. SamePlace count r new t d) (row.old_value program node.place t) (code_of.old_value program node.place (r + 2) d) (λ p b new. Same count (r + 2) new p b)
       site_free = old_follows node.place r (r + 2) (omega (arith, low)) (λ new. SamePlace count r new t d) t d (λ registers p. p)
 
-      old_beside : Follows code count (r + 2) (λ new. SamePlace count r new t d) (row.old_value program node.place t) (code_of.old_value program node.place (r + 2) d) (λ p b new. Same count (r + 2) new p b)
-          → Follows code count r (λ new. Same count (r + 1) new o a × SamePlace count r new t d) (row.old_value program node.place t) (code_of.old_value program node.place (r + 2) d)
+      old_beside : Follows code deep count (r + 2) (λ new. SamePlace count r new t d) (row.old_value program node.place t) (code_of.old_value program node.place (r + 2) d) (λ p b new. Same count (r + 2) new p b)
+          → Follows code deep count r (λ new. Same count (r + 1) new o a × SamePlace count r new t d) (row.old_value program node.place t) (code_of.old_value program node.place (r + 2) d)
           (λ p b new. Same count ((r + 1) + 1) new p b × (Same count (r + 1) new o a × SamePlace count r new t d))
       old_beside follows site first s registers has agrees both =
           from (row.old_value program node.place t s) (follows site first s registers has agrees both.1) where
-            from : (x : Outcome Operand) → Leads code count site (Going (at site first registers s.world)) (first + (code_of.old_value program node.place (r + 2) d).size) (r + 2) registers
+            from : (x : Outcome Operand) → Leads code deep count site (Going (at site first registers s.world)) (first + (code_of.old_value program node.place (r + 2) d).size) (r + 2) registers
                 (λ p new. Same count (r + 2) new p (code_of.old_value program node.place (r + 2) d).gives) x
-                → Leads code count site (Going (at site first registers s.world)) (first + (code_of.old_value program node.place (r + 2) d).size) r registers
+                → Leads code deep count site (Going (at site first registers s.world)) (first + (code_of.old_value program node.place (r + 2) d).size) r registers
                 (λ p new. Same count ((r + 1) + 1) new p (code_of.old_value program node.place (r + 2) d).gives × (Same count (r + 1) new o a × SamePlace count r new t d)) x
             from (Goes p x) leads = (
               leads.0,
@@ -450,38 +449,38 @@ module _ (code : Code) (count : ℕ) (program : Program) where
   changes_old_sized node change by_of used r d a = binds_sized (code_of.old_value program node.place (r + 2) d) (code_of.changes program node change by_of used r d a) (old_sized node.place (r + 2) d)
       (changes_sized node change by_of used r d a (code_of.old_value program node.place (r + 2) d).gives)
 
-  assigned_by : (node : Node) (change : Change) (by_of : Option Kind) (m n : Meaning) (e f : Lowered) → Does code count m e → Does code count n f
-      → Does code count (means.only_value node (λ used. m.place >>= λ t. n.value true >>= row.changes_old program node change by_of t))
+  assigned_by : (node : Node) (change : Change) (by_of : Option Kind) (m n : Meaning) (e f : Lowered) → Does code deep count m e → Does code deep count n f
+      → Does code deep count (means.only_value node (λ used. m.place >>= λ t. n.value true >>= row.changes_old program node change by_of t))
       (lowers.only_value node (λ used r. e.place r >>> λ d. f.value true (r + 1) >>> code_of.changes_old program node change by_of used r d))
-  assigned_by node change by_of m n e f is other = only_value_does code count node (λ used. m.place >>= λ t. n.value true >>= row.changes_old program node change by_of t)
+  assigned_by node change by_of m n e f is other = only_value_does code deep count node (λ used. m.place >>= λ t. n.value true >>= row.changes_old program node change by_of t)
       (λ used r. e.place r >>> λ d. f.value true (r + 1) >>> code_of.changes_old program node change by_of used r d)
-      (λ used r low. binds code count r Always m.place (e.place r) (λ t d new. SamePlace count r new t d) (λ t. n.value true >>= row.changes_old program node change by_of t)
+      (λ used r low. binds code deep count r Always m.place (e.place r) (λ t d new. SamePlace count r new t d) (λ t. n.value true >>= row.changes_old program node change by_of t)
       (λ d. f.value true (r + 1) >>> code_of.changes_old program node change by_of used r d) (λ v b new. IfUsed used count r v b new) (is.place_sized r) (is.place r low)
-      (λ t. binds code count r (λ new. SamePlace count r new t (e.place r).gives) (n.value true) (f.value true (r + 1))
+      (λ t. binds code deep count r (λ new. SamePlace count r new t (e.place r).gives) (n.value true) (f.value true (r + 1))
       (λ o a new. Same count (r + 1) new o a × SamePlace count r new t (e.place r).gives) (row.changes_old program node change by_of t)
       (code_of.changes_old program node change by_of used r (e.place r).gives) (λ v b new. IfUsed used count r v b new) (other.value_sized true (r + 1))
-      (also code count r (n.value true) (f.value true (r + 1)) (λ o a new. Same count (r + 1) new o a) (λ new. SamePlace count r new t (e.place r).gives)
-      (λ old new keeps same. place_kept count r old new t (e.place r).gives low keeps same) (used_follows code count n f other (r + 1) (omega (arith, low))))
+      (also code deep count r (n.value true) (f.value true (r + 1)) (λ o a new. Same count (r + 1) new o a) (λ new. SamePlace count r new t (e.place r).gives)
+      (λ old new keeps same. place_kept count r old new t (e.place r).gives low keeps same) (used_follows code deep count n f other (r + 1) (omega (arith, low))))
       (λ o. changes_old_follow node change by_of used r low t (e.place r).gives o (f.value true (r + 1)).gives)))
       (λ used r. binds_sized (e.place r) (λ d. f.value true (r + 1) >>> code_of.changes_old program node change by_of used r d) (is.place_sized r)
       (binds_sized (f.value true (r + 1)) (code_of.changes_old program node change by_of used r (e.place r).gives) (other.value_sized true (r + 1))
       (changes_old_sized node change by_of used r (e.place r).gives (f.value true (r + 1)).gives)))
 
-  pub assign_by_does : (node : Node) (change : Change) (m n : Meaning) (e f : Lowered) → Does code count m e → Does code count n f
-      → Does code count (row.assign_by program node change m n) (code_of.assign_by program node change e f)
+  pub assign_by_does : (node : Node) (change : Change) (m n : Meaning) (e f : Lowered) → Does code deep count m e → Does code deep count n f
+      → Does code deep count (row.assign_by program node change m n) (code_of.assign_by program node change e f)
   unfolding row.assign_by code_of.assign_by
   assign_by_does node change m n e f is other =
-      subst (λ (of : Node). Does code count (means.only_value node (λ used. m.place >>= λ t. n.value true >>= row.changes_old program node change (kind_of n.node.of) t))
+      subst (λ (of : Node). Does code deep count (means.only_value node (λ used. m.place >>= λ t. n.value true >>= row.changes_old program node change (kind_of n.node.of) t))
       (lowers.only_value node (λ used r. e.place r >>> λ d. f.value true (r + 1) >>> code_of.changes_old program node change (kind_of of.of) used r d))) other.node
       (assigned_by node change (kind_of n.node.of) m n e f is other)
 
-  pub pre_does : (node : Node) (change : Change) (m : Meaning) (e : Lowered) → Does code count m e → Does code count (row.pre program node change m) (code_of.pre program node change e)
+  pub pre_does : (node : Node) (change : Change) (m : Meaning) (e : Lowered) → Does code deep count m e → Does code deep count (row.pre program node change m) (code_of.pre program node change e)
   unfolding row.pre code_of.pre
-  pre_does node change m e is = only_value_does code count node (λ used. m.place >>= λ t. row.changes_old program node change None t row.one)
+  pre_does node change m e is = only_value_does code deep count node (λ used. m.place >>= λ t. row.changes_old program node change None t row.one)
       (λ used r. e.place r >>> λ d. code_of.changes_old program node change None used r d code_of.one)
-      (λ used r low. binds code count r Always m.place (e.place r) (λ t d new. SamePlace count r new t d) (λ t. row.changes_old program node change None t row.one)
+      (λ used r low. binds code deep count r Always m.place (e.place r) (λ t d new. SamePlace count r new t d) (λ t. row.changes_old program node change None t row.one)
       (λ d. code_of.changes_old program node change None used r d code_of.one) (λ v b new. IfUsed used count r v b new) (is.place_sized r) (is.place r low)
-      (λ t. under code count r (λ new. Same count (r + 1) new row.one code_of.one × SamePlace count r new t (e.place r).gives) (λ new. SamePlace count r new t (e.place r).gives)
+      (λ t. under code deep count r (λ new. Same count (r + 1) new row.one code_of.one × SamePlace count r new t (e.place r).gives) (λ new. SamePlace count r new t (e.place r).gives)
       (row.changes_old program node change None t row.one) (code_of.changes_old program node change None used r (e.place r).gives code_of.one)
       (λ v b new. IfUsed used count r v b new) (λ v b new. IfUsed used count r v b new) (λ registers there. (number (pos 1), there)) (λ v new given. given)
       (changes_old_follow node change None used r low t (e.place r).gives row.one code_of.one)))
@@ -490,12 +489,12 @@ module _ (code : Code) (count : ℕ) (program : Program) where
 
   -- the old value of a place, which is still there behind it
   old_with_place : (place : Place) (r q : ℕ) → count ≤ r → r + 1 ≤ q → (t : Target) (d : Designated)
-      → Follows code count q (λ new. SamePlace count r new t d) (row.old_value program place t) (code_of.old_value program place q d) (λ p b new. Same count q new p b × SamePlace count r new t d)
+      → Follows code deep count q (λ new. SamePlace count r new t d) (row.old_value program place t) (code_of.old_value program place q d) (λ p b new. Same count q new p b × SamePlace count r new t d)
   old_with_place place r q low apart t d site first s registers has agrees there =
       from (row.old_value program place t s) (old_follows place r q (omega (arith, low, apart)) (λ new. SamePlace count r new t d) t d (λ registers p. p) site first s registers has agrees there) where
-        from : (x : Outcome Operand) → Leads code count site (Going (at site first registers s.world)) (first + (code_of.old_value program place q d).size) q registers
+        from : (x : Outcome Operand) → Leads code deep count site (Going (at site first registers s.world)) (first + (code_of.old_value program place q d).size) q registers
             (λ p new. Same count q new p (code_of.old_value program place q d).gives) x
-            → Leads code count site (Going (at site first registers s.world)) (first + (code_of.old_value program place q d).size) q registers
+            → Leads code deep count site (Going (at site first registers s.world)) (first + (code_of.old_value program place q d).size) q registers
             (λ p new. Same count q new p (code_of.old_value program place q d).gives × SamePlace count r new t d) x
         from (Goes p x) leads = (
           leads.0,
@@ -509,11 +508,11 @@ module _ (code : Code) (count : ℕ) (program : Program) where
 
   -- a piece that uses temporaries from one on uses them from an earlier one on
   down_to : (r q : ℕ) → r ≤ q → (P : Registers → Type 0) (part : Part Operand) (piece : Piece Arg) (V : Operand → Arg → Registers → Type 0)
-      → Follows code count q P part piece V → Follows code count r P part piece V
+      → Follows code deep count q P part piece V → Follows code deep count r P part piece V
   down_to r q at_most P part piece V follows site first s registers has agrees p =
       from (part s) (follows site first s registers has agrees p) where
-        from : (o : Outcome Operand) → Leads code count site (Going (at site first registers s.world)) (first + piece.size) q registers (λ a new. V a piece.gives new) o
-            → Leads code count site (Going (at site first registers s.world)) (first + piece.size) r registers (λ a new. V a piece.gives new) o
+        from : (o : Outcome Operand) → Leads code deep count site (Going (at site first registers s.world)) (first + piece.size) q registers (λ a new. V a piece.gives new) o
+            → Leads code deep count site (Going (at site first registers s.world)) (first + piece.size) r registers (λ a new. V a piece.gives new) o
         from (Goes a x) leads = (leads.0, leads.1, leads.2, keeps_fewer count r q registers leads.0 at_most leads.3, leads.4, leads.5)
         from (Stops end w) leads = leads
 
@@ -528,26 +527,26 @@ module _ (code : Code) (count : ℕ) (program : Program) where
 
   -- the old value is moved to the first temporary, and is still there for the change, as the place is
   kept_follows : (place : Place) (r : ℕ) → count ≤ r → (t : Target) (d : Designated) (p : Operand) (b : Arg)
-      → Follows code count r (λ new. Same count (r + 3) new p b × SamePlace count (r + 1) new t d) (op_row.moves program place p) (op_code.moves program place r b)
+      → Follows code deep count r (λ new. Same count (r + 3) new p b × SamePlace count (r + 1) new t d) (op_row.moves program place p) (op_code.moves program place r b)
       (λ kept c new. Same count r new kept c × (Same count (r + 3) new p b × SamePlace count (r + 1) new t d))
   unfolding operation_of operands behind register_set
   kept_follows place r low t d p b =
-      binds code count r (λ new. Same count (r + 3) new p b × SamePlace count (r + 1) new t d) (makes program class.Move place act.Move (p ∷ [])) (does program place (do_.Move b r))
+      binds code deep count r (λ new. Same count (r + 3) new p b × SamePlace count (r + 1) new t d) (makes program class.Move place act.Move (p ∷ [])) (does program place (do_.Move b r))
       (λ h done new. (new r ≡ Some h) × (Same count (r + 3) new p b × SamePlace count (r + 1) new t d))
       (λ h. gives (Holding h)) (λ done. only (Reg r false)) (λ kept c new. Same count r new kept c × (Same count (r + 3) new p b × SamePlace count (r + 1) new t d)) (λ first. refl)
-      (operation_beside code count r r (λ new. Same count (r + 3) new p b × SamePlace count (r + 1) new t d) (λ new. Same count (r + 3) new p b × SamePlace count (r + 1) new t d)
+      (operation_beside code deep count r r (λ new. Same count (r + 3) new p b × SamePlace count (r + 1) new t d) (λ new. Same count (r + 3) new p b × SamePlace count (r + 1) new t d)
       program place class.Move act.Move (p ∷ []) (do_.Move b r) refl
       (λ s registers agrees both. ap (λ x. x ∷ []) (reads_same count (r + 3) (r + 3) registers s p b both.0 agrees)) (λ held c. refl) low (omega arith)
       (λ registers slot both. (within_set (r + 3) (r + 3) r slot registers p b (omega arith) both.0, place_set (r + 1) r slot registers t d (omega arith) both.1)))
-      (λ h. only_follows code count r (λ new. (new r ≡ Some h) × (Same count (r + 3) new p b × SamePlace count (r + 1) new t d)) (Holding h) (Reg r false)
+      (λ h. only_follows code deep count r (λ new. (new r ≡ Some h) × (Same count (r + 3) new p b × SamePlace count (r + 1) new t d)) (Holding h) (Reg r false)
       (λ kept c new. Same count r new kept c × (Same count (r + 3) new p b × SamePlace count (r + 1) new t d)) (λ new all. (held h r (omega arith) (omega arith) all.0, all.1)))
 
   -- the place is changed behind its old value
   changed_behind : (node : Node) (change : Change) (used : Bool) (r : ℕ) → count ≤ r → (t : Target) (d : Designated) (p : Operand) (b : Arg)
-      → Follows code count (r + 1) (λ new. Same count (r + 3) new p b × SamePlace count (r + 1) new t d)
+      → Follows code deep count (r + 1) (λ new. Same count (r + 3) new p b × SamePlace count (r + 1) new t d)
       (row.changes program node change None t row.one p) (code_of.changes program node change None used (r + 1) d code_of.one b) (λ v c new. IfUsed used count (r + 1) v c new)
   changed_behind node change used r low t d p b =
-      under code count (r + 1) (λ new. Same count (((r + 1) + 1) + 1) new p b × (Same count ((r + 1) + 1) new row.one code_of.one × SamePlace count (r + 1) new t d))
+      under code deep count (r + 1) (λ new. Same count (((r + 1) + 1) + 1) new p b × (Same count ((r + 1) + 1) new row.one code_of.one × SamePlace count (r + 1) new t d))
       (λ new. Same count (r + 3) new p b × SamePlace count (r + 1) new t d)
       (row.changes program node change None t row.one p) (code_of.changes program node change None used (r + 1) d code_of.one b)
       (λ v c new. IfUsed used count (r + 1) v c new) (λ v c new. IfUsed used count (r + 1) v c new)
@@ -555,34 +554,34 @@ module _ (code : Code) (count : ℕ) (program : Program) where
       (changes_follow node change None used (r + 1) (omega (arith, low)) t d p b row.one code_of.one)
 
   after_old_follows : (node : Node) (change : Change) (used : Bool) (r : ℕ) → count ≤ r → (t : Target) (d : Designated) (p : Operand) (b : Arg)
-      → Follows code count r (λ new. Same count (r + 3) new p b × SamePlace count (r + 1) new t d)
+      → Follows code deep count r (λ new. Same count (r + 3) new p b × SamePlace count (r + 1) new t d)
       (row.after_old program node change used t p) (code_of.after_old program node change used r d b) (λ v c new. IfUsed used count r v c new)
   after_old_follows node change false r low t d p b =
-      under code count r (λ new. Same count (r + 3) new p b × SamePlace count (r + 1) new t d) (λ new. Same count (r + 3) new p b × SamePlace count (r + 1) new t d)
+      under code deep count r (λ new. Same count (r + 3) new p b × SamePlace count (r + 1) new t d) (λ new. Same count (r + 3) new p b × SamePlace count (r + 1) new t d)
       (row.changes program node change None t row.one p) (code_of.changes program node change None false (r + 1) d code_of.one b)
       (λ v c new. IfUsed false count (r + 1) v c new) (λ v c new. IfUsed false count r v c new) (λ registers p. p) (λ v new given is_used. absurd (false≢true is_used))
       (down_to r (r + 1) (omega arith) (λ new. Same count (r + 3) new p b × SamePlace count (r + 1) new t d)
       (row.changes program node change None t row.one p) (code_of.changes program node change None false (r + 1) d code_of.one b) (λ v c new. IfUsed false count (r + 1) v c new)
       (changed_behind node change false r low t d p b))
   after_old_follows node change true r low t d p b =
-      binds code count r (λ new. Same count (r + 3) new p b × SamePlace count (r + 1) new t d) (op_row.moves program node.place p) (op_code.moves program node.place r b)
+      binds code deep count r (λ new. Same count (r + 3) new p b × SamePlace count (r + 1) new t d) (op_row.moves program node.place p) (op_code.moves program node.place r b)
       (λ kept c new. Same count r new kept c × (Same count (r + 3) new p b × SamePlace count (r + 1) new t d))
       (λ kept. row.changes program node change None t row.one p >>= λ v. gives kept)
       (λ kept. code_of.changes program node change None false (r + 1) d code_of.one b >>> λ v. only kept) (λ v c new. IfUsed true count r v c new) (λ first. refl)
       (kept_follows node.place r low t d p b)
-      (λ kept. binds code count r (λ new. Same count r new kept (Reg r false) × (Same count (r + 3) new p b × SamePlace count (r + 1) new t d))
+      (λ kept. binds code deep count r (λ new. Same count r new kept (Reg r false) × (Same count (r + 3) new p b × SamePlace count (r + 1) new t d))
       (row.changes program node change None t row.one p) (code_of.changes program node change None false (r + 1) d code_of.one b)
       (λ v c new. IfUsed false count (r + 1) v c new × Same count r new kept (Reg r false)) (λ v. gives kept) (λ v. only (Reg r false)) (λ v c new. IfUsed true count r v c new)
       (changes_sized node change None false (r + 1) d code_of.one b)
-      (under code count r (λ new. (Same count (r + 3) new p b × SamePlace count (r + 1) new t d) × Same count r new kept (Reg r false))
+      (under code deep count r (λ new. (Same count (r + 3) new p b × SamePlace count (r + 1) new t d) × Same count r new kept (Reg r false))
       (λ new. Same count r new kept (Reg r false) × (Same count (r + 3) new p b × SamePlace count (r + 1) new t d))
       (row.changes program node change None t row.one p) (code_of.changes program node change None false (r + 1) d code_of.one b)
       (λ v c new. IfUsed false count (r + 1) v c new × Same count r new kept (Reg r false)) (λ v c new. IfUsed false count (r + 1) v c new × Same count r new kept (Reg r false))
       (λ registers all. (all.1, all.0)) (λ v new given. given)
-      (also_under code count r (λ new. Same count (r + 3) new p b × SamePlace count (r + 1) new t d) (row.changes program node change None t row.one p)
+      (also_under code deep count r (λ new. Same count (r + 3) new p b × SamePlace count (r + 1) new t d) (row.changes program node change None t row.one p)
       (code_of.changes program node change None false (r + 1) d code_of.one b) (λ v c new. IfUsed false count (r + 1) v c new) (λ new. Same count r new kept (Reg r false))
       (λ old new keeps same. same_kept count r old new kept (Reg r false) low keeps same) (changed_behind node change false r low t d p b)))
-      (λ v. only_follows code count r (λ new. IfUsed false count (r + 1) v (code_of.changes program node change None false (r + 1) d code_of.one b).gives new × Same count r new kept (Reg r false))
+      (λ v. only_follows code deep count r (λ new. IfUsed false count (r + 1) v (code_of.changes program node change None false (r + 1) d code_of.one b).gives new × Same count r new kept (Reg r false))
       kept (Reg r false) (λ v c new. IfUsed true count r v c new) (λ new all is_used. all.1)))
 
   after_old_sized : (node : Node) (change : Change) (used : Bool) (r : ℕ) (d : Designated) (b : Arg) → IsSized (code_of.after_old program node change used r d b)
@@ -590,13 +589,13 @@ module _ (code : Code) (count : ℕ) (program : Program) where
   after_old_sized node change true r d b = binds_sized (op_code.moves program node.place r b) (λ kept. code_of.changes program node change None false (r + 1) d code_of.one b >>> λ v. only kept) (λ first. refl)
       (binds_sized (code_of.changes program node change None false (r + 1) d code_of.one b) (λ v. only (Reg r false)) (changes_sized node change None false (r + 1) d code_of.one b) (λ first. refl))
 
-  pub post_does : (node : Node) (change : Change) (m : Meaning) (e : Lowered) → Does code count m e → Does code count (row.post program node change m) (code_of.post program node change e)
+  pub post_does : (node : Node) (change : Change) (m : Meaning) (e : Lowered) → Does code deep count m e → Does code deep count (row.post program node change m) (code_of.post program node change e)
   unfolding row.post code_of.post
-  post_does node change m e is = only_value_does code count node (λ used. m.place >>= row.after_place program node change used) (λ used r. e.place (r + 1) >>> code_of.after_place program node change used r)
-      (λ used r low. binds code count r Always m.place (e.place (r + 1)) (λ t d new. SamePlace count (r + 1) new t d) (row.after_place program node change used)
+  post_does node change m e is = only_value_does code deep count node (λ used. m.place >>= row.after_place program node change used) (λ used r. e.place (r + 1) >>> code_of.after_place program node change used r)
+      (λ used r low. binds code deep count r Always m.place (e.place (r + 1)) (λ t d new. SamePlace count (r + 1) new t d) (row.after_place program node change used)
       (code_of.after_place program node change used r) (λ v b new. IfUsed used count r v b new) (is.place_sized (r + 1))
       (down r Always m.place (e.place (r + 1)) (λ t d new. SamePlace count (r + 1) new t d) (is.place (r + 1) (omega (arith, low))))
-      (λ t. binds code count r (λ new. SamePlace count (r + 1) new t (e.place (r + 1)).gives) (row.old_value program node.place t) (code_of.old_value program node.place (r + 3) (e.place (r + 1)).gives)
+      (λ t. binds code deep count r (λ new. SamePlace count (r + 1) new t (e.place (r + 1)).gives) (row.old_value program node.place t) (code_of.old_value program node.place (r + 3) (e.place (r + 1)).gives)
       (λ p b new. Same count (r + 3) new p b × SamePlace count (r + 1) new t (e.place (r + 1)).gives) (row.after_old program node change used t)
       (code_of.after_old program node change used r (e.place (r + 1)).gives) (λ v b new. IfUsed used count r v b new) (old_sized node.place (r + 3) (e.place (r + 1)).gives)
       (down_to r (r + 3) (omega arith) (λ new. SamePlace count (r + 1) new t (e.place (r + 1)).gives) (row.old_value program node.place t)

@@ -16,8 +16,7 @@ use Rattle.k_code.specs.Steps.{Configuration, Going, step, at_instruction, by_ki
 use Rattle.k_evaluation.specs.declared.operand.Operand.{Operand}
 use Rattle.k_evaluation.specs.States.{Program, State, gives, read, made, makes}
 use Rattle.k_lower_code.specs.Pieces.{does, instruction, latency_by}
-use Rattle.k_lower_runs.proofs.Leads.{Registers, Site, at, Agrees, Keeps, keeps_itself, goes_itself, goes_by_operation, HasAt, Leads, Follows}
-use Rattle.k_code.proofs.Kept.{OneFewer, operation_kept}
+use Rattle.k_lower_runs.proofs.Leads.{Registers, Site, at, Agrees, Keeps, keeps_itself, goes_itself, goes_by_operation, HasAt, Leads, Follows, ends_at, Moves, operation_moves}
 use Rattle.k_world.specs.WorldLaws.{WhereMade}
 
 -- the register that was set holds this, and others are as before
@@ -51,7 +50,7 @@ module _ (code : Code) where
   alone_steps site first w registers program place act has of =
       step_is (at site first registers w) (instruction program place act) has.0 ∙ ap (by_kind code (instruction program place act) (at site first registers w)) of
 
-  module _ (count : ℕ) where
+  module _ (deep count : ℕ) where
     -- a register behind the variables is set: they agree as before
     pub agrees_behind : (s : State) (w : World) (registers : Registers) (to : ℕ) (slot : Option Held) → count ≤ to → Agrees count s registers
         → Agrees count (record s { world = w }) (with_slot to slot registers)
@@ -70,22 +69,22 @@ module _ (code : Code) where
         → ((s : State) (registers : Registers) → Agrees count s registers → P registers → map (read s) read_here ≡ map (read_of registers) (operands act))
         → ((held : Held) (c : Configuration) → behind code place act held c ≡ onward c (with_register (Some to) (Some held) c.frame) c.world)
         → count ≤ to → r ≤ to
-        → Follows code count r P (makes program class place what read_here) (does program place act) (λ held done new. new to ≡ Some held)
+        → Follows code deep count r P (makes program class place what read_here) (does program place act) (λ held done new. new to ≡ Some held)
     operation_follows r to P program place class what read_here act of reads sets low low_too site first s registers has agrees p =
         lands (operation class (latency program.latencies class) place what (map (read s) read_here) s.world)
-        (operation_kept class (latency program.latencies class) place what (map (read s) read_here) s.world)
-        (operation_steps site first s registers program place class what read_here act has of (reads s registers agrees p)) where
-          lands : (m : Made) → WhereMade OneFewer s.world m → step code (Going (at site first registers s.world)) ≡ by_operation code (instruction program place act) (at site first registers s.world) m
-              → Leads code count site (Going (at site first registers s.world)) (first + 1) r registers (λ held new. new to ≡ Some held) (made s m)
+        (operation_moves class (latency program.latencies class) place what (map (read s) read_here) s.world)
+        (operation_steps site first s registers program place class what read_here act has of (reads s registers agrees.0 p)) where
+          lands : (m : Made) → WhereMade Moves s.world m → step code (Going (at site first registers s.world)) ≡ by_operation code (instruction program place act) (at site first registers s.world) m
+              → Leads code deep count site (Going (at site first registers s.world)) (first + 1) r registers (λ held new. new to ≡ Some held) (made s m)
           lands (Gives held w) made_it steps_to = (
             with_slot to (Some held) registers,
             (suc zero, steps_to ∙ sets held (at site first registers w)),
-            agrees_behind s w registers to (Some held) low agrees,
+            agrees_behind s w registers to (Some held) low agrees.0,
             keeps_below r to (Some held) registers low_too,
             slot_here to (Some held) registers,
             goes_by_operation s.world w made_it,
           )
-          lands (Ends end w) made_it steps_to = (suc zero, steps_to)
+          lands (Ends end w) made_it steps_to = ends_at code (Going (at site first registers s.world)) end w (suc zero, steps_to)
 
     -- the same, beside what a change of that temporary leaves so
     pub operation_beside : (r to : ℕ) (P Q : Registers → Type 0) (program : Program) (place : Place) (class : Class) (what : Act) (read_here : List Operand) (act : Do)
@@ -93,44 +92,44 @@ module _ (code : Code) where
         → ((s : State) (registers : Registers) → Agrees count s registers → P registers → map (read s) read_here ≡ map (read_of registers) (operands act))
         → ((held : Held) (c : Configuration) → behind code place act held c ≡ onward c (with_register (Some to) (Some held) c.frame) c.world)
         → count ≤ to → r ≤ to → ((registers : Registers) (slot : Option Held) → P registers → Q (with_slot to slot registers))
-        → Follows code count r P (makes program class place what read_here) (does program place act) (λ held done new. (new to ≡ Some held) × Q new)
+        → Follows code deep count r P (makes program class place what read_here) (does program place act) (λ held done new. (new to ≡ Some held) × Q new)
     operation_beside r to P Q program place class what read_here act of reads sets low low_too stays site first s registers has agrees p =
         lands (operation class (latency program.latencies class) place what (map (read s) read_here) s.world)
-        (operation_kept class (latency program.latencies class) place what (map (read s) read_here) s.world)
-        (operation_steps site first s registers program place class what read_here act has of (reads s registers agrees p)) where
-          lands : (m : Made) → WhereMade OneFewer s.world m → step code (Going (at site first registers s.world)) ≡ by_operation code (instruction program place act) (at site first registers s.world) m
-              → Leads code count site (Going (at site first registers s.world)) (first + 1) r registers (λ held new. (new to ≡ Some held) × Q new) (made s m)
+        (operation_moves class (latency program.latencies class) place what (map (read s) read_here) s.world)
+        (operation_steps site first s registers program place class what read_here act has of (reads s registers agrees.0 p)) where
+          lands : (m : Made) → WhereMade Moves s.world m → step code (Going (at site first registers s.world)) ≡ by_operation code (instruction program place act) (at site first registers s.world) m
+              → Leads code deep count site (Going (at site first registers s.world)) (first + 1) r registers (λ held new. (new to ≡ Some held) × Q new) (made s m)
           lands (Gives held w) made_it steps_to = (
             with_slot to (Some held) registers,
             (suc zero, steps_to ∙ sets held (at site first registers w)),
-            agrees_behind s w registers to (Some held) low agrees,
+            agrees_behind s w registers to (Some held) low agrees.0,
             keeps_below r to (Some held) registers low_too,
             (slot_here to (Some held) registers, stays registers (Some held) p),
             goes_by_operation s.world w made_it,
           )
-          lands (Ends end w) made_it steps_to = (suc zero, steps_to)
+          lands (Ends end w) made_it steps_to = ends_at code (Going (at site first registers s.world)) end w (suc zero, steps_to)
 
     -- AN OPERATION WHOSE VALUE IS DROPPED
     pub operation_dropped : (r : ℕ) (P : Registers → Type 0) (program : Program) (place : Place) (class : Class) (what : Act) (read_here : List Operand) (act : Do)
         → operation_of act ≡ Some (class, what)
         → ((s : State) (registers : Registers) → Agrees count s registers → P registers → map (read s) read_here ≡ map (read_of registers) (operands act))
         → ((held : Held) (c : Configuration) → behind code place act held c ≡ onward c c.frame c.world)
-        → Follows code count r P (makes program class place what read_here) (does program place act) (λ held done new. P new)
+        → Follows code deep count r P (makes program class place what read_here) (does program place act) (λ held done new. P new)
     operation_dropped r P program place class what read_here act of reads drops site first s registers has agrees p =
         lands (operation class (latency program.latencies class) place what (map (read s) read_here) s.world)
-        (operation_kept class (latency program.latencies class) place what (map (read s) read_here) s.world)
-        (operation_steps site first s registers program place class what read_here act has of (reads s registers agrees p)) where
-          lands : (m : Made) → WhereMade OneFewer s.world m → step code (Going (at site first registers s.world)) ≡ by_operation code (instruction program place act) (at site first registers s.world) m
-              → Leads code count site (Going (at site first registers s.world)) (first + 1) r registers (λ held new. P new) (made s m)
+        (operation_moves class (latency program.latencies class) place what (map (read s) read_here) s.world)
+        (operation_steps site first s registers program place class what read_here act has of (reads s registers agrees.0 p)) where
+          lands : (m : Made) → WhereMade Moves s.world m → step code (Going (at site first registers s.world)) ≡ by_operation code (instruction program place act) (at site first registers s.world) m
+              → Leads code deep count site (Going (at site first registers s.world)) (first + 1) r registers (λ held new. P new) (made s m)
           lands (Gives held w) made_it steps_to = (
             registers,
             (suc zero, steps_to ∙ drops held (at site first registers w)),
-            record { length_is = agrees.length_is; hold = agrees.hold },
+            record { length_is = agrees.0.length_is; hold = agrees.0.hold },
             keeps_itself count r registers,
             p,
             goes_by_operation s.world w made_it,
           )
-          lands (Ends end w) made_it steps_to = (suc zero, steps_to)
+          lands (Ends end w) made_it steps_to = ends_at code (Going (at site first registers s.world)) end w (suc zero, steps_to)
 
     -- AN INSTRUCTION THAT SETS A TEMPORARY without an operation
     pub alone_follows : (r : ℕ) (P : Registers → Type 0) (program : Program) (place : Place) (act : Do) (slot : Held)
@@ -138,11 +137,11 @@ module _ (code : Code) where
         → ((site : Site) (first : ℕ) (registers : Registers) (w : World) → P registers → alone code place act (at site first registers w)
         ≡ Going (at site (first + 1) (with_slot r (Some slot) registers) w))
         → count ≤ r
-        → Follows code count r P (gives {A = Unit {0}} tt) (does program place act) (λ u done new. new r ≡ Some slot)
+        → Follows code deep count r P (gives {A = Unit {0}} tt) (does program place act) (λ u done new. new r ≡ Some slot)
     alone_follows r P program place act slot of sets low site first s registers has agrees p = (
       with_slot r (Some slot) registers,
       (suc zero, alone_steps site first s.world registers program place act has of ∙ sets site first registers s.world p),
-      agrees_behind s s.world registers r (Some slot) low agrees,
+      agrees_behind s s.world registers r (Some slot) low agrees.0,
       keeps_below r r (Some slot) registers (omega arith),
       slot_here r (Some slot) registers,
       goes_itself s.world,

@@ -14,7 +14,7 @@ use Rattle.k_evaluation.specs.declared.operand.Operand.{Operand}
 use Rattle.k_evaluation.specs.declared.operand.Operand.TheVariants.{Holding}
 use Rattle.k_evaluation.specs.declared.operand.Target.{Target}
 use Rattle.k_evaluation.specs.declared.operand.Target.TheVariants as target
-use Rattle.k_evaluation.specs.States.{Program, State, Outcome, Goes, Stops, Part, ◌>>=◌, gives, read, makes, computes}
+use Rattle.k_evaluation.specs.States.{Program, State, Outcome, Goes, Stops, Part, gives, read, makes, computes}
 use Rattle.k_lower_code.specs.Pieces.{Piece, only, does, sets}
 use Rattle.k_lower_code.specs.Lowered.{Designated, InRegister, InMemory}
 pub use Rattle.k_lower_runs.specs.Doing.{Within, number, variable, held, constant, Same, SamePlace, in_register, in_memory, AllSame, IfUsed, Always, Does}
@@ -70,39 +70,39 @@ all_read count r registers s (o ∷ os) (a ∷ args) same agrees =
     ap (λ x. x ∷ map (read s) os) (reads_same count r r registers s o a same.0 agrees)
     ∙ ap (λ xs. read_of registers a ∷ xs) (all_read count (r + 1) registers s os args same.1 agrees)
 
-module _ (code : Code) (count : ℕ) where
+module _ (code : Code) (deep count : ℕ) where
   -- what is so of registers stays so as long as those up to a temporary are kept
   abbrev pub StaysUpTo : ℕ → (Registers → Type 0) → Type 0
   StaysUpTo r Q = (old new : Registers) → Keeps count (r + 1) old new → Q old → Q new
 
   -- a piece that uses the temporaries behind one keeps what is so of it
   pub also : {A B : Type 0} (r : ℕ) (part : Part A) (piece : Piece B) (V : A → B → Registers → Type 0) (Q : Registers → Type 0) → StaysUpTo r Q
-      → Follows code count (r + 1) Always part piece V → Follows code count r Q part piece (λ a b new. V a b new × Q new)
+      → Follows code deep count (r + 1) Always part piece V → Follows code deep count r Q part piece (λ a b new. V a b new × Q new)
   also {A = A} {B = B} r part piece V Q stays follows site first s registers has agrees q =
       from (part s) (follows site first s registers has agrees tt) where
-        from : (o : Outcome A) → Leads code count site (Going (at site first registers s.world)) (first + piece.size) (r + 1) registers (λ a new. V a piece.gives new) o
-            → Leads code count site (Going (at site first registers s.world)) (first + piece.size) r registers (λ a new. V a piece.gives new × Q new) o
+        from : (o : Outcome A) → Leads code deep count site (Going (at site first registers s.world)) (first + piece.size) (r + 1) registers (λ a new. V a piece.gives new) o
+            → Leads code deep count site (Going (at site first registers s.world)) (first + piece.size) r registers (λ a new. V a piece.gives new × Q new) o
         from (Goes a t) leads = (leads.0, leads.1, leads.2, keeps_fewer count r (r + 1) registers leads.0 (omega arith) leads.3, (leads.4, stays registers leads.0 leads.3 q), leads.5)
         from (Stops end w) leads = leads
 
   -- the same of a piece before which something is so of registers
   pub also_under : {A B : Type 0} (r : ℕ) (P : Registers → Type 0) (part : Part A) (piece : Piece B) (V : A → B → Registers → Type 0) (Q : Registers → Type 0) → StaysUpTo r Q
-      → Follows code count (r + 1) P part piece V → Follows code count r (λ new. P new × Q new) part piece (λ a b new. V a b new × Q new)
+      → Follows code deep count (r + 1) P part piece V → Follows code deep count r (λ new. P new × Q new) part piece (λ a b new. V a b new × Q new)
   also_under {A = A} {B = B} r P part piece V Q stays follows site first s registers has agrees both =
       from (part s) (follows site first s registers has agrees both.0) where
-        from : (o : Outcome A) → Leads code count site (Going (at site first registers s.world)) (first + piece.size) (r + 1) registers (λ a new. V a piece.gives new) o
-            → Leads code count site (Going (at site first registers s.world)) (first + piece.size) r registers (λ a new. V a piece.gives new × Q new) o
+        from : (o : Outcome A) → Leads code deep count site (Going (at site first registers s.world)) (first + piece.size) (r + 1) registers (λ a new. V a piece.gives new) o
+            → Leads code deep count site (Going (at site first registers s.world)) (first + piece.size) r registers (λ a new. V a piece.gives new × Q new) o
         from (Goes a t) leads = (leads.0, leads.1, leads.2, keeps_fewer count r (r + 1) registers leads.0 (omega arith) leads.3, (leads.4, stays registers leads.0 leads.3 both.1), leads.5)
         from (Stops end w) leads = leads
 
   -- what follows under less follows under more
   pub under : {A B : Type 0} (r : ℕ) (P Q : Registers → Type 0) (part : Part A) (piece : Piece B) (V W : A → B → Registers → Type 0)
       → ((registers : Registers) → Q registers → P registers) → ((a : A) (new : Registers) → V a piece.gives new → W a piece.gives new)
-      → Follows code count r P part piece V → Follows code count r Q part piece W
+      → Follows code deep count r P part piece V → Follows code deep count r Q part piece W
   under {A = A} r P Q part piece V W less more follows site first s registers has agrees q =
       from (part s) (follows site first s registers has agrees (less registers q)) where
-        from : (o : Outcome A) → Leads code count site (Going (at site first registers s.world)) (first + piece.size) r registers (λ a new. V a piece.gives new) o
-            → Leads code count site (Going (at site first registers s.world)) (first + piece.size) r registers (λ a new. W a piece.gives new) o
+        from : (o : Outcome A) → Leads code deep count site (Going (at site first registers s.world)) (first + piece.size) r registers (λ a new. V a piece.gives new) o
+            → Leads code deep count site (Going (at site first registers s.world)) (first + piece.size) r registers (λ a new. W a piece.gives new) o
         from (Goes a t) leads = (leads.0, leads.1, leads.2, leads.3, more a leads.0 leads.4, leads.5)
         from (Stops end w) leads = leads
 
@@ -111,16 +111,16 @@ module _ (code : Code) (count : ℕ) where
       → count ≤ r → operation_of (act r) ≡ Some (class, what)
       → ((s : State) (registers : Registers) → Agrees count s registers → P registers → map (read s) read_here ≡ map (read_of registers) (operands (act r)))
       → ((held : Held) (c : Configuration) → behind code place (act r) held c ≡ onward c (with_register (Some r) (Some held) c.frame) c.world)
-      → Follows code count r P (computes program class place what read_here) (sets program place act r) (λ o a new. Same count r new o a)
+      → Follows code deep count r P (computes program class place what read_here) (sets program place act r) (λ o a new. Same count r new o a)
   computes_follow r P program place class what read_here act low of reads set =
-      binds code count r P (makes program class place what read_here) (does program place (act r)) (λ h done new. new r ≡ Some h)
+      binds code deep count r P (makes program class place what read_here) (does program place (act r)) (λ h done new. new r ≡ Some h)
       (λ h. gives (Holding h)) (λ done. only (Reg r false)) (λ o a new. Same count r new o a) (λ first. refl)
-      (operation_follows code count r r P program place class what read_here (act r) of reads set low (omega arith))
-      (λ h. only_follows code count r (λ new. new r ≡ Some h) (Holding h) (Reg r false) (λ o a new. Same count r new o a) (λ new is. held h r (omega arith) (omega arith) is))
+      (operation_follows code deep count r r P program place class what read_here (act r) of reads set low (omega arith))
+      (λ h. only_follows code deep count r (λ new. new r ≡ Some h) (Holding h) (Reg r false) (λ o a new. Same count r new o a) (λ new is. held h r (omega arith) (omega arith) is))
 
   -- a piece that uses temporaries behind one
   pub lower : {A B : Type 0} (r : ℕ) (part : Part A) (piece : Piece B) (V : A → B → Registers → Type 0)
-      → Follows code count (r + 1) Always part piece V → Follows code count r Always part piece V
+      → Follows code deep count (r + 1) Always part piece V → Follows code deep count r Always part piece V
   lower r part piece V follows = under r Always Always part piece (λ a b new. V a b new × Unit {0}) V (λ registers p. p) (λ a new both. both.0)
       (also r part piece V Always (λ old new keeps p. p) follows)
 
@@ -129,11 +129,11 @@ module _ (code : Code) (count : ℕ) where
       → count ≤ r → operation_of act ≡ Some (class, what)
       → ((s : State) (registers : Registers) → Agrees count s registers → P registers → map (read s) read_here ≡ map (read_of registers) (operands act))
       → ((held : Held) (c : Configuration) → behind code place act held c ≡ onward c (with_register (Some r) (Some held) c.frame) c.world)
-      → Follows code count r P (computes program class place what read_here) (does program place act) (λ o u new. Same count r new o (Reg r false))
+      → Follows code deep count r P (computes program class place what read_here) (does program place act) (λ o u new. Same count r new o (Reg r false))
   operation_held r P program place class what read_here act low of reads set site first s registers has agrees p =
-      from (makes program class place what read_here s) (operation_follows code count r r P program place class what read_here act of reads set low (omega arith) site first s registers has agrees p) where
-        from : (o : Outcome Held) → Leads code count site (Going (at site first registers s.world)) (first + 1) r registers (λ h new. new r ≡ Some h) o
-            → Leads code count site (Going (at site first registers s.world)) (first + 1) r registers (λ v new. Same count r new v (Reg r false))
+      from (makes program class place what read_here s) (operation_follows code deep count r r P program place class what read_here act of reads set low (omega arith) site first s registers has agrees p) where
+        from : (o : Outcome Held) → Leads code deep count site (Going (at site first registers s.world)) (first + 1) r registers (λ h new. new r ≡ Some h) o
+            → Leads code deep count site (Going (at site first registers s.world)) (first + 1) r registers (λ v new. Same count r new v (Reg r false))
             (Rattle.k_evaluation.specs.States.follow o (λ h. gives (Holding h)))
         from (Goes h t) leads = (leads.0, leads.1, leads.2, leads.3, held h r (omega arith) (omega arith) leads.4, leads.5)
         from (Stops end w) leads = leads

@@ -52,11 +52,11 @@ IfUsed used count r o a registers = used ≡ true → Same count r registers o a
 abbrev pub Always : Registers → Type 0
 Always registers = Unit {0}
 
-module _ (code : Code) (count : ℕ) where
+module _ (code : Code) (deep count : ℕ) where
   -- AN EXPRESSION'S CODE DOES WHAT IT MEANS, as a value and as a place
   pub record Does (m : Meaning) (e : Lowered) : Type 0 where
-    pub value : (used : Bool) (r : ℕ) → count ≤ r → Follows code count r Always (m.value used) (e.value used r) (λ o a new. IfUsed used count r o a new)
-    pub place : (r : ℕ) → count ≤ r → Follows code count r Always m.place (e.place r) (λ t d new. SamePlace count r new t d)
+    pub value : (used : Bool) (r : ℕ) → count ≤ r → Follows code deep count r Always (m.value used) (e.value used r) (λ o a new. IfUsed used count r o a new)
+    pub place : (r : ℕ) → count ≤ r → Follows code deep count r Always m.place (e.place r) (λ t d new. SamePlace count r new t d)
     pub value_sized : (used : Bool) (r : ℕ) → IsSized (e.value used r)
     pub place_sized : (r : ℕ) → IsSized (e.place r)
     pub node : m.node ≡ e.node
@@ -65,5 +65,5 @@ module _ (code : Code) (count : ℕ) where
   -- a call's code does what the calls say, behind its arguments
   abbrev pub CallFollows : Program → Calls → Node → ℕ → Type 0
   CallFollows program calls node f = (used : Bool) (r : ℕ) → count ≤ r → (os : List Operand) (args : List Arg)
-      → Follows code count r (λ new. AllSame count r new os args) (calls f node.place os) (calls_with program node f used r args)
+      → Follows code deep count r (λ new. AllSame count r new os args) (calls f node.place os) (calls_with program node f used r args)
       (λ v b new. IfUsed used count r v b new)

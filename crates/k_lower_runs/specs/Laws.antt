@@ -14,6 +14,6 @@ use Rattle.k_lower_runs.specs.Sound.{is_sound}
 -- The code of an expression whose variables are among so many does what the expression means, with the same operations and the same end,
 -- wherever the code has it; as far as the calls that fit do what the calls of the program do.
 abbrev pub ExpressionsDoWhatTheyMean : Type 0
-ExpressionsDoWhatTheyMean = (code : Code) (count : ℕ) (program : Program) (vs : List TVariable) (calls : Calls) (fits : Node → ℕ → Bool)
-    → ((node : Node) (f : ℕ) → fits node f ≡ true → CallFollows code count program calls node f)
-    → (e : TExpr) → is_sound count fits e ≡ true → Does code count (eval program vs calls e) (lowered program vs e)
+ExpressionsDoWhatTheyMean = (code : Code) (deep count : ℕ) (program : Program) (vs : List TVariable) (calls : Calls) (fits : Node → ℕ → Bool)
+    → ((node : Node) (f : ℕ) → fits node f ≡ true → CallFollows code deep count program calls node f)
+    → (e : TExpr) → is_sound count fits e ≡ true → Does code deep count (eval program vs calls e) (lowered program vs e)

@@ -1,6 +1,6 @@
 -- The arms of an `if`.
 use Rattle.std.proofs.Common.{ℕ, suc, ◌≡◌, ◌+◌, ◌<◌, ◌≤◌, ◌||◌, Bool, false, List, ◌∷◌, ◌++◌, length, None, refl, sym, subst, ◌∙◌, arith}
-use Rattle.std.proofs.lemmas.Bool.{true≢false}
+use Rattle.std.proofs.lemmas.Bool.{or_left, or_right, true≢false}
 use Rattle.std.proofs.lemmas.List.{length-append}
 use Rattle.k_num.specs.declared.place.Place.{Place}
 use Rattle.k_optab.specs.declared.class.Class.TheVariants as class
@@ -14,7 +14,7 @@ use Rattle.k_evaluation.specs.States.{Program}
 use Rattle.k_lower_code.specs.Pieces.{Piece, instruction}
 use Rattle.k_lower_code.specs.Statements.{one_arm, two_arms}
 use Rattle.k_lower_code.specs.Stretches.{Site, Stretch}
-use Rattle.k_lower_valid.proofs.Booleans.{or_left, or_right, or_either}
+use Rattle.k_lower_valid.proofs.Booleans.{or_either}
 use Rattle.k_lower_valid.proofs.Texts.{Text, opened, as_before, Labelled, labelled_first, labelled_rest, HasTable, jumps, tests}
 use Rattle.k_lower_valid.proofs.Stands.{Stands, moved}
 use Rattle.k_lower_valid.proofs.Spans.{has_jump, Leaves, leaves_fewer, jump_first, jump_rest, objects_are, Spans}

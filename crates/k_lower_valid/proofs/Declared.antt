@@ -1,6 +1,6 @@
 -- Declarations and parameters: what makes objects.
 use Rattle.std.proofs.Common.{ℕ, zero, suc, ◌≡◌, ◌+◌, ◌<◌, true, false, List, [], ◌∷◌, ◌++◌, slice_get, None, refl, sym, subst, ap, ◌∙◌, arith}
-use Rattle.std.proofs.lemmas.Bool.{true≢false, lt-ltb}
+use Rattle.std.proofs.lemmas.Bool.{and_parts, lt-ltb, or_from, true≢false}
 use Rattle.k_num.specs.declared.place.Place.{Place}
 use Rattle.k_types_meaning.specs.declared.tree.declaration.TDeclarator.{TDeclarator}
 use Rattle.k_types_meaning.specs.declared.tree.declaration.TInit.{TInit}
@@ -22,13 +22,13 @@ use Rattle.k_code.specs.Named.{is_there, text_is_short}
 use Rattle.k_evaluation.specs.Declarations.{elements_of, values_from}
 use Rattle.k_evaluation.specs.States.{Program}
 use Rattle.k_lower_code.specs.Assignments.{writes}
-use Rattle.k_lower_code.specs.Declarations.{means, temporary, drops, initialises, begins_register, stores_item, stores_items, begins_object, makes_variable, declares_by, declares, declares_all, starts_with}
+use Rattle.k_lower_code.proofs.Objects.{variable_size}
+use Rattle.k_lower_code.specs.Declarations.{means, temporary, drops, initialises, begins_register, stores_at, stores_item, stores_items, begins_object, makes_variable, declares_by, declares, declares_all, starts_with}
 use Rattle.k_lower_code.specs.Functions.{makes_parameter, serves_by, serves}
-use Rattle.k_lower_code.specs.Lowered.{Designated, InRegister, InMemory}
+use Rattle.k_lower_code.specs.Lowered.{Designated, InRegister}
 use Rattle.k_lower_code.specs.Pieces.{Piece, only, ◌>>>◌, does, sets}
 use Rattle.k_lower_code.specs.Stretches.{Inside, nothing_done}
 use Rattle.k_lower_valid.specs.Names.{expr_named, item_named, items_named, init_named, declared_named, first_named}
-use Rattle.k_lower_valid.proofs.Booleans.{or_neither, and_left, and_right}
 use Rattle.k_lower_valid.proofs.Texts.{Text, opened, HasAt, AllFine, HasTable}
 use Rattle.k_lower_valid.proofs.Stands.{Stands, only_stands, binds_stand, does_stands, moved}
 use Rattle.k_lower_valid.proofs.Spans.{objects_are, Spans, piece_spans, nothing_spans, behind_spans, shifted_spans}
@@ -76,11 +76,10 @@ module _ (code : Code) where
     register_stands d (init.Value e) named = initialises_stands d e (InRegister d.variable false) named
     register_stands d (init.Elements items) named = only_stands code tt
 
-    -- an item is stored in an object that is live
-    item_at : (s o r object : ℕ) (i : TItem) → object < o → item_named w.program code i ≡ true → PieceAt (stores_item w object i) (opened s o r) (opened s o r)
+    -- a value is stored in an object that is live
+    stored_at : (s o r : ℕ) (place : Place) (object n : ℕ) (e : TExpr) → object < o → Named e → PieceAt (stores_at w place object n e) (opened s o r) (opened s o r)
     unfolding goes_on left is_met is_there
-    item_at s o r object (item.Bytes n bytes) live named = stands_at s o r (only {A = Unit {0}} tt) (only_stands code {A = Unit {0}} tt)
-    item_at s o r object (item.Value place n e) live named =
+    stored_at s o r place object n e live named =
         binds_at (opened s o r) (opened s o r) (opened s o r) ((means w e).value true (temporary w))
         (λ a. sets w.program place (act.Address (Local object) n) (temporary w + 1) >>> λ address. does w.program place (act.Store address a None))
         (stands_at s o r ((means w e).value true (temporary w)) ((value_stands e named).value true (temporary w)))
@@ -91,18 +90,22 @@ module _ (code : Code) where
         (stands_at s o r (only (Reg (temporary w + 1) false)) (only_stands code (Reg (temporary w + 1) false))))
         (does_at w.program table place (act.Store (Reg (temporary w + 1) false) ((means w e).value true (temporary w)).gives None) (opened s o r) (opened s o r) refl refl refl refl refl))
 
+    -- so is an item
+    item_at : (s o r object : ℕ) (i : TItem) → object < o → item_named w.program code i ≡ true → PieceAt (stores_item w object i) (opened s o r) (opened s o r)
+    item_at s o r object (item.Bytes n bytes) live named = stands_at s o r (only {A = Unit {0}} tt) (only_stands code {A = Unit {0}} tt)
+    item_at s o r object (item.Value place n e) live named = stored_at s o r place object n e live named
+
     items_at : (s o r object : ℕ) (items : List TItem) → object < o → items_named w.program code items ≡ true → PieceAt (stores_items w object items) (opened s o r) (opened s o r)
     items_at s o r object [] live named = stands_at s o r (only {A = Unit {0}} tt) (only_stands code {A = Unit {0}} tt)
     items_at s o r object (i ∷ items) live named =
         binds_at (opened s o r) (opened s o r) (opened s o r) (stores_item w object i) (λ done. stores_items w object items)
-        (item_at s o r object i live (and_left (item_named w.program code i) (items_named w.program code items) named))
-        (items_at s o r object items live (and_right (item_named w.program code i) (items_named w.program code items) named))
+        (item_at s o r object i live (and_parts (item_named w.program code i) (items_named w.program code items) named).0)
+        (items_at s o r object items live (and_parts (item_named w.program code i) (items_named w.program code items) named).1)
 
     object_at : (d : TDeclarator) (s o r object : ℕ) (i : TInit) → object < o → init_named w.program code i ≡ true → PieceAt (begins_object w d object i) (opened s o r) (opened s o r)
     unfolding goes_on left is_met is_there
     object_at d s o r object init.Nothing live named = stands_at s o r (only {A = Unit {0}} tt) (only_stands code {A = Unit {0}} tt)
-    object_at d s o r object (init.Value e) live named =
-        stands_at s o r (initialises w d e (InMemory (Reg d.variable false))) (initialises_stands d e (InMemory (Reg d.variable false)) named)
+    object_at d s o r object (init.Value e) live named = stored_at s o r d.place object 0 e live named
     object_at d s o r object (init.Elements items) live named =
         binds_at (opened s o r) (opened s o r) (opened s o r) (does w.program d.place (act.Fill object (values_from items))) (λ filled. stores_items w object items)
         (does_at w.program table d.place (act.Fill object (values_from items)) (opened s o r) (opened s o r) refl refl refl (lt-ltb object o live) refl)
@@ -118,24 +121,6 @@ module _ (code : Code) where
         (binds_at (opened s (o + 1) r) (opened s (o + 1) r) (opened s (o + 1) r) (does w.program d.place (act.Address (Local o) 0 d.variable)) (λ set. begins_object w d o d.init)
         (does_at w.program table d.place (act.Address (Local o) 0 d.variable) (opened s (o + 1) r) (opened s (o + 1) r) refl refl refl (lt-ltb o (o + 1) (omega arith)) refl)
         (object_at d s (o + 1) r o d.init (omega arith) named))
-
-    -- its size is the same whatever the object's number
-    item_size : (i : TItem) (a b : ℕ) → (stores_item w a i).size ≡ (stores_item w b i).size
-    item_size (item.Bytes n bytes) a b = refl
-    item_size (item.Value place n e) a b = refl
-
-    items_size : (items : List TItem) (a b : ℕ) → (stores_items w a items).size ≡ (stores_items w b items).size
-    items_size [] a b = refl
-    items_size (i ∷ items) a b = (let one : (stores_item w a i).size ≡ (stores_item w b i).size = item_size i a b in (let rest : (stores_items w a items).size ≡ (stores_items w b items).size = items_size items a b in
-        (let e : (stores_item w a i).size + (stores_items w a items).size ≡ (stores_item w b i).size + (stores_items w b items).size = omega (arith, one, rest) in e)))
-
-    object_size : (d : TDeclarator) (i : TInit) (a b : ℕ) → (begins_object w d a i).size ≡ (begins_object w d b i).size
-    object_size d init.Nothing a b = refl
-    object_size d (init.Value e) a b = refl
-    object_size d (init.Elements items) a b = ap (λ n. 1 + n) (items_size items a b)
-
-    variable_size : (d : TDeclarator) (elements a b : ℕ) → (makes_variable w d elements a).size ≡ (makes_variable w d elements b).size
-    variable_size d elements a b = ap (λ n. 1 + (1 + n)) (object_size d d.init a b)
 
   -- A STRETCH THAT MAKES ONE OBJECT, by the piece that makes it under its number
   pub one_object : (place : Place) (piece : ℕ → Piece (Unit {0})) → ((a b : ℕ) → (piece a).size ≡ (piece b).size) → ((s o r : ℕ) → PieceAt (piece o) (opened s o r) (opened s (o + 1) r))
@@ -159,7 +144,7 @@ module _ (code : Code) where
   module _ (w : Inside) (table : HasTable w.program) where
     declares_by_spans : (d : TDeclarator) (n : ℕ) → init_named w.program code d.init ≡ true → Spans code (declares_by w d n) 0 (declares_by w d n).opens
     declares_by_spans d zero named = piece_spans code d.place (begins_register w d d.init) (register_stands w table d d.init named)
-    declares_by_spans d (suc n) named = one_object d.place (makes_variable w d (suc n)) (variable_size w table d (suc n)) (λ s o r. variable_at w table d (suc n) s o r named)
+    declares_by_spans d (suc n) named = one_object d.place (makes_variable w d (suc n)) (variable_size w d (suc n)) (λ s o r. variable_at w table d (suc n) s o r named)
 
     declares_spans : (d : TDeclarator) → init_named w.program code d.init ≡ true → Spans code (declares w d) 0 (declares w d).opens
     unfolding declares
@@ -184,20 +169,20 @@ module _ (code : Code) where
 
     pub no_breaks : (place : Place) (ds : List TDeclarator) → (declares_all w place ds).jumps.breaks ≡ false
     no_breaks place [] = refl
-    no_breaks place (d ∷ ds) = or_neither (declares w d).jumps.breaks (declares_all w place ds).jumps.breaks (one_no_breaks d) (no_breaks place ds)
+    no_breaks place (d ∷ ds) = or_from (declares w d).jumps.breaks (declares_all w place ds).jumps.breaks (one_no_breaks d) (no_breaks place ds)
 
     pub no_continues : (place : Place) (ds : List TDeclarator) → (declares_all w place ds).jumps.continues ≡ false
     no_continues place [] = refl
-    no_continues place (d ∷ ds) = or_neither (declares w d).jumps.continues (declares_all w place ds).jumps.continues (one_no_continues d) (no_continues place ds)
+    no_continues place (d ∷ ds) = or_from (declares w d).jumps.continues (declares_all w place ds).jumps.continues (one_no_continues d) (no_continues place ds)
 
     -- DECLARATIONS
     pub declares_all_spans : (place : Place) (ds : List TDeclarator) → declared_named w.program code ds ≡ true → Spans code (declares_all w place ds) 0 (declares_all w place ds).opens
     declares_all_spans place [] named = nothing_spans code place
     declares_all_spans place (d ∷ ds) named =
         behind_spans code (declares w d) (declares_all w place ds) 0 (declares w d).opens ((declares w d).opens + (declares_all w place ds).opens) (omega arith)
-        (declares_spans d (and_left (init_named w.program code d.init) (declared_named w.program code ds) named))
+        (declares_spans d (and_parts (init_named w.program code d.init) (declared_named w.program code ds) named).0)
         (shifted_spans code (declares_all w place ds) (declares_all w place ds).opens (declares w d).opens ((declares w d).opens + (declares_all w place ds).opens) refl (no_breaks place ds) (no_continues place ds)
-        (declares_all_spans place ds (and_right (init_named w.program code d.init) (declared_named w.program code ds) named)))
+        (declares_all_spans place ds (and_parts (init_named w.program code d.init) (declared_named w.program code ds) named).1))
 
     pub starts_with_spans : (place : Place) (f : TFirst) → first_named w.program code f ≡ true → Spans code (starts_with w place f) 0 (starts_with w place f).opens
     starts_with_spans place start.Nothing named = nothing_spans code place
@@ -247,13 +232,13 @@ module _ (code : Code) where
     serves_breaks register close n zero vs = refl
     serves_breaks register close n (suc count) [] = refl
     serves_breaks register close n (suc count) (v ∷ vs) =
-        or_neither (serves_by program register v.place n v.elements).jumps.breaks (serves program register close (n + 1) count vs).jumps.breaks (serves_by_breaks register v.place n v.elements) (serves_breaks register close (n + 1) count vs)
+        or_from (serves_by program register v.place n v.elements).jumps.breaks (serves program register close (n + 1) count vs).jumps.breaks (serves_by_breaks register v.place n v.elements) (serves_breaks register close (n + 1) count vs)
 
     pub serves_continues : (register : ℕ) (close : Place) (n count : ℕ) (vs : List TVariable) → (serves program register close n count vs).jumps.continues ≡ false
     serves_continues register close n zero vs = refl
     serves_continues register close n (suc count) [] = refl
     serves_continues register close n (suc count) (v ∷ vs) =
-        or_neither (serves_by program register v.place n v.elements).jumps.continues (serves program register close (n + 1) count vs).jumps.continues (serves_by_continues register v.place n v.elements)
+        or_from (serves_by program register v.place n v.elements).jumps.continues (serves program register close (n + 1) count vs).jumps.continues (serves_by_continues register v.place n v.elements)
         (serves_continues register close (n + 1) count vs)
 
     pub serves_spans : (register : ℕ) (close : Place) (n count : ℕ) (vs : List TVariable) → Spans code (serves program register close n count vs) 0 (serves program register close n count vs).opens

@@ -381,10 +381,10 @@ module _ (code : Code) (program : Program) (table : HasTable program) where
   calls_with_stands : (node : Node) (f : ℕ) (used : Bool) (r : ℕ) (args : List Arg) → f < length code.funcs → Stands code (library.calls_with program node f used r args)
   unfolding goes_on left is_met is_there
   calls_with_stands node f used r args there =
-      settled_stands code program table node.place (does program node.place (act.Call f args (library.returned_to node.of used r)) >>> λ done. only (Reg r false))
-      (binds_stand code (does program node.place (act.Call f args (library.returned_to node.of used r))) (λ done. only (Reg r false))
+      settled_stands code program table node.place (does program node.place (act.Call f args (library.returned_to node.of used r)) >>> λ done. only (library.value_returned node.of r))
+      (binds_stand code (does program node.place (act.Call f args (library.returned_to node.of used r))) (λ done. only (library.value_returned node.of r))
       (does_stands code program table node.place (act.Call f args (library.returned_to node.of used r)) refl (λ b. refl) (λ b. refl) (lt-ltb f (length code.funcs) there) refl)
-      (only_stands code (Reg r false)))
+      (only_stands code (library.value_returned node.of r)))
 
   pub call_stands : (node : Node) (f : ℕ) (args : List Lowered) → f < length code.funcs → AllStand code args → LoweredStands code (library.call program node f args)
   unfolding library.call

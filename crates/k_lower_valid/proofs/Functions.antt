@@ -1,7 +1,8 @@
 -- The body of a function: its size, its balance and its ranges.
 use Rattle.std.proofs.Common.{ℕ, zero, suc, ◌≡◌, ◌+◌, ◌-◌, ◌≤◌, ◌&&◌, nat_le, Bool, true, false, List, [], ◌∷◌, ◌++◌, map, length, slice_get, Option, Some, None, refl, sym, subst, ap, ◌∙◌, arith}
-use Rattle.std.proofs.lemmas.Bool.{true≢false, le-leb, and_from}
+use Rattle.std.proofs.lemmas.Bool.{and_from, and_parts, le-leb, or_from, true≢false}
 use Rattle.std.proofs.lemmas.List.{length-append, append_assoc}
+use Rattle.std.proofs.lemmas.Option.{none-some, same_Some}
 use Rattle.k_num.specs.declared.place.Place.{Place}
 use Rattle.k_types_meaning.specs.declared.types.TType.{TType}
 use Rattle.k_types_meaning.specs.declared.types.TType.TheVariants as ttype
@@ -21,7 +22,6 @@ use Rattle.k_lower_code.specs.Statements.{lowered}
 use Rattle.k_lower_code.specs.Stretches.{Site, Stretch, Inside, behind, behind_objects, in_order}
 use Rattle.k_lower_valid.specs.Names.{outermost, all_right, stmt_right}
 use Rattle.k_lower_valid.proofs.Arms.{no_leaves}
-use Rattle.k_lower_valid.proofs.Booleans.{or_neither, and_left, and_right}
 use Rattle.k_lower_valid.proofs.Texts.{Text, opened, Behind, as_before, by_jump, Fine, HasAt, Labelled, AllFine, has_first, labelled_first, labelled_rest, fine_both, HasTable, sound}
 use Rattle.k_lower_valid.proofs.Stands.{moved}
 use Rattle.k_lower_valid.proofs.Spans.{Spans, behind_spans, shifted_spans}
@@ -63,20 +63,8 @@ labelled_all body labels entry (b ∷ marks) p each = (
 
 -- one of the instructions that are fine
 pub fine_at : (code : Code) (g : Text) (instrs : List Instr) (first k : ℕ) (i : Instr) → AllFine code g first instrs → slice_get instrs k ≡ Some i → Fine code g (first + k) i
-fine_at code g [] first k i all is = absurd (none_some is)
-  where
-    none_some : None ≡ Some i → ⊥
-    none_some is = subst is_none is tt where
-      is_none : Option Instr → Type 0
-      is_none None = Unit {0}
-      is_none (Some j) = ⊥
-fine_at code g (j ∷ instrs) first zero i all is = subst (λ n. Fine code g n i) (let e : first ≡ first + 0 = omega arith in e) (subst (Fine code g first) (some_same is) all.0)
-  where
-    some_same : Some j ≡ Some i → j ≡ i
-    some_same is = ap (λ (o : Option Instr). here o) is where
-      here : Option Instr → Instr
-      here None = j
-      here (Some x) = x
+fine_at code g [] first k i all is = absurd (none-some i is)
+fine_at code g (j ∷ instrs) first zero i all is = subst (λ n. Fine code g n i) (let e : first ≡ first + 0 = omega arith in e) (subst (Fine code g first) (same_Some j i is) all.0)
 fine_at code g (j ∷ instrs) first (suc k) i all is = subst (λ n. Fine code g n i) (let e : (first + 1) + k ≡ first + suc k = omega arith in e) (fine_at code g instrs (first + 1) k i all.1 is)
 
 -- THE TEXT IS BALANCED, and in its ranges
@@ -157,8 +145,8 @@ module _ (code : Code) (program : Program) (table : HasTable program) (number : 
   all_fit : (ss : List TStmt) → all_right outermost (map (stmt_right program code number) ss) ≡ true → Rattle.k_lower_valid.proofs.Statements.AllFit code w table (map (lowered w) ss) outermost
   all_fit [] all = tt
   all_fit (s ∷ ss) all = (
-    statement_fits code w table s outermost (and_left (stmt_right program code number s outermost) (all_right outermost (map (stmt_right program code number) ss)) all),
-    all_fit ss (and_right (stmt_right program code number s outermost) (all_right outermost (map (stmt_right program code number) ss)) all),
+    statement_fits code w table s outermost (and_parts (stmt_right program code number s outermost) (all_right outermost (map (stmt_right program code number) ss)) all).0,
+    all_fit ss (and_parts (stmt_right program code number s outermost) (all_right outermost (map (stmt_right program code number) ss)) all).1,
   )
 
   block_fits : Fits code w table block outermost
@@ -224,8 +212,8 @@ module _ (code : Code) (program : Program) (table : HasTable program) (number : 
         (let two : length body ≡ front.size + 1 = body_long in
         fine_both code there first (front.code nothing_yet first) (last ∷ []) front.size (front_spans.sized nothing_yet first)
         (front_spans.fine there nothing_yet 0 0 0 taken.opens first refl (omega arith) (omega arith) (has_first there first (front.code nothing_yet first) (last ∷ []) has) front_labels ends.0 (omega arith) (omega (arith, two))
-        (no_leaves front.jumps.breaks there 0 (first + front.size) (opened 0 0 0) (or_neither taken.jumps.breaks block.jumps.breaks (serves_breaks code program table (length f.variables) f.close 0 f.params f.variables) (block_fits.breaks refl)))
-        (no_leaves front.jumps.continues there 0 (first + front.size) (opened 0 0 0) (or_neither taken.jumps.continues block.jumps.continues (serves_continues code program table (length f.variables) f.close 0 f.params f.variables) (block_fits.continues refl))))
+        (no_leaves front.jumps.breaks there 0 (first + front.size) (opened 0 0 0) (or_from taken.jumps.breaks block.jumps.breaks (serves_breaks code program table (length f.variables) f.close 0 f.params f.variables) (block_fits.breaks refl)))
+        (no_leaves front.jumps.continues there 0 (first + front.size) (opened 0 0 0) (or_from taken.jumps.continues block.jumps.continues (serves_continues code program table (length f.variables) f.close 0 f.params f.variables) (block_fits.continues refl))))
         (end_fine code there program f.close number f.result (first + front.size) table (ends.1.0 ∙ sym ends.0), tt))
 
     nothing_first : there.before first ≡ nothing_open

@@ -1,6 +1,6 @@
 -- Loops: their bodies in their regions, their turns, and the whole.
 use Rattle.std.proofs.Common.{ℕ, ◌≡◌, ◌+◌, ◌-◌, ◌<◌, ◌≤◌, not, ◌&&◌, ◌||◌, Bool, true, false, List, [], ◌∷◌, ◌++◌, length, Some, None, refl, sym, subst, ap, ◌∙◌, arith}
-use Rattle.std.proofs.lemmas.Bool.{true≢false, lt-ltb, eq-eqb}
+use Rattle.std.proofs.lemmas.Bool.{and_parts, eq-eqb, lt-ltb, true≢false}
 use Rattle.k_num.specs.declared.place.Place.{Place}
 use Rattle.k_optab.specs.declared.class.Class.TheVariants as class
 use Rattle.k_code.specs.declared.balance.Balance.{Balance}
@@ -14,7 +14,6 @@ use Rattle.k_evaluation.specs.States.{Program}
 use Rattle.k_lower_code.specs.Loops.{LoopParts, if_so, one_if, saves_body, before_body, break_size, body_size, body_site, body_code, restores_step, turn_size, before_turns, inside_loop, loop}
 use Rattle.k_lower_code.specs.Pieces.{instruction}
 use Rattle.k_lower_code.specs.Stretches.{Site, over, over_size, pad, pad_size, settled_unless}
-use Rattle.k_lower_valid.proofs.Booleans.{and_left}
 use Rattle.k_lower_valid.proofs.Texts.{Text, opened, as_before, by_jump, HasAt, Labelled, has_first, has_rest, labelled_first, labelled_rest, HasTable, jumps, tests}
 use Rattle.k_lower_valid.proofs.Stands.{Stands, moved, one_more}
 use Rattle.k_lower_valid.proofs.Spans.{over_marks, pad_marks, Comes, Leaves, objects_are, Spans, SpansFrom}
@@ -263,7 +262,7 @@ module _ (code : Code) (program : Program) (table : HasTable program) where
           both_segments (step_at first) (turn_size l) (omega arith) refl
           (both_segments (first + body_size l) (body_size l + one_if rs) refl refl
           (Rattle.k_lower_valid.proofs.Segments.under (λ (f : TurnFacts g s o r first). f.of_body) (body_segment g site s o r (end_at first) first enters))
-          (if_segment code program table l.place rs act.Restore (opened s o r) (opened s o r) refl refl refl (λ f so. lt-ltb 0 s (f.of_body.saved (and_left l.counted l.body.jumps.continues so))) (λ so. refl) (λ so. refl)))
+          (if_segment code program table l.place rs act.Restore (opened s o r) (opened s o r) refl refl refl (λ f so. lt-ltb 0 s (f.of_body.saved (and_parts l.counted l.body.jumps.continues so).0)) (λ so. refl) (λ so. refl)))
           (piece_segment (step_at first) s o r l.step step)
 
       turns_segment : (g : Text) (site : Site) (s o r first : ℕ) → site.objects ≡ o

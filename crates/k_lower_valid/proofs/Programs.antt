@@ -1,9 +1,10 @@
 -- The flat code of a program is valid, where its functions fit.
-use Rattle.std.proofs.Common.{ℕ, zero, suc, ◌≡◌, ◌+◌, ◌-◌, ◌*◌, ◌<◌, ◌≤◌, nat_lt, max, min, if◌then◌else◌, Bool, true, false, List, [], ◌∷◌, ◌++◌, length, take, drop, slice_get, Option, Some, None, refl, sym, subst, ap, ◌∙◌, arith}
+use Rattle.std.proofs.Common.{ℕ, zero, suc, ◌≡◌, ◌+◌, ◌-◌, ◌*◌, ◌<◌, ◌≤◌, nat_lt, max, min, if◌then◌else◌, Bool, true, false, List, [], ◌∷◌, ◌++◌, length, take, drop, slice_get, Some, refl, sym, subst, ap, ◌∙◌, arith}
 use Rattle.std.proofs.lemmas.Bool.{lt-ltb, ltb-true}
 use Rattle.std.proofs.lemmas.List.{length-append, append_assoc}
 use Rattle.std.proofs.Math.Nat.{le-max_left, le-max_right, min-eq_left}
 use Rattle.std.proofs.Math.Seq.{take-append_seam, drop-append_seam}
+use Rattle.std.proofs.lemmas.Option.{none-some, same_Some}
 use Rattle.k_types_meaning.specs.declared.tree.unit.TFunc.{TFunc}
 use Rattle.k_code.specs.declared.balance.Balance.{Balance}
 use Rattle.k_code.specs.declared.code.Code.{Code}
@@ -75,28 +76,16 @@ pub record Placed (program : Program) (number first all : ℕ) (fs : List TFunc)
   pub whole : functions_code program number first fs ≡ earlier ++ (function_code program its_number func at ++ later)
   pub long : first + length earlier ≡ at
 
-some_same : {X : Type 0} (x y : X) → Some x ≡ Some y → x ≡ y
-some_same {X = X} x y is = ap here is where
-  here : Option X → X
-  here None = x
-  here (Some z) = z
-
-none_some : {X : Type 0} (y : X) → None ≡ Some y → ⊥
-none_some {X = X} y is = subst is_none is tt where
-  is_none : Option X → Type 0
-  is_none None = Unit {0}
-  is_none (Some z) = ⊥
-
 pub placed : (program : Program) (number first all : ℕ) (fs : List TFunc) (n : ℕ) (cf : CodeFunc) → AllSized program number fs → slice_get (code_funcs program number first fs) n ≡ Some cf
     → first + length (functions_code program number first fs) ≡ all → Placed program number first all fs n cf
-placed program number first all [] n cf sized is whole = absurd (none_some cf is)
+placed program number first all [] n cf sized is whole = absurd (none-some cf is)
 placed program number first all (f ∷ fs) zero cf sized is whole = record {
   func = f;
   its_number = number;
   number_is = (let e : number ≡ number + 0 = omega arith in e);
   is = refl;
   at = first;
-  same = sym (some_same (code_func program number f first) cf is);
+  same = sym (same_Some (code_func program number f first) cf is);
   low = (let e : first ≤ first = omega arith in e);
   ends = if_false (nat_lt first first) (min first (end_of (code_funcs program (number + 1) (first + (function program number f).size) fs) all first)) (end_of (code_funcs program (number + 1) (first + (function program number f).size) fs) all first) (below_is first first (omega arith))
       ∙ end_before program (number + 1) (first + (function program number f).size) all first fs sized.1 (let some : 1 ≤ (function program number f).size = sized.0.some in omega (arith, some)) (rest_whole program number first all f fs sized.0 whole);
@@ -142,8 +131,8 @@ pub record There (program : Program) (number first : ℕ) (fs : List TFunc) (n :
   pub long : first + length earlier ≡ at
 
 pub there : (program : Program) (number first : ℕ) (fs : List TFunc) (n : ℕ) (f : TFunc) → AllSized program number fs → slice_get fs n ≡ Some f → There program number first fs n f
-there program number first [] n f sized is = absurd (none_some f is)
-there program number first (g ∷ fs) zero f sized is = subst (There program number first (g ∷ fs) zero) (some_same g f is) (record {
+there program number first [] n f sized is = absurd (none-some f is)
+there program number first (g ∷ fs) zero f sized is = subst (There program number first (g ∷ fs) zero) (same_Some g f is) (record {
   its_number = number;
   number_is = (let e : number ≡ number + 0 = omega arith in e);
   at = first;
@@ -172,14 +161,14 @@ there program number first (g ∷ fs) (suc n) f sized is = behind (there program
 
 -- each instruction needs as many registers as all do, at most
 needs_fewer : (instrs : List Instr) (k : ℕ) (i : Instr) → slice_get instrs k ≡ Some i → registers_needed i.act ≤ registers_of instrs
-needs_fewer [] k i is = absurd (none_some i is)
-needs_fewer (j ∷ instrs) zero i is = subst (λ x. registers_needed x.act ≤ max (registers_needed j.act) (registers_of instrs)) (some_same j i is) (le-max_left (registers_needed j.act) (registers_of instrs))
+needs_fewer [] k i is = absurd (none-some i is)
+needs_fewer (j ∷ instrs) zero i is = subst (λ x. registers_needed x.act ≤ max (registers_needed j.act) (registers_of instrs)) (same_Some j i is) (le-max_left (registers_needed j.act) (registers_of instrs))
 needs_fewer (j ∷ instrs) (suc k) i is =
     (let one : registers_needed i.act ≤ registers_of instrs = needs_fewer instrs k i is in
     (let two : registers_of instrs ≤ max (registers_needed j.act) (registers_of instrs) = le-max_right (registers_needed j.act) (registers_of instrs) in omega (arith, one, two)))
 
 -- of as many functions as many are of the code
-funcs_long : (program : Program) (number first : ℕ) (fs : List TFunc) → length (code_funcs program number first fs) ≡ length fs
+pub funcs_long : (program : Program) (number first : ℕ) (fs : List TFunc) → length (code_funcs program number first fs) ≡ length fs
 funcs_long program number first [] = refl
 funcs_long program number first (f ∷ fs) = ap suc (funcs_long program (number + 1) (first + (function program number f).size) fs)
 

@@ -1,6 +1,6 @@
 -- Stretches of code that may stand anywhere in a function: their sizes, the balances before their instructions, and that each of these is fine.
 use Rattle.std.proofs.Common.{ℕ, ◌≡◌, ◌+◌, ◌<◌, ◌≤◌, nat_eq, ◌||◌, Bool, true, false, List, [], ◌∷◌, ◌++◌, length, Some, refl, sym, subst, ap, ◌∙◌, arith}
-use Rattle.std.proofs.lemmas.Bool.{eq-eqb, true≢false}
+use Rattle.std.proofs.lemmas.Bool.{eq-eqb, or_left, or_right, true≢false}
 use Rattle.std.proofs.lemmas.List.{length-append}
 use Rattle.k_num.specs.declared.place.Place.{Place}
 use Rattle.k_marks_meaning.specs.declared.jumps.Jumps.{Jumps}
@@ -14,7 +14,7 @@ use Rattle.k_code.specs.Named.{is_there}
 use Rattle.k_evaluation.specs.States.{Program}
 use Rattle.k_lower_code.specs.Pieces.{Piece, instruction}
 use Rattle.k_lower_code.specs.Stretches.{Site, Stretch, of_piece, nothing_done, behind, behind_objects, pads, pads_size, pad_size, over_size, without_objects}
-use Rattle.k_lower_valid.proofs.Booleans.{or_left, or_right, or_either}
+use Rattle.k_lower_valid.proofs.Booleans.{or_either}
 use Rattle.k_lower_valid.proofs.Texts.{Text, opened, as_before, by_jump, HasAt, Labelled, AllFine, has_first, has_rest, labelled_first, labelled_rest, fine_both, HasTable, goes, jumps}
 use Rattle.k_lower_valid.proofs.Stands.{Stands, moved}
 

@@ -1,6 +1,6 @@
 -- Each statement may stand anywhere in a function, where it is right where it stands.
-use Rattle.std.proofs.Common.{ℕ, zero, suc, ◌≡◌, ◌+◌, ◌<◌, ◌≤◌, ◌&&◌, ◌||◌, nat_lt, Bool, true, false, List, [], ◌∷◌, ◌++◌, map, length, slice_get, Option, Some, None, refl, sym, subst, ap, ◌∙◌, arith}
-use Rattle.std.proofs.lemmas.Bool.{true≢false, lt-ltb, ltb-true, eq-eqb}
+use Rattle.std.proofs.Common.{ℕ, zero, suc, ◌≡◌, ◌+◌, ◌<◌, ◌&&◌, ◌||◌, Bool, true, false, List, [], ◌∷◌, map, length, slice_get, Option, Some, None, refl, sym, subst, ap, ◌∙◌, arith}
+use Rattle.std.proofs.lemmas.Bool.{and_parts, eq-eqb, lt-ltb, ltb-true, or_from, or_left, or_parts, true≢false}
 use Rattle.k_num.specs.declared.numbers.Kind.{Kind}
 use Rattle.k_num.specs.declared.place.Place.{Place}
 use Rattle.k_types_meaning.specs.declared.tree.declaration.TDeclarator.{TDeclarator}
@@ -25,11 +25,10 @@ use Rattle.k_lower_code.specs.Declarations.{means, temporary, drops, starts_with
 use Rattle.k_lower_code.specs.Loops.{LoopParts, test_or_one, step_or_none, source_loop}
 use Rattle.k_lower_code.specs.Pieces.{does, instruction}
 use Rattle.k_lower_code.specs.Statements.{expression, compound, one_arm, two_arms, if_else, for_loop, break, continue, returns_value, return, declaration, lower_step, part_step, lowered}
-use Rattle.k_lower_code.specs.Stretches.{Inside, Site, Stretch, nothing_done, behind, followed_by, in_order, settled_unless}
+use Rattle.k_lower_code.specs.Stretches.{Inside, Stretch, nothing_done, followed_by, in_order, settled_unless}
 use Rattle.k_lower_code.specs.Switches.{PartLowered, ACase, ADefault, AStatement, statements_of, has_case, switches, switch}
-use Rattle.k_lower_valid.specs.Names.{Where, in_block, in_statement, in_loop, in_switch, all_right, option_right, expr_named, option_named, first_named, declared_named, regions_there}
+use Rattle.k_lower_valid.specs.Names.{Where, in_block, in_statement, in_loop, in_switch, all_right, expr_named, option_named, first_named, declared_named, regions_there}
 use Rattle.k_lower_valid.specs.Names as names
-use Rattle.k_lower_valid.proofs.Booleans.{or_left, or_neither, neither_left, neither_right, and_left, and_right}
 use Rattle.k_lower_valid.proofs.Texts.{Text, opened, Fine, as_before, HasTable, sound, jumps}
 use Rattle.k_lower_valid.proofs.Stands.{Stands, only_stands, binds_stand}
 use Rattle.k_lower_valid.proofs.Spans.{objects_are, Spans, piece_spans, nothing_spans}
@@ -84,12 +83,12 @@ module _ (code : Code) (w : Inside) (table : HasTable w.program) where
   all_spans (t ∷ ts) at all = (all.0.spans, all_spans ts at all.1)
 
   followed_breaks : (s rest : Stretch) (n : ℕ) → s.jumps.breaks ≡ false → rest.jumps.breaks ≡ false → (followed_by w.program s n rest).jumps.breaks ≡ false
-  followed_breaks s rest zero x y = or_neither s.jumps.breaks rest.jumps.breaks x y
-  followed_breaks s rest (suc n) x y = or_neither s.jumps.breaks rest.jumps.breaks x y
+  followed_breaks s rest zero x y = or_from s.jumps.breaks rest.jumps.breaks x y
+  followed_breaks s rest (suc n) x y = or_from s.jumps.breaks rest.jumps.breaks x y
 
   followed_continues : (s rest : Stretch) (n : ℕ) → s.jumps.continues ≡ false → rest.jumps.continues ≡ false → (followed_by w.program s n rest).jumps.continues ≡ false
-  followed_continues s rest zero x y = or_neither s.jumps.continues rest.jumps.continues x y
-  followed_continues s rest (suc n) x y = or_neither s.jumps.continues rest.jumps.continues x y
+  followed_continues s rest zero x y = or_from s.jumps.continues rest.jumps.continues x y
+  followed_continues s rest (suc n) x y = or_from s.jumps.continues rest.jumps.continues x y
 
   order_breaks : (place : Place) (ts : List Stretch) (at : Where) → AllFit ts at → at.breaks ≡ false → (in_order w.program place ts).jumps.breaks ≡ false
   order_breaks place [] at all none = refl
@@ -133,10 +132,10 @@ module _ (code : Code) (w : Inside) (table : HasTable w.program) where
   }
 
   left_breaks : (j : Jumps) → is_left j ≡ false → j.breaks ≡ false
-  left_breaks j none = neither_left j.breaks (j.continues || j.returns) none
+  left_breaks j none = (or_parts j.breaks (j.continues || j.returns) none).0
 
   left_continues : (j : Jumps) → is_left j ≡ false → j.continues ≡ false
-  left_continues j none = neither_left j.continues j.returns (neither_right j.breaks (j.continues || j.returns) none)
+  left_continues j none = (or_parts j.continues j.returns (or_parts j.breaks (j.continues || j.returns) none).1).0
 
   abbrev OptionFits : Option Stretch → Where → Type 0
   OptionFits None at = Unit {0}
@@ -153,7 +152,7 @@ module _ (code : Code) (w : Inside) (table : HasTable w.program) where
       (one_arm_spans code w.program table spot.place ((means w test).value true (temporary w)) one (test_stands test named) (zero_spans one (first.opens refl) first.spans))
   if_fits spot test one (Some other) at named first second =
       settled_fits (is_left (both_of spot test one other).jumps) (both_of spot test one other) at (left_breaks (both_of spot test one other).jumps) (left_continues (both_of spot test one other).jumps) refl
-      (λ none. or_neither one.jumps.breaks other.jumps.breaks (first.breaks none) (second.breaks none)) (λ none. or_neither one.jumps.continues other.jumps.continues (first.continues none) (second.continues none))
+      (λ none. or_from one.jumps.breaks other.jumps.breaks (first.breaks none) (second.breaks none)) (λ none. or_from one.jumps.continues other.jumps.continues (first.continues none) (second.continues none))
       (two_arms_spans code w.program table spot.place ((means w test).value true (temporary w)) one other (test_stands test named) (zero_spans one (first.opens refl) first.spans) (zero_spans other (second.opens refl) second.spans))
 
   -- loops
@@ -334,14 +333,14 @@ module _ (code : Code) (w : Inside) (table : HasTable w.program) where
       → AllFit (map made (map stmt items)) at
   all_fit [] stmt each at all = tt
   all_fit (b ∷ items) stmt each at all =
-      (each b at (and_left (right (stmt b) at) (all_right at (map right (map stmt items))) all), all_fit items stmt each at (and_right (right (stmt b) at) (all_right at (map right (map stmt items))) all))
+      (each b at (and_parts (right (stmt b) at) (all_right at (map right (map stmt items))) all).0, all_fit items stmt each at (and_parts (right (stmt b) at) (all_right at (map right (map stmt items))) all).1)
 
   parts_fit : {B : Type 0} (items : List B) (part : B → TPart) → ((b : B) → RightPart (part b)) → (at : Where) → all_right at (map right_part (map part items)) ≡ true
       → PartsFit (map made_part (map part items)) at
   parts_fit [] part each at all = tt
   parts_fit (b ∷ items) part each at all = (
-    each b at (and_left (right_part (part b) at) (all_right at (map right_part (map part items))) all),
-    parts_fit items part each at (and_right (right_part (part b) at) (all_right at (map right_part (map part items))) all),
+    each b at (and_parts (right_part (part b) at) (all_right at (map right_part (map part items))) all).0,
+    parts_fit items part each at (and_parts (right_part (part b) at) (all_right at (map right_part (map part items))) all).1,
   )
 
   abbrev PartLayer : TPart-F TPart TStmt → Type 0
@@ -364,38 +363,38 @@ module _ (code : Code) (w : Inside) (table : HasTable w.program) where
   stmt_by (TStmt-F.Empty spot) at all = empty_fits spot.place at
   stmt_by (TStmt-F.Block spot parts) at all = compound_fits spot _ at (all_fit parts (λ x. x.0) (λ x. x.1) (in_block at) all)
   stmt_by (TStmt-F.If spot test a None) at all =
-      if_fits spot test (made a.0) None at (and_left (expr_named w.program code test) (right a.0 (in_statement at) && true) all)
-      (a.1 (in_statement at) (and_left (right a.0 (in_statement at)) true (and_right (expr_named w.program code test) (right a.0 (in_statement at) && true) all))) tt
+      if_fits spot test (made a.0) None at (and_parts (expr_named w.program code test) (right a.0 (in_statement at) && true) all).0
+      (a.1 (in_statement at) (and_parts (right a.0 (in_statement at)) true (and_parts (expr_named w.program code test) (right a.0 (in_statement at) && true) all).1).0) tt
   stmt_by (TStmt-F.If spot test a (Some b)) at all =
-      if_fits spot test (made a.0) (Some (made b.0)) at (and_left (expr_named w.program code test) (right a.0 (in_statement at) && right b.0 (in_statement at)) all)
-      (a.1 (in_statement at) (and_left (right a.0 (in_statement at)) (right b.0 (in_statement at)) (and_right (expr_named w.program code test) (right a.0 (in_statement at) && right b.0 (in_statement at)) all)))
-      (b.1 (in_statement at) (and_right (right a.0 (in_statement at)) (right b.0 (in_statement at)) (and_right (expr_named w.program code test) (right a.0 (in_statement at) && right b.0 (in_statement at)) all)))
+      if_fits spot test (made a.0) (Some (made b.0)) at (and_parts (expr_named w.program code test) (right a.0 (in_statement at) && right b.0 (in_statement at)) all).0
+      (a.1 (in_statement at) (and_parts (right a.0 (in_statement at)) (right b.0 (in_statement at)) (and_parts (expr_named w.program code test) (right a.0 (in_statement at) && right b.0 (in_statement at)) all).1).0)
+      (b.1 (in_statement at) (and_parts (right a.0 (in_statement at)) (right b.0 (in_statement at)) (and_parts (expr_named w.program code test) (right a.0 (in_statement at) && right b.0 (in_statement at)) all).1).1)
   stmt_by (TStmt-F.While spot number test a) at all =
-      (let rest : (expr_named w.program code test && right a.0 in_loop) ≡ true = and_right (regions_there code w.function number) (expr_named w.program code test && right a.0 in_loop) all in
-      source_loop_fits spot number (Some test) None (made a.0) true at (and_left (regions_there code w.function number) (expr_named w.program code test && right a.0 in_loop) all)
-      (and_left (expr_named w.program code test) (right a.0 in_loop) rest) refl (a.1 in_loop (and_right (expr_named w.program code test) (right a.0 in_loop) rest)))
+      (let rest : (expr_named w.program code test && right a.0 in_loop) ≡ true = (and_parts (regions_there code w.function number) (expr_named w.program code test && right a.0 in_loop) all).1 in
+      source_loop_fits spot number (Some test) None (made a.0) true at (and_parts (regions_there code w.function number) (expr_named w.program code test && right a.0 in_loop) all).0
+      (and_parts (expr_named w.program code test) (right a.0 in_loop) rest).0 refl (a.1 in_loop (and_parts (expr_named w.program code test) (right a.0 in_loop) rest).1))
   stmt_by (TStmt-F.DoWhile spot number a test) at all =
-      (let rest : (expr_named w.program code test && right a.0 in_loop) ≡ true = and_right (regions_there code w.function number) (expr_named w.program code test && right a.0 in_loop) all in
-      source_loop_fits spot number (Some test) None (made a.0) false at (and_left (regions_there code w.function number) (expr_named w.program code test && right a.0 in_loop) all)
-      (and_left (expr_named w.program code test) (right a.0 in_loop) rest) refl (a.1 in_loop (and_right (expr_named w.program code test) (right a.0 in_loop) rest)))
+      (let rest : (expr_named w.program code test && right a.0 in_loop) ≡ true = (and_parts (regions_there code w.function number) (expr_named w.program code test && right a.0 in_loop) all).1 in
+      source_loop_fits spot number (Some test) None (made a.0) false at (and_parts (regions_there code w.function number) (expr_named w.program code test && right a.0 in_loop) all).0
+      (and_parts (expr_named w.program code test) (right a.0 in_loop) rest).0 refl (a.1 in_loop (and_parts (expr_named w.program code test) (right a.0 in_loop) rest).1))
   stmt_by (TStmt-F.For spot number start test step a) at all =
       (let one : (first_named w.program code start && (option_named w.program code test && (option_named w.program code step && right a.0 in_loop))) ≡ true =
-      and_right (regions_there code w.function number) (first_named w.program code start && (option_named w.program code test && (option_named w.program code step && right a.0 in_loop))) all in
+      (and_parts (regions_there code w.function number) (first_named w.program code start && (option_named w.program code test && (option_named w.program code step && right a.0 in_loop))) all).1 in
       (let two : (option_named w.program code test && (option_named w.program code step && right a.0 in_loop)) ≡ true =
-      and_right (first_named w.program code start) (option_named w.program code test && (option_named w.program code step && right a.0 in_loop)) one in
-      (let three : (option_named w.program code step && right a.0 in_loop) ≡ true = and_right (option_named w.program code test) (option_named w.program code step && right a.0 in_loop) two in
+      (and_parts (first_named w.program code start) (option_named w.program code test && (option_named w.program code step && right a.0 in_loop)) one).1 in
+      (let three : (option_named w.program code step && right a.0 in_loop) ≡ true = (and_parts (option_named w.program code test) (option_named w.program code step && right a.0 in_loop) two).1 in
       for_fits spot number start test step (made a.0) at
-      (and_left (regions_there code w.function number) (first_named w.program code start && (option_named w.program code test && (option_named w.program code step && right a.0 in_loop))) all)
-      (and_left (first_named w.program code start) (option_named w.program code test && (option_named w.program code step && right a.0 in_loop)) one)
-      (and_left (option_named w.program code test) (option_named w.program code step && right a.0 in_loop) two)
-      (and_left (option_named w.program code step) (right a.0 in_loop) three)
-      (a.1 in_loop (and_right (option_named w.program code step) (right a.0 in_loop) three)))))
+      (and_parts (regions_there code w.function number) (first_named w.program code start && (option_named w.program code test && (option_named w.program code step && right a.0 in_loop))) all).0
+      (and_parts (first_named w.program code start) (option_named w.program code test && (option_named w.program code step && right a.0 in_loop)) one).0
+      (and_parts (option_named w.program code test) (option_named w.program code step && right a.0 in_loop) two).0
+      (and_parts (option_named w.program code step) (right a.0 in_loop) three).0
+      (a.1 in_loop (and_parts (option_named w.program code step) (right a.0 in_loop) three).1))))
   stmt_by (TStmt-F.Switch spot kind on parts) at all =
-      switch_fits spot kind on _ at (and_left (expr_named w.program code on) _ all) (parts_fit parts (λ x. x.0) (λ x. x.1) (in_switch at) (and_right (expr_named w.program code on) _ all))
+      switch_fits spot kind on _ at (and_parts (expr_named w.program code on) _ all).0 (parts_fit parts (λ x. x.0) (λ x. x.1) (in_switch at) (and_parts (expr_named w.program code on) _ all).1)
   stmt_by (TStmt-F.Break spot) at all = break_fits spot at all
   stmt_by (TStmt-F.Continue spot) at all = continue_fits spot at all
   stmt_by (TStmt-F.Return spot value) at all = return_fits spot value at all
-  stmt_by (TStmt-F.Declare spot list) at all = declaration_fits spot list at (and_left (declared_named w.program code list) at.declares all) (and_right (declared_named w.program code list) at.declares all)
+  stmt_by (TStmt-F.Declare spot list) at all = declaration_fits spot list at (and_parts (declared_named w.program code list) at.declares all).0 (and_parts (declared_named w.program code list) at.declares all).1
 
   -- A STATEMENT
   pub statement_fits : (s : TStmt) → RightStmt s

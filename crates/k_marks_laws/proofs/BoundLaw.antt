@@ -21,7 +21,7 @@ use Rattle.k_evaluation.specs.Loops.{LoopParts, loop_region}
 use Rattle.k_evaluation.specs.Statements.{does}
 use Rattle.k_evaluation.specs.Calls.{within, calls}
 use Rattle.k_marks_laws.specs.Frames.{IsSpared}
-use Rattle.k_marks_laws.specs.Turns.{For, marked, parts_of, IsBeforeTest}
+use Rattle.k_marks_laws.specs.Turns.{TLoop, marked, parts_of, IsBeforeTest}
 use Rattle.k_marks_laws.specs.Counted.{IsNotDeclared, EachNamed, HasValue, BoundIsSame}
 use Rattle.k_marks_laws.proofs.Parts.{Kept, Keeps, Any, gives_kept, region_kept}
 use Rattle.k_marks_laws.proofs.Rows.{CallsKeep}
@@ -64,7 +64,7 @@ bound_each : (P : ℕ → Type 0) (n : ℕ) (test : Option TExpr) → EachNamed 
 bound_each P n None each = tt
 bound_each P n (Some e) each = bound_at P n (out-TExpr e) (subst (λ (u : Used). EachNamed P u.uses) (used_is e) each)
 
-module _ (w : Within) (calls_keep : (n : ℕ) → CallsKeep n w.calls) (l : For) (before : Option ℕ) (k : ℕ) (s t : State) (turns : IsBeforeTest (parts_of w l) before k s t) where
+module _ (w : Within) (calls_keep : (n : ℕ) → CallsKeep n w.calls) (l : TLoop) (before : Option ℕ) (k : ℕ) (s t : State) (turns : IsBeforeTest (parts_of w l) before k s t) where
   abbrev InScope : ℕ → Type 0
   InScope n = IsNotDeclared n (inside l.body).uses
 

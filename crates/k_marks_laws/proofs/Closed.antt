@@ -5,8 +5,8 @@ use Rattle.k_tree.specs.declared.tree.unit.Unit as source
 use Rattle.k_types_meaning.specs.declared.tree.unit.TFunc.{TFunc}
 use Rattle.k_marks_meaning.specs.declared.uses.Read.{Read}
 use Rattle.k_evaluation.specs.States.{Program}
-use Rattle.k_marks_laws.specs.Counted.{IsTypedFor}
-use Rattle.k_marks_laws.specs.Turns.{For}
+use Rattle.k_marks_laws.specs.Counted.{IsTypedLoop}
+use Rattle.k_marks_laws.specs.Turns.{TLoop}
 use Rattle.k_marks_laws.proofs.Adding.{reductions_combine}
 use Rattle.k_marks_laws.proofs.BoundLaw.{bound_is_same}
 use Rattle.k_marks_laws.proofs.Induction.{variable_is_counted}
@@ -16,7 +16,7 @@ use Rattle.k_marks_laws.specs.Closed.{IsCountedOf, VariableIsCountedInSources, B
 use Rattle.k_marks_laws.proofs.Sources.{loops_are_typed, reductions_are_typed}
 
 -- what typing says of a counted loop
-typed_of : (unit : source.Unit) (program : Program) (number : ℕ) (f : TFunc) (l : For) (i : Read) (kind : Kind) → IsCountedOf unit program number f l i kind → IsTypedFor kind l
+typed_of : (unit : source.Unit) (program : Program) (number : ℕ) (f : TFunc) (l : TLoop) (i : Read) (kind : Kind) → IsCountedOf unit program number f l i kind → IsTypedLoop kind l
 typed_of unit program number f l i kind c = loops_are_typed unit program.unit number f l i kind c.loop c.step c.of
 
 pub variable_is_counted_in_sources : VariableIsCountedInSources

@@ -24,10 +24,10 @@ use Rattle.k_types_meaning.specs.Units.{FileKnown, Parts, is_name}
 use Rattle.k_types_meaning.specs.ElaboratedFunctions.{ElabParams, ElabFunction, no_params, more_params, definition, known_to_body, within}
 use Rattle.k_types_meaning.specs.ElaboratedUnits.{ElabObjects, ElabItem, ElabItems, no_objects, more_objects, function, prototype_alone, objects, no_items, more_items, with_object}
 use Rattle.k_marks_laws.specs.Counted.{IsOfKind}
-use Rattle.k_marks_laws.specs.Standing.{fors_of}
+use Rattle.k_marks_laws.specs.Standing.{loops_of}
 use Rattle.k_marks_laws.proofs.Growing.{Grows, KnownGrows, grows_not, grows_then, grows_by, last_there, stmts_grow}
 use Rattle.k_marks_laws.proofs.Scopes.{NamesEach, Fits, IsNoVariable, names_among, entered_each, no_variables_fit}
-use Rattle.k_marks_laws.proofs.Sound.{AllFor}
+use Rattle.k_marks_laws.proofs.Sound.{AllLoops}
 use Rattle.k_marks_laws.proofs.Statements.{AreOfKinds, FitsKnown, stmts_come}
 
 -- THE KINDS of the variables of a function are those of their types
@@ -98,7 +98,7 @@ body_fits K count defined names head (scope ∷ inner) none h = (
 
 -- A FUNCTION
 abbrev pub FunctionSound : TFunc → Type 0
-FunctionSound f = AllFor (IsOfKind f.variables) (fors_of f)
+FunctionSound f = AllLoops (IsOfKind f.variables) (loops_of f)
 
 function_sound : (defined : List (List ℕ)) (again : Bool) (names : Names) (p : Place) (head : Head) (body : List Stmt) (close : Place) (f : TFunc)
     → ElabFunction defined again names p head body close f → NamesEach IsNoVariable names → FunctionSound f
@@ -110,7 +110,7 @@ function_sound _ _ _ _ _ _ _ _ (definition defined again names p head body close
     let fit : FitsKnown K inner =
     params_fit K after.variables are true (within_function names) (params_of head.params) types inner params grows (tt, no_variables_fit K names none) in
     (stmts_come K after.variables are 0 (within of) known body trees after stmts (grows_not after.variables)
-    (body_fits K (length inner.variables) defined names head inner.names none fit) (omega arith)).0.fors
+    (body_fits K (length inner.variables) defined names head inner.names none fit) (omega arith)).0.loops
 
 -- ALL FUNCTIONS
 abbrev pub AllSound : List TFunc → Type 0

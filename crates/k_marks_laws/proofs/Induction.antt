@@ -16,7 +16,7 @@ use Rattle.k_evaluation.specs.Loops.{loop_region, step_or_none}
 use Rattle.k_evaluation.specs.Statements.{does}
 use Rattle.k_evaluation.specs.Calls.{within, calls}
 use Rattle.k_marks_laws.specs.Frames.{IsSpared}
-use Rattle.k_marks_laws.specs.Turns.{For, marked, parts_of, HoldsNumber}
+use Rattle.k_marks_laws.specs.Turns.{TLoop, marked, parts_of, HoldsNumber}
 use Rattle.k_marks_laws.specs.Counted.{step_of, IsTypedStep, IsNotDeclared, VariableIsCounted}
 use Rattle.k_marks_laws.proofs.Parts.{Keeps, Any, region_kept}
 use Rattle.k_marks_laws.proofs.Rows.{CallsKeep}
@@ -42,7 +42,7 @@ module _ (w : Within) (i : Read) (kind : Kind) where
       (step_adds w.program w.vars w.calls i kind register s x there e is typed)
 
 -- what the frame says of the loop
-module _ (n : ℕ) (w : Within) (calls_keep : CallsKeep n w.calls) (l : For) where
+module _ (n : ℕ) (w : Within) (calls_keep : CallsKeep n w.calls) (l : TLoop) where
   test_spared : IsSpared n (option_uses l.test) → Keeps n Any (parts_of w l).test
   test_spared h = test_keeps n w calls_keep l.spot.place l.test h
 

@@ -19,8 +19,8 @@ use Rattle.k_evaluation.specs.Meanings.{holds}
 use Rattle.k_evaluation.specs.Loops.{LoopParts, starts, all_turns, loop, loop_region, stays_behind_loop}
 use Rattle.k_evaluation.specs.Statements.{does}
 use Rattle.k_evaluation.specs.Calls.{within, calls}
-use Rattle.k_marks_laws.specs.Turns.{For, marked, parts_of, tested_turn, IsBeforeTest, HoldsNumber}
-use Rattle.k_marks_laws.specs.Counted.{step_of, IsOfKind, IsTypedFor, HasValue, counted}
+use Rattle.k_marks_laws.specs.Turns.{TLoop, marked, parts_of, tested_turn, IsBeforeTest, HoldsNumber}
+use Rattle.k_marks_laws.specs.Counted.{step_of, IsOfKind, IsTypedLoop, HasValue, counted}
 use Rattle.k_marks_laws.specs.Ended.{compared, at_loop, TurnsAreLeast}
 use Rattle.k_marks_laws.proofs.Conditions.{Counts, counted_counts, both_true, not_true}
 use Rattle.k_marks_laws.proofs.Flows.{MayJump, jumps_in, IsAllowed, Gives, region_gives, does_gives}
@@ -67,8 +67,8 @@ same_number x y is = ap number_or is
     number_or (Number z) = z
     number_or (Pointer p) = x
 
-module _ (program : Program) (depth number : ℕ) (f : TFunc) (l : For) (i : Read) (kind : Kind) (is : is_counted f.variables (marked l) ≡ true) (step : counter l.step ≡ Some i)
-    (of : IsOfKind f.variables i.variable kind) (typed : IsTypedFor kind l) where
+module _ (program : Program) (depth number : ℕ) (f : TFunc) (l : TLoop) (i : Read) (kind : Kind) (is : is_counted f.variables (marked l) ≡ true) (step : counter l.step ≡ Some i)
+    (of : IsOfKind f.variables i.variable kind) (typed : IsTypedLoop kind l) where
   abbrev w : Within
   w = within program (calls depth program) number f
 

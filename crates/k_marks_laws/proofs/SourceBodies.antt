@@ -1,5 +1,5 @@
 -- What typing says of a loop without its numbers, it says of the loop.
-use Rattle.std.proofs.Common.{◌≡◌, ℕ, ◌+◌, List, [], ◌∷◌, ◌++◌, map, Some, None, refl, sym, ◌∙◌, ap, subst, arith}
+use Rattle.std.proofs.Common.{◌≡◌, ℕ, ◌+◌, List, [], ◌∷◌, ◌++◌, map, Option, Some, None, refl, sym, ◌∙◌, ap, subst, arith}
 use Rattle.std.proofs.lemmas.List.{map-append}
 use Rattle.k_num.specs.declared.numbers.Kind.{Kind}
 use Rattle.k_types_meaning.specs.declared.tree.declaration.TDeclarator.{TDeclarator}
@@ -18,13 +18,13 @@ use Rattle.k_marks_meaning.specs.Contents.{Inside, inside, part_inside, inside_s
 use Rattle.k_marks_meaning.specs.Reductions.{action_uses}
 use Rattle.k_marks_laws.specs.Counted.{IsNotDeclared, EachNamed}
 use Rattle.k_marks_laws.specs.Reduced.{joined, expressions_in, expressions_step, part_expressions}
-use Rattle.k_marks_laws.specs.Turns.{For}
+use Rattle.k_marks_laws.specs.Turns.{TLoop}
 use Rattle.k_marks_laws.proofs.Bared.{option_bare}
 use Rattle.k_marks_laws.proofs.Declared.{DeclaresFrom, expr_from, option_from, action_from, init_from, not_declared}
 use Rattle.k_marks_laws.proofs.Good.{AllGood}
 use Rattle.k_marks_laws.proofs.GoodBare.{option_good_bare, all_good_bare}
-use Rattle.k_marks_laws.proofs.Sound.{GoodFor, part_expressions_in}
-use Rattle.k_marks_laws.proofs.Standing.{bare_for, bare_part}
+use Rattle.k_marks_laws.proofs.Sound.{GoodLoop, WithStep, part_expressions_in}
+use Rattle.k_marks_laws.proofs.Standing.{bare_loop, bare_part}
 
 -- ITS EXPRESSION STATEMENTS
 abbrev SamePart : TPart → Type 0
@@ -238,11 +238,17 @@ scopes_so xs ys (Assigns m ∷ named) so h = scopes_so xs ys named so h
 scopes_so xs ys (Declares m ∷ named) so h = scopes_so xs ys named so h
 scopes_so xs ys (Reduces r ∷ named) so h = scopes_so xs ys named so h
 
-pub good_for_bare : (K : ℕ → Kind → Type 0) (l : For) → GoodFor K (bare_for l) → GoodFor K l
-good_for_bare K l h = record {
+pub good_loop_bare : (K : ℕ → Kind → Type 0) (l : TLoop) → GoodLoop K (bare_loop l) → GoodLoop K l
+good_loop_bare K l h = record {
   test = option_good_bare K l.test h.test;
   step = option_good_bare K l.step h.step;
-  scopes = scopes_so (inside (bare_stmt l.body)).uses (inside l.body).uses (option_uses l.test) (λ n. not_declared_bare n l.body)
-      (subst (EachNamed (λ n. IsNotDeclared n (inside (bare_stmt l.body)).uses)) (option_bare l.test) h.scopes);
+  scopes = by l.step h.scopes;
   actions = all_good_bare K (expressions_in l.body) (subst (AllGood K) (expressions_bare l.body) h.actions);
 }
+  where
+    by : (step : Option TExpr) → WithStep (bare_option step) (EachNamed (λ n. IsNotDeclared n (inside (bare_stmt l.body)).uses) (option_uses (bare_option l.test)))
+        → WithStep step (EachNamed (λ n. IsNotDeclared n (inside l.body).uses) (option_uses l.test))
+    by None k = tt
+    by (Some e) k =
+        scopes_so (inside (bare_stmt l.body)).uses (inside l.body).uses (option_uses l.test) (λ n. not_declared_bare n l.body)
+        (subst (EachNamed (λ n. IsNotDeclared n (inside (bare_stmt l.body)).uses)) (option_bare l.test) k)

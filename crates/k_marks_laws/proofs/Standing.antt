@@ -8,8 +8,8 @@ use Rattle.k_types_meaning.specs.declared.tree.statement.TStmt.{TStmt, fold-roll
 use Rattle.k_types_meaning.specs.declared.tree.statement.TStmt.TheVariants as stmt
 use Rattle.k_types_meaning.specs.Bare.{bare_declared, bare_expr, bare_first, bare_option, bare_part_step, bare_spot, bare_stmt, bare_stmt_step}
 use Rattle.k_types_meaning.proofs.Folds.{done_Expr, done_Empty, done_Block, done_alone, done_else, done_While, done_DoWhile, done_For, done_Switch, done_Break, done_Continue, done_Return, done_Declare, part_Case, part_Default, part_Does}
-use Rattle.k_marks_laws.specs.Turns.{For}
-use Rattle.k_marks_laws.specs.Standing.{Standing, StandingPart, fors_in, fors_of_all, fors_of_parts, for_at, standing, standing_part, standing_part_step, standing_step}
+use Rattle.k_marks_laws.specs.Turns.{TLoop}
+use Rattle.k_marks_laws.specs.Standing.{Standing, StandingPart, loops_in, loops_of_all, loops_of_parts, loop_at, tested_at, standing, standing_part, standing_part_step, standing_step}
 
 -- THE STATEMENT ITSELF
 abbrev SamePart : TPart → Type 0
@@ -69,17 +69,17 @@ itself_is =
     ap (λ (s : Standing). s.itself) (fold-roll-TStmt StandingPart Standing standing_part_step standing_step x) ∙ subst StmtLayer is (stmt_by y))
 
 -- ITS LOOPS WITHOUT THEIR NUMBERS
-abbrev pub bare_for : For → For
-bare_for l = for_at (bare_spot l.spot) 0 (bare_first l.start) (bare_option l.test) (bare_option l.step) (bare_stmt l.body)
+abbrev pub bare_loop : TLoop → TLoop
+bare_loop l = loop_at (bare_spot l.spot) 0 (bare_first l.start) (bare_option l.test) (bare_option l.step) (bare_stmt l.body)
 
 abbrev pub bare_part : TPart → TPart
 bare_part = fold-TPart TPart TStmt bare_part_step bare_stmt_step
 
 abbrev BarePart : TPart → Type 0
-BarePart p = (standing_part (bare_part p)).fors ≡ map bare_for (standing_part p).fors
+BarePart p = (standing_part (bare_part p)).loops ≡ map bare_loop (standing_part p).loops
 
 abbrev BareStmt : TStmt → Type 0
-BareStmt s = fors_in (bare_stmt s) ≡ map bare_for (fors_in s)
+BareStmt s = loops_in (bare_stmt s) ≡ map bare_loop (loops_in s)
 
 abbrev bare_parts : List ((p : TPart) × BarePart p) → List TPart
 bare_parts xs = map (λ (x : (p : TPart) × BarePart p). x.0) xs
@@ -87,70 +87,75 @@ bare_parts xs = map (λ (x : (p : TPart) × BarePart p). x.0) xs
 abbrev bare_stmts : List ((s : TStmt) × BareStmt s) → List TStmt
 bare_stmts xs = map (λ (x : (s : TStmt) × BareStmt s). x.0) xs
 
-all_bare : (xs : List ((s : TStmt) × BareStmt s)) → fors_of_all (map standing (map bare_stmt (bare_stmts xs))) ≡ map bare_for (fors_of_all (map standing (bare_stmts xs)))
+all_bare : (xs : List ((s : TStmt) × BareStmt s)) → loops_of_all (map standing (map bare_stmt (bare_stmts xs))) ≡ map bare_loop (loops_of_all (map standing (bare_stmts xs)))
 all_bare [] = refl
-all_bare (x ∷ xs) = (λ i. x.1 i ++ all_bare xs i) ∙ sym (map-append bare_for (fors_in x.0) (fors_of_all (map standing (bare_stmts xs))))
+all_bare (x ∷ xs) = (λ i. x.1 i ++ all_bare xs i) ∙ sym (map-append bare_loop (loops_in x.0) (loops_of_all (map standing (bare_stmts xs))))
 
 parts_bare : (xs : List ((p : TPart) × BarePart p))
-    → fors_of_parts (map standing_part (map bare_part (bare_parts xs))) ≡ map bare_for (fors_of_parts (map standing_part (bare_parts xs)))
+    → loops_of_parts (map standing_part (map bare_part (bare_parts xs))) ≡ map bare_loop (loops_of_parts (map standing_part (bare_parts xs)))
 parts_bare [] = refl
-parts_bare (x ∷ xs) = (λ i. x.1 i ++ parts_bare xs i) ∙ sym (map-append bare_for (standing_part x.0).fors (fors_of_parts (map standing_part (bare_parts xs))))
+parts_bare (x ∷ xs) = (λ i. x.1 i ++ parts_bare xs i) ∙ sym (map-append bare_loop (standing_part x.0).loops (loops_of_parts (map standing_part (bare_parts xs))))
 
 abbrev BarePartLayer : TPart-F TPart TStmt → Type 0
 BarePartLayer z =
-    (standing_part (bare_part_step (map-TPart TPart TStmt TPart TStmt bare_part bare_stmt z))).fors
-    ≡ map bare_for (standing_part_step (map-TPart TPart TStmt StandingPart Standing standing_part standing z)).fors
+    (standing_part (bare_part_step (map-TPart TPart TStmt TPart TStmt bare_part bare_stmt z))).loops
+    ≡ map bare_loop (standing_part_step (map-TPart TPart TStmt StandingPart Standing standing_part standing z)).loops
 
 abbrev BareStmtLayer : TStmt-F TPart TStmt → Type 0
 BareStmtLayer z =
-    fors_in (bare_stmt_step (map-TStmt TPart TStmt TPart TStmt bare_part bare_stmt z))
-    ≡ map bare_for (standing_step (map-TStmt TPart TStmt StandingPart Standing standing_part standing z)).fors
+    loops_in (bare_stmt_step (map-TStmt TPart TStmt TPart TStmt bare_part bare_stmt z))
+    ≡ map bare_loop (standing_step (map-TStmt TPart TStmt StandingPart Standing standing_part standing z)).loops
 
-abbrev fors_at : Standing → List For
-fors_at s = s.fors
+abbrev loops_at : Standing → List TLoop
+loops_at s = s.loops
 
 bare_part_by : (y : TPart-F ((p : TPart) × BarePart p) ((s : TStmt) × BareStmt s))
     → BarePartLayer (map-TPart _ _ TPart TStmt (λ (x : (p : TPart) × BarePart p). x.0) (λ (x : (s : TStmt) × BareStmt s). x.0) y)
-bare_part_by (TPart-F.Case p z) = ap (λ (x : StandingPart). x.fors) (part_Case StandingPart Standing standing_part_step standing_step p z)
-bare_part_by (TPart-F.Default p) = ap (λ (x : StandingPart). x.fors) (part_Default StandingPart Standing standing_part_step standing_step p)
-bare_part_by (TPart-F.Does p s) = ap (λ (x : StandingPart). x.fors) (part_Does StandingPart Standing standing_part_step standing_step p (bare_stmt s.0)) ∙ s.1
+bare_part_by (TPart-F.Case p z) = ap (λ (x : StandingPart). x.loops) (part_Case StandingPart Standing standing_part_step standing_step p z)
+bare_part_by (TPart-F.Default p) = ap (λ (x : StandingPart). x.loops) (part_Default StandingPart Standing standing_part_step standing_step p)
+bare_part_by (TPart-F.Does p s) = ap (λ (x : StandingPart). x.loops) (part_Does StandingPart Standing standing_part_step standing_step p (bare_stmt s.0)) ∙ s.1
+
+-- the body of a loop without its numbers, as it was looked at
+bare_body : (s : TStmt) → (standing (bare_stmt s)).itself ≡ bare_stmt (standing s).itself
+bare_body s = itself_is (bare_stmt s) ∙ ap bare_stmt (sym (itself_is s))
 
 bare_stmt_by : (y : TStmt-F ((p : TPart) × BarePart p) ((s : TStmt) × BareStmt s))
     → BareStmtLayer (map-TStmt _ _ TPart TStmt (λ (x : (p : TPart) × BarePart p). x.0) (λ (x : (s : TStmt) × BareStmt s). x.0) y)
-bare_stmt_by (TStmt-F.Expr spot e) = ap fors_at (done_Expr StandingPart Standing standing_part_step standing_step (bare_spot spot) (bare_expr e))
-bare_stmt_by (TStmt-F.Empty spot) = ap fors_at (done_Empty StandingPart Standing standing_part_step standing_step (bare_spot spot))
+bare_stmt_by (TStmt-F.Expr spot e) = ap loops_at (done_Expr StandingPart Standing standing_part_step standing_step (bare_spot spot) (bare_expr e))
+bare_stmt_by (TStmt-F.Empty spot) = ap loops_at (done_Empty StandingPart Standing standing_part_step standing_step (bare_spot spot))
 bare_stmt_by (TStmt-F.Block spot parts) =
-    ap fors_at (done_Block StandingPart Standing standing_part_step standing_step (bare_spot spot) (map bare_stmt (bare_stmts parts))) ∙ all_bare parts
+    ap loops_at (done_Block StandingPart Standing standing_part_step standing_step (bare_spot spot) (map bare_stmt (bare_stmts parts))) ∙ all_bare parts
 bare_stmt_by (TStmt-F.If spot test a None) =
-    ap fors_at (done_alone StandingPart Standing standing_part_step standing_step (bare_spot spot) (bare_expr test) (bare_stmt a.0)) ∙ a.1
+    ap loops_at (done_alone StandingPart Standing standing_part_step standing_step (bare_spot spot) (bare_expr test) (bare_stmt a.0)) ∙ a.1
 bare_stmt_by (TStmt-F.If spot test a (Some b)) =
-    ap fors_at (done_else StandingPart Standing standing_part_step standing_step (bare_spot spot) (bare_expr test) (bare_stmt a.0) (bare_stmt b.0))
-    ∙ (λ i. a.1 i ++ b.1 i) ∙ sym (map-append bare_for (fors_in a.0) (fors_in b.0))
+    ap loops_at (done_else StandingPart Standing standing_part_step standing_step (bare_spot spot) (bare_expr test) (bare_stmt a.0) (bare_stmt b.0))
+    ∙ (λ i. a.1 i ++ b.1 i) ∙ sym (map-append bare_loop (loops_in a.0) (loops_in b.0))
 bare_stmt_by (TStmt-F.While spot number test a) =
-    ap fors_at (done_While StandingPart Standing standing_part_step standing_step (bare_spot spot) 0 (bare_expr test) (bare_stmt a.0)) ∙ a.1
+    ap loops_at (done_While StandingPart Standing standing_part_step standing_step (bare_spot spot) 0 (bare_expr test) (bare_stmt a.0))
+    ∙ (λ i. tested_at (bare_spot spot) 0 (bare_expr test) (bare_body a.0 i) ∷ a.1 i)
 bare_stmt_by (TStmt-F.DoWhile spot number a test) =
-    ap fors_at (done_DoWhile StandingPart Standing standing_part_step standing_step (bare_spot spot) 0 (bare_stmt a.0) (bare_expr test)) ∙ a.1
+    ap loops_at (done_DoWhile StandingPart Standing standing_part_step standing_step (bare_spot spot) 0 (bare_stmt a.0) (bare_expr test))
+    ∙ (λ i. tested_at (bare_spot spot) 0 (bare_expr test) (bare_body a.0 i) ∷ a.1 i)
 bare_stmt_by (TStmt-F.For spot number start test step a) =
-    let body : (standing (bare_stmt a.0)).itself ≡ bare_stmt (standing a.0).itself = itself_is (bare_stmt a.0) ∙ ap bare_stmt (sym (itself_is a.0)) in
-    ap fors_at (done_For StandingPart Standing standing_part_step standing_step (bare_spot spot) 0 (bare_first start) (bare_option test) (bare_option step) (bare_stmt a.0))
-    ∙ (λ i. for_at (bare_spot spot) 0 (bare_first start) (bare_option test) (bare_option step) (body i) ∷ a.1 i)
+    ap loops_at (done_For StandingPart Standing standing_part_step standing_step (bare_spot spot) 0 (bare_first start) (bare_option test) (bare_option step) (bare_stmt a.0))
+    ∙ (λ i. loop_at (bare_spot spot) 0 (bare_first start) (bare_option test) (bare_option step) (bare_body a.0 i) ∷ a.1 i)
 bare_stmt_by (TStmt-F.Switch spot kind on parts) =
-    ap fors_at (done_Switch StandingPart Standing standing_part_step standing_step (bare_spot spot) kind (bare_expr on) (map bare_part (bare_parts parts))) ∙ parts_bare parts
-bare_stmt_by (TStmt-F.Break spot) = ap fors_at (done_Break StandingPart Standing standing_part_step standing_step (bare_spot spot))
-bare_stmt_by (TStmt-F.Continue spot) = ap fors_at (done_Continue StandingPart Standing standing_part_step standing_step (bare_spot spot))
-bare_stmt_by (TStmt-F.Return spot e) = ap fors_at (done_Return StandingPart Standing standing_part_step standing_step (bare_spot spot) (bare_option e))
-bare_stmt_by (TStmt-F.Declare spot list) = ap fors_at (done_Declare StandingPart Standing standing_part_step standing_step (bare_spot spot) (bare_declared list))
+    ap loops_at (done_Switch StandingPart Standing standing_part_step standing_step (bare_spot spot) kind (bare_expr on) (map bare_part (bare_parts parts))) ∙ parts_bare parts
+bare_stmt_by (TStmt-F.Break spot) = ap loops_at (done_Break StandingPart Standing standing_part_step standing_step (bare_spot spot))
+bare_stmt_by (TStmt-F.Continue spot) = ap loops_at (done_Continue StandingPart Standing standing_part_step standing_step (bare_spot spot))
+bare_stmt_by (TStmt-F.Return spot e) = ap loops_at (done_Return StandingPart Standing standing_part_step standing_step (bare_spot spot) (bare_option e))
+bare_stmt_by (TStmt-F.Declare spot list) = ap loops_at (done_Declare StandingPart Standing standing_part_step standing_step (bare_spot spot) (bare_declared list))
 
-pub fors_bare : (s : TStmt) → fors_in (bare_stmt s) ≡ map bare_for (fors_in s)
-fors_bare =
+pub loops_bare : (s : TStmt) → loops_in (bare_stmt s) ≡ map bare_loop (loops_in s)
+loops_bare =
     ind-TStmt BarePart BareStmt
     (λ x y is.
-    ap (λ (p : TPart). (standing_part p).fors) (fold-roll-TPart TPart TStmt bare_part_step bare_stmt_step x) ∙ subst BarePartLayer is (bare_part_by y)
-    ∙ ap (λ (p : StandingPart). map bare_for p.fors) (sym (fold-roll-TPart StandingPart Standing standing_part_step standing_step x)))
+    ap (λ (p : TPart). (standing_part p).loops) (fold-roll-TPart TPart TStmt bare_part_step bare_stmt_step x) ∙ subst BarePartLayer is (bare_part_by y)
+    ∙ ap (λ (p : StandingPart). map bare_loop p.loops) (sym (fold-roll-TPart StandingPart Standing standing_part_step standing_step x)))
     (λ x y is.
-    ap fors_in (fold-roll-TStmt TPart TStmt bare_part_step bare_stmt_step x) ∙ subst BareStmtLayer is (bare_stmt_by y)
-    ∙ ap (λ (s : Standing). map bare_for s.fors) (sym (fold-roll-TStmt StandingPart Standing standing_part_step standing_step x)))
+    ap loops_in (fold-roll-TStmt TPart TStmt bare_part_step bare_stmt_step x) ∙ subst BareStmtLayer is (bare_stmt_by y)
+    ∙ ap (λ (s : Standing). map bare_loop s.loops) (sym (fold-roll-TStmt StandingPart Standing standing_part_step standing_step x)))
 
-pub all_fors_bare : (ss : List TStmt) → fors_of_all (map standing (map bare_stmt ss)) ≡ map bare_for (fors_of_all (map standing ss))
-all_fors_bare [] = refl
-all_fors_bare (s ∷ ss) = (λ i. fors_bare s i ++ all_fors_bare ss i) ∙ sym (map-append bare_for (fors_in s) (fors_of_all (map standing ss)))
+pub all_loops_bare : (ss : List TStmt) → loops_of_all (map standing (map bare_stmt ss)) ≡ map bare_loop (loops_of_all (map standing ss))
+all_loops_bare [] = refl
+all_loops_bare (s ∷ ss) = (λ i. loops_bare s i ++ all_loops_bare ss i) ∙ sym (map-append bare_loop (loops_in s) (loops_of_all (map standing ss)))

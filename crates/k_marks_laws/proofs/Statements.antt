@@ -24,18 +24,18 @@ use Rattle.k_types_meaning.proofs.Folds.{done_Expr, done_Empty, done_Block, done
 use Rattle.k_types_meaning.specs.Statements.{Around, Known, Labels, Variable, spot, opened, inside_loop, inside_switch, no_labels}
 use Rattle.k_marks_meaning.specs.Uses.{uses_of, option_uses, first_uses, declared_uses}
 use Rattle.k_marks_meaning.specs.Contents.{Inside, inside, part_inside, inside_step, part_step, row}
-use Rattle.k_marks_laws.specs.Counted.{EachNamed}
-use Rattle.k_marks_laws.specs.Turns.{For}
+use Rattle.k_marks_laws.specs.Counted.{IsNotDeclared, EachNamed}
+use Rattle.k_marks_laws.specs.Turns.{TLoop}
 use Rattle.k_marks_laws.specs.Reduced.{joined, expressions_in, expressions_step, part_expressions}
 use Rattle.k_types_meaning.specs.ElaboratedDeclarators.{ElabObject, ElabDeclared, none_declared, more_declared, variable_tree, with_variable}
 use Rattle.k_types_meaning.specs.ElaboratedStatements.{ElabStmt, ElabStmts, ElabPart, ElabParts, ElabFirst, ElabTest, ElabStep, nothing_first, value_first, declared_first, no_test, tested, no_step, stepped, expression, empty, block, if_alone, if_else, while_loop, do_loop, for_loop, switch_on, break_within, continue_within, return_none, return_value, declaration, no_stmts, more_stmts, case_label, default_label, does, no_parts, more_parts, taking, leaving}
-use Rattle.k_marks_laws.specs.Standing.{Standing, StandingPart, fors_in, fors_of_all, fors_of_parts, for_at, standing, standing_part, standing_part_step, standing_step}
+use Rattle.k_marks_laws.specs.Standing.{Standing, StandingPart, loops_in, loops_of_all, loops_of_parts, loop_at, tested_at, standing, standing_part, standing_part_step, standing_step}
 use Rattle.k_marks_laws.proofs.Declared.{DeclaresFrom, expr_from, option_from, action_from, declarator_from, from_both, scopes_of}
 use Rattle.k_marks_laws.proofs.Expressions.{meant}
-use Rattle.k_marks_laws.proofs.Good.{GoodOption, AllGood}
+use Rattle.k_marks_laws.proofs.Good.{Good, GoodOption, AllGood}
 use Rattle.k_marks_laws.proofs.Growing.{Grows, KnownGrows, grows_then, last_there, declared_grows, first_grows, test_grows, step_grows, stmt_grows, stmts_grow, part_grows, parts_grow}
 use Rattle.k_marks_laws.proofs.Scopes.{NamesEach, Fits, names_among, entered_each}
-use Rattle.k_marks_laws.proofs.Sound.{GoodFor, SoundOf, Sound, SoundAll, SoundPart, SoundParts, part_expressions_in, nothing_sound, sound_then, sound_behind, sound_before, sound_by, part_sound_by, sound_lower}
+use Rattle.k_marks_laws.proofs.Sound.{GoodLoop, with_step, SoundOf, Sound, SoundAll, SoundPart, SoundParts, part_expressions_in, nothing_sound, sound_then, sound_behind, sound_by, part_sound_by, sound_lower}
 use Rattle.k_marks_laws.proofs.Standing.{itself_is}
 
 -- each variable of a function has the kinds of its type alone
@@ -106,7 +106,7 @@ module _ (K : ℕ → Kind → Type 0) (low : ℕ) where
       (e ∷ [])
       (inside_step (TStmt-F.Expr (spot p) e))
       (done_Expr StandingPart Standing standing_part_step standing_step (spot p) e) (done_Expr (List TExpr) (List TExpr) part_expressions expressions_step (spot p) e) (done_Expr Inside Inside part_step inside_step (spot p) e)
-      (record { fors = tt; actions = good; declared = action_from low e })
+      (record { loops = tt; actions = good; declared = action_from low e })
 
   empty_sound : (p : Place) → Sound K low (typed.Empty (spot p))
   empty_sound p =
@@ -142,7 +142,7 @@ module _ (K : ℕ → Kind → Type 0) (low : ℕ) where
       ([])
       (inside_step (TStmt-F.Return (spot p) e))
       (done_Return StandingPart Standing standing_part_step standing_step (spot p) e) (done_Return (List TExpr) (List TExpr) part_expressions expressions_step (spot p) e) (done_Return Inside Inside part_step inside_step (spot p) e)
-      (record { fors = tt; actions = tt; declared = option_from low e })
+      (record { loops = tt; actions = tt; declared = option_from low e })
 
   declaration_sound : (p : Place) (list : List TDeclarator) → DeclaresFrom low (declared_uses list) → Sound K low (typed.Declare (spot p) list)
   declaration_sound p list h =
@@ -151,7 +151,7 @@ module _ (K : ℕ → Kind → Type 0) (low : ℕ) where
       ([])
       (inside_step (TStmt-F.Declare (spot p) list))
       (done_Declare StandingPart Standing standing_part_step standing_step (spot p) list) (done_Declare (List TExpr) (List TExpr) part_expressions expressions_step (spot p) list) (done_Declare Inside Inside part_step inside_step (spot p) list)
-      (record { fors = tt; actions = tt; declared = h })
+      (record { loops = tt; actions = tt; declared = h })
 
   block_sound : (p : Place) (ts : List TStmt) → SoundAll K low ts → Sound K low (typed.Block (spot p) ts)
   block_sound p ts h =
@@ -169,9 +169,9 @@ module _ (K : ℕ → Kind → Type 0) (low : ℕ) where
       (expressions_in t ++ [])
       (inside_step (TStmt-F.If (spot p) e (inside t) None))
       (done_alone StandingPart Standing standing_part_step standing_step (spot p) e t) (done_alone (List TExpr) (List TExpr) part_expressions expressions_step (spot p) e t) (done_alone Inside Inside part_step inside_step (spot p) e t)
-      (sound_behind K low (fors_in t) (expressions_in t ++ []) (uses_of e) ((inside t).uses ++ []) (expr_from low e)
-      (subst (λ (fs : List For). SoundOf K low fs (expressions_in t ++ []) ((inside t).uses ++ [])) (append-nil (fors_in t))
-      (sound_then K low (fors_in t) [] (expressions_in t) [] (inside t).uses [] h (nothing_sound K low))))
+      (sound_behind K low (loops_in t) (expressions_in t ++ []) (uses_of e) ((inside t).uses ++ []) (expr_from low e)
+      (subst (λ (fs : List TLoop). SoundOf K low fs (expressions_in t ++ []) ((inside t).uses ++ [])) (append-nil (loops_in t))
+      (sound_then K low (loops_in t) [] (expressions_in t) [] (inside t).uses [] h (nothing_sound K low))))
 
   else_sound : (p : Place) (e : TExpr) (t u : TStmt) → Sound K low t → Sound K low u → Sound K low (typed.If (spot p) e t (Some u))
   else_sound p e t u h k =
@@ -180,28 +180,33 @@ module _ (K : ℕ → Kind → Type 0) (low : ℕ) where
       (expressions_in t ++ expressions_in u)
       (inside_step (TStmt-F.If (spot p) e (inside t) (Some (inside u))))
       (done_else StandingPart Standing standing_part_step standing_step (spot p) e t u) (done_else (List TExpr) (List TExpr) part_expressions expressions_step (spot p) e t u) (done_else Inside Inside part_step inside_step (spot p) e t u)
-      (sound_behind K low (fors_in t ++ fors_in u) (expressions_in t ++ expressions_in u) (uses_of e) ((inside t).uses ++ (inside u).uses) (expr_from low e)
-      (sound_then K low (fors_in t) (fors_in u) (expressions_in t) (expressions_in u) (inside t).uses (inside u).uses h k))
+      (sound_behind K low (loops_in t ++ loops_in u) (expressions_in t ++ expressions_in u) (uses_of e) ((inside t).uses ++ (inside u).uses) (expr_from low e)
+      (sound_then K low (loops_in t) (loops_in u) (expressions_in t) (expressions_in u) (inside t).uses (inside u).uses h k))
 
-  while_sound : (p : Place) (e : TExpr) (t : TStmt) → Sound K low t → Sound K low (typed.While (spot p) 0 e t)
-  while_sound p e t h =
+  -- a loop with a test alone
+  tested_good : (p : Place) (e : TExpr) (t : TStmt) → Good K e → Sound K low t → GoodLoop K (tested_at (spot p) 0 e (standing t).itself)
+  tested_good p e t good h =
+      subst (λ (s : TStmt). GoodLoop K (tested_at (spot p) 0 e s)) (sym (itself_is t)) (record { test = good; step = tt; scopes = tt; actions = h.actions })
+
+  while_sound : (p : Place) (e : TExpr) (t : TStmt) → Good K e → Sound K low t → Sound K low (typed.While (spot p) 0 e t)
+  while_sound p e t good h =
       sound_by K low (typed.While (spot p) 0 e t)
       (standing_step (TStmt-F.While (spot p) 0 e (standing t)))
       (expressions_in t)
       (inside_step (TStmt-F.While (spot p) 0 e (inside t)))
       (done_While StandingPart Standing standing_part_step standing_step (spot p) 0 e t) (done_While (List TExpr) (List TExpr) part_expressions expressions_step (spot p) 0 e t) (done_While Inside Inside part_step inside_step (spot p) 0 e t)
-      (sound_behind K low (fors_in t) (expressions_in t) (uses_of e) (inside t).uses (expr_from low e) h)
+      (record { loops = (tested_good p e t good h, h.loops); actions = h.actions; declared = from_both low (uses_of e) (inside t).uses (expr_from low e) h.declared })
 
-  do_sound : (p : Place) (t : TStmt) (e : TExpr) → Sound K low t → Sound K low (typed.DoWhile (spot p) 0 t e)
-  do_sound p t e h =
+  do_sound : (p : Place) (t : TStmt) (e : TExpr) → Good K e → Sound K low t → Sound K low (typed.DoWhile (spot p) 0 t e)
+  do_sound p t e good h =
       sound_by K low (typed.DoWhile (spot p) 0 t e)
       (standing_step (TStmt-F.DoWhile (spot p) 0 (standing t) e))
       (expressions_in t)
       (inside_step (TStmt-F.DoWhile (spot p) 0 (inside t) e))
       (done_DoWhile StandingPart Standing standing_part_step standing_step (spot p) 0 t e) (done_DoWhile (List TExpr) (List TExpr) part_expressions expressions_step (spot p) 0 t e) (done_DoWhile Inside Inside part_step inside_step (spot p) 0 t e)
-      (sound_before K low (fors_in t) (expressions_in t) (inside t).uses (uses_of e) h (expr_from low e))
+      (record { loops = (tested_good p e t good h, h.loops); actions = h.actions; declared = from_both low (inside t).uses (uses_of e) h.declared (expr_from low e) })
 
-  for_sound : (p : Place) (f : TFirst) (a b : Option TExpr) (t : TStmt) → DeclaresFrom low (first_uses f) → GoodFor K (for_at (spot p) 0 f a b t) → Sound K low t → Sound K low (typed.For (spot p) 0 f a b t)
+  for_sound : (p : Place) (f : TFirst) (a b : Option TExpr) (t : TStmt) → DeclaresFrom low (first_uses f) → GoodLoop K (loop_at (spot p) 0 f a b t) → Sound K low t → Sound K low (typed.For (spot p) 0 f a b t)
   for_sound p f a b t h good k =
       sound_by K low (typed.For (spot p) 0 f a b t)
       (standing_step (TStmt-F.For (spot p) 0 f a b (standing t)))
@@ -209,7 +214,7 @@ module _ (K : ℕ → Kind → Type 0) (low : ℕ) where
       (inside_step (TStmt-F.For (spot p) 0 f a b (inside t)))
       (done_For StandingPart Standing standing_part_step standing_step (spot p) 0 f a b t) (done_For (List TExpr) (List TExpr) part_expressions expressions_step (spot p) 0 f a b t) (done_For Inside Inside part_step inside_step (spot p) 0 f a b t)
       (record {
-        fors = (subst (λ (s : TStmt). GoodFor K (for_at (spot p) 0 f a b s)) (sym (itself_is t)) good, k.fors);
+        loops = (subst (λ (s : TStmt). GoodLoop K (loop_at (spot p) 0 f a b s)) (sym (itself_is t)) good, k.loops);
         actions = k.actions;
         declared = from_both low (first_uses f) (option_uses a ++ (option_uses b ++ (inside t).uses)) h
             (from_both low (option_uses a) (option_uses b ++ (inside t).uses) (option_from low a) (from_both low (option_uses b) (inside t).uses (option_from low b) k.declared));
@@ -222,7 +227,7 @@ module _ (K : ℕ → Kind → Type 0) (low : ℕ) where
       (joined (map part_expressions_in ts))
       (inside_step (TStmt-F.Switch (spot p) kind e (map part_inside ts)))
       (done_Switch StandingPart Standing standing_part_step standing_step (spot p) kind e ts) (done_Switch (List TExpr) (List TExpr) part_expressions expressions_step (spot p) kind e ts) (done_Switch Inside Inside part_step inside_step (spot p) kind e ts)
-      (sound_behind K low (fors_of_parts (map standing_part ts)) (joined (map part_expressions_in ts)) (uses_of e) (row (map part_inside ts)).uses (expr_from low e) h)
+      (sound_behind K low (loops_of_parts (map standing_part ts)) (joined (map part_expressions_in ts)) (uses_of e) (row (map part_inside ts)).uses (expr_from low e) h)
 
   case_sound : (p : Place) (z : ℤ) → SoundPart K low (typed_part.Case p z)
   case_sound p z =
@@ -283,10 +288,10 @@ mutual
       (else_sound K low p v.tree t u h.0 k.0, k.1)
   stmt_comes K final are low _ _ _ _ _ (while_loop around known p e s v kind t after x number a) grows fit less =
       let h = stmt_comes K final are low (inside_loop around) (taking known v) s t after a grows fit less in
-      (while_sound K low p v.tree t h.0, h.1)
+      (while_sound K low p v.tree t (meant K (length known.variables) known.names e v fit x).good h.0, h.1)
   stmt_comes K final are low _ _ _ _ _ (do_loop around known p s e t middle v kind a x number) grows fit less =
       let h = stmt_comes K final are low (inside_loop around) known s t middle a grows fit less in
-      (do_sound K low p t v.tree h.0, h.1)
+      (do_sound K low p t v.tree (meant K (length middle.variables) middle.names e v h.1 x).good h.0, h.1)
   stmt_comes K final are low _ _ _ _ _ (for_loop around known p start test step s f a b t started tried went inner x y z body) grows fit less =
       let in_body = stmt_grows (inside_loop around) went s t inner body in
       let in_step = step_grows tried step b went z in
@@ -300,10 +305,10 @@ mutual
       let more : length tried.variables ≤ length went.variables = in_step.more in
       let h = stmt_comes K final are (length tried.variables) (inside_loop around) went s t inner body grows three.0 more in
       let lower : low ≤ length tried.variables = (let far : length known.variables ≤ length tried.variables = (grows_then known.variables started.variables tried.variables in_start in_test).more in omega (arith, far, less)) in
-      let good : GoodFor K (for_at (spot p) 0 f a b t) =
-      record { test = two.1; step = three.1; scopes = scopes_of (length tried.variables) (inside t).uses (option_uses a) h.0.declared two.2; actions = h.0.actions } in (
+      let good : GoodLoop K (loop_at (spot p) 0 f a b t) =
+      record { test = two.1; step = three.1; scopes = with_step b (EachNamed (λ n. IsNotDeclared n (inside t).uses) (option_uses a)) (scopes_of (length tried.variables) (inside t).uses (option_uses a) h.0.declared two.2); actions = h.0.actions } in (
         for_sound K low p f a b t (first_from low (opened known) start f started x less) good
-            (sound_lower K low (length tried.variables) (fors_in t) (expressions_in t) (inside t).uses lower h.0),
+            (sound_lower K low (length tried.variables) (loops_in t) (expressions_in t) (inside t).uses lower h.0),
         left_fits K known inner (grows_then known.variables started.variables inner.variables in_start from_test) fit,
       )
   stmt_comes K final are low _ _ _ _ _ (switch_on around known p e parts v kind trees after x number xs) grows fit less =
@@ -323,7 +328,7 @@ mutual
       let first : length known.variables ≤ length middle.variables = (stmt_grows around known s t middle x).more in
       let h = stmt_comes K final are low around known s t middle x (grows_then middle.variables after.variables final (stmts_grow around middle ss ts after xs) grows) fit less in
       let k = stmts_come K final are low around middle ss ts after xs grows h.1 (omega (arith, first, less)) in
-      (sound_then K low (fors_in t) (fors_of_all (map standing ts)) (expressions_in t) (joined (map expressions_in ts)) (inside t).uses (row (map inside ts)).uses h.0 k.0, k.1)
+      (sound_then K low (loops_in t) (loops_of_all (map standing ts)) (expressions_in t) (joined (map expressions_in ts)) (inside t).uses (row (map inside ts)).uses h.0 k.0, k.1)
 
   part_comes : (K : ℕ → Kind → Type 0) (final : List Variable) → AreOfKinds K final → (low : ℕ) (around : Around) (kind : Kind) (labels : Labels) (known : Known) (x : Part) (t : TPart) (labelled : Labels) (after : Known)
       → ElabPart around kind labels known x t labelled after → Grows after.variables final → FitsKnown K known → low ≤ length known.variables → Comes K (SoundPart K low t) after
@@ -341,7 +346,7 @@ mutual
       let h = part_comes K final are low around kind labels known x t labelled middle a
       (grows_then middle.variables after.variables final (parts_grow around kind labelled middle xs ts after b) grows) fit less in
       let k = parts_come K final are low around kind labelled middle xs ts after b grows h.1 (omega (arith, first, less)) in (
-        sound_then K low (standing_part t).fors (fors_of_parts (map standing_part ts)) (part_expressions_in t) (joined (map part_expressions_in ts)) (part_inside t).uses
+        sound_then K low (standing_part t).loops (loops_of_parts (map standing_part ts)) (part_expressions_in t) (joined (map part_expressions_in ts)) (part_inside t).uses
             (row (map part_inside ts)).uses h.0 k.0,
         k.1,
       )

@@ -24,11 +24,11 @@ use Rattle.k_marks_laws.specs.Contributions.{adds_loop, giving}
 use Rattle.k_marks_laws.specs.Counted.{IsOfKind, HasValue, counted, step_of}
 use Rattle.k_marks_laws.specs.Ended.{EndedAfter, compared}
 use Rattle.k_marks_laws.specs.Reduced.{combining}
-use Rattle.k_marks_laws.specs.Turns.{For, marked, parts_of, IsBeforeTest, HoldsNumber}
+use Rattle.k_marks_laws.specs.Turns.{TLoop, marked, parts_of, IsBeforeTest, HoldsNumber}
 use Rattle.k_marks_laws.specs.Laws.{IsLoopOf}
 
 -- a counted loop in the function of this number, by a variable of a kind
-pub record IsCountedOf (unit : source.Unit) (program : Program) (number : ℕ) (f : TFunc) (l : For) (i : Read) (kind : Kind) : Type 0 where
+pub record IsCountedOf (unit : source.Unit) (program : Program) (number : ℕ) (f : TFunc) (l : TLoop) (i : Read) (kind : Kind) : Type 0 where
   pub loop : IsLoopOf unit program.unit number f l
   pub is : is_counted f.variables (marked l) ≡ true
   pub step : counter l.step ≡ Some i
@@ -37,7 +37,7 @@ pub record IsCountedOf (unit : source.Unit) (program : Program) (number : ℕ) (
 -- INDUCTION: the variable of a counted loop before the k-th test
 abbrev pub VariableIsCountedInSources : Type 0
 VariableIsCountedInSources =
-    (unit : source.Unit) (program : Program) (depth number : ℕ) (f : TFunc) (l : For) (i : Read) (kind : Kind)
+    (unit : source.Unit) (program : Program) (depth number : ℕ) (f : TFunc) (l : TLoop) (i : Read) (kind : Kind)
     → IsCountedOf unit program number f l i kind
     → (let w = within program (calls depth program) number f in
     (before : Option ℕ) (k : ℕ) (s t : State) (x : ℤ)
@@ -48,7 +48,7 @@ VariableIsCountedInSources =
 -- its bound has the same value before each test where it has one
 abbrev pub BoundIsSameInSources : Type 0
 BoundIsSameInSources =
-    (unit : source.Unit) (program : Program) (depth number : ℕ) (f : TFunc) (l : For) (i : Read) (kind : Kind)
+    (unit : source.Unit) (program : Program) (depth number : ℕ) (f : TFunc) (l : TLoop) (i : Read) (kind : Kind)
     → IsCountedOf unit program number f l i kind
     → (let w = within program (calls depth program) number f in
     (before : Option ℕ) (k : ℕ) (s t : State) (x y : Value)
@@ -60,7 +60,7 @@ BoundIsSameInSources =
 -- each test is one on variable and bound
 abbrev pub TestsAreOnBothInSources : Type 0
 TestsAreOnBothInSources =
-    (unit : source.Unit) (program : Program) (depth number : ℕ) (f : TFunc) (l : For) (i : Read) (kind : Kind)
+    (unit : source.Unit) (program : Program) (depth number : ℕ) (f : TFunc) (l : TLoop) (i : Read) (kind : Kind)
     → IsCountedOf unit program number f l i kind
     → (let w = within program (calls depth program) number f in
     (before : Option ℕ) (s t : State) (x : ℤ) (test : Held)
@@ -71,7 +71,7 @@ TestsAreOnBothInSources =
 -- the number of turns of a counted loop that ended is the least for which the test is false
 abbrev pub TurnsAreLeastInSources : Type 0
 TurnsAreLeastInSources =
-    (unit : source.Unit) (program : Program) (depth number : ℕ) (f : TFunc) (l : For) (i : Read) (kind : Kind)
+    (unit : source.Unit) (program : Program) (depth number : ℕ) (f : TFunc) (l : TLoop) (i : Read) (kind : Kind)
     → IsCountedOf unit program number f l i kind
     → (let w = within program (calls depth program) number f in
     (s t : State) (flow : Flow) (x : ℤ)
@@ -82,7 +82,7 @@ TurnsAreLeastInSources =
 -- REDUCTION: a variable that a loop of a source reduces is behind it what it was before, combined with what the body contributes
 abbrev pub ReductionsCombineInSources : Type 0
 ReductionsCombineInSources =
-    (unit : source.Unit) (program : Program) (depth number : ℕ) (f : TFunc) (l : For) (n : ℕ) (group : Group) (kind : Kind)
+    (unit : source.Unit) (program : Program) (depth number : ℕ) (f : TFunc) (l : TLoop) (n : ℕ) (group : Group) (kind : Kind)
     → IsLoopOf unit program.unit number f l
     → is_reduced f.variables (marked l) n group ≡ true
     → IsOfKind f.variables n kind

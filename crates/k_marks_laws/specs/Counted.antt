@@ -27,7 +27,7 @@ use Rattle.k_evaluation.specs.States.{Program, State, Goes, read}
 use Rattle.k_evaluation.specs.Flows.{Within, means}
 use Rattle.k_evaluation.specs.Calls.{within, calls}
 use Rattle.std.specs.Prelude.{slice_get}
-use Rattle.k_marks_laws.specs.Turns.{For, marked, parts_of, IsBeforeTest, HoldsNumber}
+use Rattle.k_marks_laws.specs.Turns.{TLoop, marked, parts_of, IsBeforeTest, HoldsNumber}
 
 -- the kind of a variable that is a number
 abbrev pub IsOfKind : List TVariable → ℕ → Kind → Type 0
@@ -112,7 +112,7 @@ EachNamed P (Reduces r ∷ us) = EachNamed P us
 
 -- what typing says of a loop with a variable of this kind: of its step and of its test; and the body declares no variable that the test names, since these
 -- are declared outside of it (C17 6.2.1p4), and each declarator has a number of its own. It is a premise, which `k_marks_laws` shows of each source that has a typed tree
-pub record IsTypedFor (kind : Kind) (l : For) : Type 0 where
+pub record IsTypedLoop (kind : Kind) (l : TLoop) : Type 0 where
   pub step : IsTypedStep kind l.step
   pub test : IsTypedTest l.test
   pub scopes : EachNamed (λ n. IsNotDeclared n (inside l.body).uses) (option_uses l.test)
@@ -136,11 +136,11 @@ CountedIsConverted = (kind : Kind) (step x : ℤ) (k : ℕ) → IsTrue (is_held 
 -- INDUCTION: the variable of a counted loop holds that before the k-th test
 abbrev pub VariableIsCounted : Type 0
 VariableIsCounted =
-    (program : Program) (depth number : ℕ) (f : TFunc) (l : For) (i : Read) (kind : Kind)
+    (program : Program) (depth number : ℕ) (f : TFunc) (l : TLoop) (i : Read) (kind : Kind)
     → is_counted f.variables (marked l) ≡ true
     → counter l.step ≡ Some i
     → IsOfKind f.variables i.variable kind
-    → IsTypedFor kind l
+    → IsTypedLoop kind l
     → (let w = within program (calls depth program) number f in
     (before : Option ℕ) (k : ℕ) (s t : State) (x : ℤ)
     → HoldsNumber s i.variable x
@@ -150,10 +150,10 @@ VariableIsCounted =
 -- and the bound has the same value before each test where it has one
 abbrev pub BoundIsSame : Type 0
 BoundIsSame =
-    (program : Program) (depth number : ℕ) (f : TFunc) (l : For) (i : Read) (kind : Kind)
+    (program : Program) (depth number : ℕ) (f : TFunc) (l : TLoop) (i : Read) (kind : Kind)
     → is_counted f.variables (marked l) ≡ true
     → counter l.step ≡ Some i
-    → IsTypedFor kind l
+    → IsTypedLoop kind l
     → (let w = within program (calls depth program) number f in
     (before : Option ℕ) (k : ℕ) (s t : State) (x y : Value)
     → IsBeforeTest (parts_of w l) before k s t

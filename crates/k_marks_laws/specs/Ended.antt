@@ -21,8 +21,8 @@ use Rattle.k_evaluation.specs.Meanings.{holds}
 use Rattle.k_evaluation.specs.Loops.{starts, source_loop, loop_region}
 use Rattle.k_evaluation.specs.Statements.{does}
 use Rattle.k_evaluation.specs.Calls.{within, calls}
-use Rattle.k_marks_laws.specs.Turns.{For, marked, parts_of, tested_turn, IsBeforeTest, HoldsNumber}
-use Rattle.k_marks_laws.specs.Counted.{step_of, IsOfKind, IsTypedFor, HasValue, counted}
+use Rattle.k_marks_laws.specs.Turns.{TLoop, marked, parts_of, tested_turn, IsBeforeTest, HoldsNumber}
+use Rattle.k_marks_laws.specs.Counted.{step_of, IsOfKind, IsTypedLoop, HasValue, counted}
 
 -- an operation gave a number other than 0
 abbrev pub is_met : Result ℤ NumTrap → Bool
@@ -42,10 +42,10 @@ compared (Some e) x y = compared_at (out-TExpr e) x y
 -- EACH TEST that a counted loop makes is one on what its variable holds and on its bound
 abbrev pub TestsAreOnBoth : Type 0
 TestsAreOnBoth =
-    (program : Program) (depth number : ℕ) (f : TFunc) (l : For) (i : Read) (kind : Kind)
+    (program : Program) (depth number : ℕ) (f : TFunc) (l : TLoop) (i : Read) (kind : Kind)
     → is_counted f.variables (marked l) ≡ true
     → counter l.step ≡ Some i
-    → IsTypedFor kind l
+    → IsTypedLoop kind l
     → (let w = within program (calls depth program) number f in
     (before : Option ℕ) (s t : State) (x : ℤ) (test : Held)
     → HoldsNumber s i.variable x
@@ -58,12 +58,12 @@ pub record IsLeast (P : ℕ → Type 0) (k : ℕ) : Type 0 where
   pub below : (j : ℕ) → j < k → P j → ⊥
 
 -- the state before the first test of a loop that begins in a state: its region was entered
-abbrev pub at_loop : Within → For → State → State
+abbrev pub at_loop : Within → TLoop → State → State
 at_loop w l s = record s { world = with_event (event.Enter (loop_region w.function l.number)) s.world }
 
 -- A COUNTED LOOP ENDED AFTER SO MANY TURNS: they lead from its first test to its last one, behind which it ends; and this is the least number
 -- for which the test on variable and bound is false
-pub record EndedAfter (w : Within) (l : For) (i : Read) (kind : Kind) (x : ℤ) (s : State) (turns : ℕ) : Type 0 where
+pub record EndedAfter (w : Within) (l : TLoop) (i : Read) (kind : Kind) (x : ℤ) (s : State) (turns : ℕ) : Type 0 where
   pub last : State
   pub reached : IsBeforeTest (parts_of w l) s.world.control turns (at_loop w l s) last
   pub behind : State
@@ -75,11 +75,11 @@ pub record EndedAfter (w : Within) (l : For) (i : Read) (kind : Kind) (x : ℤ) 
 -- so does each counted loop that ends, whose variable holds x before it
 abbrev pub TurnsAreLeast : Type 0
 TurnsAreLeast =
-    (program : Program) (depth number : ℕ) (f : TFunc) (l : For) (i : Read) (kind : Kind)
+    (program : Program) (depth number : ℕ) (f : TFunc) (l : TLoop) (i : Read) (kind : Kind)
     → is_counted f.variables (marked l) ≡ true
     → counter l.step ≡ Some i
     → IsOfKind f.variables i.variable kind
-    → IsTypedFor kind l
+    → IsTypedLoop kind l
     → (let w = within program (calls depth program) number f in
     (s t : State) (flow : Flow) (x : ℤ)
     → HoldsNumber s i.variable x

@@ -22,7 +22,7 @@ use Rattle.k_evaluation.specs.States.{Program, State, Goes}
 use Rattle.k_evaluation.specs.Loops.{source_loop}
 use Rattle.k_evaluation.specs.Statements.{does}
 use Rattle.k_evaluation.specs.Calls.{within, calls}
-use Rattle.k_marks_laws.specs.Turns.{For, marked, HoldsNumber}
+use Rattle.k_marks_laws.specs.Turns.{TLoop, marked, HoldsNumber}
 use Rattle.k_marks_laws.specs.Counted.{IsOfKind, IsTypedChange, IsTypedSide}
 use Rattle.k_marks_laws.specs.Contributions.{reducing_step, adds_loop, giving}
 
@@ -91,7 +91,7 @@ AreTyped kind n (e ∷ es) = (IsSome (reducing_step n (out-TExpr e)) → IsTyped
 -- combined in the kind with what the body contributes, in any order
 abbrev pub ReductionsCombine : Type 0
 ReductionsCombine =
-    (program : Program) (depth number : ℕ) (f : TFunc) (l : For) (n : ℕ) (group : Group) (kind : Kind)
+    (program : Program) (depth number : ℕ) (f : TFunc) (l : TLoop) (n : ℕ) (group : Group) (kind : Kind)
     → is_reduced f.variables (marked l) n group ≡ true
     → IsOfKind f.variables n kind
     → AreTyped kind n (expressions_in l.body)

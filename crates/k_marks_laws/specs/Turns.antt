@@ -1,5 +1,5 @@
 -- Believed with a public law.
--- The `for` loops of a function, and the state before each test of one.
+-- The loops of a function, and the state before each test of one.
 use Rattle.std.specs.Prelude.{ℕ, zero, suc, ◌≡◌, ℤ, Option, Some}
 use Rattle.k_types_meaning.specs.declared.tree.expression.TExpr.{TExpr}
 use Rattle.k_types_meaning.specs.declared.tree.statement.Spot.{Spot}
@@ -16,8 +16,8 @@ use Rattle.k_evaluation.specs.Flows.{Within}
 use Rattle.k_evaluation.specs.Loops.{LoopParts, starts, turn_if, loop_parts}
 use Rattle.k_evaluation.specs.Statements.{does}
 
--- `for (start test; step) body`, the loop of this number
-pub record For : Type 0 where
+-- A LOOP, by its number: `for (start test; step) body`. A `while` and a `do` have a test and a body, and neither start nor step
+pub record TLoop : Type 0 where
   pub spot : Spot
   pub number : ℕ
   pub start : TFirst
@@ -26,7 +26,7 @@ pub record For : Type 0 where
   pub body : TStmt
 
 -- the loop as the conditions of *Marks* see it
-abbrev pub marked : For → Loop
+abbrev pub marked : TLoop → Loop
 marked l = record {
   start = l.start;
   test = l.test;
@@ -36,7 +36,7 @@ marked l = record {
 }
 
 -- the parts of which *Evaluation* makes it
-abbrev pub parts_of : Within → For → LoopParts
+abbrev pub parts_of : Within → TLoop → LoopParts
 parts_of w l = loop_parts w l.spot.place l.number l.test l.step (does w l.body)
 
 -- A TURN FROM ITS TEST ON: it gives `Continued` where the next test comes, and else how the loop ends

@@ -20,7 +20,7 @@ pub fn frames()
 /// two, so the number of turns of a loop that ended is the least k for which it is false. This holds of every test that is
 /// reached, also where the loop then traps or runs out of steps.
 ///
-/// What typing gives is a premise, `IsTypedFor`: the kinds in which the step and the test are made, and that the body declares no
+/// What typing gives is a premise, `IsTypedLoop`: the kinds in which the step and the test are made, and that the body declares no
 /// variable that the test names, since each declarator has a number of its own. `loops` says so of each loop of a
 /// source that has a typed tree, and `rules_of_typing` of each of its parts beside the last.
 pub fn induction()
@@ -51,8 +51,8 @@ pub fn rules_of_typing()
     ensures reduction { ReductionIsTyped }
 {}
 
-/// Each `for` loop of a source has what the laws above ask of typing: the kinds in which its step, its test and the
-/// reductions in its body are made, and that the body declares no variable that the test names.
+/// Each loop of a source, `for`, `while` or `do`, has what the laws above ask of typing: the kinds in which its step, its test and
+/// the reductions in its body are made, and, where its step counts, that the body declares no variable that the test names.
 pub fn loops()
     ensures counted { LoopsAreTyped }
     ensures reduced { ReductionsAreTyped }
@@ -69,8 +69,8 @@ pub fn induction_of_sources()
     ensures turns { TurnsAreLeastInSources }
 {}
 
-/// In each source that has a typed tree: a variable that a loop reduces is behind the loop what it was before, combined modulo 2^n
-/// with what the statements in the body contribute in the order in which they run, or in any other.
+/// In each source that has a typed tree: a variable that a loop reduces, `for`, `while` or `do`, is behind the loop what it was
+/// before, combined modulo 2^n with what the statements in the body contribute in the order in which they run, or in any other.
 pub fn reduction_of_sources()
     ensures { ReductionsCombineInSources }
 {}

@@ -106,6 +106,13 @@ within_limits live n made within = elim (leb_tells (suc 4194304) (live + n)) [
   ]
 ]
 
+-- what is seen of the cells is past the limit as they are
+pub limit_seen : (extents : List Extent) (cells : List (Option ℤ)) (made : ℕ) (m : Memory) (n : ℕ) → AreKept extents (length cells) made
+    → memory_in extents cells made ≡ m → is_over_limit (live_elements m) n m.made ≡ is_over_limit (length cells) n made
+limit_seen extents cells made m n kept seen =
+    sym (ap (λ (of : Memory). is_over_limit (live_elements of) n of.made) seen)
+    ∙ ap (λ (k : ℕ). is_over_limit k n made) (live_kept extents cells made kept)
+
 -- a new object has as many elements as it was asked for
 pub length_made : (start : Start) (n : ℕ) → HasLength start n → length (elements_at start n) ≡ n
 length_made Unset n has = length-replicate n None
@@ -158,14 +165,3 @@ module _ (extents : List Extent) (cells : List (Option ℤ)) (made : ℕ) (kept 
       ap (λ (k : ℕ). is_over_limit k n made) (live_kept extents cells made kept) ∙ within in
       let next : Memory = record { live = objects_in extents cells ++ next_object (memory_in extents cells made) start n ∷ []; made = made + 1 } in
       ap (λ (b : Bool). cond b None (Some next)) unlimited ∙ ap Some (sym memory_more)
-
-  pub memory_refused : is_over_limit (length cells) n made ≡ true → push_of (memory_in extents cells made) start n ≡ None
-  memory_refused over = rw (live_kept extents cells made kept, over) refl
-
-  -- so it isn't refused
-  pub never_refused : (m : Memory) → memory_in extents cells made ≡ m → is_over_limit (length cells) n made ≡ false → push_of m start n ≡ None → ⊥
-  never_refused m seen within refused =
-      none_some (ap (λ (of : Memory). push_of of start n) seen ∙ refused) (memory_pushed within)
-    where
-      none_some : {o : Option Memory} {x : Memory} → o ≡ None → o ≡ Some x → ⊥
-      none_some none some = cc

@@ -29,7 +29,8 @@ module _ (f : List (Option ℤ) → List (Option ℤ)) (to : ℕ) (long : (xs : 
       subst (λ (n : ℕ). (low ≤ n) × Rise (n + 1) (map (rewritten f to) objects) made) (sym (number_rewritten f to o))
       (rise.0, rise_rewritten objects (o.number + 1) made rise.1)
 
-  size_rewritten : (objects : List Object) → sum_by size (map (rewritten f to) objects) ≡ sum_by size objects
+  -- where each object keeps as many elements, as many are live
+  pub size_rewritten : (objects : List Object) → sum_by size (map (rewritten f to) objects) ≡ sum_by size objects
   size_rewritten [] = refl
   size_rewritten (o ∷ objects) =
       let new = sum_by-cons size (rewritten f to o) (map (rewritten f to) objects) in
@@ -37,7 +38,7 @@ module _ (f : List (Option ℤ) → List (Option ℤ)) (to : ℕ) (long : (xs : 
       omega (arith, new, old, size_rewritten objects, length_rewritten f to o long)
 
   -- rewriting an object by as many elements
-  laid_rewritten : (m : Memory) → IsLaidOut m → IsLaidOut (with_rewritten f to m)
+  pub laid_rewritten : (m : Memory) → IsLaidOut m → IsLaidOut (with_rewritten f to m)
   laid_rewritten m laid = record {
     follow_on = follow_rewritten m.live 0 laid.follow_on;
     rise = rise_rewritten m.live 0 m.made laid.rise;
@@ -56,7 +57,7 @@ rise_oldest [] (suc keep) low made rise = rise
 rise_oldest (o ∷ objects) (suc keep) low made rise = (rise.0, rise_oldest objects keep (o.number + 1) made rise.1)
 
 -- keeping the oldest objects alone
-laid_oldest : (m : Memory) (keep : ℕ) → IsLaidOut m → IsLaidOut (popped m keep)
+pub laid_oldest : (m : Memory) (keep : ℕ) → IsLaidOut m → IsLaidOut (popped m keep)
 laid_oldest m keep laid = record {
   follow_on = follow_oldest m.live keep 0 laid.follow_on;
   rise = rise_oldest m.live keep 0 m.made laid.rise;

@@ -66,13 +66,21 @@ impl Objects {
         ensures err { OnErr result (self.new ≡ self.old) }
         ensures laid_out { IsLaidOut self.new }
     {
-        if is_over_limit(self.cells.len(), elements, self.made) {
+        if self.is_full(elements) {
             return Err(PushFault::MemoryLimit);
         }
         let number = self.made;
         append_object(&mut self.extents, &mut self.cells, number, elements, start)?;
         self.made += 1;
         Ok(number)
+    }
+
+    /// Whether one more object, of so many elements, would pass the limit.
+    pub fn is_full(&self, elements: u32) -> bool
+        ensures full { result ≡ is_over_limit (live_elements self.now) elements self.now.made }
+        ensures laid_out { IsLaidOut self.now }
+    {
+        is_over_limit(self.cells.len(), elements, self.made)
     }
 
     /// Lets the newest objects die until `keep` are live.

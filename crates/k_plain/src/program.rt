@@ -20,7 +20,8 @@ use k_world::{Held, Stop, Value};
 use std::alloc::Global;
 
 /// The run of a source with its marks, in which at most `budget` operations are made, each with the latency of its class: what
-/// happens, what is written, and how it ends.
+/// happens, what is written, and how it ends. Where the numbers of the source do not tell its statements apart, as those of a checked source
+/// do, want of memory may be answered.
 pub fn plain(
     alloc: Global,
     unit: &TUnit,

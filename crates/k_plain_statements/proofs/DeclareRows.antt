@@ -23,7 +23,7 @@ use Rattle.k_plain_statements.specs.Parts.{begun_item, begun_items, begun_object
 use Rattle.k_plain_statements.specs.Noted.{Tabled}
 use Rattle.k_plain_statements.specs.Resumes.{Resumes}
 use Rattle.k_plain_statements.proofs.Begun.{goes_on, later_2}
-use Rattle.k_plain_statements.proofs.Lists.{item_none, item_there}
+use Rattle.k_plain_tasks.proofs.Lists.{item_none, item_there}
 
 -- no declarator is left
 pub declared_none : (w : Tabled) (before : List Waiting) (none : List Task) (s : State) (ds : List TDeclarator) (n : ℕ) → none ≡ [] → slice_get ds n ≡ None

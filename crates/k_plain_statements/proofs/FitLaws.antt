@@ -1,191 +1,190 @@
--- Where a table has the right jumps, or none, a statement does by it what it does.
-use Rattle.std.proofs.Common.{ℕ, ◌≡◌, ◌∙◌, ◌+◌, ◌<◌, ◌≤◌, ◌⊎◌, inl, inr, Bool, true, false, ℤ, List, [], ◌∷◌, drop, get_or, length, map, slice_get, zero, suc, Option, Some, None, refl, sym, ap, subst}
-use Rattle.std.specs.Prelude.{◌&&◌}
-use Rattle.std.specs.Option.{option_map}
-use Rattle.std.proofs.lemmas.List.{drop_all}
+-- By a table that has the jumps of the parts of each statement, a statement does what it does.
+use Rattle.std.proofs.Common.{ℕ, zero, suc, ◌≡◌, ◌∙◌, ◌+◌, ◌<◌, ◌≤◌, ◌++◌, List, [], ◌∷◌, drop, get_or, length, map, slice_get, Option, Some, None, refl, sym, ap, subst}
+use Rattle.std.proofs.lemmas.List.{drop_all, drop_more}
 use Rattle.std.proofs.lemmas.Option.{none-some}
-use Rattle.k_num.specs.declared.numbers.Kind.{Kind}
-use Rattle.k_num.specs.declared.place.Place.{Place}
-use Rattle.k_types_meaning.specs.declared.tree.declaration.TDeclarator.{TDeclarator}
 use Rattle.k_types_meaning.specs.declared.tree.expression.TExpr.{TExpr}
 use Rattle.k_types_meaning.specs.declared.tree.statement.Spot.{Spot}
-use Rattle.k_types_meaning.specs.declared.tree.statement.TFirst.{TFirst}
-use Rattle.k_types_meaning.specs.declared.tree.statement.TPart.{TPart}
-use Rattle.k_types_meaning.specs.declared.tree.statement.TPart.TheOpen.{TStmt-F}
-use Rattle.k_types_meaning.specs.declared.tree.statement.TPart.TheVariants as part
-use Rattle.k_types_meaning.specs.declared.tree.statement.TStmt.{TStmt, fold-TStmt}
-use Rattle.k_types_meaning.specs.declared.tree.statement.TStmt.TheVariants as stmt
+use Rattle.k_types_meaning.specs.declared.tree.statement.TPart.{TPart, fold-TPart, fold-roll-TPart, map-TPart}
+use Rattle.k_types_meaning.specs.declared.tree.statement.TPart.TheOpen.{TPart-F, TStmt-F}
+use Rattle.k_types_meaning.specs.declared.tree.statement.TStmt.{TStmt, fold-roll-TStmt, ind-TStmt, map-TStmt}
 use Rattle.k_types_meaning.specs.declared.tree.unit.TFunc.{TFunc}
 use Rattle.k_marks_meaning.specs.declared.jumps.Jumps.{Jumps}
+use Rattle.k_marks_meaning.specs.declared.jumps.StatementJumps.{StatementJumps}
+use Rattle.k_marks_meaning.specs.Jumps.{jumps_of_both, no_jumps, out_of_loop, out_of_switch}
+use Rattle.k_marks_meaning.specs.Contents.{Inside, inside, inside_step, part_inside, row, with_jumps}
+use Rattle.k_marks_meaning.specs.Contents as contents
+use Rattle.k_marks_meaning.specs.Marking.{statements_in}
 use Rattle.k_evaluation.specs.Flows.{Doing, Within, jumps_of_all}
 use Rattle.k_evaluation.specs.Loops.{do_loop, while_loop}
-use Rattle.k_evaluation.specs.Statements.{compound, does, does_step, for_loop, if_else, if_jumps, part_step}
-use Rattle.k_evaluation.specs.Switches.{PartDoing, AStatement, statements_of, switch}
-use Rattle.std.specs.Bool.{OnTrue}
-use Rattle.k_plain_statements.specs.Noted.{Fits, FitsAll, FitsBody, FitsElse, FitsFunctions, FitsPart, FitsParts, IsNoted, if_by, jumps_or, leaving, noted, noted_jumps, noted_step, part_does, part_of, same, same_jumps, switch_by, tabled}
-use Rattle.k_plain_statements.proofs.JumpLaws.{from_item}
-use Rattle.k_plain_statements.proofs.Meant.{meant_Block, meant_Break, meant_Continue, meant_Declare, meant_DoWhile, meant_Empty, meant_Expr, meant_For, meant_If, meant_Return, meant_Switch, meant_While, part_Case, part_Default, part_Does}
+use Rattle.k_evaluation.specs.Statements.{break, compound, continue, declaration, does, does_step, empty, expression, for_loop, if_else, if_jumps, part_step, return}
+use Rattle.k_evaluation.specs.Switches.{PartDoing, ACase, ADefault, AStatement, statements_of, switch}
+use Rattle.k_plain_statements.specs.Noted.{AreNoted, FitsAll, FitsFunctions, if_by, leaving, noted, noted_jumps, noted_step, part_of, switch_by, tabled}
 
--- what follows from what was found
-pub when : (b : Bool) (A B : Type 0) → (A → B) → OnTrue b A → OnTrue b B
-when true A B f a = f a
-when false A B f a = tt
+-- the jumps of a part of a switch
+abbrev part_jumps : PartDoing → Jumps
+part_jumps (ACase place z) = no_jumps
+part_jumps ADefault = no_jumps
+part_jumps (AStatement s) = s.jumps
 
--- two things were found
-pub both_true : (a b all : Bool) (A B : Type 0) → all ≡ (a && b) → OnTrue a A → OnTrue b B → OnTrue all (A × B)
-both_true true true all A B is a b = subst (λ (x : Bool). OnTrue x (A × B)) (sym is) (a, b)
-both_true true false all A B is a b = subst (λ (x : Bool). OnTrue x (A × B)) (sym is) tt
-both_true false b all A B is a y = subst (λ (x : Bool). OnTrue x (A × B)) (sym is) tt
-
--- it was found
-pub was_true : (b : Bool) (A : Type 0) → b ≡ true → OnTrue b A → A
-was_true b A is a = subst (λ (x : Bool). OnTrue x A) is a
-
--- truths that are compared as the same
-same_is : (a b : Bool) → same a b ≡ true → a ≡ b
-same_is true true is = refl
-same_is true false is = sym is
-same_is false true is = is
-same_is false false is = refl
-
--- two truths, as one
-and_is : (x y : Bool) → (x && y) ≡ true → (x ≡ true) × (y ≡ true)
-and_is true true is = (refl, refl)
-and_is true false is = (refl, is)
-and_is false y is = absurd (subst (λ (b : Bool). if_false b) is tt)
-  where
-    if_false : Bool → Type 0
-    if_false true = ⊥
-    if_false false = Unit {0}
-
--- the same of jumps
-pub jumps_are_same : (a b : Jumps) → same_jumps a b ≡ true → a ≡ b
-jumps_are_same a b is =
-    let all : ((same a.breaks b.breaks && same a.continues b.continues) ≡ true) × (same a.returns b.returns ≡ true) =
-    and_is (same a.breaks b.breaks && same a.continues b.continues) (same a.returns b.returns) is in
-    let two : (same a.breaks b.breaks ≡ true) × (same a.continues b.continues ≡ true) = and_is (same a.breaks b.breaks) (same a.continues b.continues) all.0 in
-    λ i. record {
-      breaks = same_is a.breaks b.breaks two.0 i;
-      continues = same_is a.continues b.continues two.1 i;
-      returns = same_is a.returns b.returns all.1 i;
-    }
-
--- an entry that was compared
-pub entry_is : (t : List Jumps) (n : ℕ) (there j : Jumps) (r : Bool) → slice_get t n ≡ Some there → r ≡ same_jumps there j → OnTrue r (IsNoted t n j)
-entry_is t n there j true is r_is = ap (λ (o : Option Jumps). jumps_or j o) is ∙ jumps_are_same there j (sym r_is)
-entry_is t n there j false is r_is = tt
-
--- where there is no entry
-pub no_entry : (t : List Jumps) (n : ℕ) (j : Jumps) → slice_get t n ≡ None → IsNoted t n j
-no_entry t n j is = ap (λ (o : Option Jumps). jumps_or j o) is
-
--- an `if` with the jumps of its arms
-if_as : (w : Within) (spot : Spot) (test : TExpr) (a : Doing) (b : Option Doing) → if_by (if_jumps a b) w spot test a b ≡ if_else w spot test a b
-unfolding if_by if_else
-if_as w spot test a b = refl
-
--- a switch with the jumps of its parts
-switch_as : (w : Within) (kind : Kind) (on : TExpr) (parts : List PartDoing) → switch_by (jumps_of_all (statements_of parts)) w kind on parts ≡ switch w kind on parts
-unfolding switch_by switch
-switch_as w kind on parts = refl
+-- those of a part, and of the parts behind it
+more_parts : (p : PartDoing) (parts : List PartDoing) → jumps_of_all (statements_of (p ∷ parts)) ≡ jumps_of_both (part_jumps p) (jumps_of_all (statements_of parts))
+more_parts (ACase place z) parts = refl
+more_parts ADefault parts = refl
+more_parts (AStatement s) parts = refl
 
 module _ (t : List Jumps) where
-  -- a block
-  pub block_fits : (spot : Spot) (parts : List TStmt) → FitsAll t parts → Fits t (stmt.Block spot parts)
-  block_fits spot parts fits w =
-      meant_Block (noted_step (tabled w t)) spot parts ∙ (ap compound (fits w) ∙ sym (meant_Block (does_step w) spot parts))
+  -- what is noted of two lists
+  noted_both : (xs ys : List StatementJumps) → AreNoted t (xs ++ ys) → AreNoted t xs × AreNoted t ys
+  noted_both [] ys at = (tt, at)
+  noted_both (x ∷ xs) ys at = let rest : AreNoted t xs × AreNoted t ys = noted_both xs ys at.1 in ((at.0, rest.0), rest.1)
 
-  -- an `if`
-  pub if_fits : (spot : Spot) (test : TExpr) (a : TStmt) (b : Option TStmt) (walked : Jumps)
-      → ((w : Within) → walked ≡ if_jumps (noted (tabled w t) a) (option_map (noted (tabled w t)) b))
-      → IsNoted t spot.number walked × (Fits t a × FitsElse t b) → Fits t (stmt.If spot test a b)
-  if_fits spot test a b walked walked_is h w =
-      let first : Doing = noted (tabled w t) a in
-      let second : Option Doing = option_map (noted (tabled w t)) b in
-      meant_If (noted_step (tabled w t)) spot test a b
-      ∙ (ap (λ (j : Jumps). if_by j w spot test first second) (subst (λ (j : Jumps). noted_jumps t spot.number j ≡ j) (walked_is w) h.0)
-      ∙ (if_as w spot test first second
-      ∙ (ap (λ (d : Doing). if_else w spot test d second) (h.1.0 w)
-      ∙ (ap (λ (d : Option Doing). if_else w spot test (does w a) d) (h.1.1 w) ∙ sym (meant_If (does_step w) spot test a b)))))
+  -- what is noted of a statement that stands behind those in it
+  noted_last : (spot : Spot) (xs : List StatementJumps) (parts itself : Jumps) → AreNoted t (xs ++ with_jumps spot parts itself ∷ [])
+      → AreNoted t xs × (noted_jumps t spot.number ≡ parts)
+  noted_last spot xs parts itself at =
+      let both : AreNoted t xs × AreNoted t (with_jumps spot parts itself ∷ []) = noted_both xs (with_jumps spot parts itself ∷ []) at in (both.0, both.1.0)
+
+  -- what is done by the table, what is done, and what *Marks* finds: the jumps are those, and where the statements are noted, the first is the second
+  abbrev Fit : {D : Type 0} → (D → Jumps) → D → D → Inside → Type 0
+  Fit jumps by does i = (jumps does ≡ i.jumps) × (AreNoted t i.statements → by ≡ does)
+
+  -- the same of what these are
+  fit_as : {D : Type 0} (jumps : D → Jumps) (a b x y : D) (i j : Inside) → a ≡ x → b ≡ y → i ≡ j → Fit jumps x y j → Fit jumps a b i
+  fit_as {D} jumps a b x y i j a_is b_is i_is fit =
+      subst (λ (d : D). Fit jumps d b i) (sym a_is) (subst (λ (d : D). Fit jumps x d i) (sym b_is) (subst (λ (k : Inside). Fit jumps x y k) (sym i_is) fit))
+
+module _ (t : List Jumps) (w : Within) where
+  abbrev by : TStmt → Doing
+  by = noted (tabled w t)
+
+  abbrev part_by : TPart → PartDoing
+  part_by = part_of (tabled w t)
+
+  abbrev part_does : TPart → PartDoing
+  part_does = fold-TPart PartDoing Doing part_step (does_step w)
+
+  abbrev jumps_in : Doing → Jumps
+  jumps_in d = d.jumps
+
+  abbrev FitStmt : TStmt → Type 0
+  FitStmt s = Fit t jumps_in (by s) (does w s) (inside s)
+
+  abbrev FitPart : TPart → Type 0
+  FitPart p = Fit t part_jumps (part_by p) (part_does p) (part_inside p)
+
+  abbrev stmt_trees : List ((s : TStmt) × FitStmt s) → List TStmt
+  stmt_trees xs = map (λ (x : (s : TStmt) × FitStmt s). x.0) xs
+
+  abbrev part_trees : List ((p : TPart) × FitPart p) → List TPart
+  part_trees xs = map (λ (x : (p : TPart) × FitPart p). x.0) xs
+
+  all_found : (xs : List ((s : TStmt) × FitStmt s)) → jumps_of_all (map (does w) (stmt_trees xs)) ≡ (row (map inside (stmt_trees xs))).jumps
+  all_found [] = refl
+  all_found (x ∷ xs) = λ i. jumps_of_both (x.1.0 i) (all_found xs i)
+
+  all_fit : (xs : List ((s : TStmt) × FitStmt s)) → AreNoted t (row (map inside (stmt_trees xs))).statements → map by (stmt_trees xs) ≡ map (does w) (stmt_trees xs)
+  all_fit [] at = refl
+  all_fit (x ∷ xs) at =
+      let both = noted_both t (inside x.0).statements (row (map inside (stmt_trees xs))).statements at in λ i. x.1.1 both.0 i ∷ all_fit xs both.1 i
+
+  parts_found : (xs : List ((p : TPart) × FitPart p))
+      → jumps_of_all (statements_of (map part_does (part_trees xs))) ≡ (row (map part_inside (part_trees xs))).jumps
+  parts_found [] = refl
+  parts_found (x ∷ xs) = more_parts (part_does x.0) (map part_does (part_trees xs)) ∙ (λ i. jumps_of_both (x.1.0 i) (parts_found xs i))
+
+  parts_fit : (xs : List ((p : TPart) × FitPart p)) → AreNoted t (row (map part_inside (part_trees xs))).statements → map part_by (part_trees xs) ≡ map part_does (part_trees xs)
+  parts_fit [] at = refl
+  parts_fit (x ∷ xs) at =
+      let both = noted_both t (part_inside x.0).statements (row (map part_inside (part_trees xs))).statements at in λ i. x.1.1 both.0 i ∷ parts_fit xs both.1 i
+
+  -- an `if`, by what is done in its arms and by their jumps
+  if_fits : (spot : Spot) (test : TExpr) (a x : Doing) (b y : Option Doing) → noted_jumps t spot.number ≡ if_jumps x y → a ≡ x → b ≡ y
+      → if_by (noted_jumps t spot.number) w spot test a b ≡ if_else w spot test x y
+  unfolding if_by if_else
+  if_fits spot test a x b y entry a_is b_is = λ i. if_by (entry i) w spot test (a_is i) (b_is i)
 
   -- the body of a loop
-  pub body_fits : (n : ℕ) (a : TStmt) (walked : Jumps) → ((w : Within) → walked ≡ (noted (tabled w t) a).jumps) → IsNoted t n walked × Fits t a → FitsBody t n a
-  body_fits n a walked walked_is h w =
-      ap (λ (j : Jumps). leaving j (noted (tabled w t) a)) (subst (λ (j : Jumps). noted_jumps t n j ≡ j) (walked_is w) h.0) ∙ h.1 w
+  body_fits : (spot : Spot) (a : (s : TStmt) × FitStmt s) → AreNoted t ((inside a.0).statements ++ with_jumps spot (inside a.0).jumps (out_of_loop (inside a.0).jumps) ∷ [])
+      → leaving (noted_jumps t spot.number) (by a.0) ≡ does w a.0
+  body_fits spot a at =
+      let both = noted_last t spot (inside a.0).statements (inside a.0).jumps (out_of_loop (inside a.0).jumps) at in
+      λ i. record { does = (a.1.1 both.0 i).does; jumps = (both.1 ∙ sym a.1.0) i }
 
-  -- loops
-  pub while_fits : (spot : Spot) (n : ℕ) (test : TExpr) (a : TStmt) → FitsBody t spot.number a → Fits t (stmt.While spot n test a)
-  while_fits spot n test a fits w =
-      meant_While (noted_step (tabled w t)) spot n test a ∙ (ap (λ (d : Doing). while_loop w spot n test d) (fits w) ∙ sym (meant_While (does_step w) spot n test a))
+  abbrev PartLayer : TPart-F TPart TStmt → Type 0
+  PartLayer z =
+      Fit t part_jumps (part_step (map-TPart TPart TStmt PartDoing Doing part_by by z)) (part_step (map-TPart TPart TStmt PartDoing Doing part_does (does w) z))
+      (contents.part_step (map-TPart TPart TStmt Inside Inside part_inside inside z))
 
-  pub do_fits : (spot : Spot) (n : ℕ) (a : TStmt) (test : TExpr) → FitsBody t spot.number a → Fits t (stmt.DoWhile spot n a test)
-  do_fits spot n a test fits w =
-      meant_DoWhile (noted_step (tabled w t)) spot n a test ∙ (ap (λ (d : Doing). do_loop w spot n d test) (fits w) ∙ sym (meant_DoWhile (does_step w) spot n a test))
+  abbrev StmtLayer : TStmt-F TPart TStmt → Type 0
+  StmtLayer z =
+      Fit t jumps_in (noted_step (tabled w t) (map-TStmt TPart TStmt PartDoing Doing part_by by z)) (does_step w (map-TStmt TPart TStmt PartDoing Doing part_does (does w) z))
+      (inside_step (map-TStmt TPart TStmt Inside Inside part_inside inside z))
 
-  pub for_fits : (spot : Spot) (n : ℕ) (start : TFirst) (test step : Option TExpr) (a : TStmt) → FitsBody t spot.number a → Fits t (stmt.For spot n start test step a)
-  for_fits spot n start test step a fits w =
-      meant_For (noted_step (tabled w t)) spot n start test step a
-      ∙ (ap (λ (d : Doing). for_loop w spot n start test step d) (fits w) ∙ sym (meant_For (does_step w) spot n start test step a))
+  part_fit : (y : TPart-F ((p : TPart) × FitPart p) ((s : TStmt) × FitStmt s))
+      → PartLayer (map-TPart _ _ TPart TStmt (λ (x : (p : TPart) × FitPart p). x.0) (λ (x : (s : TStmt) × FitStmt s). x.0) y)
+  part_fit (TPart-F.Case place z) = (refl, λ at. refl)
+  part_fit (TPart-F.Default place) = (refl, λ at. refl)
+  part_fit (TPart-F.Does place s) = (s.1.0, λ at. ap (λ (d : Doing). AStatement d) (s.1.1 at))
 
-  -- a switch
-  pub switch_fits : (spot : Spot) (kind : Kind) (on : TExpr) (parts : List TPart) (walked : Jumps)
-      → ((w : Within) → walked ≡ jumps_of_all (statements_of (map (part_of (tabled w t)) parts)))
-      → IsNoted t spot.number walked × FitsParts t parts → Fits t (stmt.Switch spot kind on parts)
-  switch_fits spot kind on parts walked walked_is h w =
-      let ps : List PartDoing = map (part_of (tabled w t)) parts in
-      meant_Switch (noted_step (tabled w t)) spot kind on parts
-      ∙ (ap (λ (j : Jumps). switch_by j w kind on ps) (subst (λ (j : Jumps). noted_jumps t spot.number j ≡ j) (walked_is w) h.0)
-      ∙ (switch_as w kind on ps ∙ (ap (switch w kind on) (h.1 w) ∙ sym (meant_Switch (does_step w) spot kind on parts))))
+  stmt_fit : (y : TStmt-F ((p : TPart) × FitPart p) ((s : TStmt) × FitStmt s))
+      → StmtLayer (map-TStmt _ _ TPart TStmt (λ (x : (p : TPart) × FitPart p). x.0) (λ (x : (s : TStmt) × FitStmt s). x.0) y)
+  unfolding expression empty compound if_else while_loop do_loop for_loop switch break continue return declaration if_by switch_by
+  stmt_fit (TStmt-F.Expr spot e) = (refl, λ at. refl)
+  stmt_fit (TStmt-F.Empty spot) = (refl, λ at. refl)
+  stmt_fit (TStmt-F.Block spot ss) =
+      let i : Inside = row (map inside (stmt_trees ss)) in
+      (all_found ss, λ at. ap compound (all_fit ss (noted_last t spot i.statements i.jumps i.jumps at).0))
+  stmt_fit (TStmt-F.If spot test a None) =
+      let j : Jumps = jumps_of_both (inside a.0).jumps no_jumps in
+      let found : jumps_of_both (does w a.0).jumps no_jumps ≡ j = ap (λ (j : Jumps). jumps_of_both j no_jumps) a.1.0 in (
+        found,
+        λ at. let both = noted_last t spot ((inside a.0).statements ++ []) j j at in
+            if_fits spot test (by a.0) (does w a.0) None None (both.1 ∙ sym found) (a.1.1 (noted_both t (inside a.0).statements [] both.0).0) refl,
+      )
+  stmt_fit (TStmt-F.If spot test a (Some b)) =
+      let j : Jumps = jumps_of_both (inside a.0).jumps (inside b.0).jumps in
+      let found : jumps_of_both (does w a.0).jumps (does w b.0).jumps ≡ j = λ i. jumps_of_both (a.1.0 i) (b.1.0 i) in (
+        found,
+        λ at. let both = noted_last t spot ((inside a.0).statements ++ (inside b.0).statements) j j at in
+            let arms = noted_both t (inside a.0).statements (inside b.0).statements both.0 in
+            if_fits spot test (by a.0) (does w a.0) (Some (by b.0)) (Some (does w b.0)) (both.1 ∙ sym found) (a.1.1 arms.0) (ap Some (b.1.1 arms.1)),
+      )
+  stmt_fit (TStmt-F.While spot n test a) = (ap out_of_loop a.1.0, λ at. ap (while_loop w spot n test) (body_fits spot a at))
+  stmt_fit (TStmt-F.DoWhile spot n a test) = (ap out_of_loop a.1.0, λ at. ap (λ (d : Doing). do_loop w spot n d test) (body_fits spot a at))
+  stmt_fit (TStmt-F.For spot n start test step a) = (ap out_of_loop a.1.0, λ at. ap (for_loop w spot n start test step) (body_fits spot a at))
+  stmt_fit (TStmt-F.Switch spot kind on ps) =
+      let i : Inside = row (map part_inside (part_trees ps)) in (
+        ap out_of_switch (parts_found ps),
+        λ at. let both = noted_last t spot i.statements i.jumps (out_of_switch i.jumps) at in
+            λ k. switch_by ((both.1 ∙ sym (parts_found ps)) k) w kind on (parts_fit ps both.0 k),
+      )
+  stmt_fit (TStmt-F.Break spot) = (refl, λ at. refl)
+  stmt_fit (TStmt-F.Continue spot) = (refl, λ at. refl)
+  stmt_fit (TStmt-F.Return spot e) = (refl, λ at. refl)
+  stmt_fit (TStmt-F.Declare spot list) = (refl, λ at. refl)
 
-  -- a statement without parts
-  pub plain_fits : (s : TStmt)
-      → ((spot : Spot) × (e : TExpr) × (s ≡ stmt.Expr spot e)) ⊎ (((spot : Spot) × (s ≡ stmt.Empty spot)) ⊎ (((spot : Spot) × (s ≡ stmt.Break spot))
-      ⊎ (((spot : Spot) × (s ≡ stmt.Continue spot)) ⊎ (((spot : Spot) × (value : Option TExpr) × (s ≡ stmt.Return spot value))
-      ⊎ ((spot : Spot) × (list : List TDeclarator) × (s ≡ stmt.Declare spot list))))))
-      → Fits t s
-  plain_fits s (inl is) w = subst (λ (s : TStmt). noted (tabled w t) s ≡ does w s) (sym is.2) (meant_Expr (noted_step (tabled w t)) is.0 is.1 ∙ sym (meant_Expr (does_step w) is.0 is.1))
-  plain_fits s (inr (inl is)) w = subst (λ (s : TStmt). noted (tabled w t) s ≡ does w s) (sym is.1) (meant_Empty (noted_step (tabled w t)) is.0 ∙ sym (meant_Empty (does_step w) is.0))
-  plain_fits s (inr (inr (inl is))) w = subst (λ (s : TStmt). noted (tabled w t) s ≡ does w s) (sym is.1) (meant_Break (noted_step (tabled w t)) is.0 ∙ sym (meant_Break (does_step w) is.0))
-  plain_fits s (inr (inr (inr (inl is)))) w =
-      subst (λ (s : TStmt). noted (tabled w t) s ≡ does w s) (sym is.1) (meant_Continue (noted_step (tabled w t)) is.0 ∙ sym (meant_Continue (does_step w) is.0))
-  plain_fits s (inr (inr (inr (inr (inl is))))) w =
-      subst (λ (s : TStmt). noted (tabled w t) s ≡ does w s) (sym is.2) (meant_Return (noted_step (tabled w t)) is.0 is.1 ∙ sym (meant_Return (does_step w) is.0 is.1))
-  plain_fits s (inr (inr (inr (inr (inr is))))) w =
-      subst (λ (s : TStmt). noted (tabled w t) s ≡ does w s) (sym is.2) (meant_Declare (noted_step (tabled w t)) is.0 is.1 ∙ sym (meant_Declare (does_step w) is.0 is.1))
+  -- A STATEMENT
+  fit : (s : TStmt) → FitStmt s
+  fit =
+      ind-TStmt FitPart FitStmt
+      (λ x y is.
+      fit_as t part_jumps _ _ _ _ _ _ (fold-roll-TPart PartDoing Doing part_step (noted_step (tabled w t)) x) (fold-roll-TPart PartDoing Doing part_step (does_step w) x)
+      (fold-roll-TPart Inside Inside contents.part_step inside_step x) (subst PartLayer is (part_fit y)))
+      (λ x y is.
+      fit_as t jumps_in _ _ _ _ _ _ (fold-roll-TStmt PartDoing Doing part_step (noted_step (tabled w t)) x) (fold-roll-TStmt PartDoing Doing part_step (does_step w) x)
+      (fold-roll-TStmt Inside Inside contents.part_step inside_step x) (subst StmtLayer is (stmt_fit y)))
 
-  -- a part of a switch that is no statement
-  pub label_fits : (p : TPart) → ((place : Place) × (z : ℤ) × (p ≡ part.Case place z)) ⊎ ((place : Place) × (p ≡ part.Default place)) → FitsPart t p
-  label_fits p (inl is) w =
-      subst (λ (p : TPart). part_of (tabled w t) p ≡ part_does w p) (sym is.2) (part_Case (noted_step (tabled w t)) is.0 is.1 ∙ sym (part_Case (does_step w) is.0 is.1))
-  label_fits p (inr is) w =
-      subst (λ (p : TPart). part_of (tabled w t) p ≡ part_does w p) (sym is.1) (part_Default (noted_step (tabled w t)) is.0 ∙ sym (part_Default (does_step w) is.0))
+  -- statements
+  all_by : (ss : List TStmt) → AreNoted t (row (map inside ss)).statements → map by ss ≡ map (does w) ss
+  all_by [] at = refl
+  all_by (s ∷ ss) at =
+      let both = noted_both t (inside s).statements (row (map inside ss)).statements at in λ i. (fit s).1 both.0 i ∷ all_by ss both.1 i
 
-  -- one that is a statement
-  pub part_fits : (place : Place) (s : TStmt) → Fits t s → FitsPart t (part.Does place s)
-  part_fits place s fits w =
-      part_Does (noted_step (tabled w t)) place s ∙ (ap (λ (d : Doing). AStatement d) (fits w) ∙ sym (part_Does (does_step w) place s))
-
--- two functions are the same on an item, and so on a list from there
-pub one_more_same : {W X Y : Type 0} (f g : W → X → Y) (xs : List X) (i : ℕ) (x : X) → i < length xs → x ≡ get_or xs i x → ((w : W) → f w x ≡ g w x)
-    → (((w : W) → map (f w) (drop i xs) ≡ map (g w) (drop i xs)) → (w : W) → map (f w) xs ≡ map (g w) xs)
-    → ((w : W) → map (f w) (drop (i + 1) xs) ≡ map (g w) (drop (i + 1) xs)) → (w : W) → map (f w) xs ≡ map (g w) xs
-one_more_same {W} {X} {Y} f g xs i x fits x_is item so_far rest =
-    so_far (λ w. ap (map (f w)) (from_item xs i x fits x_is)
-    ∙ (ap (λ (y : Y). y ∷ map (f w) (drop (i + 1) xs)) (item w) ∙ (ap (λ (ys : List Y). g w x ∷ ys) (rest w) ∙ sym (ap (map (g w)) (from_item xs i x fits x_is)))))
-
--- no item is left
-pub none_more_same : {W X Y : Type 0} (f g : W → X → Y) (xs : List X) (i : ℕ) → length xs ≤ i
-    → (((w : W) → map (f w) (drop i xs) ≡ map (g w) (drop i xs)) → (w : W) → map (f w) xs ≡ map (g w) xs) → (w : W) → map (f w) xs ≡ map (g w) xs
-none_more_same f g xs i past so_far = so_far (λ w. ap (map (f w)) (drop_all i xs past) ∙ sym (ap (map (g w)) (drop_all i xs past)))
-
--- a function more
-pub one_more_function : (t : List Jumps) (fs : List TFunc) (i : ℕ) (f : TFunc) → i < length fs → f ≡ get_or fs i f → FitsAll t f.body
-    → (FitsFunctions t (drop i fs) → FitsFunctions t fs) → FitsFunctions t (drop (i + 1) fs) → FitsFunctions t fs
-one_more_function t fs i f fits f_is body so_far rest = so_far (subst (FitsFunctions t) (sym (from_item fs i f fits f_is)) (body, rest))
-
--- no function is left
-pub no_more_functions : (t : List Jumps) (fs : List TFunc) (i : ℕ) → length fs ≤ i → (FitsFunctions t (drop i fs) → FitsFunctions t fs) → FitsFunctions t fs
-no_more_functions t fs i past so_far = so_far (subst (FitsFunctions t) (sym (drop_all i fs past)) tt)
+-- THE BODIES OF FUNCTIONS, by a table that has what their statements need
+pub functions_fit : (t : List Jumps) (fs : List TFunc) → AreNoted t (statements_in fs) → FitsFunctions t fs
+functions_fit t [] at = tt
+functions_fit t (f ∷ fs) at =
+    let both = noted_both t (row (map inside f.body)).statements (statements_in fs) at in ((λ w. all_by t w f.body both.0), functions_fit t fs both.1)
 
 -- the function of a number
 pub function_fits : (t : List Jumps) (fs : List TFunc) (n : ℕ) (f : TFunc) → FitsFunctions t fs → slice_get fs n ≡ Some f → FitsAll t f.body
@@ -197,23 +196,11 @@ function_fits t (g ∷ fs) zero f fits is = subst (λ (o : Option TFunc). FitsSo
     FitsSome (Some f) = FitsAll t f.body
 function_fits t (g ∷ fs) (suc n) f fits is = function_fits t fs n f fits.1 is
 
--- by the empty table, each step is what it is
-step_by_nothing : (w : Within) (y : TStmt-F PartDoing Doing) → noted_step (tabled w []) y ≡ does_step w y
-unfolding if_by if_else switch_by switch
-step_by_nothing w (TStmt-F.Expr spot e) = refl
-step_by_nothing w (TStmt-F.Empty spot) = refl
-step_by_nothing w (TStmt-F.Block spot parts) = refl
-step_by_nothing w (TStmt-F.If spot test a b) = refl
-step_by_nothing w (TStmt-F.While spot n test a) = refl
-step_by_nothing w (TStmt-F.DoWhile spot n a test) = refl
-step_by_nothing w (TStmt-F.For spot n start test step a) = refl
-step_by_nothing w (TStmt-F.Switch spot kind on parts) = refl
-step_by_nothing w (TStmt-F.Break spot) = refl
-step_by_nothing w (TStmt-F.Continue spot) = refl
-step_by_nothing w (TStmt-F.Return spot value) = refl
-step_by_nothing w (TStmt-F.Declare spot list) = refl
+-- one statement more is noted
+pub one_more_noted : (t : List Jumps) (ss : List StatementJumps) (i : ℕ) (d : StatementJumps) → i < length ss
+    → noted_jumps t (get_or ss i d).number ≡ (get_or ss i d).parts → (AreNoted t (drop i ss) → AreNoted t ss) → AreNoted t (drop (i + 1) ss) → AreNoted t ss
+one_more_noted t ss i d within at so_far rest = so_far (subst (AreNoted t) (sym (drop_more ss i d within)) (at, rest))
 
--- the empty table fits all functions
-pub nothing_fits : (fs : List TFunc) → FitsFunctions [] fs
-nothing_fits [] = tt
-nothing_fits (f ∷ fs) = ((λ w. ap (λ (step : TStmt-F PartDoing Doing → Doing). map (fold-TStmt PartDoing Doing part_step step) f.body) (λ i y. step_by_nothing w y i)), nothing_fits fs)
+-- no statement is left
+pub no_more_noted : (t : List Jumps) (ss : List StatementJumps) (i : ℕ) → length ss ≤ i → (AreNoted t (drop i ss) → AreNoted t ss) → AreNoted t ss
+no_more_noted t ss i past so_far = so_far (subst (AreNoted t) (sym (drop_all i ss past)) tt)

@@ -1,8 +1,4 @@
-pub mod JumpLaws
 pub mod Begun
-pub mod Lists
-pub mod Meant
-pub mod StatementJumps
 pub mod StatementRows
 pub mod LoopRows
 pub mod SwitchRows

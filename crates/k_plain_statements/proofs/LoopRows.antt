@@ -23,7 +23,7 @@ use Rattle.k_plain_statements.specs.declared.task.ScopeTask.TheVariants as scope
 use Rattle.k_plain_statements.specs.declared.task.Turns.{Turns}
 use Rattle.k_plain_statements.specs.declared.task.Waiting.{Waiting}
 use Rattle.k_plain_statements.specs.declared.task.Waiting.TheVariants as waiting
-use Rattle.k_plain_statements.specs.Parts.{doing, fuel_of, looped, parts_of, started, tested, turned, turns_by}
+use Rattle.k_plain_statements.specs.Parts.{doing, from_test, fuel_of, looped, parts_of, started, turned, turns_by}
 use Rattle.k_plain_statements.specs.Noted.{Tabled}
 use Rattle.k_plain_statements.specs.Resumes.{Resumes}
 use Rattle.k_plain_statements.specs.Tasks.{first_task_of, loop_task}
@@ -114,7 +114,7 @@ out_of_turns w before after tasks s t n left count left_is count_is is =
     ∙ (ap (λ (n : ℕ). turns n (parts_of w t) t.before s) is ∙ no_turns (parts_of w t) t.before s))
 
 pub turn_begun : (w : Tabled) (r : Result Given Stop) (before after : List Waiting) (tasks : List Task) (s s' : State) (t : Turns) (n : Option ℕ) (left count less : ℕ)
-    → left ≡ s.world.left → count ≡ fuel_of left n → count ≡ suc less → Resumes w r (tested w t less s) before tasks after s'
+    → left ≡ s.world.left → count ≡ fuel_of left n → count ≡ suc less → Resumes w r (from_test w t less s) before tasks after s'
     → Resumes w r (turned w t n s) before tasks after s'
 turn_begun w r before after tasks s s' t n left count less left_is count_is is led =
     subst (λ (o : Outcome Flow). Resumes w r (follow o gives_flow) before tasks after s')

@@ -5,7 +5,9 @@ use Rattle.std.specs.Option.{option_map}
 use Rattle.k_types_meaning.specs.declared.tree.declaration.TDeclarator.{TDeclarator}
 use Rattle.k_types_meaning.specs.declared.tree.expression.TExpr.{TExpr}
 use Rattle.k_types_meaning.specs.declared.tree.statement.Spot.{Spot}
-use Rattle.k_types_meaning.specs.declared.tree.statement.TStmt.{TStmt}
+use Rattle.k_types_meaning.specs.declared.tree.statement.TPart.TheOpen.{TStmt-F}
+use Rattle.k_types_meaning.specs.declared.tree.statement.TStmt.{TStmt, fold-roll-TStmt}
+use Rattle.k_types_meaning.specs.declared.tree.statement.TStmt.TheVariants as stmt
 use Rattle.k_world.specs.declared.answer.Stop.{Stop}
 use Rattle.k_world.specs.declared.value.Held.{Held}
 use Rattle.k_evaluation.specs.declared.flow.Flow.{Flow}
@@ -13,12 +15,13 @@ use Rattle.k_evaluation.specs.declared.flow.Flow.TheVariants.{Normal, Broke, Con
 use Rattle.k_marks_meaning.specs.declared.jumps.Jumps.{Jumps}
 use Rattle.k_evaluation.specs.declared.operand.Operand.{Operand}
 use Rattle.k_evaluation.specs.Declarations.{declares_all}
-use Rattle.k_evaluation.specs.Flows.{in_order, means, unless_left}
+use Rattle.k_evaluation.specs.Flows.{Doing, in_order, means, unless_left}
 use Rattle.k_marks_meaning.specs.Jumps.{is_left}
 use Rattle.k_evaluation.specs.Meanings.{tests}
 use Rattle.k_evaluation.specs.Objects.{keeps, live}
-use Rattle.k_evaluation.specs.Statements.{break, chosen_arm, compound, continue, declaration, does_or_none, empty, expression, return, returns_moved}
+use Rattle.k_evaluation.specs.Statements.{break, chosen_arm, compound, continue, declaration, does_or_none, empty, expression, part_step, return, returns_moved}
 use Rattle.k_evaluation.specs.States.{State, Outcome, Goes, Part, follow, ◌>>=◌, gives, settles}
+use Rattle.k_evaluation.specs.Switches.{PartDoing}
 use Rattle.k_plain_tasks.specs.declared.given.Given.{Given}
 use Rattle.k_plain_tasks.specs.declared.given.Given.TheVariants as given
 use Rattle.k_plain_tasks.specs.declared.task.Task.{Task}
@@ -30,10 +33,20 @@ use Rattle.k_plain_statements.specs.declared.task.StatementTask.TheVariants as s
 use Rattle.k_plain_statements.specs.declared.task.Waiting.{Waiting}
 use Rattle.k_plain_statements.specs.declared.task.Waiting.TheVariants as waiting
 use Rattle.k_plain_statements.specs.Parts.{doing, ordered}
-use Rattle.k_plain_statements.specs.Noted.{Tabled, if_by, noted}
+use Rattle.k_plain_statements.specs.Noted.{Tabled, if_by, noted, noted_step}
 use Rattle.k_plain_statements.specs.Resumes.{Resumes}
 use Rattle.k_plain_statements.proofs.Begun.{begun_2, begun_3, done_as, goes_on, goes_to, later_2, settled_as}
-use Rattle.k_plain_statements.proofs.Lists.{item_none, item_there}
+use Rattle.k_plain_tasks.proofs.Lists.{item_none, item_there}
+
+-- what the statements without parts and expressions do
+pub noted_empty : (w : Tabled) (spot : Spot) → noted w (stmt.Empty spot) ≡ empty
+noted_empty w spot = ap (noted w) (sym (stmt.rolls-Empty spot)) ∙ fold-roll-TStmt PartDoing Doing part_step (noted_step w) (TStmt-F.Empty spot)
+
+pub noted_break : (w : Tabled) (spot : Spot) → noted w (stmt.Break spot) ≡ break
+noted_break w spot = ap (noted w) (sym (stmt.rolls-Break spot)) ∙ fold-roll-TStmt PartDoing Doing part_step (noted_step w) (TStmt-F.Break spot)
+
+pub noted_continue : (w : Tabled) (spot : Spot) → noted w (stmt.Continue spot) ≡ continue
+noted_continue w spot = ap (noted w) (sym (stmt.rolls-Continue spot)) ∙ fold-roll-TStmt PartDoing Doing part_step (noted_step w) (TStmt-F.Continue spot)
 
 module _ (w : Tabled) (r : Result Given Stop) (before : List Waiting) (none : List Task) (none_is : none ≡ []) where
   -- `e;`

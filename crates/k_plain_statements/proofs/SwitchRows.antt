@@ -1,6 +1,7 @@
 -- Switches: which part runs, and what follows it.
-use Rattle.std.proofs.Common.{ℕ, ◌≡◌, ◌∙◌, ◌+◌, ◌^◌, ◌<◌, ◌⊎◌, inl, inr, Bool, if◌then◌else◌, ℤ, List, [], ◌∷◌, map, drop, Option, Result, Ok, Err, refl, sym, ap, subst}
+use Rattle.std.proofs.Common.{ℕ, ◌≡◌, ◌∙◌, ◌+◌, ◌^◌, ◌<◌, ◌≤◌, ◌⊎◌, inl, inr, Bool, true, false, ◌||◌, if◌then◌else◌, ℤ, List, [], ◌∷◌, map, drop, get_or, length, Option, Result, Ok, Err, refl, sym, ap, subst}
 use Rattle.std.specs.Borrow.{Bor}
+use Rattle.std.proofs.lemmas.List.{drop_all, drop_more}
 use Rattle.k_num.specs.declared.numbers.Kind.{Kind}
 use Rattle.k_num.specs.declared.place.Place.{Place}
 use Rattle.k_types_meaning.specs.declared.tree.expression.TExpr.{TExpr}
@@ -30,7 +31,7 @@ use Rattle.k_plain_statements.specs.declared.task.ScopeTask.TheVariants as scope
 use Rattle.k_plain_statements.specs.declared.task.SwitchTask.TheVariants as switching
 use Rattle.k_plain_statements.specs.declared.task.Waiting.{Waiting}
 use Rattle.k_plain_statements.specs.declared.task.Waiting.TheVariants as waiting
-use Rattle.k_plain_statements.specs.Parts.{IsSort, IsWithin, Stands, behind_case, cases, chosen, chosen_default, doing, parted}
+use Rattle.k_plain_statements.specs.Parts.{IsSort, IsWithin, Stands, behind_case, cases, chosen, chosen_default, doing, has_case_part, parted}
 use Rattle.k_plain_statements.specs.Noted.{Tabled, noted, part_of, switch_by}
 use Rattle.k_plain_statements.specs.Resumes.{Resumes}
 use Rattle.k_plain_statements.proofs.Begun.{begun_2, goes_on, goes_to, later_2, settled_as}
@@ -219,3 +220,30 @@ module _ (w : Tabled) (parts : Bor (List TPart)) (n : ℕ) where
       (later_2 w r (d.does s) (unless_left (in_order (statements_of (map (part_of w) (drop (n + 1) parts.now))))) gives_flow gives_flow given.Flow
       (waiting.OfSwitch (switching.Parts parts (n + 1))) before after tasks s' (λ f u. refl) (λ f u. refl)
       (subst (λ (list : List Waiting). Resumes w r (doing d s) list tasks after s') on led))
+
+-- whether a part is a case, or one behind it
+more_cases : (p : PartDoing) (parts : List PartDoing) → has_case (p ∷ parts) ≡ (has_case_part p || has_case parts)
+more_cases (ACase place z) parts = refl
+more_cases ADefault parts = refl
+more_cases (AStatement s) parts = refl
+
+module _ (w : Tabled) (xs : List TPart) (i : ℕ) where
+  -- there is a case from a part on, where the part is one or one stands behind it
+  case_from : (x : TPart) → i < length xs → x ≡ get_or xs i x
+      → has_case (map (part_of w) (drop i xs)) ≡ (has_case_part (part_of w x) || has_case (map (part_of w) (drop (i + 1) xs)))
+  case_from x fits x_is =
+      ap (λ (list : List TPart). has_case (map (part_of w) list)) (drop_more xs i x fits ∙ ap (λ (y : TPart). y ∷ drop (i + 1) xs) (sym x_is))
+      ∙ more_cases (part_of w x) (map (part_of w) (drop (i + 1) xs))
+
+  -- a part that is a case
+  pub case_there : (x : TPart) → i < length xs → x ≡ get_or xs i x → has_case_part (part_of w x) ≡ true → has_case (map (part_of w) (drop i xs)) ≡ true
+  case_there x fits x_is is = case_from x fits x_is ∙ ap (λ (b : Bool). b || has_case (map (part_of w) (drop (i + 1) xs))) is
+
+  -- one that is not
+  pub case_elsewhere : (x : TPart) → i < length xs → x ≡ get_or xs i x → has_case_part (part_of w x) ≡ false
+      → has_case (map (part_of w) (drop i xs)) ≡ has_case (map (part_of w) (drop (i + 1) xs))
+  case_elsewhere x fits x_is is = case_from x fits x_is ∙ ap (λ (b : Bool). b || has_case (map (part_of w) (drop (i + 1) xs))) is
+
+  -- no part is left that may be one
+  pub no_case : length xs ≤ i → has_case (map (part_of w) (drop i xs)) ≡ false
+  no_case past = ap (λ (list : List TPart). has_case (map (part_of w) list)) (drop_all i xs past)

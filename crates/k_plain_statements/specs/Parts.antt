@@ -16,12 +16,10 @@ use Rattle.k_world.specs.declared.answer.Stop.{Stop}
 use Rattle.k_world.specs.declared.value.Held.{Held}
 use Rattle.k_evaluation.specs.declared.flow.Flow.{Flow}
 use Rattle.k_evaluation.specs.declared.flow.Flow.TheVariants.{Normal, Broke, Continued, Returned}
-use Rattle.k_marks_meaning.specs.declared.jumps.Jumps.{Jumps}
 use Rattle.k_evaluation.specs.declared.operand.Operand.{Operand}
 use Rattle.k_evaluation.specs.Calls.{at_end, body, result_of, runs}
 use Rattle.k_evaluation.specs.Declarations.{begins_object, begins_register, declares, declares_all, starts_with, stores, stores_item, stores_items}
 use Rattle.k_evaluation.specs.Flows.{Doing, drops, in_order, tests_at}
-use Rattle.k_marks_meaning.specs.Jumps.{no_jumps}
 use Rattle.k_evaluation.specs.Loops.{LoopParts, all_turns, loop, loop_region, starts, step_or_none, test_or_one, turn, turn_if, turns}
 use Rattle.k_evaluation.specs.Statements.{does_or_none}
 use Rattle.k_evaluation.specs.States.{Program, State, Outcome, Part, ◌>>=◌, gives, region}
@@ -74,8 +72,8 @@ abbrev pub turned : Tabled → Turns → Option ℕ → State → Outcome Given
 turned w t n u = (turns_by n (parts_of w t) t.before >>= gives_flow) u
 
 -- a turn from its test on, behind which so many may be made
-abbrev pub tested : Tabled → Turns → ℕ → State → Outcome Given
-tested w t n u =
+abbrev pub from_test : Tabled → Turns → ℕ → State → Outcome Given
+from_test w t n u =
     ((starts (parts_of w t) t.before (parts_of w t).test >>= turn_if (parts_of w t) t.before (turns n (parts_of w t) t.before)) >>= gives_flow) u
 
 -- a condition, its test, and what is behind it
@@ -99,12 +97,6 @@ abbrev pub has_case_part : PartDoing → Bool
 has_case_part (ACase place z) = true
 has_case_part ADefault = false
 has_case_part (AStatement s) = false
-
--- the jumps of a part
-abbrev pub part_jumps : PartDoing → Jumps
-part_jumps (ACase place z) = no_jumps
-part_jumps ADefault = no_jumps
-part_jumps (AStatement s) = s.jumps
 
 -- what a part is
 abbrev pub IsSort : Tabled → NextPart → PartDoing → Type 0

@@ -4,7 +4,6 @@
 
 mod calls;
 mod declarations;
-mod jumps;
 mod loops;
 mod resume;
 mod runner;

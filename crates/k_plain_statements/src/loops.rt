@@ -7,14 +7,14 @@ ghost use Rattle.k_evaluation.specs.Statements.{for_loop};
 ghost use Rattle.k_plain_tasks.specs.declared.given.Given.TheVariants as given;
 ghost use Rattle.k_plain_state.specs.Arounds.{within_of};
 ghost use Rattle.k_plain_statements.specs.Noted.{Tabled, noted_body, tabled_of};
-ghost use Rattle.k_plain_statements.specs.Parts.{bodied, conditioned, doing, fuel_of, looped, parts_of, rounded, stepped, tested, turned};
+ghost use Rattle.k_plain_statements.specs.Parts.{bodied, conditioned, doing, from_test, fuel_of, looped, parts_of, rounded, stepped, turned};
 ghost use Rattle.k_plain_statements.specs.Resumes.{Resumes};
 ghost use Rattle.k_plain_statements.specs.Tasks.{first_task_of, loop_task};
 ghost use Rattle.k_plain_statements.specs.declared.task.LoopTask.TheVariants as turning;
 
-use crate::jumps::jumps_of_body;
 use crate::runner::Runner;
 use crate::setting::Setting;
+use crate::table::jumps_at;
 use crate::task::{LoopTask, ScopeTask, Turns, Waiting};
 use k_ending::End;
 use k_evaluation::{Flow, Operand};
@@ -44,7 +44,7 @@ fn turns_of<'a>(
         step,
         body,
         counted: flag(setting.around.marks.counted.as_slice(), number),
-        jumps: jumps_of_body(body, spot, setting.jumps),
+        jumps: jumps_at(setting.jumps, spot.number),
         before: None,
     }
 }
@@ -171,11 +171,11 @@ impl<'a> Runner<'a> {
         if count == 0 {
             return Err(Stop::Ended(End::OutOfSteps));
         }
-        self.tested(setting, turns, count)
+        self.from_test(setting, turns, count)
     }
 
-    /// The test of a turn, where one may still be made.
-    fn tested(
+    /// A turn from its test on, where one may still be made.
+    fn from_test(
         &mut self,
         setting: &Setting<'a>,
         turns: Turns<'a>,
@@ -183,7 +183,7 @@ impl<'a> Runner<'a> {
     ) -> Result<Given, Stop>
         requires none { self.old.tasks ≡ [] }
         requires some { 0 < count }
-        ensures { Resumes (tabled_of setting.now) result (tested (tabled_of setting.now) turns.entry (count - 1) self.old.evaluator) self.old.rest self.new.tasks self.new.rest self.new.evaluator }
+        ensures { Resumes (tabled_of setting.now) result (from_test (tabled_of setting.now) turns.entry (count - 1) self.old.evaluator) self.old.rest self.new.tasks self.new.rest self.new.evaluator }
     {
         reset(&mut self.evaluator, &turns);
         match turns.test {

@@ -3,8 +3,8 @@
 use k_marks_meaning::Jumps;
 use k_plain_state::Around;
 
-/// What lies around the statements of a call, and for each `if`, loop and switch of the source, by its number, the jumps that
-/// lead out of its parts. Where the table has no entry, they are found by a walk over the text.
+/// What lies around the statements of a call, and for each statement of the source, by its number, the jumps that lead out of
+/// its parts.
 #[derive(Clone, Copy)]
 pub struct Setting<'a> {
     pub around: Around<'a>,

@@ -3,18 +3,19 @@ ghost use Rattle.std.specs.Prelude.{◌≡◌, ◌+◌, ◌^◌, ◌<◌, [], ma
 ghost use Rattle.std.specs.Option.{option_copied};
 ghost use Rattle.k_evaluation.specs.Statements.{compound, declaration, expression, return};
 ghost use Rattle.k_plain_state.specs.Arounds.{within_of};
-ghost use Rattle.k_plain_statements.specs.Noted.{Tabled, if_by, noted, noted_arms, tabled_of};
+ghost use Rattle.k_plain_statements.specs.Noted.{Tabled, if_by, noted, noted_jumps, tabled_of};
 ghost use Rattle.k_plain_statements.specs.Parts.{doing, ordered, other, started};
 ghost use Rattle.k_plain_statements.specs.Resumes.{Resumes};
 ghost use Rattle.k_plain_statements.specs.Tasks.{statement_task};
 ghost use Rattle.k_plain_tasks.specs.declared.given.Given.TheVariants as given;
 ghost use Rattle.k_plain_statements.specs.declared.task.StatementTask.TheVariants as statement;
 
-use crate::jumps::{any, jumps_of_arms};
 use crate::runner::Runner;
 use crate::setting::Setting;
+use crate::table::jumps_at;
 use crate::task::{DeclareTask, ScopeTask, StatementTask, Waiting};
 use k_evaluation::{Flow, Operand};
+use k_marks_jumps::any;
 use k_num::{Box, Place, Seq};
 use k_plain_direct::holds;
 use k_plain_tasks::{Early, Given, at_once, by_tasks, value};
@@ -123,9 +124,9 @@ impl<'a> Runner<'a> {
         other: &'a Option<Box<TStmt>>,
     ) -> Result<Given, Stop>
         requires { self.old.tasks ≡ [] }
-        ensures { Resumes (tabled_of setting.now) result (doing (if_by (noted_arms (tabled_of setting.now) spot.number then.now other.now) (within_of setting.now.around) spot test.now (noted (tabled_of setting.now) then.now) (option_map (noted (tabled_of setting.now)) other.now)) self.old.evaluator) self.old.rest self.new.tasks self.new.rest self.new.evaluator }
+        ensures { Resumes (tabled_of setting.now) result (doing (if_by (noted_jumps setting.now.jumps.now spot.number) (within_of setting.now.around) spot test.now (noted (tabled_of setting.now) then.now) (option_map (noted (tabled_of setting.now)) other.now)) self.old.evaluator) self.old.rest self.new.tasks self.new.rest self.new.evaluator }
     {
-        let stays = any(jumps_of_arms(then, other, spot, setting.jumps));
+        let stays = any(jumps_at(setting.jumps, spot.number));
         let control = self.evaluator.control();
         self.rest
             .push(Waiting::OfScope(ScopeTask::Settle(stays, control)))?;

@@ -3,7 +3,7 @@ ghost use Rattle.std.specs.Prelude.{◌≡◌, ◌+◌, ◌^◌, ◌<◌, [], ma
 ghost use Rattle.std.specs.Option.{option_copied};
 ghost use Rattle.k_evaluation.specs.Switches.{behind_switch as behind_switch_meant, has_case as has_case_meant, selects};
 ghost use Rattle.k_plain_state.specs.Arounds.{program_of, within_of};
-ghost use Rattle.k_plain_statements.specs.Noted.{Tabled, noted_parts, part_of, switch_by, tabled_of};
+ghost use Rattle.k_plain_statements.specs.Noted.{Tabled, noted_jumps, part_of, switch_by, tabled_of};
 ghost use Rattle.k_plain_state.specs.Comes.{Comes};
 ghost use Rattle.k_plain_statements.specs.Parts.{IsSort, IsWithin, Stands, behind_case, cases, chosen, chosen_default, doing, has_case_part, parted};
 ghost use Rattle.k_plain_statements.specs.Resumes.{Resumes};
@@ -11,11 +11,13 @@ ghost use Rattle.k_plain_statements.specs.Tasks.{switch_task};
 ghost use Rattle.k_plain_tasks.specs.declared.given.Given.TheVariants as given;
 ghost use Rattle.k_plain_statements.specs.declared.task.SwitchTask.TheVariants as switching;
 
-use crate::jumps::{any, jumps_of_parts, out_of_switch};
 use crate::runner::Runner;
 use crate::setting::Setting;
+use crate::table::jumps_at;
 use crate::task::{ScopeTask, SwitchTask, Waiting};
 use k_evaluation::{Flow, Operand};
+use k_marks_jumps::any;
+use k_marks_meaning::Jumps;
 use k_num::{Bin, Box, Kind, Place, Seq};
 use k_optab::Class;
 use k_plain_direct::holds;
@@ -130,9 +132,13 @@ impl<'a> Runner<'a> {
         parts: &'a Seq<TPart>,
     ) -> Result<Given, Stop>
         requires { self.old.tasks ≡ [] }
-        ensures { Resumes (tabled_of setting.now) result (doing (switch_by (noted_parts (tabled_of setting.now) spot.number parts.now) (within_of setting.now.around) kind on.now (map (part_of (tabled_of setting.now)) parts.now)) self.old.evaluator) self.old.rest self.new.tasks self.new.rest self.new.evaluator }
+        ensures { Resumes (tabled_of setting.now) result (doing (switch_by (noted_jumps setting.now.jumps.now spot.number) (within_of setting.now.around) kind on.now (map (part_of (tabled_of setting.now)) parts.now)) self.old.evaluator) self.old.rest self.new.tasks self.new.rest self.new.evaluator }
     {
-        let stays = any(out_of_switch(jumps_of_parts(parts, spot, setting.jumps)));
+        let jumps = jumps_at(setting.jumps, spot.number);
+        let stays = any(Jumps {
+            breaks: false,
+            ..jumps
+        });
         let control = self.evaluator.control();
         self.rest
             .push(Waiting::OfScope(ScopeTask::Settle(stays, control)))?;

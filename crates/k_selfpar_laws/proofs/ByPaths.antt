@@ -6,11 +6,11 @@ use Rattle.k_optab.specs.declared.region.Region.{Region}
 use Rattle.k_optab.specs.Tree.{EachWith}
 use Rattle.k_dict.specs.Trees.{Forest, Tree, alone, bare, grown}
 use Rattle.k_dict.proofs.Lists.{same_tree}
-use Rattle.k_selfpar.specs.Contexts.{AreUnder, IsContext, NoneBelow, children_of, chosen, group, none, others}
+use Rattle.k_selfpar.specs.Contexts.{AreUnder, IsContext, NoneBelow, children_of, chosen, count_in, group, none, others}
 use Rattle.k_selfpar.specs.Laws.{at_regions}
 use Rattle.k_selfpar.specs.Sums.{one, outer}
 use Rattle.k_selfpar.specs.declared.context.Context.{Context}
-use Rattle.k_selfpar_laws.specs.Laws.{AreByPaths, ComesBefore, ContextsAreInOrder, HasPath, Precedes, Rise, Tells, at_path}
+use Rattle.k_selfpar_laws.specs.Laws.{ComesBefore, ContextsAreInOrder, HasPath, Rise, Tells, at_path}
 
 -- where nothing is, nothing has a path
 at_bare : (region : ℕ) (path : List ℕ) → at_regions region path bare ≡ bare
@@ -58,7 +58,7 @@ at-chosen : (s : ℕ) (path : List ℕ) (f g : Forest) → chosen s f ≡ chosen
 at-chosen s [] f g same = same
 at-chosen s (next ∷ path) f g same = ap (λ h. at_regions next path (children_of h)) same
 
-at-others : (region s : ℕ) (path : List ℕ) (f : Forest) → ¬ (s ≡ region) → at_regions s path (others region f) ≡ at_regions s path f
+pub at-others : (region s : ℕ) (path : List ℕ) (f : Forest) → ¬ (s ≡ region) → at_regions s path (others region f) ≡ at_regions s path f
 at-others region s path f ne =
     at-chosen s path (others region f) f (chosen-others region s f ∙ ap (λ b. if b then bare else chosen s f) (ne_eqb s region ne))
 
@@ -66,7 +66,7 @@ at-none : (s : ℕ) (path : List ℕ) (f : Forest) → chosen s f ≡ bare → a
 at-none s path f empty = at-chosen s path f bare empty ∙ at_bare s path
 
 -- instances of other regions than the lowest are of higher ones
-above : (region s : ℕ) (path : List ℕ) (f : Forest) → NoneBelow region f → 0 < outer one (at_regions s path (others region f)) → region < s
+pub above : (region s : ℕ) (path : List ℕ) (f : Forest) → NoneBelow region f → 0 < outer one (at_regions s path (others region f)) → region < s
 above region s path f least some = elim (cases_eq s region) [
   | inl is ↦ (let e : outer one (at_regions s path (others region f)) ≡ 0 = ap (outer one) (at-none s path (others region f)
       (chosen-others region s f ∙ ap (λ b. if b then bare else chosen s f) (eq-eqb s region is))) in absurd (omega arith))
@@ -88,7 +88,7 @@ each-append R [] qs (c ∷ cs) ds each more = absurd each
 each-append R (p ∷ ps) qs [] ds each more = absurd each
 each-append R (p ∷ ps) qs (c ∷ cs) ds each more = (each.0, each-append R ps qs cs ds each.1 more)
 
-each-map : {A B C : Type 0} (R : A → C → Type 0) (S : B → C → Type 0) (g : A → B) → ((p : A) (c : C) → R p c → S (g p) c) → (ps : List A) (cs : List C)
+pub each-map : {A B C : Type 0} (R : A → C → Type 0) (S : B → C → Type 0) (g : A → B) → ((p : A) (c : C) → R p c → S (g p) c) → (ps : List A) (cs : List C)
     → EachWith R ps cs → EachWith S (map g ps) cs
 each-map R S g so [] [] each = tt
 each-map R S g so [] (c ∷ cs) each = absurd each
@@ -135,7 +135,7 @@ rise-inside region (p ∷ ps) qs rise behind before = (
 )
 
 -- no path is empty
-some-path : (regions : List Region) (f : Forest) (p : List ℕ) (c : Context) → Tells regions f p c → 0 < outer one (at_path p f)
+pub some-path : (regions : List Region) (f : Forest) (p : List ℕ) (c : Context) → Tells regions f p c → 0 < outer one (at_path p f)
 some-path regions f p c tells = subst (λ n. 0 < n) tells.1.instances tells.0
 
 before-more : (regions : List Region) (f : Forest) (ps : List (List ℕ)) (cs : List Context) → EachWith (Tells regions f) ps cs → ComesBefore [] ps
@@ -171,6 +171,22 @@ tells-others regions region f least (s ∷ p) c tells =
       subst (λ g. IsContext regions c.parent c.region g c) (at-others region s p f (λ is. absurd (omega arith))) tells.1,
     )
 
+-- what is told of the lowest region's instances, of those within these, and of those of other regions
+pub tells-joined : (regions : List Region) (parent region : ℕ) (f : Forest) (c : Context) (ps qs : List (List ℕ)) (below later : List Context) → 0 < count_in region f
+    → NoneBelow region f → IsContext regions parent region (chosen region f) c → EachWith (Tells regions (children_of (chosen region f))) ps below
+    → EachWith (Tells regions (others region f)) qs later
+    → EachWith (Tells regions f) ((region ∷ []) ∷ (map (λ p. region ∷ p) ps ++ qs)) (c ∷ (below ++ later))
+tells-joined regions parent region f c ps qs below later some least is inner rest = (
+  (
+    subst (λ n. 0 < n) (sym is.instances) some,
+    subst (λ p. IsContext regions p c.region (chosen region f) c) (sym is.parent_is)
+        (subst (λ r. IsContext regions parent r (chosen region f) c) (sym is.region_is) is),
+  ),
+  each-append (Tells regions f) (map (λ p. region ∷ p) ps) qs below later
+      (each-map (Tells regions (children_of (chosen region f))) (Tells regions f) (λ p. region ∷ p) (tells-inside regions region f) ps below inner)
+      (each-weaker (Tells regions (others region f)) (Tells regions f) (tells-others regions region f least) qs later rest),
+)
+
 -- a context's path among those of contexts that are numbered from a number on
 abbrev Linked : ℕ → ℕ → List (List ℕ) → List ℕ → Context → Type 0
 Linked parent number paths path c =
@@ -205,16 +221,7 @@ by_paths regions parent number f _ (group _ _ _ region _ c below later some leas
         → ByPaths regions parent number f (c ∷ (below ++ later))
     joined inner rest = record {
       paths = all;
-      each = (
-        (
-          subst (λ n. 0 < n) (sym is.instances) some,
-          subst (λ p. IsContext regions p c.region (chosen region f) c) (sym is.parent_is)
-              (subst (λ r. IsContext regions parent r (chosen region f) c) (sym is.region_is) is),
-        ),
-        each-append (Tells regions f) within rest.paths below later
-            (each-map (Tells regions (children_of (chosen region f))) (Tells regions f) (λ p. region ∷ p) (tells-inside regions region f) inner.paths below inner.each)
-            (each-weaker (Tells regions (others region f)) (Tells regions f) (tells-others regions region f least) rest.paths later rest.each),
-      );
+      each = tells-joined regions parent region f c inner.paths rest.paths below later some least is inner.each rest.each;
       whole = whole;
       linked = (
         inl (is.parent_is, ap (λ r. r ∷ []) (sym is.region_is)),

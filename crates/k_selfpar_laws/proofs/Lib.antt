@@ -1,2 +1,5 @@
+pub mod ByContexts
 pub mod ByPaths
 pub mod Examples
+pub mod OneByPaths
+pub mod Renumbering

@@ -1,4 +1,4 @@
-//! Laws of contexts, by which they are known without the recursion that makes them.
+//! Laws of contexts, rows and dictionaries, by which each is known without the recursion that makes it.
 #![tactic(auto)]
 
 pub mod laws;

@@ -1,13 +1,13 @@
 -- Believed with the theorem on the top call.
 -- THE THEOREM on `kremlin`: each clause is one sentence.
-use Rattle.std.specs.Prelude.{ℕ, ◌≡◌, ◌≢◌, ◌+◌, ◌⊎◌, ◌||◌, ◌==◌, Bool, false, IsSome, List, [], ◌++◌, Option, Some, None}
+use Rattle.std.specs.Prelude.{ℕ, ◌≡◌, ◌≢◌, ◌+◌, ◌≤◌, ◌⊎◌, ◌||◌, ◌==◌, Bool, false, IsSome, List, [], ◌++◌, Option, Some, None}
 use Rattle.std.specs.Io.KnownBytes.{IsAtEnd}
 use Rattle.k_edge.specs.Fault.{Rose}
 use Rattle.k_edge.specs.FilesWords.{Counts, FilesState, Has, KeepsOthers}
 use Rattle.k_edge.specs.declared.request.Request.{Request}
 use Rattle.k_edge.specs.ReadAll.{Draws, DrawsTooMany, DrawsWithin}
 use Rattle.k_edge.specs.SinkWords.{SinkState, Grows, GrowsInPart}
-use Rattle.k_edge.specs.SourceWords.{SourceState}
+use Rattle.k_edge.specs.SourceWords.{SourceState, one_more}
 use Rattle.k_top_answers.specs.declared.answer.Answer.{Answer}
 use Rattle.k_top_answers.specs.declared.answer.SavedFile.{SavedFile}
 use Rattle.k_top_answers.specs.declared.failure.Failure.{Failure}
@@ -182,12 +182,13 @@ pub record AsksFiles (words : List (List ℕ)) (cause : Cause) (status : ℕ) (a
 abbrev pub HasRun : ℕ → Type 0
 HasRun status = (status ≡ 0) ⊎ (status ≡ 1) ⊎ (status ≡ 2) ⊎ (status ≡ 7)
 
--- how far the input was read where it was asked for: to its end where the program ran, and never further than one byte beyond the limit, which
--- is taken exactly where the input is answered to be too long
+-- how far the input was read where it was asked for: to its end where the program ran, which was told once, and never further than one byte
+-- beyond the limit, which is taken exactly where the input is answered to be too long; there the end was not told, and never was it told twice
 pub record ReadsFar (bytes : List ℕ) (status : ℕ) (old new : SourceState) : Type 0 where
   pub within : DrawsWithin (input_limit + 1) old new
-  pub whole : HasRun status → Draws bytes old new × IsAtEnd new.left
-  pub cut : status ≡ 9 → DrawsTooMany input_limit old new
+  pub whole : HasRun status → Draws bytes old new × IsAtEnd new.left × (new.ended ≡ one_more old.ended)
+  pub cut : status ≡ 9 → DrawsTooMany input_limit old new × (new.ended ≡ old.ended)
+  pub once : new.ended ≤ old.ended + 1
   pub too_long : new.taken ≡ old.taken + (input_limit + 1) → IsOr8 9 status
 
 -- INPUT. It is as before, unless the words run an accepted program that calls `getchar`; there it was read

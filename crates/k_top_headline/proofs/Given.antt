@@ -1,5 +1,5 @@
 -- Where nothing failed outside, and memory sufficed, the whole answer was given, which is the answer to the job that the words ask for.
-use Rattle.std.proofs.Common.{ℕ, ◌≡◌, ◌≢◌, Bool, true, false, refl, sym, subst, ◌∙◌, List, [], ◌∷◌, Option, Some, None, option_and_then, Result, Ok, Err, inl, inr}
+use Rattle.std.proofs.Common.{ℕ, ◌≡◌, ◌≢◌, false, refl, subst, List, [], ◌∷◌, Option, Some, None, option_and_then, Result, Ok, Err, inl, inr}
 use Rattle.std.proofs.lemmas.Bool.{true≢false}
 use Rattle.std.proofs.lemmas.Option.{none-some}
 use Rattle.k_words.proofs.OneAnswer.{answer_is_unique}
@@ -13,10 +13,10 @@ use Rattle.k_words.specs.declared.usage.Usage.{Usage}
 use Rattle.k_words.specs.declared.usage.Usage.TheVariants as usage
 use Rattle.k_top_answers.specs.declared.answer.Answer.{Answer}
 use Rattle.k_top_answers.specs.Answers.{AnswersAsked, AnswersJob, AnswersWords, IsAnswer}
-use Rattle.k_top_answers.specs.Clauses.{Blames, BlamedBy, Cause, IsAnswered, IsGiven, RoseAlone, World, faults_of, is_blame}
+use Rattle.k_top_answers.specs.Clauses.{Blames, BlamedBy, Cause, IsAnswered, IsGiven, Keeps, RoseAlone, World, faults_of, is_blame}
 use Rattle.k_top_answers.specs.Clauses as cause
 use Rattle.k_top_answers.specs.Steps.{Outside}
-use Rattle.k_top_headline.specs.Headline.{NothingFailed}
+use Rattle.k_top_headline.specs.Headline.{NothingFailed, WentWell}
 
 -- the status blames nothing
 blames_nothing : (status : ℕ) (old new : World) → NothingFailed old new → (c : Cause) → RoseAlone c (faults_of old) (faults_of new) → BlamedBy c status → is_blame status ≡ false
@@ -35,7 +35,7 @@ given answers status old new blameless memory (inr (inl is)) = absurd (true≢fa
 given answers status old new blameless memory (inr (inr (inl is))) = absurd (memory is)
 given answers status old new blameless memory (inr (inr (inr is))) = is
 
-pub whole_given : (answers : Answer → Type 0) (c : Cause) (status : ℕ) (old new : World) → Blames c status (faults_of old) (faults_of new) → NothingFailed old new → status ≢ 8
+whole_given : (answers : Answer → Type 0) (c : Cause) (status : ℕ) (old new : World) → Blames c status (faults_of old) (faults_of new) → NothingFailed old new → status ≢ 8
     → IsAnswered answers status old new → IsGiven answers status old new
 whole_given answers c status old new blames well memory is =
     given answers status old new (blames_nothing status old new well c blames.rose blames.blamed) memory is
@@ -72,5 +72,20 @@ by_words outside list answer j is (read, reads, holds) =
     subst (λ (r : Result Job Usage). AnswersWords outside answer r) same holds
 
 -- the answer to words that ask for a job is that to the job
-pub job_answered : (outside : Outside) (list : List (List ℕ)) (answer : Answer) (j : Job) → words.IsAnswer list (Ok j) → IsAnswer list outside answer → AnswersJob outside answer j
+job_answered : (outside : Outside) (list : List (List ℕ)) (answer : Answer) (j : Job) → words.IsAnswer list (Ok j) → IsAnswer list outside answer → AnswersJob outside answer j
 job_answered outside list answer j is holds = by_words outside list answer j is (subst (λ (t : Option Asked). AnswersAsked list outside answer t) (asks_for_none list j is) holds)
+
+-- THE ANSWER to the job was given
+pub job_given : (words_are : List (List ℕ)) (j : Job) (status : ℕ) (old new : World) (keeps : Keeps words_are status old new) → WentWell words_are j status old new
+    → IsGiven (λ (answer : Answer). AnswersJob keeps.outside answer j) status old new
+job_given words_are j status old new keeps is =
+    let whole : IsGiven (IsAnswer words_are keeps.outside) status old new =
+    whole_given (IsAnswer words_are keeps.outside) keeps.cause status old new keeps.blames is.well is.memory keeps.answered in
+    record {
+      answer = whole.answer;
+      is_answer = job_answered keeps.outside words_are whole.answer j is.asked whole.is_answer;
+      status_is = whole.status_is;
+      grows = whole.grows;
+      told = whole.told;
+      files = whole.files;
+    }

@@ -1,3 +1,5 @@
 pub mod Given
+pub mod OtherRuns
 pub mod Ready
 pub mod Runs
+pub mod Shown

@@ -1,15 +1,13 @@
 -- What is answered where the outside holds an accepted program with its input is answered of the run of that program.
-use Rattle.std.proofs.Common.{ℕ, ◌≡◌, ◌≤◌, ◌<◌, Bool, true, false, MatchBool, refl, arith, sym, subst, ◌∙◌, ap, List, [], ◌∷◌, length, Option, Some, None, Result, Ok, Err, inl, inr}
+use Rattle.std.proofs.Common.{ℕ, ◌≡◌, ◌≤◌, ◌<◌, Bool, true, false, MatchBool, arith, sym, subst, ◌∙◌, ap, List, [], length, Option, Some, None, Result, Ok, inl, inr}
 use Rattle.std.proofs.lemmas.Option.{none-some, same_Some}
 use Rattle.k_optab.specs.Latencies.{standard_latencies}
 use Rattle.k_tree.specs.declared.tokens.Token.{Token}
 use Rattle.k_tree.specs.declared.tree.unit.Unit as source
-use Rattle.k_lex.specs.Tokens.{tokens}
 use Rattle.k_lex.specs.declared.fault.LexFault.{LexFault}
 use Rattle.k_parse.proofs.OneAnswer.{one_answer}
 use Rattle.k_parse.specs.declared.fault.ParseFault.{ParseFault}
 use Rattle.k_types_meaning.proofs.OneTree.{one_typed_tree}
-use Rattle.k_types_meaning.specs.Units.{faults}
 use Rattle.k_types_meaning.specs.declared.fault.TypeFault.{TypeFault}
 use Rattle.k_types_meaning.specs.declared.tree.unit.TUnit.{TUnit}
 use Rattle.k_types_calls.specs.Getchar.{calls_getchar}

@@ -1,37 +1,24 @@
 -- What `run` tells.
-use Rattle.std.proofs.Common.{ℕ, ℤ, ◌≡◌, Bool, refl, sym, subst, ◌∙◌, ap, List, Option, Some, None, Ok}
+use Rattle.std.proofs.Common.{ℕ, ◌≡◌, Bool, refl, sym, subst, ◌∙◌, ap, List, Option, None}
 use Rattle.k_ending.specs.declared.ending.End.{End}
 use Rattle.k_ending.specs.declared.ending.End.TheVariants as end
 use Rattle.k_dict_saved.specs.declared.saved.Saved.{Saved}
-use Rattle.k_report_profile.specs.Report.{IsReportOf, asked}
+use Rattle.k_edge.specs.SinkWords.{Grows}
 use Rattle.k_report_profile.specs.RunReport.{IsRunReport, Ran, ops_of}
 use Rattle.k_report_profile.specs.RunReport as reports
 use Rattle.k_report.specs.Report.{large_text}
 use Rattle.k_dict.specs.declared.dict.Which.{Which}
-use Rattle.k_dict.specs.declared.entry.Entry.{Entry}
-use Rattle.k_optab.specs.declared.node.Node.{Node}
+use Rattle.k_words.specs.declared.job.Job.{Job}
 use Rattle.k_words.specs.declared.job.Job.TheVariants as job
 use Rattle.k_top_answers.specs.declared.answer.Answer.{Answer}
 use Rattle.k_top_answers.specs.declared.failure.Failure.{Failure}
-use Rattle.k_top_answers.specs.Answers.{AnswersRun, IsAnswer, ran_of, refusal}
-use Rattle.k_top_answers.specs.Clauses.{IsGiven, Keeps, TellsEnd, World}
+use Rattle.k_top_answers.specs.Answers.{AnswersJob, AnswersRun, ran_of, refusal}
+use Rattle.k_top_answers.specs.Clauses.{IsGiven, TellsEnd, World}
 use Rattle.k_top_answers.specs.Failures.{failure_of_end, status_of}
 use Rattle.k_top_answers.specs.Steps.{Running, run_of}
-use Rattle.k_top_headline.specs.Headline.{ReportsGraph, ReportsTree, ReportsWithin, RunIsTold, Writes, end_status}
-use Rattle.k_top_headline.proofs.Given.{job_answered, whole_given}
+use Rattle.k_top_headline.specs.Headline.{ReportsGraph, ReportsWithin, RunIsTold, TellsOfRun, Writes, end_status}
+use Rattle.k_top_headline.proofs.Given.{job_given}
 use Rattle.k_top_headline.proofs.Ready.{run_answered}
-
--- a report of instances tells of their rows, contexts and plan
-of_tree : (ran : Ran) (nodes : List Node) (dict : Option (List Entry)) (text : List ℕ) → IsReportOf ran.regions ran.exit (ops_of ran) nodes dict text → ReportsTree ran nodes dict text
-of_tree ran nodes dict text is = record {
-  rows = is.rows;
-  are_rows = is.are_rows;
-  contexts = is.contexts;
-  are_contexts = is.are_contexts;
-  plan = is.plan;
-  planned = is.planned;
-  is = is.is;
-}
 
 -- THE REPORT of a run is that of its graph
 of_graph : (ran : Ran) (dict : Bool) (profile : Option Saved) (text : List ℕ) → IsRunReport ran dict profile text → ReportsGraph ran dict text
@@ -40,7 +27,7 @@ of_graph ran dict _ _ (reports.whole nodes saved text tree is report) = record {
   tree = tree;
   entries = saved.dict;
   dictionary = is.dict;
-  within = subst (λ (found : Option Which). ReportsWithin ran dict nodes saved.dict text found) (sym is.within) (of_tree ran nodes (asked dict saved.dict) text report);
+  within = subst (λ (found : Option Which). ReportsWithin ran dict nodes saved.dict text found) (sym is.within) report;
 }
 of_graph ran dict _ _ (reports.large nodes tree over) = record {
   nodes = nodes;
@@ -64,23 +51,31 @@ module _ (depth : ℕ) (dict : Bool) (save : Option (List ℕ)) (answer : Answer
   fails end.OutOfSteps is = ap (λ (a : Answer). a.failure) is
 
 -- the status of a failure is that of the end
-pub status_of_end : (steps : ℕ) (how : End) → status_of (failure_of_end steps how) ≡ end_status how
+status_of_end : (steps : ℕ) (how : End) → status_of (failure_of_end steps how) ≡ end_status how
 status_of_end steps (end.Returned exit) = refl
 status_of_end steps (end.Trapped trap place) = refl
 status_of_end steps end.OutOfSteps = refl
 
+-- what is told where an answer was given, which has a text and fails as its run does
+pub told_of_run : (answers : Answer → Type 0) (r : Running) (text : List ℕ) (status : ℕ) (old new : World) (given : IsGiven answers status old new)
+    → given.answer.out ≡ text → given.answer.failure ≡ failure_of_end r.steps (run_of r).end → TellsOfRun r text status old new
+told_of_run answers r text status old new given out failure = record {
+  grows = subst (λ (t : List ℕ). Grows old.out.written t new.out.written) out given.grows;
+  status_is = given.status_is ∙ ap status_of failure ∙ status_of_end r.steps (run_of r).end;
+  told = subst (λ (f : Option Failure). TellsEnd f old.err new.err) failure given.told;
+}
+
 -- THE HEADLINE
 pub run_is_told : RunIsTold
-run_is_told words status old new file r depth dict save keeps is =
-    let given : IsGiven (IsAnswer words keeps.outside) status old new = whole_given (IsAnswer words keeps.outside) keeps.cause status old new keeps.blames is.well is.memory keeps.answered in
+run_is_told words status old new file r depth dict save keeps is program =
+    let j : Job = job.Run file r.steps depth None dict save in
+    let given : IsGiven (λ (answer : Answer). AnswersJob keeps.outside answer j) status old new = job_given words j status old new keeps is in
     let answered : AnswersRun depth dict save given.answer r (run_of r).end =
-    run_answered keeps.outside old file r (λ failure. given.answer ≡ refusal failure) (λ (x : Running). AnswersRun depth dict save given.answer x (run_of x).end) keeps.fits is.program
-    (job_answered keeps.outside words given.answer (job.Run file r.steps depth None dict save) is.asked given.is_answer) in
-    let failure : given.answer.failure ≡ failure_of_end r.steps (run_of r).end = fails depth dict save given.answer r (run_of r).end answered in
+    run_answered keeps.outside old file r (λ failure. given.answer ≡ refusal failure) (λ (x : Running). AnswersRun depth dict save given.answer x (run_of x).end) keeps.fits program
+    given.is_answer in
     record {
       text = given.answer.out;
       written = written depth dict save given.answer r (run_of r).end answered;
-      grows = given.grows;
-      status_is = given.status_is ∙ ap status_of failure ∙ status_of_end r.steps (run_of r).end;
-      told = subst (λ (f : Option Failure). TellsEnd f old.err new.err) failure given.told;
+      tells = told_of_run (λ (answer : Answer). AnswersJob keeps.outside answer j) r given.answer.out status old new given refl
+          (fails depth dict save given.answer r (run_of r).end answered);
     }

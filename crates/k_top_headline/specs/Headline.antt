@@ -1,5 +1,6 @@
 -- Believed with a public law.
--- THE HEADLINE: what `kremlin run` writes, and with which status it ends, where nothing goes wrong outside and memory suffices.
+-- THE HEADLINE: what `kremlin run` writes, and with which status it ends, where nothing goes wrong outside and memory suffices. The other
+-- commands share its words (OtherCommands).
 use Rattle.std.specs.Prelude.{ℕ, ◌≡◌, ◌≢◌, ◌≤◌, Bool, MatchBool, List, [], length, Option, Some, None, Ok}
 use Rattle.k_edge.specs.Fault.{Rose}
 use Rattle.k_edge.specs.SinkWords.{Grows}
@@ -19,13 +20,8 @@ use Rattle.k_ending.specs.declared.ending.End.TheVariants.{Returned, Trapped, Ou
 use Rattle.k_dict.specs.Dictionary.{IsDictionary, refusal}
 use Rattle.k_dict.specs.declared.dict.Which.{Which}
 use Rattle.k_dict.specs.declared.entry.Entry.{Entry}
-use Rattle.k_selfpar.specs.Contexts.{AreContexts}
-use Rattle.k_selfpar.specs.Rows.{AreRows}
-use Rattle.k_selfpar.specs.declared.context.Context.{Context}
-use Rattle.k_selfpar.specs.declared.row.Row.{Row}
-use Rattle.k_plan.specs.declared.advice.Advice.{Advice}
-use Rattle.k_report.specs.Report.{large_text, report_text}
-use Rattle.k_report_profile.specs.Report.{IsPlanned, asked}
+use Rattle.k_report.specs.Report.{large_text}
+use Rattle.k_report_profile.specs.Report.{IsReportOf, asked}
 use Rattle.k_report_profile.specs.RunReport.{Ran, ops_of}
 use Rattle.k_words.specs.Words.{IsAnswer}
 use Rattle.k_words.specs.declared.job.Job.{Job}
@@ -83,34 +79,16 @@ pub record NothingFailed (old new : World) : Type 0 where
   pub reads : DidNotRise old.input.faults new.input.faults
   pub puts : DidNotRise old.out.faults new.out.faults
 
--- THE PREMISES
-pub record RunIsAsked (words : List (List ℕ)) (file : List ℕ) (r : Running) (depth : ℕ) (dict : Bool) (save : Option (List ℕ)) (status : ℕ) (old new : World) : Type 0 where
-  -- the words ask to run the file, and name no table of latencies
-  pub asked : IsAnswer words (Ok (job.Run file r.steps depth None dict save))
-  -- it is an accepted program, with its input
-  pub program : HoldsProgram old file r
-  -- nothing went wrong outside
+-- THE PREMISES of a call: the words ask for this job, nothing went wrong outside, and memory sufficed
+pub record WentWell (words : List (List ℕ)) (j : Job) (status : ℕ) (old new : World) : Type 0 where
+  pub asked : IsAnswer words (Ok j)
   pub well : NothingFailed old new
-  -- memory sufficed
   pub memory : status ≢ 8
 
--- THE REPORT of the graph of a run, within the limits of the dictionary
-pub record ReportsTree (ran : Ran) (nodes : List Node) (dict : Option (List Entry)) (text : List ℕ) : Type 0 where
-  -- the rows of its tree: work, path and self-parallelism of each region
-  pub rows : List Row
-  pub are_rows : AreRows nodes rows
-  -- the contexts of its tree
-  pub contexts : List Context
-  pub are_contexts : AreContexts ran.regions nodes contexts
-  -- their best plan, where they are not too many for one
-  pub plan : Option Advice
-  pub planned : IsPlanned contexts plan
-  -- the text tells these
-  pub is : text ≡ report_text ran.regions ran.exit (ops_of ran) rows dict contexts plan
-
--- the report, by which limit the dictionary passes, if it passes one: there the one line says so
+-- the report, by which limit the dictionary passes, if it passes one: there the one line says so. Else it is that of a tree: the text tells
+-- its rows (work, path and self-parallelism of each region), the entries where they are asked for, and the best plan of its contexts
 abbrev pub ReportsWithin : Ran → Bool → List Node → List Entry → List ℕ → Option Which → Type 0
-ReportsWithin ran dict nodes entries text None = ReportsTree ran nodes (asked dict entries) text
+ReportsWithin ran dict nodes entries text None = IsReportOf ran.regions ran.exit (ops_of ran) nodes (asked dict entries) text
 ReportsWithin ran dict nodes entries text (Some which) = text ≡ large_text ran.exit (ops_of ran)
 
 -- THE REPORT of the graph of a run
@@ -136,18 +114,24 @@ end_status (Returned exit) = 0
 end_status (Trapped trap place) = 1
 end_status OutOfSteps = 2
 
--- THE CONCLUSIONS
-pub record RunTells (r : Running) (depth : ℕ) (dict : Bool) (status : ℕ) (old new : World) : Type 0 where
-  -- what out has grown by is the output of the run and, where main returned, its report
-  pub text : List ℕ
-  pub written : Writes r depth dict text (run_of r).end
+-- what a call tells of a run, where it has this text to write: out has grown by the text, the status is that of the run's end, and err has
+-- grown by the line of the trap, or of the steps, where there is one
+pub record TellsOfRun (r : Running) (text : List ℕ) (status : ℕ) (old new : World) : Type 0 where
   pub grows : Grows old.out.written text new.out.written
-  -- the status is that of the run's end
   pub status_is : status ≡ end_status (run_of r).end
-  -- err has grown by the line of the trap, or of the steps, where there is one
   pub told : TellsEnd (failure_of_end r.steps (run_of r).end) old.err new.err
 
--- THE HEADLINE. Where `Keeps`, the theorem on `kremlin`, holds of a call, the premises give the conclusions
+-- THE CONCLUSIONS for `run`
+pub record RunTells (r : Running) (depth : ℕ) (dict : Bool) (status : ℕ) (old new : World) : Type 0 where
+  -- the output of the run and, where main returned, its report
+  pub text : List ℕ
+  pub written : Writes r depth dict text (run_of r).end
+  -- are what is told
+  pub tells : TellsOfRun r text status old new
+
+-- THE HEADLINE. Where `Keeps`, the theorem on `kremlin`, holds of a call, the premises give the conclusions: the words ask to run a file, and
+-- name no table of latencies; and the file is an accepted program, with its input
 abbrev pub RunIsTold : Type 0
 RunIsTold = (words : List (List ℕ)) (status : ℕ) (old new : World) (file : List ℕ) (r : Running) (depth : ℕ) (dict : Bool) (save : Option (List ℕ))
-    → Keeps words status old new → RunIsAsked words file r depth dict save status old new → RunTells r depth dict status old new
+    → Keeps words status old new → WentWell words (job.Run file r.steps depth None dict save) status old new → HoldsProgram old file r
+    → RunTells r depth dict status old new

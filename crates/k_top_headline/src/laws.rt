@@ -1,7 +1,23 @@
-//! What `run` writes: the function's contract is a law, and its body does nothing.
+//! What each command writes: each function's contract is a law, and its body does nothing.
 ghost use Rattle.k_top_headline.specs.Headline.{RunIsTold};
+ghost use Rattle.k_top_headline.specs.OtherCommands.{DemoIsTold, GraphIsTold, ShowIsTold};
 
 /// `run` of an accepted source writes the program's output and, where main returned, the report of the tree of that run.
 pub fn run_is_told()
     ensures { RunIsTold }
+{}
+
+/// `graph` of an accepted source writes the listing of the run's events and of its instances.
+pub fn graph_is_told()
+    ensures { GraphIsTold }
+{}
+
+/// `show` of a saved profile, of either format, writes the report of that file's own tree.
+pub fn show_is_told()
+    ensures { ShowIsTold }
+{}
+
+/// `demo` writes the summary of the run of the program that it makes.
+pub fn demo_is_told()
+    ensures { DemoIsTold }
 {}

@@ -38,7 +38,7 @@ use Rattle.k_top_lemmas.specs.Parts.{Delivers, EndsAs, GivesText, ShowsFile, run
 use Rattle.k_top_lemmas.specs.Phases.{Around, Everywhere, FailsBefore, FindsAnswer, FindsJob, InputDone, IsEnd, IsView, MakesDemo, MakesReady, Performs, View, no_view, of_files}
 use Rattle.k_top_answers.specs.Steps.{AnswersInput, AnswersRead, AnswersRunning, Outside, Running, profile_limit, run_of}
 use Rattle.k_top_lemmas.proofs.ProgramLemmas.{long_of, one_seen}
-use Rattle.k_top_lemmas.proofs.ReadyLemmas.{not_seen, refusal_maps}
+use Rattle.k_top_lemmas.proofs.ReadyLemmas.{not_seen, refusal_maps, told_once}
 use Rattle.k_top_lemmas.proofs.Requesting.{after_none, front_same, some_asked}
 use Rattle.k_top_lemmas.proofs.StepLemmas.{absent, loaded, program_maps, too_long}
 
@@ -70,8 +70,8 @@ behind_input : (loads : Type 0) (all : List Request) (calls : Outside → Type 0
     → InputDone calls view old.input new.input → FailsBefore why.NoMemory loads (λ named. named ≡ all) calls view old new
 behind_input loads all calls view old new loaded same (inl (input, calls_not)) =
     inl (loaded, (all, refl, (all, front_same all all refl, same)), input)
-behind_input loads all calls view old new loaded same (inr (bytes, is, called, (draws, fits, at_end, faultless))) =
-    inr (inl (called, (all, refl, same), ((bytes.items, draws, fits), faultless)))
+behind_input loads all calls view old new loaded same (inr (bytes, is, called, reads)) =
+    inr (inl (called, (all, refl, same), ((bytes.items, reads.0, reads.1), reads.3, told_once old.input new.input bytes reads)))
 
 module _ (file : List ℕ) (latency : Option (List ℕ)) (steps depth : ℕ) (old new : Around) where
   -- RUN

@@ -20,12 +20,13 @@ use Rattle.k_top_answers.specs.declared.answer.SavedFile.{SavedFile}
 use Rattle.k_top_answers.specs.declared.failure.Failure.{Failure}
 use Rattle.k_top_answers.specs.declared.failure.Failure.TheVariants as why
 use Rattle.k_top_answers.specs.Answers.{CallsForInput, IsAnswer}
-use Rattle.k_top_answers.specs.Clauses.{AsksFiles, Cause, HoldsAfter, IsGiven, GoesFar, Keeps, KeepsAllBut, MayGive, ReadsInput, TellsEnd, TellsFault, World, faults_of, is_blame, nothing, put_fault, read_fault, save_fault}
+use Rattle.k_top_answers.specs.Clauses.{AsksFiles, Cause, HoldsAfter, IsGiven, GoesFar, Keeps, KeepsAllBut, MayGive, ReadsInput, TellsEnd, TellsFault, World, faults_of, is_blame, nothing, put_fault, save_fault}
 use Rattle.k_top_answers.specs.Failures.{failure_line, failure_of_end, failure_of_put, failure_of_save, failure_status, status_of}
 use Rattle.k_top_answers.specs.Requests.{AreToLoad, IsFront, saves_of}
 use Rattle.k_top_lemmas.specs.Parts.{Delivers, EndsAs, EndsBy, PutsAll, SavesFile, Tells}
 use Rattle.k_top_lemmas.specs.Phases.{Around, InputDone, IsEnd, IsView, Shows, View}
 use Rattle.k_top_answers.specs.Steps.{Outside, input_limit}
+use Rattle.k_top_lemmas.proofs.ReadyLemmas.{told_once}
 use Rattle.k_top_lemmas.proofs.Requesting.{after_twice, front_same}
 use Rattle.k_top_lemmas.proofs.Growing.{grows_in_part}
 use Rattle.k_top_lemmas.proofs.Showing.{fits, outside_of, shows}
@@ -43,10 +44,10 @@ module _ (words : List (List ℕ)) (old new : World) (view : View) (is_view : Is
   seen = shows old view is_view
 
   within : (old new : SourceState) (bytes : Vec ℕ Global) → ReadsAll (Ok bytes) input_limit old new → DrawsWithin (input_limit + 1) old new
-  within old new bytes (draws, fits, end, faultless) = (bytes.items, draws, omega (arith, fits))
+  within old new bytes (draws, fits, end, faultless, told) = (bytes.items, draws, omega (arith, fits))
 
   short : (old new : SourceState) (bytes : Vec ℕ Global) → ReadsAll (Ok bytes) input_limit old new → new.taken ≡ old.taken + (input_limit + 1) → ⊥
-  short old new bytes (draws, fits, end, faultless) is =
+  short old new bytes (draws, fits, end, faultless, told) is =
       let counted : new.taken ≡ old.taken + length bytes.items = draws.counted in omega (arith, fits, counted, is)
 
   pub input_done : InputDone (CallsForInput words) view old.input new.input → ReadsInput words outside status old.input new.input
@@ -57,8 +58,9 @@ module _ (words : List (List ℕ)) (old new : World) (view : View) (is_view : Is
         untouched = inr (calls outside seen);
         read = λ called. record {
           within = within old.input new.input bytes reads;
-          whole = λ ran. (subst (λ b. Draws b old.input new.input) told reads.0, reads.2);
+          whole = λ ran. (subst (λ b. Draws b old.input new.input) told reads.0, reads.2, reads.4);
           cut = λ nine. absurd (not_long nine);
+          once = told_once old.input new.input bytes reads;
           too_long = λ taken. absurd (short old.input new.input bytes reads taken);
         };
       }

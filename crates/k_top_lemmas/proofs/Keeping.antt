@@ -102,6 +102,7 @@ module _ (words : List (List ℕ)) (old new : World) (view : View) (is_view : Is
       within = subst (λ s. DrawsWithin (input_limit + 1) old.input s) (sym same) ([], record { left = left_same old.input.left; counted = omega arith }, omega arith);
       whole = λ ran. absurd (not_run ran);
       cut = λ nine. absurd (not_9 nine);
+      once = (let e : new.input.ended ≡ old.input.ended = ap (λ (s : SourceState). s.ended) same in omega (arith, e));
       too_long = λ taken. (let e : new.input.taken ≡ old.input.taken = ap (λ (s : SourceState). s.taken) same in absurd (omega (arith, taken, e)));
     };
   }
@@ -111,14 +112,15 @@ module _ (words : List (List ℕ)) (old new : World) (view : View) (is_view : Is
       left_same (Some bytes) = (bytes, refl, refl)
 
   -- some of the input was drawn, and the program did not run
-  drawn : (status : ℕ) → CallsForInput words (outside_of old view) → DrawsWithin input_limit old.input new.input → status ≢ 9 → ¬ HasRun status
-      → ReadsInput words (outside_of old view) status old.input new.input
-  drawn status calls (bytes, draws, few) not_9 not_run = record {
+  drawn : (status : ℕ) → CallsForInput words (outside_of old view) → DrawsWithin input_limit old.input new.input → new.input.ended ≤ old.input.ended + 1
+      → status ≢ 9 → ¬ HasRun status → ReadsInput words (outside_of old view) status old.input new.input
+  drawn status calls (bytes, draws, few) once not_9 not_run = record {
     untouched = inr calls;
     read = λ called. record {
       within = (bytes, draws, omega (arith, few));
       whole = λ ran. absurd (not_run ran);
       cut = λ nine. absurd (not_9 nine);
+      once = once;
       too_long = λ taken. (let e : new.input.taken ≡ old.input.taken + length bytes = draws.counted in absurd (omega (arith, taken, e, few)));
     };
   }
@@ -253,8 +255,8 @@ module _ (words : List (List ℕ)) (old new : World) (view : View) (is_view : Is
   -- A READ OF THE INPUT FAILED
   unread : (status : ℕ) → CallsForInput words (outside_of old view) → (all : List Request) → AreToLoad words all → new.files ≡ after all old.files
       → DrawsWithin input_limit old.input new.input
-      → Rose old.input.faults new.input.faults → Tells (Err why.ReadFault) status old.err new.err → Keeps words status old new
-  unread status calls all named same draws rose tells = record {
+      → Rose old.input.faults new.input.faults → new.input.ended ≡ old.input.ended → Tells (Err why.ReadFault) status old.err new.err → Keeps words status old new
+  unread status calls all named same draws rose unended tells = record {
     outside = outside_of old view;
     cause = read_fault;
     fits = fits old view;
@@ -267,7 +269,7 @@ module _ (words : List (List ℕ)) (old new : World) (view : View) (is_view : Is
     part = ap (λ (o : SinkState). o.written) same_out;
     files = inr held;
     requests = stopped read_fault status all named all refl (ap (λ (f : FilesState). f.requests) same);
-    input = drawn status calls draws (never_9 (status_or_8 status why.ReadFault tells))
+    input = drawn status calls draws (omega (arith, unended)) (never_9 (status_or_8 status why.ReadFault tells))
         (not_run status 6 (omega arith) (λ e. omega (arith, e)) (status_or_8 status why.ReadFault tells));
     told = read_told status tells;
   }
@@ -300,9 +302,9 @@ module _ (words : List (List ℕ)) (old new : World) (view : View) (is_view : Is
 
   -- THE INPUT IS TOO LONG
   input_long : (status : ℕ) → IsAnswer words (outside_of old view) (refusal why.InputLong) → CallsForInput words (outside_of old view) → (all : List Request)
-      → AreToLoad words all → new.files ≡ after all old.files → DrawsTooMany input_limit old.input new.input → new.input.faults ≡ old.input.faults → Tells (Err why.InputLong) status old.err new.err
-      → Keeps words status old new
-  input_long status is calls all named same draws reads tells = record {
+      → AreToLoad words all → new.files ≡ after all old.files → DrawsTooMany input_limit old.input new.input → new.input.faults ≡ old.input.faults → new.input.ended ≡ old.input.ended
+      → Tells (Err why.InputLong) status old.err new.err → Keeps words status old new
+  input_long status is calls all named same draws reads unended tells = record {
     outside = outside_of old view;
     cause = nothing;
     fits = fits old view;
@@ -317,7 +319,8 @@ module _ (words : List (List ℕ)) (old new : World) (view : View) (is_view : Is
       read = λ called. record {
         within = (draws.0, draws.1, (let e : length draws.0 ≡ input_limit + 1 = draws.2 in omega (arith, e)));
         whole = λ ran. absurd (not_run status 9 (omega arith) (λ e. omega (arith, e)) (status_or_8 status why.InputLong tells) ran);
-        cut = λ nine. draws;
+        cut = λ nine. (draws, unended);
+        once = omega (arith, unended);
         too_long = λ taken. status_or_8 status why.InputLong tells;
       };
     };
@@ -340,12 +343,13 @@ module _ (words : List (List ℕ)) (old new : World) (view : View) (is_view : Is
 
   -- or some of the input was drawn
   drawn_short : (status : ℕ) → CallsForInput words (outside_of old view) → DrawsWithin input_limit old.input new.input
-      → (all : List Request) → AreToLoad words all → new.files ≡ after all old.files → new.input.faults ≡ old.input.faults → Tells (Err why.NoMemory) status old.err new.err → Keeps words status old new
-  drawn_short status calls draws all named files reads (inl (eight, told)) =
-      no_memory status (drawn status calls draws (λ nine. omega (arith, eight, nine)) (not_run status 8 (omega arith) (λ e. omega (arith, e)) (inr eight)))
+      → (all : List Request) → AreToLoad words all → new.files ≡ after all old.files → new.input.faults ≡ old.input.faults → new.input.ended ≤ old.input.ended + 1
+      → Tells (Err why.NoMemory) status old.err new.err → Keeps words status old new
+  drawn_short status calls draws all named files reads once (inl (eight, told)) =
+      no_memory status (drawn status calls draws once (λ nine. omega (arith, eight, nine)) (not_run status 8 (omega arith) (λ e. omega (arith, e)) (inr eight)))
       all named all (front_same all all refl) files reads eight told.part
-  drawn_short status calls draws all named files reads (inr (eight, part)) =
-      no_memory status (drawn status calls draws (λ nine. omega (arith, eight, nine)) (not_run status 8 (omega arith) (λ e. omega (arith, e)) (inr eight)))
+  drawn_short status calls draws all named files reads once (inr (eight, part)) =
+      no_memory status (drawn status calls draws once (λ nine. omega (arith, eight, nine)) (not_run status 8 (omega arith) (λ e. omega (arith, e)) (inr eight)))
       all named all (front_same all all refl) files reads eight part
 
   -- what refuses everywhere refuses here
@@ -388,10 +392,10 @@ module _ (words : List (List ℕ)) (old new : World) (view : View) (is_view : Is
   by_input status (why.Types fault) calls loaded left is tells = absurd left
   by_input status (why.Usage fault) calls loaded left is tells = absurd left
   by_input status (why.Absent file) calls loaded left is tells = absurd left
-  by_input status why.ReadFault calls (all, named, same) (draws, rose) is tells = unread status calls all named same draws rose tells
+  by_input status why.ReadFault calls (all, named, same) (draws, rose, unended) is tells = unread status calls all named same draws rose unended tells
   by_input status why.WriteFault calls loaded left is tells = absurd left
-  by_input status why.NoMemory calls (all, named, same) (draws, reads) is tells = drawn_short status calls draws all named same reads tells
-  by_input status why.InputLong calls (all, named, same) (draws, reads) is tells = input_long status is calls all named same draws reads tells
+  by_input status why.NoMemory calls (all, named, same) (draws, reads, once) is tells = drawn_short status calls draws all named same reads once tells
+  by_input status why.InputLong calls (all, named, same) (draws, reads, unended) is tells = input_long status is calls all named same draws reads unended tells
   by_input status (why.Table fault) calls loaded left is tells = absurd left
   by_input status (why.Saved place) calls loaded left is tells = absurd left
   by_input status (why.FileLong file) calls loaded left is tells = absurd left

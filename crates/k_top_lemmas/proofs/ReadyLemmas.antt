@@ -1,5 +1,5 @@
 -- What making a program ready to run comes to.
-use Rattle.std.proofs.Common.{ℕ, ◌≡◌, ◌≤◌, ◌<◌, ◌⊎◌, Bool, true, false, MatchBool, IsTrue, refl, ap, arith, sym, subst, ◌∙◌, List, [], ◌++◌, length, Option, Some, None, Ok, Err, Vec, Global, inl, inr}
+use Rattle.std.proofs.Common.{ℕ, ◌≡◌, ◌+◌, ◌≤◌, ◌<◌, ◌⊎◌, Bool, true, false, MatchBool, IsTrue, refl, ap, arith, sym, subst, ◌∙◌, List, [], ◌++◌, length, Option, Some, None, Ok, Err, Vec, Global, inl, inr}
 use Rattle.std.proofs.lemmas.List.{length-append, append-nil}
 use Rattle.std.specs.Io.KnownBytes.{IsAtEnd}
 use Rattle.k_edge.specs.FilesWords.{after}
@@ -100,6 +100,10 @@ all_drawn (Some told) left' bytes (rest, is, left) end =
     let none : rest ≡ [] = subst IsAtEnd left end in
     is ∙ ap (λ later. bytes ++ later) none ∙ append-nil bytes
 
+-- an input that was read to its end told it once
+pub told_once : (old new : SourceState) (bytes : Vec ℕ Global) → ReadsAll (Ok bytes) input_limit old new → new.ended ≤ old.ended + 1
+told_once old new bytes (draws, fits, end, faultless, ended) = omega (arith, ended)
+
 module _ (file : List ℕ) (latency : Option (List ℕ)) (steps : ℕ) (p : Program) (files : List Seen) (old new : Around) (told : AreTold old.files.held files)
     (same : new.files ≡ after (files_of file latency) old.files)
     (reads : Everywhere (of_files files) (λ outside. AnswersProgram (λ failure. ⊥) outside file latency (λ latencies typed. (latencies ≡ p.latencies) × (typed ≡ p.typed))))
@@ -128,16 +132,16 @@ module _ (file : List ℕ) (latency : Option (List ℕ)) (steps : ℕ) (p : Prog
     -- THE INPUT is not read
     by_fault : calls_getchar p.typed ≡ true → (fault : ReadAllFault) → ReadsAll (Err fault) input_limit old.input new.input
         → MakesReady (Err (failure_of_reading fault)) file latency steps old new
-    by_fault is reading.ReadFault (draws, rose) =
-        (of_files files, record { files = told; input = not_seen old.input.left }, (inr (inl (calls_input None is, (files_of file latency, refl, same), (draws, rose))), tt))
-    by_fault is reading.Memory (draws, faultless) =
-        (of_files files, record { files = told; input = not_seen old.input.left }, (inr (inl (calls_input None is, (files_of file latency, refl, same), (draws, faultless))), tt))
-    by_fault is reading.TooLong (draws, faultless) =
+    by_fault is reading.ReadFault (draws, rose, unended) =
+        (of_files files, record { files = told; input = not_seen old.input.left }, (inr (inl (calls_input None is, (files_of file latency, refl, same), (draws, rose, unended))), tt))
+    by_fault is reading.Memory (draws, faultless, unended) =
+        (of_files files, record { files = told; input = not_seen old.input.left }, (inr (inl (calls_input None is, (files_of file latency, refl, same), (draws, faultless, omega (arith, unended)))), tt))
+    by_fault is reading.TooLong (draws, faultless, unended) =
         let many = too_many old.input new.input draws in (
           record { files = files; input = Some many.0 },
           record { files = told; input = many.1 },
           (
-            inr (inl (calls_input (Some many.0) is, (files_of file latency, refl, same), (draws, faultless))),
+            inr (inl (calls_input (Some many.0) is, (files_of file latency, refl, same), (draws, faultless, unended))),
             λ outside shows.
                 with_input (λ other. other ≡ why.InputLong) (λ running. ⊥) outside (files_shown outside files (Some many.0) shows)
                 (by_test (λ other. other ≡ why.InputLong) (λ input. ⊥) outside true is (inl (subst (λ bytes. input_limit < length bytes) shows.input many.2, refl))),
@@ -162,12 +166,12 @@ module _ (file : List ℕ) (latency : Option (List ℕ)) (steps : ℕ) (p : Prog
 
     made : (bytes : Vec ℕ Global) (b : Bool) → calls_getchar p.typed ≡ b → ReadsWhere b (Ok bytes) old.input new.input
         → MakesReady (Ok (ready bytes)) file latency steps old new
-    made bytes true is (draws, fits, end, faultless) = (
+    made bytes true is (draws, fits, end, faultless, ended) = (
       record { files = files; input = Some bytes.items },
       record { files = told; input = all_drawn old.input.left new.input.left bytes.items draws.left end },
       (
         same,
-        inr (bytes, refl, calls_input (Some bytes.items) is, (draws, fits, end, faultless)),
+        inr (bytes, refl, calls_input (Some bytes.items) is, (draws, fits, end, faultless, ended)),
         λ outside shows.
             with_input (λ failure. ⊥) (λ running. running ≡ running_of (ready bytes)) outside (files_shown outside files (Some bytes.items) shows)
             (by_test (λ failure. ⊥) (λ input. running_on input ≡ running_of (ready bytes)) outside true is

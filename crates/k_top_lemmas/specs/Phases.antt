@@ -1,6 +1,6 @@
 -- For contracts between crates: nobody has to believe it.
 -- What was seen of the outside while the answer was found, and what holds wherever that is so. The theorem on `kremlin` speaks of none of this.
-use Rattle.std.specs.Prelude.{ℕ, ⊤, ◌≡◌, ◌≢◌, ◌⊎◌, List, [], ◌∷◌, ◌++◌, Option, Some, None, Result, Ok, Err, Vec}
+use Rattle.std.specs.Prelude.{ℕ, ⊤, ◌≡◌, ◌≢◌, ◌+◌, ◌≤◌, ◌⊎◌, List, [], ◌∷◌, ◌++◌, Option, Some, None, Result, Ok, Err, Vec}
 use Rattle.std.specs.declared.alloc.Global.{Global}
 use Rattle.k_edge.specs.Fault.{Rose}
 use Rattle.k_edge.specs.FilesWords.{FilesState, Has, after}
@@ -123,11 +123,11 @@ ProgramSeen (Err failure) files file latency old new =
 abbrev pub ReadsProgram : Result Program Failure → List ℕ → Option (List ℕ) → FilesState → FilesState → Type 0
 ReadsProgram result file latency old new = (files : List Seen) × AreTold old.held files × ProgramSeen result files file latency old new
 
--- what a failure leaves of the input that was being read
+-- what a failure leaves of the input that was being read: its end was not told, or once where memory was wanting behind it
 abbrev pub InputAfter : Failure → SourceState → SourceState → Type 0
-InputAfter why.ReadFault old new = DrawsWithin input_limit old new × Rose old.faults new.faults
-InputAfter why.InputLong old new = DrawsTooMany input_limit old new × (new.faults ≡ old.faults)
-InputAfter why.NoMemory old new = DrawsWithin input_limit old new × (new.faults ≡ old.faults)
+InputAfter why.ReadFault old new = DrawsWithin input_limit old new × Rose old.faults new.faults × (new.ended ≡ old.ended)
+InputAfter why.InputLong old new = DrawsTooMany input_limit old new × (new.faults ≡ old.faults) × (new.ended ≡ old.ended)
+InputAfter why.NoMemory old new = DrawsWithin input_limit old new × (new.faults ≡ old.faults) × (new.ended ≤ old.ended + 1)
 InputAfter failure old new = ⊥
 
 -- the failure asks nothing of the outside

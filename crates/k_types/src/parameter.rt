@@ -12,7 +12,7 @@ use crate::standing::twice;
 use k_num::{Kind, NoMemory, Seq, Text};
 use k_tree::{Param, Params, Word};
 use k_types_declarations::{Known, Variable, dimensions};
-use k_types_meaning::{Base, CType, Element, Meaning, TypeFault};
+use k_types_meaning::{Base, CType, Dims, Element, Meaning, TypeFault};
 use k_types_names::{Scopes, base_of, says_const, says_static};
 use k_types_objects::{copied_type, param_sizes};
 use std::alloc::Global;
@@ -57,18 +57,19 @@ fn judge_param(
     let dims = param_sizes(alloc, &sizes)?;
     let fits = dims.is_some();
     let typed = is_typed(alloc, defines, param);
-    let of = type_of(alloc, param, sizes_or_none(alloc, dims));
+    let behind = sizes_or_none(alloc, dims)?;
+    let of = type_of(alloc, param, behind);
     let twice = enter_variable(alloc, known, param, of)?;
     test_param(alloc, param, twice, typed, fits)
 }
 
 /// The sizes of a parameter behind the first, and none where they are wrong, since it is refused in any case.
-fn sizes_or_none(alloc: Global, dims: Option<Seq<u32>>) -> Seq<u32>
-    ensures { result ≡ rules.sizes_or_none dims }
+fn sizes_or_none(alloc: Global, dims: Option<Seq<u32>>) -> Result<Dims, NoMemory>
+    ensures { IfOk result (λ behind. behind ≡ rules.sizes_or_none dims) }
 {
     match dims {
-        Some(dims) => dims,
-        None => Seq::new(alloc),
+        Some(dims) => Dims::of(dims),
+        None => Ok(Dims::none(alloc)),
     }
 }
 
@@ -152,7 +153,7 @@ fn has_no_dims(param: &Param) -> bool
 
 /// The type of a parameter with these sizes behind the first, and `int` where it has none, since it is refused in
 /// any case.
-fn type_of(alloc: Global, param: &Param, dims: Seq<u32>) -> CType
+fn type_of(alloc: Global, param: &Param, dims: Dims) -> CType
     ensures { result ≡ type_or_int (type_with param.now dims) }
 {
     match param_type(alloc, param, dims) {
@@ -172,7 +173,7 @@ fn is_typed(alloc: Global, defines: bool, param: &Param) -> bool
 fn has_type(alloc: Global, param: &Param) -> bool
     ensures { result ≡ is_some (type_with param.now []) }
 {
-    match param_type(alloc, param, Seq::new(alloc)) {
+    match param_type(alloc, param, Dims::none(alloc)) {
         Some(of) => {
             drop(of);
             true
@@ -183,7 +184,7 @@ fn has_type(alloc: Global, param: &Param) -> bool
 
 /// The type of a parameter with these sizes behind the first, if it has one: an array is a pointer to its element
 /// (C17 6.7.6.3p7).
-fn param_type(alloc: Global, param: &Param, dims: Seq<u32>) -> Option<CType>
+fn param_type(alloc: Global, param: &Param, dims: Dims) -> Option<CType>
     ensures { result ≡ type_with param.now dims }
 {
     let fixed = says_const(&param.specs);
@@ -216,7 +217,7 @@ fn plain_type(alloc: Global, fixed: bool, base: Option<Base>, stars: &[bool]) ->
             [] => Some(CType::Number(kind)),
             [_] => Some(CType::Pointer(Element {
                 kind,
-                dims: Seq::new(alloc),
+                dims: Dims::none(alloc),
                 fixed,
             })),
             _ => None,
@@ -225,7 +226,7 @@ fn plain_type(alloc: Global, fixed: bool, base: Option<Base>, stars: &[bool]) ->
 }
 
 /// The type of a parameter that is declared as an array: a pointer to its element.
-fn pointer_type(fixed: bool, base: Option<Base>, stars: &[bool], dims: Seq<u32>) -> Option<CType>
+fn pointer_type(fixed: bool, base: Option<Base>, stars: &[bool], dims: Dims) -> Option<CType>
     ensures { result ≡ rules.array_param fixed base stars.now dims }
 {
     match base {

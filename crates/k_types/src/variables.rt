@@ -9,7 +9,7 @@ ghost use Rattle.k_types.specs.Variables.{variable_told};
 use k_num::{NoMemory, Seq};
 use k_types_declarations::Variable;
 use k_types_meaning::{CType, Element, TVariable};
-use k_types_rules::{count, lent, told};
+use k_types_rules::{lent, told};
 use std::alloc::Global;
 use std::collections::HashSet;
 
@@ -71,10 +71,7 @@ fn object_elements(of: &CType, taken: bool) -> Result<u32, NoMemory>
 fn array_elements(items: u32, element: &Element) -> Result<u32, NoMemory>
     ensures { IfOk result (λ n. n ≡ items * elements element.now.dims) }
 {
-    let Some(each) = count(element.dims.as_slice()) else {
-        return Err(NoMemory);
-    };
-    let Some(all) = u64::from(items).checked_mul(each) else {
+    let Some(all) = u64::from(items).checked_mul(element.dims.each()) else {
         return Err(NoMemory);
     };
     match u32::try_from(all) {

@@ -1,7 +1,6 @@
 -- Items of braces that are judged one after the other.
-use Rattle.std.proofs.Common.{◌≡◌, inl, inr, ℕ, zero, suc, ◌+◌, ◌*◌, ◌/◌, ◌<◌, ◌≤◌, Bool, List, [], ◌∷◌, ◌++◌, Result, Ok, Err, drop, get_or, length, map, refl, sym, ap, ◌∙◌, subst, append_assoc, append-nil, arith}
+use Rattle.std.proofs.Common.{◌≡◌, inl, inr, ℕ, zero, suc, ◌+◌, ◌<◌, ◌≤◌, Bool, true, false, List, [], ◌∷◌, ◌++◌, Result, Ok, Err, drop, get_or, length, map, refl, sym, ap, ◌∙◌, subst, append_assoc, append-nil, arith}
 use Rattle.std.proofs.lemmas.List.{drop_all}
-use Rattle.std.proofs.Math.Nat.{mul-div_cancel_left}
 use Rattle.k_num.specs.declared.numbers.Kind.{Kind}
 use Rattle.k_num.specs.declared.place.Place.{Place}
 use Rattle.k_tree.specs.declared.tree.declaration.Init.{Init}
@@ -9,6 +8,7 @@ use Rattle.k_tree.specs.declared.tree.declaration.Init.TheVariants as init
 use Rattle.k_tree.proofs.Folds.{init_List}
 use Rattle.k_types_meaning.specs.declared.fault.TypeFault.{TypeFault}
 use Rattle.k_types_meaning.specs.declared.fault.TypeFault.TheVariants as fault
+use Rattle.k_types_meaning.specs.declared.tree.declaration.TItem.{TItem}
 use Rattle.k_types_meaning.proofs.Elaborates.{not_made}
 use Rattle.k_types_meaning.specs.Conversions.{Typed}
 use Rattle.k_types_meaning.specs.Initialisers.{Giving, Items, braces, excess, giving, giving_step, items_of_both, items_within}
@@ -17,8 +17,26 @@ use Rattle.k_types_meaning.specs.Names.{Names}
 use Rattle.k_types_meaning.specs.Types.{elements}
 use Rattle.k_types_rules.specs.Views.{Refuses}
 use Rattle.k_types_declarations.specs.declared.braces.FilledItems.{FilledItems}
-use Rattle.k_types_declarations.specs.Braces.{Puts, PutsItem}
+use Rattle.k_types_declarations.specs.Braces.{Puts, PutsItem, kept_items}
 use Rattle.k_types_declarations.proofs.Lists.{refuses_both, rest_from}
+
+-- nothing is kept of no items
+none_kept : (kept : Bool) → kept_items kept [] ≡ []
+none_kept true = refl
+none_kept false = refl
+
+-- what is kept of two runs of items
+both_kept : (kept : Bool) (a b : List TItem) → kept_items kept (a ++ b) ≡ kept_items kept a ++ kept_items kept b
+both_kept true a b = refl
+both_kept false a b = refl
+
+-- all items are kept
+pub all_kept : (kept : Bool) (old new items : List TItem) → kept ≡ true → new ≡ old ++ items → new ≡ old ++ kept_items kept items
+all_kept kept old new items is put = put ∙ ap (λ k. old ++ kept_items k items) (sym is)
+
+-- no item is kept
+pub not_kept : (kept : Bool) (old items : List TItem) → kept ≡ false → old ≡ old ++ kept_items kept items
+not_kept kept old items is = sym (ap (λ k. old ++ kept_items k items) is ∙ append-nil old)
 
 -- two runs of items as one
 abbrev pub joined : Items → Items → Items
@@ -56,7 +74,7 @@ never_fine : (m : Made (List ℕ)) (p : Place) (v : Items) → then_made m (λ t
 never_fine (Fine a) p v is = not_made (fault.Kinds p) [] v is
 never_fine (Faulty f fs) p v is = not_made f fs v is
 
-module _ (names : Names) (file : Bool) (kind : Kind) (dims : List ℕ) where
+module _ (names : Names) (file kept : Bool) (kind : Kind) (dims : List ℕ) where
   -- what items give to so many elements, from this one on
   abbrev within : ℕ → ℕ → List Init → Made Items
   within count n inits = items_within file kind dims count n (map (giving names) inits)
@@ -88,18 +106,22 @@ module _ (names : Names) (file : Bool) (kind : Kind) (dims : List ℕ) where
     PutsSoFar i left n older newer =
         (a : Items)
         × (items_before a (within left n (drop i items)) ≡ whole)
-        × (newer.items ≡ older.items ++ a.items)
+        × (newer.items ≡ older.items ++ kept_items kept a.items)
         × (newer.taken ≡ older.taken ++ a.taken)
 
     -- none was judged
     pub puts_none : (count n : ℕ) (older : FilledItems) → within count n items ≡ whole → PutsSoFar 0 count n older older
-    puts_none count n older is =
-        (no_items, none_before (within count n items) ∙ is, sym (append-nil older.items), sym (append-nil older.taken))
+    puts_none count n older is = (
+      no_items,
+      none_before (within count n items) ∙ is,
+      sym (ap (λ l. older.items ++ l) (none_kept kept) ∙ append-nil older.items),
+      sym (append-nil older.taken),
+    )
 
     -- one more was judged
     pub puts_more : (i left next n behind each : ℕ) (x : Init) (older middle newer : FilledItems)
         → i < length items → x ≡ get_or items i x → left ≡ next + 1 → behind ≡ n + each → each ≡ elements dims
-        → PutsSoFar i left n older middle → Puts (Ok tt) middle newer ((giving names x).within file kind dims n)
+        → PutsSoFar i left n older middle → Puts (Ok tt) kept middle newer ((giving names x).within file kind dims n)
         → PutsSoFar (i + 1) next behind older newer
     puts_more i left next n behind each x older middle newer inside is count place sizes (a, so_far, items_put, taken_put) (b, fine, items_more, taken_more) = (
       joined a b,
@@ -107,12 +129,15 @@ module _ (names : Names) (file : Bool) (kind : Kind) (dims : List ℕ) where
           ∙ (sym (one_more a b ((giving names x).within file kind dims n) (within next (n + each) (drop (i + 1) items)) fine)
           ∙ (ap (items_before a) (sym (within_more left next n each x (drop (i + 1) items) count sizes))
           ∙ (ap (λ rest. items_before a (within left n rest)) (sym (rest_from items i x inside is)) ∙ so_far))),
-      items_more ∙ (ap (λ l. l ++ b.items) items_put ∙ append_assoc older.items a.items b.items),
+      items_more
+          ∙ (ap (λ l. l ++ kept_items kept b.items) items_put
+          ∙ (append_assoc older.items (kept_items kept a.items) (kept_items kept b.items)
+          ∙ ap (λ l. older.items ++ l) (sym (both_kept kept a.items b.items)))),
       taken_more ∙ (ap (λ l. l ++ b.taken) taken_put ∙ append_assoc older.taken a.taken b.taken),
     )
 
     -- all were judged
-    pub puts_all : (i left n : ℕ) (older newer : FilledItems) → length items ≤ i → PutsSoFar i left n older newer → Puts (Ok tt) older newer whole
+    pub puts_all : (i left n : ℕ) (older newer : FilledItems) → length items ≤ i → PutsSoFar i left n older newer → Puts (Ok tt) kept older newer whole
     puts_all i left n older newer end (a, so_far, items_put, taken_put) = (
       a,
       sym so_far
@@ -146,7 +171,7 @@ module _ (names : Names) (file : Bool) (kind : Kind) (dims : List ℕ) where
     -- one is too many, so they are refused
     pub puts_too_many : (result : Result (Unit {0}) TypeFault) (i left n : ℕ) (x : Init) (older middle newer : FilledItems)
         → i < length items → x ≡ get_or items i x → left ≡ 0 → PutsSoFar i left n older middle
-        → Puts result middle newer (then_made (giving names x).alone (λ taken. excess {A = Items} (giving names x).place)) → Puts result older newer whole
+        → Puts result kept middle newer (then_made (giving names x).alone (λ taken. excess {A = Items} (giving names x).place)) → Puts result kept older newer whole
     puts_too_many (Ok done) i left n x older middle newer inside is none so_far (found, fine, _, _) =
         absurd (never_fine (giving names x).alone (giving names x).place found fine)
     puts_too_many (Err f) i left n x older middle newer inside is none so_far refuses =
@@ -157,13 +182,9 @@ pub list_within : (names : Names) (p : Place) (items : List Init) (comma file : 
     → (giving names (init.List p items comma)).within file kind dims n ≡ braces file p kind dims n (map (giving names) items)
 list_within names p items comma file kind dims n = ap (λ (g : Giving). g.within file kind dims n) (init_List Giving (giving_step names) p items comma)
 
--- one of so many parts
-pub part_of : (each count n part : ℕ) → 0 < count → part ≡ each / count → each ≡ count * n → part ≡ n
-part_of each count n part some is whole = is ∙ (ap (λ e. e / count) whole ∙ mul-div_cancel_left n some)
-
 -- an item was put, of which the expression was judged
-pub puts_one : (result : Result (Unit {0}) TypeFault) (m : Made Typed) (step : Typed → Made Items) (v : Typed) (t : List ℕ) (older newer : FilledItems)
-    → m ≡ Fine v → newer.taken ≡ older.taken ++ t → PutsItem result t older.items newer.items (step v) → Puts result older newer (then_made m step)
-puts_one (Ok done) m step v t older newer is taken (items, fine, put) =
+pub puts_one : (result : Result (Unit {0}) TypeFault) (kept : Bool) (m : Made Typed) (step : Typed → Made Items) (v : Typed) (t : List ℕ) (older newer : FilledItems)
+    → m ≡ Fine v → newer.taken ≡ older.taken ++ t → PutsItem result kept t older.items newer.items (step v) → Puts result kept older newer (then_made m step)
+puts_one (Ok done) kept m step v t older newer is taken (items, fine, put) =
     (record { items = items; taken = t }, ap (λ w. then_made w step) is ∙ fine, put, taken)
-puts_one (Err f) m step v t older newer is taken refuses = subst (λ w. Refuses f (then_made w step)) (sym is) refuses
+puts_one (Err f) kept m step v t older newer is taken refuses = subst (λ w. Refuses f (then_made w step)) (sym is) refuses

@@ -1,9 +1,11 @@
 -- What a declarator comes to, by what its parts come to.
-use Rattle.std.proofs.Common.{◌≡◌, inl, inr, ℕ, Bool, List, ◌++◌, Option, Result, Ok, Err, refl, sym, ap, ◌∙◌, subst}
+use Rattle.std.proofs.Common.{◌≡◌, inl, inr, ℕ, Bool, true, false, List, ◌++◌, Option, Some, None, Result, Ok, Err, refl, sym, ap, ◌∙◌, subst}
+use Rattle.k_num.specs.declared.place.Place.{Place}
 use Rattle.k_tree.specs.declared.tree.declaration.Declarator.{Declarator}
 use Rattle.k_types_meaning.specs.declared.fault.TypeFault.{TypeFault}
 use Rattle.k_types_meaning.specs.declared.types.CType.{CType}
 use Rattle.k_types_meaning.specs.declared.tree.declaration.TInit.{TInit}
+use Rattle.k_types_meaning.specs.declared.tree.declaration.TInit.TheVariants as begins
 use Rattle.k_types_meaning.specs.Declarations.{Object, Saying, as_meaning, declarator_judged, declared_type, entered, has_type, is_sized, is_twice, names_behind, object_fixed, object_made, type_for, type_or_int, where_sized}
 use Rattle.k_types_meaning.specs.Dimensions.{Sizes, dimensions}
 use Rattle.k_types_meaning.specs.Initialisers.{Beginning, begun}
@@ -11,7 +13,7 @@ use Rattle.k_types_meaning.specs.Made.{Made, Fine, Faulty, both}
 use Rattle.k_types_meaning.specs.Names.{Names}
 use Rattle.k_types_rules.specs.Views.{Refuses}
 use Rattle.k_types_declarations.specs.declared.declarator.Begun.{Begun}
-use Rattle.k_types_declarations.specs.Objects.{Comes, MakesObject}
+use Rattle.k_types_declarations.specs.Objects.{Comes, MakesObject, kept_option}
 use Rattle.k_types_declarations.proofs.Lists.{refuses_both}
 
 -- a fault of the second of two parts, of which the first is made
@@ -19,6 +21,17 @@ refuses_second : {A B C : Type 0} (f : TypeFault) (a : A) (m : Made B) (next : A
 refuses_second f a m next (inl is) = inl is
 refuses_second f a (Fine b) next (inr none) = absurd none
 refuses_second f a (Faulty g gs) next (inr is) = inr is
+
+-- where a size is wrong, all that is asked of that with which an object begins is whether there is any
+made_of_kept : (p : Place) (x : List ℕ) (twice typed fixed sized : Bool) (taken : List ℕ) (of : Option CType) (init : Option TInit)
+    → object_made p x twice typed fixed taken (where_sized sized of) (kept_option sized init)
+    ≡ object_made p x twice typed fixed taken (where_sized sized of) init
+made_of_kept p x twice typed fixed true taken of None = refl
+made_of_kept p x twice typed fixed true taken of (Some begins.Nothing) = refl
+made_of_kept p x twice typed fixed true taken of (Some (begins.Value e)) = refl
+made_of_kept p x twice typed fixed true taken of (Some (begins.Elements items)) = refl
+made_of_kept p x twice typed fixed false taken of None = refl
+made_of_kept p x twice typed fixed false taken of (Some init) = refl
 
 module _ (file : Bool) (s : Saying) (n : ℕ) (names : Names) (d : Declarator) where
   -- the names behind the declarator, by its type
@@ -70,14 +83,15 @@ module _ (file : Bool) (s : Saying) (n : ℕ) (names : Names) (d : Declarator) w
         subst (Refuses f) (sym (judged_is sizes type_is known_is)) (refuses_second f found (begun known file of d.init) next refuses)
 
     -- all parts were judged
-    pub comes : (result : Result Begun TypeFault) (init : Option TInit) (more older newer : List ℕ) (twice typed sized : Bool)
+    pub comes : (result : Result Begun TypeFault) (told init : Option TInit) (more older newer : List ℕ) (twice typed sized : Bool)
         → dimensions names d.dims ≡ Fine found → of ≡ type_for file s (Fine found) d → known ≡ behind of
         → begun known file of d.init ≡ Fine (record { init = init; taken = more })
+        → told ≡ kept_option sized init
         → newer ≡ older ++ (found.taken ++ more)
         → twice ≡ is_twice names d.name → typed ≡ has_type file s d → sized ≡ is_sized (Fine found) d
-        → ((fixed : Bool) (taken : List ℕ) → MakesObject result d.place d.name fixed taken of (object_made d.place d.name twice typed fixed taken (where_sized sized of) init))
+        → ((fixed : Bool) (taken : List ℕ) → MakesObject result d.place d.name fixed taken of (object_made d.place d.name twice typed fixed taken (where_sized sized of) told))
         → Comes result file s n names d older newer known
-    comes result init more older newer twice typed sized sizes type_is known_is begun_is put twice_is typed_is sized_is makes =
+    comes result told init more older newer twice typed sized sizes type_is known_is begun_is kept_is put twice_is typed_is sized_is makes =
         let taken : List ℕ = found.taken ++ more in
         let fixed : Bool = object_fixed s.fixed d.stars in
         finishes result (object_made d.place d.name (is_twice names d.name) (has_type file s d) fixed taken (declared_type file s (Fine found) d) init)
@@ -89,4 +103,7 @@ module _ (file : Bool) (s : Saying) (n : ℕ) (names : Names) (d : Declarator) w
         (subst (λ o. MakesObject result d.place d.name fixed taken of (object_made d.place d.name (is_twice names d.name) (has_type file s d) fixed taken o init))
         (λ i. where_sized (sized_is i) (type_is i))
         (subst (λ b. MakesObject result d.place d.name fixed taken of (object_made d.place d.name (is_twice names d.name) b fixed taken (where_sized sized of) init)) typed_is
-        (subst (λ b. MakesObject result d.place d.name fixed taken of (object_made d.place d.name b typed fixed taken (where_sized sized of) init)) twice_is (makes fixed taken))))
+        (subst (λ b. MakesObject result d.place d.name fixed taken of (object_made d.place d.name b typed fixed taken (where_sized sized of) init)) twice_is
+        (subst (MakesObject result d.place d.name fixed taken of)
+        (ap (object_made d.place d.name twice typed fixed taken (where_sized sized of)) kept_is ∙ made_of_kept d.place d.name twice typed fixed sized taken of init)
+        (makes fixed taken)))))

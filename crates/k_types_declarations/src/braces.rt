@@ -1,6 +1,6 @@
 //! The items of the braces of an array: they are nested as its dimensions, and a string is an item for an array of
 //! char (C17 6.7.9p2, p14, p16, p20).
-ghost use Rattle.std.specs.Prelude.{◌≡◌, ℕ, ◌+◌, ◌*◌, [], Bool, List, Option, Some, IfOk, ◌||◌, not, nat_le, is_some, map};
+ghost use Rattle.std.specs.Prelude.{◌≡◌, ℕ, ◌+◌, [], ◌∷◌, ◌++◌, Bool, List, Option, Some, IfOk, OnOk, ◌||◌, not, nat_le, is_some, map};
 ghost use Rattle.std.specs.Option.{option_copied};
 ghost use Rattle.k_types_meaning.specs.Constants as constants;
 ghost use Rattle.k_types_meaning.specs.Initialisers as rules;
@@ -10,24 +10,27 @@ ghost use Rattle.k_types_meaning.specs.Made.{then_made};
 ghost use Rattle.k_types_meaning.specs.Names.{Names};
 ghost use Rattle.k_types_meaning.specs.Types.{elements, same_kind};
 ghost use Rattle.k_num.specs.declared.numbers.Kind as kinds;
+ghost use Rattle.k_types_meaning.specs.declared.tree.declaration.TItem.TheVariants as item;
 ghost use Rattle.k_types_rules.specs.Views.{typed};
-ghost use Rattle.k_types_declarations.specs.Braces.{Puts, PutsItem};
+ghost use Rattle.k_types_declarations.specs.Braces.{Puts, PutsItem, kept_items};
 
 use crate::alone::{judge_all_alone, judge_alone};
-use k_num::{Kind, NoMemory, Place, Seq};
+use k_num::{Box, Kind, NoMemory, Place, Seq};
 use k_tree::{Expr, Init};
 use k_types_expressions::judge;
-use k_types_meaning::{TExpr, TItem, TypeFault};
+use k_types_meaning::{TExpr, TItem, TypeFault, part};
 use k_types_names::Scopes;
 use k_types_objects::{constant, room};
-use k_types_rules::{TypeView, TypedExpr, count, passed};
+use k_types_rules::{TypeView, TypedExpr, passed};
 use std::alloc::Global;
 
-/// What braces give items to: numbers of a kind, at file scope or not.
+/// What braces give items to: numbers of a kind, at file scope or not. Where a size is wrong there may be more elements than an
+/// object ever has, and the declaration is refused in any case: the items are judged, and none is kept.
 #[derive(Clone, Copy)]
 pub(crate) struct Filled {
     pub(crate) file: bool,
     pub(crate) kind: Kind,
+    pub(crate) kept: bool,
 }
 
 /// What was found in braces: the items, and the variables to which `&` is applied in them.
@@ -46,12 +49,12 @@ fn put(
     filled: Filled,
     init: &Init,
     dims: &[u32],
-    each: u32,
-    element: u32,
+    each: u64,
+    element: u64,
     found: &mut FilledItems,
 ) -> Result<(), TypeFault>
     requires { each ≡ elements dims.now }
-    ensures { Puts result found.old found.new ((giving names.now init.now).within filled.file filled.kind dims.now element) }
+    ensures { Puts result filled.kept found.old found.new ((giving names.now init.now).within filled.file filled.kind dims.now element) }
 {
     match init {
         Init::One { place, value } => {
@@ -80,12 +83,12 @@ pub(crate) fn put_all(
     items: &Seq<Init>,
     count: u32,
     dims: &[u32],
-    each: u32,
-    first: u32,
+    each: u64,
+    first: u64,
     found: &mut FilledItems,
 ) -> Result<(), TypeFault>
     requires { each ≡ elements dims.now }
-    ensures { Puts result found.old found.new (rules.items_within filled.file filled.kind dims.now count first (map (giving names.now) items.now)) }
+    ensures { Puts result filled.kept found.old found.new (rules.items_within filled.file filled.kind dims.now count first (map (giving names.now) items.now)) }
 {
     let mut left = count;
     let mut element = first;
@@ -105,36 +108,12 @@ pub(crate) fn put_all(
 }
 
 /// The element behind one that has so many numbers.
-fn behind(element: u32, each: u32) -> Result<u32, NoMemory>
+fn behind(element: u64, each: u64) -> Result<u64, NoMemory>
     ensures { IfOk result (λ next. next ≡ element + each) }
 {
     match element.checked_add(each) {
         Some(next) => Ok(next),
         None => Err(NoMemory),
-    }
-}
-
-/// How many numbers one of so many parts has, each of which has these dimensions.
-fn part(each: u32, count: u32, dims: &[u32]) -> Result<u32, NoMemory>
-    requires { each ≡ count * elements dims.now }
-    ensures { IfOk result (λ part. part ≡ elements dims.now) }
-{
-    if count == 0 {
-        return numbers_in(dims);
-    }
-    Ok(each / count)
-}
-
-/// How many numbers there are in dimensions.
-pub(crate) fn numbers_in(dims: &[u32]) -> Result<u32, NoMemory>
-    ensures { IfOk result (λ n. n ≡ elements dims.now) }
-{
-    let Some(numbers) = count(dims) else {
-        return Err(NoMemory);
-    };
-    match u32::try_from(numbers) {
-        Ok(numbers) => Ok(numbers),
-        Err(_) => Err(NoMemory),
     }
 }
 
@@ -146,7 +125,7 @@ fn refuse_all(
     items: &Seq<Init>,
     found: &mut FilledItems,
 ) -> Result<(), TypeFault>
-    ensures { (file : Bool) (kind : kinds.Kind) (n : ℕ) → Puts result found.old found.new (rules.braces file place kind [] n (map (giving names.now) items.now)) }
+    ensures { (kept : Bool) (file : Bool) (kind : kinds.Kind) (n : ℕ) → Puts result kept found.old found.new (rules.braces file place kind [] n (map (giving names.now) items.now)) }
 {
     judge_all_alone(alloc, names, items, &mut found.taken)?;
     Err(TypeFault::Kinds(place))
@@ -159,7 +138,7 @@ fn refuse(
     item: &Init,
     found: &mut FilledItems,
 ) -> Result<(), TypeFault>
-    ensures { Puts result found.old found.new (then_made (giving names.now item.now).alone (λ taken. rules.excess (giving names.now item.now).place)) }
+    ensures { (kept : Bool) → Puts result kept found.old found.new (then_made (giving names.now item.now).alone (λ taken. rules.excess (giving names.now item.now).place)) }
 {
     judge_alone(alloc, names, item, &mut found.taken)?;
     Err(TypeFault::Kinds(place_of(item)))
@@ -183,10 +162,10 @@ fn put_one(
     place: Place,
     value: &Expr,
     dims: &[u32],
-    element: u32,
+    element: u64,
     found: &mut FilledItems,
 ) -> Result<(), TypeFault>
-    ensures { Puts result found.old found.new (then_made (expressions.judge names.now value.now) (rules.one_item filled.file place filled.kind dims.now element (rules.string_of value.now))) }
+    ensures { Puts result filled.kept found.old found.new (then_made (expressions.judge names.now value.now) (rules.one_item filled.file place filled.kind dims.now element (rules.string_of value.now))) }
 {
     let judged = judge(alloc, names, value, &mut found.taken)?;
     match dims.split_first() {
@@ -196,7 +175,7 @@ fn put_one(
             let text = string_in(value);
             put_string(
                 alloc,
-                filled.kind,
+                filled,
                 place,
                 *count,
                 dims,
@@ -213,11 +192,11 @@ fn put_number(
     alloc: Global,
     filled: Filled,
     place: Place,
-    element: u32,
+    element: u64,
     judged: TypedExpr<'_>,
     items: &mut Seq<TItem>,
 ) -> Result<(), TypeFault>
-    ensures { (text : Option (List ℕ)) (t : List ℕ) → PutsItem result t items.old items.new (rules.one_item filled.file place filled.kind [] element text (typed judged.entry t)) }
+    ensures { (text : Option (List ℕ)) (t : List ℕ) → PutsItem result filled.kept t items.old items.new (rules.one_item filled.file place filled.kind [] element text (typed judged.entry t)) }
 {
     let Some(tree) = passed(alloc, TypeView::Number(filled.kind), judged)? else {
         return Err(TypeFault::Kinds(place));
@@ -227,13 +206,89 @@ fn put_number(
         drop(tree);
         return Err(TypeFault::Kinds(place));
     }
-    let value = tree.into_inner();
+    keep_value(filled.kept, place, element, tree, items)?;
+    Ok(())
+}
+
+/// Puts a value behind other items, if it is kept.
+#[tactic(auto, using(crate::proofs::BracesLaws::all_kept, crate::proofs::BracesLaws::not_kept))]
+fn keep_value(
+    kept: bool,
+    place: Place,
+    element: u64,
+    value: Box<TExpr>,
+    items: &mut Seq<TItem>,
+) -> Result<(), NoMemory>
+    ensures { OnOk result (items.new ≡ items.old ++ kept_items kept (item.Value place element value ∷ [])) }
+{
+    if kept {
+        put_value(place, element, value, items)?;
+        return Ok(());
+    }
+    drop(value);
+    Ok(())
+}
+
+/// Puts a value behind other items.
+fn put_value(
+    place: Place,
+    element: u64,
+    value: Box<TExpr>,
+    items: &mut Seq<TItem>,
+) -> Result<(), NoMemory>
+    ensures { OnOk result (items.new ≡ items.old ++ item.Value place element value ∷ []) }
+{
+    let element = within_object(element)?;
+    let value = value.into_inner();
     items.push(TItem::Value {
         place,
         element,
         value,
     })?;
     Ok(())
+}
+
+/// Puts the bytes of a string behind other items, if they are kept.
+#[tactic(auto, using(crate::proofs::BracesLaws::all_kept, crate::proofs::BracesLaws::not_kept))]
+pub(crate) fn keep_bytes(
+    alloc: Global,
+    kept: bool,
+    element: u64,
+    bytes: &Seq<u8>,
+    items: &mut Seq<TItem>,
+) -> Result<(), NoMemory>
+    ensures { OnOk result (items.new ≡ items.old ++ kept_items kept (item.Bytes element bytes.now ∷ [])) }
+{
+    if kept {
+        put_bytes(alloc, element, bytes, items)?;
+        return Ok(());
+    }
+    Ok(())
+}
+
+/// Puts the bytes of a string behind other items.
+fn put_bytes(
+    alloc: Global,
+    element: u64,
+    bytes: &Seq<u8>,
+    items: &mut Seq<TItem>,
+) -> Result<(), NoMemory>
+    ensures { OnOk result (items.new ≡ items.old ++ item.Bytes element bytes.now ∷ []) }
+{
+    let element = within_object(element)?;
+    let bytes = Seq::copy_of(alloc, bytes.as_slice())?;
+    items.push(TItem::Bytes { element, bytes })?;
+    Ok(())
+}
+
+/// An element of an object.
+fn within_object(element: u64) -> Result<u32, NoMemory>
+    ensures { IfOk result (λ n. n ≡ element) }
+{
+    match u32::try_from(element) {
+        Ok(element) => Ok(element),
+        Err(_) => Err(NoMemory),
+    }
 }
 
 /// Whether an object may begin with a value, which has to be constant at file scope.
@@ -250,21 +305,20 @@ pub(crate) fn may_begin(file: bool, e: &TExpr) -> Result<bool, NoMemory>
 /// A string for an array of char.
 fn put_string(
     alloc: Global,
-    kind: Kind,
+    filled: Filled,
     place: Place,
     count: u32,
     dims: &[u32],
-    element: u32,
+    element: u64,
     text: Option<&Seq<u8>>,
     items: &mut Seq<TItem>,
 ) -> Result<(), TypeFault>
-    ensures { (t : List ℕ) → PutsItem result t items.old items.new (rules.string_item place element t (rules.fitting kind dims.now count (option_copied text.entry))) }
+    ensures { (t : List ℕ) → PutsItem result filled.kept t items.old items.new (rules.string_item place element t (rules.fitting filled.kind dims.now count (option_copied text.entry))) }
 {
-    let Some(bytes) = fitting(kind, dims, count, text) else {
+    let Some(bytes) = fitting(filled.kind, dims, count, text) else {
         return Err(TypeFault::Kinds(place));
     };
-    let bytes = Seq::copy_of(alloc, bytes.as_slice())?;
-    items.push(TItem::Bytes { element, bytes })?;
+    keep_bytes(alloc, filled.kept, element, bytes, items)?;
     Ok(())
 }
 

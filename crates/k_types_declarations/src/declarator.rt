@@ -75,6 +75,7 @@ fn judge_beginning(
         alloc,
         names,
         file,
+        is_sized,
         lent_option(&of),
         &declarator.init,
         taken,

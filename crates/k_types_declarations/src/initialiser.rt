@@ -1,5 +1,6 @@
 //! Initialisers of objects (C17 6.7.9).
-ghost use Rattle.std.specs.Prelude.{◌≡◌, ℕ, List, Some, IfOk, map};
+ghost use Rattle.std.specs.Prelude.{◌≡◌, ℕ, Bool, List, Some, None, IfOk, map};
+ghost use Rattle.std.specs.List.{concat};
 ghost use Rattle.std.specs.Option.{option_copied};
 ghost use Rattle.k_tree.specs.declared.tree.declaration.Init.{out-Init};
 ghost use Rattle.k_types_meaning.specs.Conversions as conversions;
@@ -7,18 +8,18 @@ ghost use Rattle.k_types_meaning.specs.Dimensions as sizing;
 ghost use Rattle.k_types_meaning.specs.Expressions as expressions;
 ghost use Rattle.k_types_meaning.specs.Initialisers as rules;
 ghost use Rattle.k_types_meaning.specs.Initialisers.{beginning, giving};
-ghost use Rattle.k_types_meaning.specs.Made.{Fine, Finds, then_made};
+ghost use Rattle.k_types_meaning.specs.Made.{Fine, Finds, all_made, then_made};
 ghost use Rattle.k_types_meaning.specs.Types.{elements};
 ghost use Rattle.k_types_meaning.specs.declared.tree.declaration.TInit.TheVariants as begins;
 ghost use Rattle.k_types_rules.specs.Views.{type_of, type_option, typed};
-ghost use Rattle.k_types_declarations.specs.Objects.{GivesBeginning};
+ghost use Rattle.k_types_declarations.specs.Objects.{GivesBeginning, kept_option};
 
 use crate::alone::{judge_all_alone, judge_alone};
-use crate::braces::{Filled, FilledItems, fitting, may_begin, numbers_in, put_all, string_in};
+use crate::braces::{Filled, FilledItems, fitting, keep_bytes, may_begin, put_all, string_in};
 use k_num::{Box, NoMemory, Seq};
 use k_tree::{Expr, Init};
 use k_types_expressions::judge;
-use k_types_meaning::{TInit, TItem, TypeFault};
+use k_types_meaning::{TInit, TypeFault};
 use k_types_names::Scopes;
 use k_types_objects::room;
 use k_types_rules::{ElementView, TypeView, TypedExpr, passed};
@@ -26,17 +27,19 @@ use std::alloc::Global;
 use std::mem;
 
 /// With what an object of a type that may not be known begins; none where its initialiser is not one of its type
-/// (C17 6.7.9p10). The variables to which `&` is applied in it are put behind those in `taken`.
+/// (C17 6.7.9p10). Its items are kept or not. The variables to which `&` is applied in it are put behind those in
+/// `taken`.
 #[tactic(auto, unfolding(k_types_meaning::specs::Initialisers::begun))]
 pub(crate) fn begun(
     alloc: Global,
     names: &Scopes,
     file: bool,
+    kept: bool,
     of: Option<TypeView<'_>>,
     init: &Option<Init>,
     taken: &mut Seq<u32>,
 ) -> Result<Option<Box<TInit>>, TypeFault>
-    ensures { GivesBeginning result taken.old taken.new (rules.begun names.now file (type_option of.entry) init.now) }
+    ensures { GivesBeginning result kept taken.old taken.new (rules.begun names.now file (type_option of.entry) init.now) }
 {
     let Some(init) = init else {
         return nothing(alloc);
@@ -46,7 +49,7 @@ pub(crate) fn begun(
             judge_alone(alloc, names, init, taken)?;
             nothing(alloc)
         }
-        Some(of) => begun_by(alloc, names, file, of, init, taken),
+        Some(of) => begun_by(alloc, names, file, kept, of, init, taken),
     }
 }
 
@@ -63,15 +66,16 @@ fn begun_by(
     alloc: Global,
     names: &Scopes,
     file: bool,
+    kept: bool,
     of: TypeView<'_>,
     init: &Init,
     taken: &mut Seq<u32>,
 ) -> Result<Option<Box<TInit>>, TypeFault>
-    ensures { GivesBeginning result taken.old taken.new (rules.begun_step names.now file (type_of of.entry) (out-Init init.now)) }
+    ensures { GivesBeginning result kept taken.old taken.new (rules.begun_step names.now file (type_of of.entry) (out-Init init.now)) }
 {
     match init {
-        Init::One { value, .. } => begun_by_one(alloc, names, file, of, value, taken),
-        Init::List { items, .. } => begun_by_list(alloc, names, file, of, items, taken),
+        Init::One { value, .. } => begun_by_one(alloc, names, file, kept, of, value, taken),
+        Init::List { items, .. } => begun_by_list(alloc, names, file, kept, of, items, taken),
     }
 }
 
@@ -80,14 +84,15 @@ fn begun_by_one(
     alloc: Global,
     names: &Scopes,
     file: bool,
+    kept: bool,
     of: TypeView<'_>,
     value: &Expr,
     taken: &mut Seq<u32>,
 ) -> Result<Option<Box<TInit>>, TypeFault>
-    ensures { GivesBeginning result taken.old taken.new (then_made (expressions.judge names.now value.now) (λ v. Fine (beginning (rules.one_given file (type_of of.entry) (rules.string_of value.now) v) v.taken))) }
+    ensures { GivesBeginning result kept taken.old taken.new (then_made (expressions.judge names.now value.now) (λ v. Fine (beginning (rules.one_given file (type_of of.entry) (rules.string_of value.now) v) v.taken))) }
 {
     let judged = judge(alloc, names, value, taken)?;
-    let init = one_given(alloc, file, of, string_in(value), judged)?;
+    let init = one_given(alloc, file, kept, of, string_in(value), judged)?;
     Ok(init)
 }
 
@@ -96,11 +101,12 @@ fn begun_by_one(
 fn one_given(
     alloc: Global,
     file: bool,
+    kept: bool,
     of: TypeView<'_>,
     text: Option<&Seq<u8>>,
     judged: TypedExpr<'_>,
 ) -> Result<Option<Box<TInit>>, NoMemory>
-    ensures { IfOk result (λ init. (t : List ℕ) → init ≡ rules.one_given file (type_of of.entry) (option_copied text.entry) (typed judged.entry t)) }
+    ensures { IfOk result (λ init. (t : List ℕ) → init ≡ kept_option kept (rules.one_given file (type_of of.entry) (option_copied text.entry) (typed judged.entry t))) }
 {
     match of {
         TypeView::Void => {
@@ -111,7 +117,7 @@ fn one_given(
         TypeView::Pointer(_) => value_given(alloc, file, of, judged),
         TypeView::Array(count, element) => {
             drop(judged);
-            string_given(alloc, element, count, text)
+            string_given(alloc, kept, element, count, text)
         }
     }
 }
@@ -123,7 +129,7 @@ fn value_given(
     of: TypeView<'_>,
     judged: TypedExpr<'_>,
 ) -> Result<Option<Box<TInit>>, NoMemory>
-    ensures { IfOk result (λ init. (t : List ℕ) → init ≡ rules.value_given file (conversions.passed (type_of of.entry) (typed judged.entry t))) }
+    ensures { IfOk result (λ init. (kept : Bool) (t : List ℕ) → init ≡ kept_option kept (rules.value_given file (conversions.passed (type_of of.entry) (typed judged.entry t)))) }
 {
     let Some(tree) = passed(alloc, of, judged)? else {
         return Ok(None);
@@ -140,18 +146,18 @@ fn value_given(
 /// A string that an array begins with.
 fn string_given(
     alloc: Global,
+    kept: bool,
     element: ElementView<'_>,
     count: u32,
     text: Option<&Seq<u8>>,
 ) -> Result<Option<Box<TInit>>, NoMemory>
-    ensures { IfOk result (λ init. init ≡ rules.string_given (rules.fitting element.entry.kind element.entry.dims.now count (option_copied text.entry))) }
+    ensures { IfOk result (λ init. init ≡ kept_option kept (rules.string_given (rules.fitting element.entry.kind element.entry.dims.now count (option_copied text.entry)))) }
 {
     let Some(bytes) = fitting(element.kind, element.dims, count, text) else {
         return Ok(None);
     };
-    let bytes = Seq::copy_of(alloc, bytes.as_slice())?;
     let mut items = Seq::new(alloc);
-    items.push(TItem::Bytes { element: 0, bytes })?;
+    keep_bytes(alloc, kept, 0, bytes, &mut items)?;
     let init = Box::new(alloc, TInit::Elements(items))?;
     Ok(Some(init))
 }
@@ -161,21 +167,35 @@ fn begun_by_list(
     alloc: Global,
     names: &Scopes,
     file: bool,
+    kept: bool,
     of: TypeView<'_>,
     items: &Seq<Init>,
     taken: &mut Seq<u32>,
 ) -> Result<Option<Box<TInit>>, TypeFault>
-    ensures { GivesBeginning result taken.old taken.new (rules.list_given file (type_of of.entry) (map (giving names.now) items.now)) }
+    ensures { GivesBeginning result kept taken.old taken.new (rules.list_given file (type_of of.entry) (map (giving names.now) items.now)) }
 {
     match of {
         TypeView::Array(count, element) => {
-            elements_given(alloc, names, file, count, element, items, taken)
+            elements_given(alloc, names, file, kept, count, element, items, taken)
         }
-        TypeView::Void | TypeView::Number(_) | TypeView::Pointer(_) => {
-            judge_all_alone(alloc, names, items, taken)?;
-            Ok(None)
-        }
+        TypeView::Void => no_list(alloc, names, kept, items, taken),
+        TypeView::Number(_) => no_list(alloc, names, kept, items, taken),
+        TypeView::Pointer(_) => no_list(alloc, names, kept, items, taken),
     }
+}
+
+/// Braces for what is no array.
+fn no_list(
+    alloc: Global,
+    names: &Scopes,
+    kept: bool,
+    items: &Seq<Init>,
+    taken: &mut Seq<u32>,
+) -> Result<Option<Box<TInit>>, TypeFault>
+    ensures { GivesBeginning result kept taken.old taken.new (then_made (all_made (map (λ (g : rules.Giving). g.alone) (map (giving names.now) items.now))) (λ all. Fine (beginning None (concat all)))) }
+{
+    judge_all_alone(alloc, names, items, taken)?;
+    Ok(None)
 }
 
 /// With what an array begins by braces.
@@ -183,17 +203,18 @@ fn elements_given(
     alloc: Global,
     names: &Scopes,
     file: bool,
+    kept: bool,
     count: u32,
     element: ElementView<'_>,
     items: &Seq<Init>,
     taken: &mut Seq<u32>,
 ) -> Result<Option<Box<TInit>>, TypeFault>
-    ensures { GivesBeginning result taken.old taken.new (then_made (rules.items_within file element.entry.kind element.entry.dims.now (sizing.room count) 0 (map (giving names.now) items.now)) (λ found. Fine (beginning (Some (begins.Elements found.items)) found.taken))) }
+    ensures { GivesBeginning result kept taken.old taken.new (then_made (rules.items_within file element.entry.kind element.entry.dims.now (sizing.room count) 0 (map (giving names.now) items.now)) (λ found. Fine (beginning (Some (begins.Elements found.items)) found.taken))) }
 {
-    let each = numbers_in(element.dims)?;
     let filled = Filled {
         file,
         kind: element.kind,
+        kept,
     };
     let older = mem::replace(taken, Seq::new(alloc));
     let mut found = FilledItems {
@@ -207,7 +228,7 @@ fn elements_given(
         items,
         room(count),
         element.dims,
-        each,
+        element.each,
         0,
         &mut found,
     )?;

@@ -12,7 +12,7 @@ use k_tree::Declarator;
 use k_types_meaning::{TObject, TypeFault};
 use k_types_names::Scopes;
 use k_types_objects::{Saying, first_values};
-use k_types_rules::{TypeView, count, lent, told};
+use k_types_rules::{ElementView, TypeView, lent, told};
 use std::alloc::Global;
 
 /// Declares the file object of this number. Its name is known from behind its declarator.
@@ -49,18 +49,15 @@ fn elements_of(of: TypeView<'_>) -> Result<u32, NoMemory>
 {
     match of {
         TypeView::Void | TypeView::Number(_) | TypeView::Pointer(_) => Ok(1),
-        TypeView::Array(items, element) => elements_of_array(items, element.dims),
+        TypeView::Array(items, element) => elements_of_array(items, element),
     }
 }
 
-/// How many elements an array of so many items has, each of which has these dimensions.
-fn elements_of_array(items: u32, dims: &[u32]) -> Result<u32, NoMemory>
-    ensures { IfOk result (λ n. n ≡ items * elements dims.now) }
+/// How many elements an array of so many items has.
+fn elements_of_array(items: u32, element: ElementView<'_>) -> Result<u32, NoMemory>
+    ensures { IfOk result (λ n. n ≡ items * elements element.entry.dims.now) }
 {
-    let Some(each) = count(dims) else {
-        return Err(NoMemory);
-    };
-    let Some(all) = u64::from(items).checked_mul(each) else {
+    let Some(all) = u64::from(items).checked_mul(element.each) else {
         return Err(NoMemory);
     };
     match u32::try_from(all) {

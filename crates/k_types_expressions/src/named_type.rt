@@ -65,6 +65,7 @@ fn starred<'a>(fixed: bool, base: Base, stars: &[bool]) -> Option<TypeView<'a>>
             [_] => Some(TypeView::Pointer(ElementView {
                 kind,
                 dims: &[],
+                each: 1,
                 fixed,
             })),
             _ => None,

@@ -11,5 +11,6 @@ pub mod Fine
 pub mod Folds
 pub mod FunctionsElaborate
 pub mod OneTree
+pub mod Parts
 pub mod SoundStatements
 pub mod SourcesElaborate

@@ -3,6 +3,7 @@ pub mod CallRules
 pub mod Called
 pub mod Constants
 pub mod Conversions
+pub mod Counts
 pub mod Declarations
 pub mod Dimensions
 pub mod Elaborated

@@ -5,6 +5,7 @@ use Rattle.std.specs.Str.{bytes_eq}
 use Rattle.k_num.specs.declared.numbers.Kind.{Kind}
 use Rattle.k_num.specs.contracts.numbers.KindPartialEq.TheImpl as kinds
 use Rattle.k_num.specs.Kind.{size}
+pub use Rattle.k_types_meaning.specs.Counts.{elements}
 use Rattle.k_types_meaning.specs.declared.types.Element.{Element}
 use Rattle.k_types_meaning.specs.declared.types.CType.{CType}
 use Rattle.k_types_meaning.specs.declared.types.CType.TheVariants as ctype
@@ -14,11 +15,6 @@ use Rattle.k_types_meaning.specs.declared.types.TType.TheVariants as ttype
 -- two kinds are one
 abbrev pub same_kind : Kind → Kind → Bool
 same_kind a b = kinds.ghosts.eq a b
-
--- C17 6.2.5p20: how many numbers there are in so many dimensions
-abbrev pub elements : List ℕ → ℕ
-elements [] = 1
-elements (d ∷ ds) = d * elements ds
 
 -- C17 6.2.7: two elements are equal, whether const or not
 abbrev pub same_element : Element → Element → Bool

@@ -2,12 +2,14 @@
 //! of syntax has a typed tree or a fault (C17 6.2 to 6.9).
 #![tactic(auto)]
 
+mod dims;
 mod fault;
 pub mod laws;
 mod names;
 mod tree;
 mod types;
 
+pub use dims::{Dims, part};
 pub use fault::TypeFault;
 pub use names::{Library, Meaning, Signature};
 pub use tree::declaration::{TDeclarator, TInit, TItem};

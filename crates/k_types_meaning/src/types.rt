@@ -1,13 +1,14 @@
 //! Types: those of the language, by which a source is judged, and what a run has to know of them.
 
-use k_num::{Kind, Seq};
+use crate::dims::Dims;
+use k_num::Kind;
 
 /// What a pointer points to, and what an array is made of: numbers of a kind, in as many dimensions as
 /// `dims` has sizes. `fixed` says that they are const.
 #[derive(Drop)]
 pub struct Element {
     pub kind: Kind,
-    pub dims: Seq<u32>,
+    pub dims: Dims,
     pub fixed: bool,
 }
 

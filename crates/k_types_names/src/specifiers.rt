@@ -6,7 +6,7 @@ ghost use Rattle.k_types_names.specs.Counts.{found};
 
 use k_num::{Kind, Seq};
 use k_tree::Word;
-use k_types_meaning::{Base, CType, Element};
+use k_types_meaning::{Base, CType, Dims, Element};
 use std::alloc::Global;
 
 /// How often each of the words that name a type stands in a list of specifiers: `void`, `char`, `short`,
@@ -129,7 +129,7 @@ pub fn starred(alloc: Global, fixed: bool, base: Base, stars: &[bool]) -> Option
             [] => Some(CType::Number(kind)),
             [_] => Some(CType::Pointer(Element {
                 kind,
-                dims: Seq::new(alloc),
+                dims: Dims::none(alloc),
                 fixed,
             })),
             _ => None,

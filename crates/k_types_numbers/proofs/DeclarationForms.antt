@@ -1,5 +1,5 @@
 -- Each form of an initialiser, of an item of braces and of what may be left out is numbered where the expressions in it are.
-use Rattle.std.proofs.Common.{ℕ, ◌≡◌, List, map, Option, Some, None, refl, ap}
+use Rattle.std.proofs.Common.{ℕ, List, Some, None, refl, ap}
 use Rattle.k_num.specs.declared.place.Place.{Place}
 use Rattle.k_types_meaning.specs.declared.tree.declaration.TDeclarator.{TDeclarator}
 use Rattle.k_types_meaning.specs.declared.tree.declaration.TInit.{TInit}
@@ -7,7 +7,6 @@ use Rattle.k_types_meaning.specs.declared.tree.declaration.TInit.TheVariants as 
 use Rattle.k_types_meaning.specs.declared.tree.declaration.TItem.{TItem}
 use Rattle.k_types_meaning.specs.declared.tree.declaration.TItem.TheVariants as item
 use Rattle.k_types_meaning.specs.declared.tree.expression.TExpr.{TExpr}
-use Rattle.k_types_meaning.specs.declared.tree.statement.TFirst.{TFirst}
 use Rattle.k_types_meaning.specs.declared.tree.statement.TFirst.TheVariants as first
 use Rattle.k_types_numbers.specs.declared.counts.Counts.{Counts}
 use Rattle.k_types_numbers.specs.Renumbering.{NumbersExpr, NumbersOption, NumbersItem, NumbersItems, NumbersInit, NumbersDeclarator, NumbersDeclared, NumbersFirst}

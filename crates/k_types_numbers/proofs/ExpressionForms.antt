@@ -1,5 +1,5 @@
 -- Each form of an expression is numbered where it has its number and its operands are numbered.
-use Rattle.std.proofs.Common.{ℕ, ℤ, ◌≡◌, List, [], ◌∷◌, map, refl, sym, ap, ◌∙◌, subst}
+use Rattle.std.proofs.Common.{ℕ, ℤ, ◌≡◌, List, map, sym, ap, ◌∙◌, subst}
 use Rattle.k_num.specs.declared.numbers.Bin.{Bin}
 use Rattle.k_num.specs.declared.numbers.Kind.{Kind}
 use Rattle.k_num.specs.declared.numbers.Un.{Un}
@@ -12,7 +12,6 @@ use Rattle.k_types_meaning.specs.Bare.{bare_node, bare_step, bare_expr}
 use Rattle.k_types_meaning.proofs.Folds.{typed_Number, typed_Str, typed_Object, typed_Variable, typed_Index, typed_Call, typed_Getchar, typed_Putchar, typed_Puts, typed_Printf, typed_Post, typed_Pre, typed_Address, typed_Deref, typed_Plus, typed_Unary, typed_Convert, typed_Cast, typed_Binary, typed_Both, typed_Either, typed_Forward, typed_Onto, typed_Back, typed_PtrCompare, typed_PtrDistance, typed_Cond, typed_Assign, typed_AssignBy, typed_Comma}
 use Rattle.k_types_meaning.specs.Numbered.{Numbers, nothing, before, listed, node_before, expr_numbers, expr_numbers_step}
 use Rattle.k_types_numbers.specs.declared.counts.Counts.{Counts}
-use Rattle.k_types_numbers.specs.Counting.{Counted}
 use Rattle.k_types_numbers.specs.Renumbering.{NumbersExpr, NumbersExprs, NumbersOperands, NumbersPair}
 use Rattle.k_types_numbers.specs.Steps.{string_counted}
 use Rattle.k_types_numbers.proofs.CountingLaws.{both_counted, nothing_more, one_string, string_first}

@@ -1,5 +1,5 @@
 -- Each form of a statement is numbered where it has its number and its parts are numbered.
-use Rattle.std.proofs.Common.{ℕ, ℤ, ◌≡◌, List, [], ◌∷◌, ◌++◌, map, Option, Some, None, refl, sym, ap, ◌∙◌, subst}
+use Rattle.std.proofs.Common.{ℕ, ℤ, ◌≡◌, List, map, Option, Some, None, refl, sym, ap, ◌∙◌, subst}
 use Rattle.k_num.specs.declared.numbers.Kind.{Kind}
 use Rattle.k_num.specs.declared.place.Place.{Place}
 use Rattle.k_types_meaning.specs.declared.tree.declaration.TDeclarator.{TDeclarator}
@@ -10,9 +10,9 @@ use Rattle.k_types_meaning.specs.declared.tree.statement.TPart.{TPart}
 use Rattle.k_types_meaning.specs.declared.tree.statement.TPart.TheVariants as part
 use Rattle.k_types_meaning.specs.declared.tree.statement.TStmt.{TStmt}
 use Rattle.k_types_meaning.specs.declared.tree.statement.TStmt.TheVariants as stmt
-use Rattle.k_types_meaning.specs.Bare.{bare_spot, bare_expr, bare_option, bare_declared, bare_first, bare_stmt, bare_stmt_step, bare_part_step}
+use Rattle.k_types_meaning.specs.Bare.{bare_spot, bare_expr, bare_option, bare_first, bare_stmt, bare_stmt_step, bare_part_step}
 use Rattle.k_types_meaning.proofs.Folds.{done_Expr, done_Empty, done_Block, done_alone, done_else, done_While, done_DoWhile, done_For, done_Switch, done_Break, done_Continue, done_Return, done_Declare, part_Case, part_Default, part_Does}
-use Rattle.k_types_meaning.specs.Numbered.{Numbers, nothing, before, listed, node_before, expr_numbers, option_numbers, declared_numbers, first_numbers, stmt_numbers, stmt_numbers_step, part_numbers_step}
+use Rattle.k_types_meaning.specs.Numbered.{Numbers, nothing, before, listed, expr_numbers, option_numbers, declared_numbers, first_numbers, stmt_numbers, stmt_numbers_step, part_numbers_step}
 use Rattle.k_types_numbers.specs.declared.counts.Counts.{Counts}
 use Rattle.k_types_numbers.specs.Counting.{Counted}
 use Rattle.k_types_numbers.specs.Renumbering.{NumbersExpr, NumbersOption, NumbersDeclared, NumbersFirst, NumbersClauses, NumbersStmt, NumbersStmts, NumbersBehind, NumbersPart, NumbersParts, bare_part, part_numbers, one_loop}

@@ -8,7 +8,7 @@ use Rattle.k_types_meaning.specs.declared.tree.statement.TStmt.{TStmt}
 use Rattle.k_types_meaning.specs.declared.tree.unit.TFunc.{TFunc}
 use Rattle.k_types_meaning.specs.declared.tree.unit.TUnit.{TUnit}
 use Rattle.k_types_meaning.specs.Bare.{bare_function}
-use Rattle.k_types_meaning.specs.Numbered.{Numbers, before, listed, function_numbers, functions_numbers, numbers_from, LoopsBefore, IsNumbered}
+use Rattle.k_types_meaning.specs.Numbered.{Numbers, before, listed, function_numbers, functions_numbers, LoopsBefore, IsNumbered}
 use Rattle.k_types_numbers.specs.declared.counts.Counts.{Counts}
 use Rattle.k_types_numbers.specs.Counting.{Counted}
 use Rattle.k_types_numbers.specs.Renumbering.{NumbersStmts, NumbersFunction, NumbersFunctions}

@@ -102,8 +102,7 @@ fn number_operands(
             args,
         } => {
             node.number = number;
-            number_exprs(args.as_mut_slice(), alloc, counts)?;
-            Ok(())
+            number_exprs(args.as_mut_slice(), alloc, counts)
         }
         TExpr::Printf {
             node,
@@ -111,18 +110,15 @@ fn number_operands(
             args,
         } => {
             node.number = number;
-            number_exprs(args.as_mut_slice(), alloc, counts)?;
-            Ok(())
+            number_exprs(args.as_mut_slice(), alloc, counts)
         }
         TExpr::Putchar { node, of } => {
             node.number = number;
-            number_boxed(of, alloc, counts)?;
-            Ok(())
+            number_boxed(of, alloc, counts)
         }
         TExpr::Puts { node, of } => {
             node.number = number;
-            number_boxed(of, alloc, counts)?;
-            Ok(())
+            number_boxed(of, alloc, counts)
         }
         TExpr::Post {
             node,
@@ -130,8 +126,7 @@ fn number_operands(
             of,
         } => {
             node.number = number;
-            number_boxed(of, alloc, counts)?;
-            Ok(())
+            number_boxed(of, alloc, counts)
         }
         TExpr::Pre {
             node,
@@ -139,23 +134,19 @@ fn number_operands(
             of,
         } => {
             node.number = number;
-            number_boxed(of, alloc, counts)?;
-            Ok(())
+            number_boxed(of, alloc, counts)
         }
         TExpr::Address { node, of } => {
             node.number = number;
-            number_boxed(of, alloc, counts)?;
-            Ok(())
+            number_boxed(of, alloc, counts)
         }
         TExpr::Deref { node, of } => {
             node.number = number;
-            number_boxed(of, alloc, counts)?;
-            Ok(())
+            number_boxed(of, alloc, counts)
         }
         TExpr::Plus { node, of } => {
             node.number = number;
-            number_boxed(of, alloc, counts)?;
-            Ok(())
+            number_boxed(of, alloc, counts)
         }
         TExpr::Unary {
             node,
@@ -164,23 +155,19 @@ fn number_operands(
             of,
         } => {
             node.number = number;
-            number_boxed(of, alloc, counts)?;
-            Ok(())
+            number_boxed(of, alloc, counts)
         }
         TExpr::Convert { node, of } => {
             node.number = number;
-            number_boxed(of, alloc, counts)?;
-            Ok(())
+            number_boxed(of, alloc, counts)
         }
         TExpr::Cast { node, of } => {
             node.number = number;
-            number_boxed(of, alloc, counts)?;
-            Ok(())
+            number_boxed(of, alloc, counts)
         }
         TExpr::Index { node, base, index } => {
             node.number = number;
-            number_pair(base, index, alloc, counts)?;
-            Ok(())
+            number_pair(base, index, alloc, counts)
         }
         TExpr::Binary {
             node,
@@ -190,33 +177,27 @@ fn number_operands(
             right,
         } => {
             node.number = number;
-            number_pair(left, right, alloc, counts)?;
-            Ok(())
+            number_pair(left, right, alloc, counts)
         }
         TExpr::Both { node, left, right } => {
             node.number = number;
-            number_pair(left, right, alloc, counts)?;
-            Ok(())
+            number_pair(left, right, alloc, counts)
         }
         TExpr::Either { node, left, right } => {
             node.number = number;
-            number_pair(left, right, alloc, counts)?;
-            Ok(())
+            number_pair(left, right, alloc, counts)
         }
         TExpr::Forward { node, left, right } => {
             node.number = number;
-            number_pair(left, right, alloc, counts)?;
-            Ok(())
+            number_pair(left, right, alloc, counts)
         }
         TExpr::Onto { node, left, right } => {
             node.number = number;
-            number_pair(left, right, alloc, counts)?;
-            Ok(())
+            number_pair(left, right, alloc, counts)
         }
         TExpr::Back { node, left, right } => {
             node.number = number;
-            number_pair(left, right, alloc, counts)?;
-            Ok(())
+            number_pair(left, right, alloc, counts)
         }
         TExpr::PtrCompare {
             node,
@@ -225,18 +206,15 @@ fn number_operands(
             right,
         } => {
             node.number = number;
-            number_pair(left, right, alloc, counts)?;
-            Ok(())
+            number_pair(left, right, alloc, counts)
         }
         TExpr::PtrDistance { node, left, right } => {
             node.number = number;
-            number_pair(left, right, alloc, counts)?;
-            Ok(())
+            number_pair(left, right, alloc, counts)
         }
         TExpr::Assign { node, left, right } => {
             node.number = number;
-            number_pair(left, right, alloc, counts)?;
-            Ok(())
+            number_pair(left, right, alloc, counts)
         }
         TExpr::AssignBy {
             node,
@@ -245,13 +223,11 @@ fn number_operands(
             right,
         } => {
             node.number = number;
-            number_pair(left, right, alloc, counts)?;
-            Ok(())
+            number_pair(left, right, alloc, counts)
         }
         TExpr::Comma { node, left, right } => {
             node.number = number;
-            number_pair(left, right, alloc, counts)?;
-            Ok(())
+            number_pair(left, right, alloc, counts)
         }
         TExpr::Cond {
             node,
@@ -261,8 +237,7 @@ fn number_operands(
         } => {
             node.number = number;
             number_boxed(test, alloc, counts)?;
-            number_pair(then, other, alloc, counts)?;
-            Ok(())
+            number_pair(then, other, alloc, counts)
         }
     }
 }

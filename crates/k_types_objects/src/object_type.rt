@@ -6,7 +6,7 @@ ghost use Rattle.k_types_objects.specs.ObjectTypes.{array_of, is_no_file_type, m
 use crate::specifier::Saying;
 use k_num::{Box, Kind, NoMemory, Seq};
 use k_tree::Declarator;
-use k_types_meaning::{Base, CType, Element};
+use k_types_meaning::{Base, CType, Dims, Element};
 use std::alloc::Global;
 
 /// The type of a declarator with these sizes, if it has one: at file scope none where it is a pointer.
@@ -94,7 +94,7 @@ fn array(
         let of = Box::new(alloc, CType::Number(kind))?;
         return Ok(Some(of));
     };
-    let dims = Seq::copy_of(alloc, more)?;
+    let dims = Dims::of(Seq::copy_of(alloc, more)?)?;
     let of = Box::new(alloc, CType::Array(*count, Element { kind, dims, fixed }))?;
     Ok(Some(of))
 }
@@ -109,7 +109,7 @@ fn pointer(
     ensures { IfOk result (λ of. of ≡ pointer_of fixed kind dims.now) }
 {
     let Some(_) = dims.split_first() else {
-        let dims = Seq::new(alloc);
+        let dims = Dims::none(alloc);
         let of = Box::new(alloc, CType::Pointer(Element { kind, dims, fixed }))?;
         return Ok(Some(of));
     };
@@ -172,7 +172,7 @@ pub fn copied_type(alloc: Global, of: &CType) -> Result<CType, NoMemory>
 fn copied_element(alloc: Global, element: &Element) -> Result<Element, NoMemory>
     ensures { IfOk result (λ copy. copy ≡ element.now) }
 {
-    let dims = Seq::copy_of(alloc, element.dims.as_slice())?;
+    let dims = Dims::copy_of(alloc, &element.dims)?;
     Ok(Element {
         kind: element.kind,
         dims,

@@ -8,7 +8,7 @@ use Rattle.k_types_meaning.specs.declared.types.CType.{CType}
 use Rattle.k_types_meaning.specs.declared.types.CType.TheVariants as ctype
 use Rattle.k_types_meaning.specs.Conversions.{Typed}
 use Rattle.k_types_meaning.specs.Made.{Made, Fine, refused, faults_of, StartsWith}
-use Rattle.k_types_rules.specs.declared.view.ElementView.{ElementView}
+use Rattle.k_types_rules.specs.declared.element.ElementView.{ElementView}
 use Rattle.k_types_rules.specs.declared.view.TypeView.{TypeView}
 use Rattle.k_types_rules.specs.declared.view.TypeView.TheVariants as view
 use Rattle.k_types_rules.specs.declared.judged.TypedExpr.{TypedExpr}

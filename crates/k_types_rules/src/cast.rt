@@ -9,8 +9,9 @@ ghost use Rattle.k_types_rules.specs.Views.{element_of, type_of, type_option, ty
 
 use crate::constant::number;
 use crate::conversion::at;
+use crate::element::ElementView;
 use crate::judged::{TypedExpr, wrong};
-use crate::view::{ElementView, TypeView, are_equal, kind_of, pointed_by, size, told};
+use crate::view::{TypeView, are_equal, kind_of, pointed_by, size, told};
 use k_num::{Box, Kind, Place};
 use k_types_meaning::{TExpr, TypeFault};
 use std::alloc::Global;

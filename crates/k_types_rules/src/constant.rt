@@ -7,8 +7,9 @@ ghost use Rattle.k_types_meaning.specs.declared.tree.expression.TExpr.TheVariant
 ghost use Rattle.k_types_rules.specs.Views.{Agrees};
 
 use crate::conversion::at;
+use crate::element::ElementView;
 use crate::judged::TypedExpr;
-use crate::view::{ElementView, TypeView, told_pointer};
+use crate::view::{TypeView, told_pointer};
 use k_num::{Box, Kind, NoMemory, Place, Seq};
 use k_types_meaning::{TExpr, TType, TypeFault};
 use std::alloc::Global;
@@ -72,6 +73,7 @@ pub fn string_rule<'a>(
     let element = ElementView {
         kind: Kind::I8,
         dims: &[],
+        each: 1,
         fixed: false,
     };
     let node = at(place, told_pointer(element)?);

@@ -5,8 +5,9 @@ ghost use Rattle.k_types_rules.specs.Views.{element_of, type_of, typed};
 ghost use Rattle.k_types_meaning.specs.Conversions as spec;
 ghost use Rattle.k_types_meaning.specs.declared.tree.expression.TExpr.TheVariants as trees;
 
+use crate::element::ElementView;
 use crate::judged::TypedExpr;
-use crate::view::{ElementView, TypeView, are_alike, is_same_kind, kind_of, pointed_by};
+use crate::view::{TypeView, are_alike, is_same_kind, kind_of, pointed_by};
 use k_num::{Box, Kind, NoMemory, Place, convert};
 use k_types_meaning::{Node, TExpr, TType, node_of};
 use std::alloc::Global;

@@ -14,10 +14,9 @@ ghost use Rattle.k_types_meaning.specs.Operators.{ANumber, APointer, Nothing, op
 ghost use Rattle.k_types_rules.specs.Views.{element_of, type_of, typed, Agrees};
 
 use crate::conversion::{at, in_kind};
+use crate::element::ElementView;
 use crate::judged::{TypedExpr, wrong_pair, wrong_three};
-use crate::view::{
-    ElementView, TypeView, are_alike, are_equal, decayed, kind_of, told, told_pointer,
-};
+use crate::view::{TypeView, are_alike, are_equal, decayed, kind_of, told, told_pointer};
 use k_num::{Bin, Box, Kind, Place, common, promote};
 use k_tree::{Mark, operator_of};
 use k_types_meaning::{TExpr, TType, TypeFault};

@@ -6,8 +6,9 @@ ghost use Rattle.k_types_meaning.specs.declared.tree.expression.TExpr.{out-TExpr
 ghost use Rattle.k_types_rules.specs.Views.{type_of, typed, Agrees, AgreesAfter};
 
 use crate::conversion::at;
+use crate::element::ElementView;
 use crate::judged::{TypedExpr, wrong, wrong_pair};
-use crate::view::{ElementView, TypeView, as_expression, kind_of, pointed_by, told, told_pointer};
+use crate::view::{TypeView, as_expression, kind_of, pointed_by, told, told_pointer};
 use k_num::{Box, NoMemory, Place, Seq};
 use k_types_meaning::{TExpr, TypeFault};
 use std::alloc::Global;
@@ -38,7 +39,7 @@ pub fn index_rule<'a>(
     let Some(_) = kind_of(index.of) else {
         return wrong_pair(place, base, index);
     };
-    let of = as_expression(element);
+    let of = as_expression(element)?;
     let node = at(place, told(of)?);
     let tree = Box::new(
         alloc,
@@ -66,7 +67,7 @@ pub(crate) fn deref_rule<'a>(
     let Some(element) = pointed_by(of.of) else {
         return wrong(place, of);
     };
-    let seen = as_expression(element);
+    let seen = as_expression(element)?;
     let node = at(place, told(seen)?);
     let tree = Box::new(alloc, TExpr::Deref { node, of: of.tree })?;
     Ok(TypedExpr {
@@ -95,6 +96,7 @@ pub(crate) fn address_rule<'a>(
     let element = ElementView {
         kind,
         dims: &[],
+        each: 1,
         fixed,
     };
     let node = at(place, told_pointer(element)?);

@@ -4,16 +4,9 @@ ghost use Rattle.k_num.specs.Kind.{size as kind_size};
 ghost use Rattle.k_types_meaning.specs.Types.{decayed as decayed_type, number_kind, pointed, same_kind, same_element, equal_element, size_of, told as told_type, pointer_to, elements, as_type};
 ghost use Rattle.k_types_rules.specs.Views.{element_of, element_option, type_of};
 
+use crate::element::ElementView;
 use k_num::{Kind, NoMemory, bytes};
-use k_types_meaning::{CType, Element, TType, Target};
-
-/// What a pointer points to, and what an array is made of, with its dimensions lent.
-#[derive(Clone, Copy)]
-pub struct ElementView<'a> {
-    pub kind: Kind,
-    pub dims: &'a [u32],
-    pub fixed: bool,
-}
+use k_types_meaning::{CType, Element, TType, Target, part};
 
 /// A type, with the dimensions of its element lent.
 #[derive(Clone, Copy)]
@@ -47,6 +40,7 @@ pub fn lent_element<'a>(element: &'a Element) -> ElementView<'a>
     ElementView {
         kind: element.kind,
         dims: element.dims.as_slice(),
+        each: element.dims.each(),
         fixed: element.fixed,
     }
 }
@@ -83,20 +77,20 @@ pub fn decayed<'a>(of: TypeView<'a>) -> TypeView<'a>
 }
 
 /// What an element is as an expression: a number, or an array within the array.
-pub fn as_expression<'a>(element: ElementView<'a>) -> TypeView<'a>
-    ensures { type_of result ≡ as_type element.entry.kind element.entry.dims.now element.entry.fixed }
+pub fn as_expression<'a>(element: ElementView<'a>) -> Result<TypeView<'a>, NoMemory>
+    ensures { IfOk result (λ of. type_of of ≡ as_type element.entry.kind element.entry.dims.now element.entry.fixed) }
 {
-    match element.dims.split_first() {
-        None => TypeView::Number(element.kind),
-        Some((count, dims)) => TypeView::Array(
-            *count,
-            ElementView {
-                kind: element.kind,
-                dims,
-                fixed: element.fixed,
-            },
-        ),
-    }
+    let Some((count, dims)) = element.dims.split_first() else {
+        return Ok(TypeView::Number(element.kind));
+    };
+    let each = part(element.each, *count, dims)?;
+    let within = ElementView {
+        kind: element.kind,
+        dims,
+        each,
+        fixed: element.fixed,
+    };
+    Ok(TypeView::Array(*count, within))
 }
 
 /// Whether two kinds are one.
@@ -120,27 +114,11 @@ pub fn are_equal(a: ElementView<'_>, b: ElementView<'_>) -> bool
     are_alike(a, b) && (if a.fixed { b.fixed } else { !b.fixed })
 }
 
-/// How many numbers an element has, where that is held.
-pub fn count(dims: &[u32]) -> Option<u64>
-    ensures { IfSome result (λ n. n ≡ elements dims.now) }
-{
-    let mut total = 1u64;
-    let mut rest = dims;
-    while let Some((first, more)) = rest.split_first() {
-        total = total.checked_mul(u64::from(*first))?;
-        rest = more;
-    }
-    Some(total)
-}
-
 /// What a run knows of a pointer to an element. More elements than can be counted are want of memory.
 pub fn told_pointer(element: ElementView<'_>) -> Result<TType, NoMemory>
     ensures { IfOk result (λ of. of ≡ pointer_to (element_of element.entry)) }
 {
-    let Some(elements) = count(element.dims) else {
-        return Err(NoMemory);
-    };
-    let Ok(elements) = u32::try_from(elements) else {
+    let Ok(elements) = u32::try_from(element.each) else {
         return Err(NoMemory);
     };
     Ok(TType::Pointer(Target {
@@ -177,7 +155,6 @@ pub fn size(of: TypeView<'_>) -> Option<u64>
 fn size_of_array(items: u32, element: ElementView<'_>) -> Option<u64>
     ensures { IfSome result (λ n. n ≡ items * (elements element.entry.dims.now * kind_size element.entry.kind)) }
 {
-    let numbers = count(element.dims)?;
-    let each = numbers.checked_mul(bytes(element.kind))?;
+    let each = element.each.checked_mul(bytes(element.kind))?;
     u64::from(items).checked_mul(each)
 }

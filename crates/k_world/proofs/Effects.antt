@@ -1,20 +1,17 @@
 -- How acts see a world, and what they leave of it.
-use Rattle.std.proofs.Common.{◌≡◌, ◌≢◌, ℕ, zero, suc, ◌+◌, ◌*◌, ◌<◌, ◌≤◌, ℤ, List, [], ◌∷◌, ◌++◌, length, map, sum_by, Option, Some, None, Result, Ok, Err, refl, sym, ◌∙◌, ap, arith}
-use Rattle.std.proofs.lemmas.List.Sums.{sum_by-cons}
+use Rattle.std.proofs.Common.{◌≡◌, ◌≢◌, ℕ, ℤ, List, length, Option, Some, None, Result, Ok, Err, refl, sym, ◌∙◌, ap}
 use Rattle.std.proofs.Math.ListN.{length-set}
-use Rattle.k_num.specs.declared.numbers.Bin.{Bin}
-use Rattle.k_num.specs.declared.numbers.Kind.{Kind}
 use Rattle.k_optab.specs.declared.event.Event.{Event}
 use Rattle.k_ending.specs.declared.ending.Trap.{Trap}
 use Rattle.k_mem.specs.declared.pointer.Pointer.{Pointer}
-use Rattle.k_mem.specs.Memory.{Object, Memory, live_elements}
-use Rattle.k_mem.specs.Calls.{rewritten, with_value, stored}
-use Rattle.k_mem.proofs.Numbers.{size, length_rewritten, length_with_value}
+use Rattle.k_mem.specs.Memory.{Memory, live_elements}
+use Rattle.k_mem.specs.Calls.{with_value, stored}
+use Rattle.k_mem.proofs.LaidOut.{size_rewritten}
+use Rattle.k_mem.proofs.Numbers.{length_with_value}
 use Rattle.k_world.specs.declared.act.Act.{Act}
 use Rattle.k_world.specs.declared.act.Act.TheVariants as act
-use Rattle.k_world.specs.declared.act.Out.{Out}
 use Rattle.k_world.specs.declared.value.Value.{Value}
-use Rattle.k_world.specs.Acts.{Given, work, effect, hidden, pointer_and_number, written, store_effect, output_effect, with_origin, element_written}
+use Rattle.k_world.specs.Acts.{work, effect, hidden, pointer_and_number, written, store_effect, output_effect, with_origin, element_written}
 use Rattle.k_world.specs.Worlds.{World, HasOrigins}
 
 -- a world with these events, counts and calls in place of its own, which no act sees
@@ -141,17 +138,9 @@ effect_objects (act.Output what) number values w = ap (λ (m : Memory). m.made) 
 effect_objects act.Test number values w = refl
 effect_objects act.Call number values w = refl
 
-size_stored : (f : List (Option ℤ) → List (Option ℤ)) (to : ℕ) (long : (xs : List (Option ℤ)) → length (f xs) ≡ length xs) (objects : List Object)
-    → sum_by size (map (rewritten f to) objects) ≡ sum_by size objects
-size_stored f to long [] = refl
-size_stored f to long (o ∷ objects) =
-    let new = sum_by-cons size (rewritten f to o) (map (rewritten f to) objects) in
-    let old = sum_by-cons size o objects in
-    omega (arith, new, old, size_stored f to long objects, length_rewritten f to o long)
-
 -- a store leaves as many elements
 pub live_stored : (m : Memory) (p : Pointer) (v : ℤ) → live_elements (stored m p v) ≡ live_elements m
-live_stored m p v = size_stored (with_value p.offset v) p.object (length_with_value p.offset v) m.live
+live_stored m p v = size_rewritten (with_value p.offset v) p.object (length_with_value p.offset v) m.live
 
 -- and as many origins
 length_origins : (element : Option ℕ) (number : ℕ) (origins : List (Option ℕ)) → length (with_origin element number origins) ≡ length origins

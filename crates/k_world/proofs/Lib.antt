@@ -7,5 +7,6 @@ pub mod Listed
 pub mod MoreOperations
 pub mod Near
 pub mod Operations
+pub mod Origins
 pub mod Sorted
 pub mod Sound

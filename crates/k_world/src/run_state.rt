@@ -1,5 +1,5 @@
 //! The state of a running program, but for the list of its events.
-ghost use Rattle.std.specs.Prelude.{◌≡◌, ◌+◌, ◌-◌, ◌<◌, ℕ, List, true, IfOk};
+ghost use Rattle.std.specs.Prelude.{◌≡◌, ◌+◌, ◌-◌, ◌<◌, ℕ, List, length, true, IfOk};
 ghost use Rattle.k_optab.specs.declared.class.Class.{Class};
 ghost use Rattle.k_world.specs.Acts.{behind_byte as behind_byte_of, next_byte as next_byte_of, origin_of, touched, with_origin};
 ghost use Rattle.k_world.specs.Answers.{Makes, Performs, act_of, done_of, performed_of, stop_of};
@@ -22,7 +22,7 @@ use std::marker::Model;
 mod counts;
 mod objects;
 
-/// A running program's state, which contracts see as a world without events.
+/// A running program's state, which contracts see as a world without events. Each live element has an origin, and there are no others.
 #[derive(Drop)]
 pub struct RunState<'a> {
     alloc: Global,
@@ -41,7 +41,8 @@ pub struct RunState<'a> {
 }
 
 impl<'a> Model for RunState<'a> {
-    ghost use Rattle.std.specs.Prelude.{[], ◌-◌};
+    ghost use Rattle.std.specs.Prelude.{◌≡◌, [], ◌-◌, length};
+    ghost use Rattle.k_mem.specs.Memory.{live_elements};
     ghost use Rattle.k_world.specs.Worlds.{World};
 
     ghost Value = { World };
@@ -60,6 +61,8 @@ impl<'a> Model for RunState<'a> {
       calls = s.calls;
       size = s.size;
     } };
+
+    ghost invariant = { λ s. length s.origins.items ≡ live_elements s.objects };
 }
 
 impl<'a> RunState<'a> {
@@ -291,22 +294,18 @@ fn performed(given: Result<Value, Trap>) -> Result<Performed, Refusal>
 
 /// The operation that gave an element its value.
 fn origin_at(origins: &[Option<u64>], element: u32) -> Option<u64>
+    requires { element < length origins.now }
     ensures { result ≡ origin_of (Some element) origins.now }
 {
-    match origins.get(element as usize) {
-        Some(origin) => *origin,
-        None => None,
-    }
+    origins[element as usize]
 }
 
 /// An element's value came from the operation of this number.
 fn set_origin(origins: &mut [Option<u64>], element: u32, number: u64)
+    requires { element < length origins.old }
     ensures { origins.new ≡ with_origin (Some element) number origins.old }
 {
-    let element = element as usize;
-    if element < origins.len() {
-        origins[element] = Some(number);
-    }
+    origins[element as usize] = Some(number);
 }
 
 /// The next byte of an input, or -1 at its end.

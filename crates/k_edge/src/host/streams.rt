@@ -5,7 +5,7 @@ ghost use Rattle.k_edge.specs.SourceWords.{Reads};
 ghost use Rattle.k_edge.specs.SinkWords.{Puts};
 ghost use Rattle.k_edge.specs.HostWords.{std_source, std_sink, reader_of, writer_of, Hands, Writes};
 
-use crate::count::risen;
+use crate::count::{ended_after, risen};
 use crate::{Failed, PutFault, Sink, Source};
 use std::io::{ErrorKind, Read, Write};
 
@@ -15,17 +15,19 @@ pub struct StdSource<R> {
     inner: R,
     faults: u64,
     taken: u64,
+    ended: u64,
 }
 
 impl<R: Read> StdSource<R> {
     pub fn new(inner: R) -> StdSource<R>
         ensures over { reader_of result ≡ inner }
-        ensures counts { std_source result ≡ record { left = None; faults = 0; taken = 0 } }
+        ensures counts { std_source result ≡ record { left = None; faults = 0; taken = 0; ended = 0 } }
     {
         StdSource {
             inner,
             faults: 0,
             taken: 0,
+            ended: 0,
         }
     }
 }
@@ -45,6 +47,7 @@ impl<R: Read> Source for StdSource<R> {
         match self.inner.read(buf) {
             Ok(count) => {
                 self.taken += count as u64;
+                self.ended = ended_after(self.ended, count, buf.len());
                 Ok(count)
             }
             Err(_) => {

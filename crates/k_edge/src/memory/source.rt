@@ -3,7 +3,7 @@ ghost use Rattle.std.specs.Prelude.{◌≡◌, ◌++◌, IfOk, is_err, take, dro
 ghost use Rattle.k_edge.specs.SourceWords.{Reads};
 ghost use Rattle.k_edge.specs.Calls.{next_fails, after_call};
 
-use crate::count::{Calls, risen};
+use crate::count::{Calls, ended_after, risen};
 use crate::{Failed, Source};
 use k_num::NoMemory;
 use std::alloc::Global;
@@ -14,6 +14,7 @@ use std::marker::Model;
 pub struct SureSource {
     bytes: Vec<u8>,
     taken: usize,
+    ended: u64,
 }
 
 impl Model for SureSource {
@@ -22,18 +23,19 @@ impl Model for SureSource {
 
     ghost Value = { SureBytes };
 
-    ghost view = { λ s. record { left = drop s.taken s.bytes.items; taken = s.taken } };
+    ghost view = { λ s. record { left = drop s.taken s.bytes.items; taken = s.taken; ended = s.ended } };
 
     ghost invariant = { λ s. s.taken ≤ vec_len s.bytes };
 }
 
 impl SureSource {
     pub fn new(alloc: Global, bytes: &[u8]) -> Result<SureSource, NoMemory>
-        ensures { IfOk result (λ source. source ≡ record { left = bytes.now; taken = 0 }) }
+        ensures { IfOk result (λ source. source ≡ record { left = bytes.now; taken = 0; ended = 0 }) }
     {
         Ok(SureSource {
             bytes: Vec::from_slice(alloc, bytes)?,
             taken: 0,
+            ended: 0,
         })
     }
 }
@@ -46,6 +48,7 @@ impl Source for SureSource {
     fn read(&mut self, buf: &mut [u8]) -> Result<usize, Failed> {
         let count = copy_front(&self.bytes.as_slice()[self.taken..], buf);
         self.taken += count;
+        self.ended = ended_after(self.ended, count, buf.len());
         Ok(count)
     }
 }
@@ -73,7 +76,7 @@ impl Model for MemSource {
 
     ghost Value = { MemBytes };
 
-    ghost view = { λ s. record { left = s.source.left; taken = s.source.taken; faults = s.faults; calls = s.calls } };
+    ghost view = { λ s. record { left = s.source.left; taken = s.source.taken; ended = s.source.ended; faults = s.faults; calls = s.calls } };
 }
 
 impl MemSource {
@@ -82,6 +85,7 @@ impl MemSource {
         ensures { IfOk result (λ source. source ≡ record {
           left = bytes.now;
           taken = 0;
+          ended = 0;
           faults = 0;
           calls = record { next = 0; failing = failing.now };
         }) }

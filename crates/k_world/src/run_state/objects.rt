@@ -1,22 +1,24 @@
 //! The objects of a running program's state: made, set and let die without an operation.
-ghost use Rattle.std.specs.Prelude.{◌≡◌, ◌+◌, ◌^◌, ◌<◌, ◌≤◌, ◌++◌, length, replicate, vec_len, IfOk, OnOk, OnErr};
+ghost use Rattle.std.specs.Prelude.{◌≡◌, ◌+◌, ◌^◌, ◌<◌, ◌≤◌, ◌++◌, ◌↔◌, length, replicate, vec_len, IfOk, OnOk, OnErr};
 ghost use Rattle.k_mem.specs.Calls.{HasLength, fill_of, push_of, stored};
 ghost use Rattle.k_world.specs.Changes.{item_stored, memory_filled, object_filled, object_made, objects_kept, without_origins};
-ghost use Rattle.k_world.specs.Worlds.{HasOrigins};
 
 use super::RunState;
 use k_mem::{MemTrap, Objects, Pointer, PushFault, Start};
 use k_num::{Initial, NoMemory};
 
 impl<'a> RunState<'a> {
-    /// Makes an object and answers its number. No operation gave its elements.
+    /// Makes an object and answers its number. No operation gave its elements. Past the limit it is refused before memory is asked for.
     pub fn push_object(&mut self, elements: u32, start: Start<'_>) -> Result<u64, PushFault>
         requires { HasLength start elements }
         ensures number { IfOk result (λ number. number ≡ self.old.memory.made) }
         ensures made { OnOk result (object_made self.old start.entry elements ≡ Some self.new) }
-        ensures limit { result ≡ Err PushFault.MemoryLimit → push_of self.old.memory start.entry elements ≡ None }
+        ensures limit { (result ≡ Err PushFault.MemoryLimit) ↔ (push_of self.old.memory start.entry elements ≡ None) }
         ensures err { OnErr result (self.new ≡ self.old) }
     {
+        if self.objects.is_full(elements) {
+            return Err(PushFault::MemoryLimit);
+        }
         let len = self.origins.len();
         append_none(&mut self.origins, elements)?;
         match self.objects.push_object(elements, start) {
@@ -31,15 +33,12 @@ impl<'a> RunState<'a> {
     /// Sets all elements of an object: to 0, and then those that items name to their numbers, in the order of the items. No
     /// operation gave them. Items past the object's end are left out. A dead object is refused, and then a literal's.
     pub fn fill_object(&mut self, object: u64, items: &[Initial]) -> Result<(), MemTrap>
-        ensures answer { HasOrigins self.old → result ≡ fill_of self.old.memory object }
+        ensures answer { result ≡ fill_of self.old.memory object }
         ensures ok { OnOk result (self.new ≡ object_filled self.old object items.now) }
         ensures err { OnErr result (self.new ≡ self.old) }
     {
         let first = self.objects.first_element(object)? as usize;
         let count = self.objects.length(object)? as usize;
-        if first + count > self.origins.len() {
-            return Err(MemTrap::OutOfBounds);
-        }
         fill_items(&mut self.objects, object, items)?;
         clear_origins(&mut self.origins, first, count);
         Ok(())

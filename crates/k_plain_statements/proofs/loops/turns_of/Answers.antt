@@ -16,5 +16,5 @@ returns-clause-parts c =
       step = step_or_none w (option_copied c.args.step);
       body = region (loop_region w.function c.args.number + 1) (noted (tabled_of c.args.setting.now) c.args.body.now).does;
       counted = (c.flag.ensures ∙ ap (λ (marks : List Bool). flag (slice_get marks c.args.number)) c.as_slice.ensures) i;
-      jumps = c.jumps_of_body.ensures w i;
+      jumps = c.jumps_at.ensures i;
     }

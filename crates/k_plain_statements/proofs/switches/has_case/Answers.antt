@@ -1,5 +1,5 @@
 use Rattle.std.proofs.Common.{◌∙◌, sym}
-use Rattle.k_plain_statements.proofs.JumpLaws.{case_elsewhere, case_there, no_case}
+use Rattle.k_plain_statements.proofs.SwitchRows.{case_elsewhere, case_there, no_case}
 use Rattle.k_plain_statements.proofs.switches.has_case.Goals as goal
 
 pub returns-then-is_case : goal.returns-then-is_case

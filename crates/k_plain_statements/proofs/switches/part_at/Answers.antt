@@ -3,7 +3,7 @@ use Rattle.std.specs.Option.{option_copied}
 use Rattle.k_types_meaning.specs.declared.tree.statement.TPart.{TPart}
 use Rattle.k_plain_statements.specs.Noted.{part_of}
 use Rattle.k_plain_statements.specs.Parts.{Stands}
-use Rattle.k_plain_statements.proofs.Lists.{item_none, item_there}
+use Rattle.k_plain_tasks.proofs.Lists.{item_none, item_there}
 use Rattle.k_plain_statements.proofs.SwitchRows.{stands_first, within_all}
 use Rattle.k_plain_statements.proofs.switches.part_at.Goals as goal
 

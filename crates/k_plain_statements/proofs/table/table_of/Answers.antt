@@ -1,13 +1,12 @@
-use Rattle.std.proofs.Common.{sym, subst, List}
+use Rattle.std.proofs.Common.{◌∙◌, List, ap, subst}
 use Rattle.k_marks_meaning.specs.declared.jumps.Jumps.{Jumps}
-use Rattle.k_plain_statements.specs.Noted.{FitsFunctions}
-use Rattle.k_plain_statements.proofs.FitLaws.{nothing_fits, was_true}
+use Rattle.k_marks_meaning.specs.Marking.{statements_in}
+use Rattle.k_plain_statements.specs.Noted.{AreNoted}
+use Rattle.k_plain_statements.proofs.FitLaws.{functions_fit}
 use Rattle.k_plain_statements.proofs.table.table_of.Goals as goal
 
-pub returns-then-fits_functions : goal.returns-then-fits_functions
-returns-then-fits_functions c =
-    subst (λ (t : List Jumps). FitsFunctions t c.args.unit.now.functions) c.as_slice.ensures
-    (was_true c.fits_functions.result (FitsFunctions c.as_slice.result.now c.args.unit.now.functions) c.if-fits_functions.true c.fits_functions.ensures)
-
-pub returns-else-fits_functions : goal.returns-else-fits_functions
-returns-else-fits_functions c = subst (λ (t : List Jumps). FitsFunctions t c.args.unit.now.functions) (sym c.new.ensures) (nothing_fits c.args.unit.now.functions)
+pub returns : goal.returns
+returns c =
+    functions_fit c.from_vec-table.result c.args.unit.now.functions
+    (subst (AreNoted c.from_vec-table.result) (c.as_slice-4.ensures.value ∙ (c.in_ok-found.ensures ∙ ap statements_in c.as_slice.ensures))
+    (subst (λ (t : List Jumps). AreNoted t c.as_slice-4.result.now) c.as_slice-3.ensures c.if-not-are_noted.ensures))

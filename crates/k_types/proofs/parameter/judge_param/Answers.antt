@@ -14,7 +14,7 @@ returns c =
     let sized = c.in_ok-sizes.ensures in
     param_goes c.args.defines known p c.test_param.result (seen c.enter_variable.new.known) c.in_ok-sizes.sizes sized.0 c.type_of-of.result c.in_ok-twice.twice
     c.is_typed-typed.result c.is_some-fits.result sized.1
-    (c.type_of-of.ensures ∙ ap (λ d. type_or_int (type_with p d)) (c.sizes_or_none.ensures ∙ ap sizes_or_none c.in_ok-dims.ensures))
+    (c.type_of-of.ensures ∙ ap (λ d. type_or_int (type_with p d)) (c.in_ok-behind.ensures ∙ ap sizes_or_none c.in_ok-dims.ensures))
     c.in_ok-twice.ensures.twice c.is_typed-typed.ensures (c.is_some-fits.ensures ∙ ap is_some c.in_ok-dims.ensures)
     (c.in_ok-twice.ensures.after ∙ (λ i. behind_variable (record known { taken = sized.2 i }) p c.type_of-of.result))
     c.test_param.ensures

@@ -16,6 +16,6 @@ returns-in-None c =
     let text = string_of c.args.value.now in
     let older : FilledItems = c.args.found.now in
     let newer : FilledItems = record { items = c.put_number.new.items; taken = c.judge.new.taken } in
-    subst (λ dims. Puts c.put_number.result older newer (then_made (judge c.args.names.now c.args.value.now) (one_item c.args.filled.file c.args.place c.args.filled.kind dims c.args.element text))) (sym none)
-    (puts_one c.put_number.result (judge c.args.names.now c.args.value.now) (one_item c.args.filled.file c.args.place c.args.filled.kind [] c.args.element text)
+    subst (λ dims. Puts c.put_number.result c.args.filled.kept older newer (then_made (judge c.args.names.now c.args.value.now) (one_item c.args.filled.file c.args.place c.args.filled.kind dims c.args.element text))) (sym none)
+    (puts_one c.put_number.result c.args.filled.kept (judge c.args.names.now c.args.value.now) (one_item c.args.filled.file c.args.place c.args.filled.kind [] c.args.element text)
     (typed c.in_ok-judged.judged given.0) given.0 older newer given.1 given.2 (c.put_number.ensures text given.0))

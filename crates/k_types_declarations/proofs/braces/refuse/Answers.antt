@@ -7,6 +7,7 @@ use Rattle.k_types_declarations.proofs.braces.refuse.Goals as goal
 
 pub returns : goal.returns
 returns c =
+    λ kept.
     let g = giving c.args.names.now c.args.item.now in
     let given = c.in_ok-judge_alone.ensures in
     subst (λ p. Refuses (fault.Kinds p) (then_made g.alone (λ taken. excess {A = Items} g.place))) (sym (c.place_of.ensures c.args.names.now))

@@ -21,9 +21,11 @@ returns c =
     let entered_as : c.declare.new.self ≡ entered d.name (as_meaning c.args.file c.args.number (type_or_int c.args.shape.of) (object_fixed c.args.saying.now.fixed d.stars)) c.args.names.now =
     first_of (cc, search rules, grind arith) in
     let given = c.in-Ok.ensures in
+    let start = given.0 in
     λ found older sizes type_is sized_is put.
-    comes c.args.file c.args.saying.now c.args.number c.args.names.now d found c.args.shape.of c.declare.new.self c.made.result c.in-Ok.init given.0 older c.begun.new.taken
+    comes c.args.file c.args.saying.now c.args.number c.args.names.now d found c.args.shape.of c.declare.new.self c.made.result c.in-Ok.init start.init start.taken older c.begun.new.taken
     c.in_ok-twice.twice c.has_type-typed.result c.args.shape.is_sized sizes type_is entered_as
-    (subst (λ of. begun c.declare.new.self c.args.file of d.init ≡ Fine (record { init = c.in-Ok.init; taken = given.0 })) c.lent_option.ensures given.1)
-    (given.2 ∙ (ap (λ l. l ++ given.0) put ∙ append_assoc older found.taken given.0))
+    (subst (λ of. begun c.declare.new.self c.args.file of d.init ≡ Fine start) c.lent_option.ensures given.1)
+    given.2
+    (given.3 ∙ (ap (λ l. l ++ start.taken) put ∙ append_assoc older found.taken start.taken))
     c.in_ok-twice.ensures.twice c.has_type-typed.ensures sized_is c.made.ensures

@@ -9,4 +9,4 @@ returns-then-count-eq0 c =
 
 pub returns : goal.returns
 returns c =
-    turn_begun (tabled_of c.args.setting.now) c.tested.result c.args.self.now.rest c.tested.new.self.rest c.tested.new.self.tasks c.args.self.now.evaluator c.tested.new.self.evaluator c.args.turns c.args.count c.left.result c.fuel-count.result (c.fuel-count.result - 1) c.left.ensures c.fuel-count.ensures (omega (arith, c.if-count-eq0.false)) c.tested.ensures
+    turn_begun (tabled_of c.args.setting.now) c.from_test.result c.args.self.now.rest c.from_test.new.self.rest c.from_test.new.self.tasks c.args.self.now.evaluator c.from_test.new.self.evaluator c.args.turns c.args.count c.left.result c.fuel-count.result (c.fuel-count.result - 1) c.left.ensures c.fuel-count.ensures (omega (arith, c.if-count-eq0.false)) c.from_test.ensures

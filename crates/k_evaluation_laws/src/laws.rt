@@ -1,0 +1,26 @@
+//! What holds of the values of every run: each function's contract is a law, and its body does nothing.
+ghost use Rattle.k_evaluation_laws.specs.Laws.{ElementsAreHeld, ExpressionsGiveTheirTypes, FunctionsBeginRight, FunctionsKeepKinds, MainGivesAnInt, RunsStartRight, StatementsKeepKinds, VariableIsConverted, VariablesAreHeld};
+
+/// In each run of a source that typing accepts, variables and objects hold what their types say: a variable of a kind holds a number that
+/// the kind holds, and so does each element of an object of a kind; a pointer to a kind points into an object of the kind. A run starts so,
+/// a function that is entered with arguments of its parameters' types begins so, and no expression, no statement and no function changes
+/// it. An expression gives a value of its type, a function one of the type of its result, and main an int.
+///
+/// That the constants of the source are numbers of their kinds is a premise, `IsInRange`; so are that its strings are within the limit, and
+/// that each byte of the input is less than 256.
+pub fn values_are_of_their_kinds()
+    ensures start { RunsStartRight }
+    ensures expressions { ExpressionsGiveTheirTypes }
+    ensures statements { StatementsKeepKinds }
+    ensures entered { FunctionsBeginRight }
+    ensures functions { FunctionsKeepKinds }
+    ensures main { MainGivesAnInt }
+    ensures variables { VariablesAreHeld }
+    ensures elements { ElementsAreHeld }
+{}
+
+/// Before the k-th test of a counted loop, from 0, its variable is `x + k * step` as a number of its kind, where it was x before the
+/// loop. `k_marks_laws` says so from the first step on; before it, the variable is x, which its kind holds.
+pub fn induction_from_the_first()
+    ensures { VariableIsConverted }
+{}

@@ -1,0 +1,7 @@
+use Rattle.k_lower_code.specs.Lowered.{InMemory}
+use Rattle.k_lower_expressions.proofs.Emitted.{ends}
+use Rattle.k_lower_expressions.proofs.places.object_place.Goals as goal
+
+pub returns : goal.returns
+returns c =
+    ends (λ address. InMemory address) _ _ _ _ c.in_ok-address.ensures

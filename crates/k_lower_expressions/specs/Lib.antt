@@ -1,0 +1,3 @@
+pub mod Arounds
+pub mod Emits
+pub mod Makings

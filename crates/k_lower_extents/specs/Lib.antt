@@ -1,0 +1,4 @@
+pub mod ExpressionSums
+pub mod Extents
+pub mod Sized
+pub mod StatementSums

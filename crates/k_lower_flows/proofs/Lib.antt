@@ -1,0 +1,13 @@
+pub mod Arms
+pub mod Blocks
+pub mod Calls
+pub mod Declared
+pub mod Entered
+pub mod Functions
+pub mod Landing
+pub mod Loops
+pub mod Programs
+pub mod Returned
+pub mod Statements
+pub mod Switches
+pub mod Tests

@@ -1,0 +1,4 @@
+pub mod Functions
+pub mod Landing
+pub mod Laws
+pub mod Sound

@@ -1,0 +1,11 @@
+pub mod Counts
+pub mod ExpressionObjects
+pub mod ExpressionRegisters
+pub mod ExpressionSizes
+pub mod FunctionObjects
+pub mod FunctionRegisters
+pub mod Sources
+pub mod StatementRegisters
+pub mod StatementSizes
+pub mod StretchObjects
+pub mod Strings

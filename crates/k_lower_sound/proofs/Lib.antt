@@ -1,0 +1,5 @@
+pub mod Jumps
+pub mod Lengths
+pub mod Numbers
+pub mod Programs
+pub mod Statements

@@ -1,0 +1,27 @@
+-- Believed with a public law.
+-- What holds of the functions and of the flat code of each program as its source is accepted.
+use Rattle.std.specs.Prelude.{ℕ, ◌≡◌, List}
+use Rattle.k_tree.specs.declared.tree.unit.Unit as source
+use Rattle.k_marks_meaning.specs.Marking.{marks_of}
+use Rattle.k_evaluation.specs.Runs.{run}
+use Rattle.k_evaluation.specs.States.{Program}
+use Rattle.k_code.specs.Runs.{HasOutcome}
+use Rattle.k_code.specs.Valid.{IsValid}
+use Rattle.k_lower_code.specs.Programs.{flattened}
+use Rattle.k_lower_flows.specs.Laws.{IsReady}
+use Rattle.k_lower_accepted.specs.Accepted.{IsAccepted}
+
+-- main is there, and each function is sound, where the marks of the program are those of its source
+abbrev pub AcceptedProgramsAreReady : Type 0
+AcceptedProgramsAreReady = (unit : source.Unit) (program : Program) → IsAccepted unit program → program.marks ≡ marks_of program.unit → IsReady program
+
+-- ITS FLAT CODE is valid, and the run of it is the program's, on each input and under each budget: the same events in the same order, the same
+-- output and the same end
+pub record IsLowered (program : Program) : Type 0 where
+  pub valid : IsValid (flattened program)
+  pub runs : (input : List ℕ) (budget : ℕ)
+      → HasOutcome (flattened program) input budget (run program input budget).events (run program input budget).output (run program input budget).end
+
+-- so it is of each accepted program, with the marks of its source
+abbrev pub AcceptedProgramsAreLowered : Type 0
+AcceptedProgramsAreLowered = (unit : source.Unit) (program : Program) → IsAccepted unit program → program.marks ≡ marks_of program.unit → IsLowered program

@@ -1,0 +1,10 @@
+pub mod Alike
+pub mod Calling
+pub mod Conversions
+pub mod Expressions
+pub mod Initialisers
+pub mod Operands
+pub mod Operations
+pub mod Sources
+pub mod Split
+pub mod Statements

@@ -1,0 +1,63 @@
+-- What `graph` and `demo` tell.
+use Rattle.std.proofs.Common.{ℕ, ◌≡◌, refl, sym, subst, ap, List, None}
+use Rattle.k_ending.specs.declared.ending.End.{End}
+use Rattle.k_ending.specs.declared.ending.End.TheVariants as end
+use Rattle.k_gen.specs.Text.{program}
+use Rattle.k_types_meaning.specs.declared.tree.unit.TUnit.{TUnit}
+use Rattle.k_words.specs.declared.job.Job.{Job}
+use Rattle.k_words.specs.declared.job.Job.TheVariants as job
+use Rattle.k_top_answers.specs.declared.answer.Answer.{Answer}
+use Rattle.k_top_answers.specs.Answers.{AnswersJob, AnswersMade, IsListed, made_running, refusal}
+use Rattle.k_top_answers.specs.Clauses.{IsGiven}
+use Rattle.k_top_answers.specs.Failures.{failure_of_end}
+use Rattle.k_top_answers.specs.Steps.{Running, run_of}
+use Rattle.k_top_headline.specs.OtherCommands.{DemoIsTold, GraphIsTold, Sums}
+use Rattle.k_top_headline.proofs.Given.{job_given}
+use Rattle.k_top_headline.proofs.Ready.{run_answered, source_answered}
+use Rattle.k_top_headline.proofs.Runs.{told_of_run}
+
+-- GRAPH
+pub graph_is_told : GraphIsTold
+graph_is_told words status old new file r depth keeps is program =
+    let j : Job = job.Graph file r.steps depth None in
+    let given : IsGiven (λ (answer : Answer). AnswersJob keeps.outside answer j) status old new = job_given words j status old new keeps is in
+    let listed : IsListed depth given.answer r =
+    run_answered keeps.outside old file r (λ failure. given.answer ≡ refusal failure) (IsListed depth given.answer) keeps.fits program given.is_answer in
+    record {
+      tree = listed.tree;
+      is_tree = listed.is_tree;
+      text = listed.text;
+      is_text = listed.is_text;
+      tells = told_of_run (λ (answer : Answer). AnswersJob keeps.outside answer j) r listed.text status old new given
+          (ap (λ (a : Answer). a.out) listed.is) (ap (λ (a : Answer). a.failure) listed.is);
+    }
+
+module _ (number loops : ℕ) (answer : Answer) (r : Running) where
+  -- what the answer puts on out
+  summed : (how : End) → AnswersMade number loops answer r how → Sums number loops r answer.out how
+  summed (end.Returned exit) (text, is, made) =
+      subst (λ (t : List ℕ). Sums number loops r t (end.Returned exit)) (ap (λ (a : Answer). a.out) (sym made)) is
+  summed (end.Trapped trap place) is = ap (λ (a : Answer). a.out) is
+  summed end.OutOfSteps is = ap (λ (a : Answer). a.out) is
+
+  -- why it failed, if it did
+  fails : (how : End) → AnswersMade number loops answer r how → answer.failure ≡ failure_of_end r.steps how
+  fails (end.Returned exit) (text, is, made) = ap (λ (a : Answer). a.failure) made
+  fails (end.Trapped trap place) is = ap (λ (a : Answer). a.failure) is
+  fails end.OutOfSteps is = ap (λ (a : Answer). a.failure) is
+
+-- DEMO
+pub demo_is_told : DemoIsTold
+demo_is_told words status old new number loops typed keeps is accepted =
+    let j : Job = job.Demo number loops in
+    let r : Running = made_running typed in
+    let given : IsGiven (λ (answer : Answer). AnswersJob keeps.outside answer j) status old new = job_given words j status old new keeps is in
+    let made : AnswersMade number loops given.answer r (run_of r).end =
+    source_answered (λ failure. given.answer ≡ refusal failure)
+    (λ (t : TUnit). AnswersMade number loops given.answer (made_running t) (run_of (made_running t)).end) (program number loops) typed accepted given.is_answer in
+    record {
+      text = given.answer.out;
+      written = summed number loops given.answer r (run_of r).end made;
+      tells = told_of_run (λ (answer : Answer). AnswersJob keeps.outside answer j) r given.answer.out status old new given refl
+          (fails number loops given.answer r (run_of r).end made);
+    }

@@ -1,0 +1,103 @@
+-- Believed with a public law.
+-- What `kremlin graph`, `show` and `demo` write, and with which status they end, where nothing goes wrong outside and memory suffices.
+use Rattle.std.specs.Prelude.{ℕ, ◌-◌, ◌≡◌, ◌≤◌, Bool, List, [], length, None}
+use Rattle.k_edge.specs.SinkWords.{Grows}
+use Rattle.k_optab.specs.declared.node.Node.{Node}
+use Rattle.k_ending.specs.declared.ending.End.{End}
+use Rattle.k_ending.specs.declared.ending.End.TheVariants.{Returned, Trapped, OutOfSteps}
+use Rattle.k_evaluation.specs.Runs.{listing_of}
+use Rattle.k_gen.specs.Text.{program}
+use Rattle.k_graph.specs.Listings.{IsListing}
+use Rattle.k_graph.specs.declared.tree.Instance.{Instance}
+use Rattle.k_dict.specs.Dictionary.{IsDictionary}
+use Rattle.k_dict.specs.Entries.{expansion}
+use Rattle.k_dict.specs.declared.entry.Entry.{Entry}
+use Rattle.k_dict_saved.specs.Files.{IsFile}
+use Rattle.k_dict_saved.specs.FileText.{file_text}
+use Rattle.k_dict_saved.specs.declared.file.File.{File}
+use Rattle.k_dict_saved.specs.declared.format.Format.{Format}
+use Rattle.k_dict_saved.specs.declared.format.Format.TheVariants.{One, Two}
+use Rattle.k_report.specs.Graph.{IsGraphText}
+use Rattle.k_report_profile.specs.Report.{IsReportOf, asked}
+use Rattle.k_types_meaning.specs.declared.tree.unit.TUnit.{TUnit}
+use Rattle.k_words.specs.Setting.{standard_depth}
+use Rattle.k_words.specs.declared.job.Job.TheVariants as job
+use Rattle.k_top_answers.specs.Answers.{made_running, ran_of}
+use Rattle.k_top_answers.specs.Clauses.{Keeps, World}
+use Rattle.k_top_answers.specs.Steps.{Running, profile_limit, run_of}
+use Rattle.k_top_answers.specs.Texts.{IsSummary}
+use Rattle.k_top_headline.specs.Headline.{HoldsProgram, IsAccepted, TellsFile, TellsOfRun, WentWell}
+
+-- GRAPH, the conclusions
+pub record GraphTells (r : Running) (depth status : ℕ) (old new : World) : Type 0 where
+  -- the tracked instances of the run, in order of entry: each with its work, the weight of its heaviest path, and its parent
+  pub tree : List Instance
+  pub is_tree : IsListing depth (run_of r).events tree
+  -- the listing, a line for each event of the run, one for each of these instances with a heaviest path, and the run's end
+  pub text : List ℕ
+  pub is_text : IsGraphText (listing_of (run_of r)) tree text
+  -- is what is told
+  pub tells : TellsOfRun r text status old new
+
+-- GRAPH. The words ask for the graph of a file, and name no table of latencies; and the file is an accepted program, with its input
+abbrev pub GraphIsTold : Type 0
+GraphIsTold = (words : List (List ℕ)) (status : ℕ) (old new : World) (file : List ℕ) (r : Running) (depth : ℕ)
+    → Keeps words status old new → WentWell words (job.Graph file r.steps depth None) status old new → HoldsProgram old file r
+    → GraphTells r depth status old new
+
+-- the files tell that one of this name is a saved profile of either format, of at most 536,870,912 bytes
+pub record HoldsProfile (old : World) (name : List ℕ) (file : File) : Type 0 where
+  pub rules : IsFile file
+  pub held : TellsFile old.files.held name (file_text file)
+  pub few : length (file_text file) ≤ profile_limit
+
+-- the tree of a file: the instances that its last entry stands for
+abbrev pub tree_of_file : File → List Node
+tree_of_file file = expansion file.entries (length file.entries - 1)
+
+-- the entries that are shown of a file: its own in format 2, and in format 1 the dictionary of its tree
+abbrev pub AreShown : File → List Entry → Format → Type 0
+AreShown file entries Two = entries ≡ file.entries
+AreShown file entries One = IsDictionary (tree_of_file file) entries
+
+-- THE REPORT of a saved profile: that of its own tree, whose rows, contexts and plan the text tells, with its run and its regions
+pub record Shows (file : File) (dict : Bool) (text : List ℕ) : Type 0 where
+  pub entries : List Entry
+  pub shown : AreShown file entries file.format
+  pub report : IsReportOf file.regions file.exit file.ops (tree_of_file file) (asked dict entries) text
+
+-- SHOW, the conclusions
+pub record ShowTells (file : File) (dict : Bool) (status : ℕ) (old new : World) : Type 0 where
+  -- out has grown by the report of the profile
+  pub text : List ℕ
+  pub shows : Shows file dict text
+  pub grows : Grows old.out.written text new.out.written
+  -- the status is 0, and nothing was told on err
+  pub status_is : status ≡ 0
+  pub told : new.err ≡ old.err
+
+-- SHOW. The words ask to show a file, and it is a saved profile
+abbrev pub ShowIsTold : Type 0
+ShowIsTold = (words : List (List ℕ)) (status : ℕ) (old new : World) (name : List ℕ) (file : File) (dict : Bool)
+    → Keeps words status old new → WentWell words (job.Show name dict) status old new → HoldsProfile old name file
+    → ShowTells file dict status old new
+
+-- what is written of a made program, by how its run ended: the summary of the run where main returned, and else nothing
+abbrev pub Sums : ℕ → ℕ → Running → List ℕ → End → Type 0
+Sums number loops r text (Returned exit) = IsSummary number loops (length (run_of r).output) (ran_of r exit standard_depth) text
+Sums number loops r text (Trapped trap place) = text ≡ []
+Sums number loops r text OutOfSteps = text ≡ []
+
+-- DEMO, the conclusions
+pub record DemoTells (number loops : ℕ) (r : Running) (status : ℕ) (old new : World) : Type 0 where
+  -- the summary of the run: of its output, and of the rows and the plan of its tree
+  pub text : List ℕ
+  pub written : Sums number loops r text (run_of r).end
+  -- is what is told
+  pub tells : TellsOfRun r text status old new
+
+-- DEMO. The words ask for a program of so many loops that is made from a number, and that program is accepted
+abbrev pub DemoIsTold : Type 0
+DemoIsTold = (words : List (List ℕ)) (status : ℕ) (old new : World) (number loops : ℕ) (typed : TUnit)
+    → Keeps words status old new → WentWell words (job.Demo number loops) status old new → IsAccepted (program number loops) typed
+    → DemoTells number loops (made_running typed) status old new
