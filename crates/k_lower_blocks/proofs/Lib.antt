@@ -1,0 +1,4 @@
+pub mod Around
+pub mod Blocks
+pub mod InOrder
+pub mod Places

@@ -1,0 +1,3 @@
+pub mod Cased
+pub mod Counted
+pub mod Fronts
