@@ -75,27 +75,33 @@ expr_step (TExpr-F.Comma node left right) = left && right
 abbrev pub expr_in_range : TExpr → Bool
 expr_in_range = fold-TExpr Bool expr_step
 
+-- one that may be left out
 abbrev pub option_in_range : Option TExpr → Bool
 option_in_range None = true
 option_in_range (Some e) = expr_in_range e
 
+-- an item of braces (C17 6.7.9)
 abbrev pub item_in_range : TItem → Bool
 item_in_range (item.Bytes element bytes) = true
 item_in_range (item.Value place element e) = expr_in_range e
 
+-- all items of braces
 abbrev pub items_in_range : List TItem → Bool
 items_in_range [] = true
 items_in_range (i ∷ items) = item_in_range i && items_in_range items
 
+-- an initialiser (C17 6.7.9)
 abbrev pub init_in_range : TInit → Bool
 init_in_range begins.Nothing = true
 init_in_range (begins.Value e) = expr_in_range e
 init_in_range (begins.Elements items) = items_in_range items
 
+-- declarators (C17 6.7.6)
 abbrev pub declared_in_range : List TDeclarator → Bool
 declared_in_range [] = true
 declared_in_range (d ∷ list) = init_in_range d.init && declared_in_range list
 
+-- the first part of a `for` (C17 6.8.5.3)
 abbrev pub first_in_range : TFirst → Bool
 first_in_range first.Nothing = true
 first_in_range (first.Value e) = expr_in_range e
