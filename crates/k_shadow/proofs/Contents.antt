@@ -1,12 +1,13 @@
 -- What the calls of a shadow whose locations have rows make of its content.
-use Rattle.std.proofs.Common.{◌≡◌, ℕ, ◌+◌, ◌<◌, ◌≤◌, List, length, max, ap, sym, ◌∙◌, arith}
+use Rattle.std.proofs.Common.{◌≡◌, ℕ, ◌+◌, ◌<◌, ◌≤◌, ◌≢◌, List, length, ap, sym, ◌∙◌, arith}
 use Rattle.std.specs.Prelude.{slice_index}
 use Rattle.k_shadow.specs.declared.row.Row.{Row}
-use Rattle.k_shadow.specs.Content.{depth, time_at, time_after, entered, left, written, cleared}
+use Rattle.k_shadow.specs.Content.{depth, time_at, at_levels, entered, left, written, written_by, cleared}
 use Rattle.k_shadow.specs.Numbers.{Numbers, number_given, number_left, WereGiven}
 use Rattle.k_shadow.specs.Rows.{row_time, content_of}
+use Rattle.k_shadow.proofs.Levels.{length-at_levels, get_or-at_levels}
 use Rattle.k_shadow.proofs.Places.{length-with_places}
-use Rattle.k_shadow.proofs.Rows.{time_from_rows, levels-entered, levels-left, levels_same, IsWritten, levels-written, IsCleared, levels-cleared}
+use Rattle.k_shadow.proofs.Rows.{time_from_rows, levels-entered, levels-left, levels_same, IsWritten, levels-written, IsCleared, levels-cleared, levels-set, row_time_since, given_at}
 
 -- how many levels are live
 pub depth_counted : (rows : ℕ → Row) (v : Numbers) (limit : ℕ) → depth (content_of rows v limit) ≡ length v.live
@@ -31,21 +32,42 @@ content-written rows others v limit loc times w given same = λ i. record { leve
 pub content-cleared : (rows others : ℕ → Row) (v : Numbers) (limit first count : ℕ) → IsCleared rows others first count → WereGiven v.given v.live → content_of others v limit ≡ cleared first count (content_of rows v limit)
 content-cleared rows others v limit first count h given = λ i. record { levels = levels-cleared rows others first count v.given v.live h given i; entries = v.given; limit = limit }
 
--- times that were raised to those of a row are raised to those of its location
-pub raised_by_location : (rows : ℕ → Row) (v : Numbers) (limit loc : ℕ) (row : Row) (numbers old new : List ℕ) → row ≡ rows loc → numbers ≡ v.live → ((k : ℕ) → k < length numbers → slice_index new k ≡ max (slice_index old k) (row_time row (slice_index numbers k) k))
-    → (level : ℕ) → level < depth (content_of rows v limit) → slice_index new level ≡ max (slice_index old level) (time_at (content_of rows v limit) level loc)
-raised_by_location rows v limit loc row numbers old new here same each level h =
+-- the time of a location's row at a live level
+pub time_here : (rows : ℕ → Row) (v : Numbers) (limit loc : ℕ) (row : Row) (numbers : List ℕ) → row ≡ rows loc → numbers ≡ v.live → (level : ℕ) → level < depth (content_of rows v limit) → row_time row (slice_index numbers level) level ≡ time_at (content_of rows v limit) level loc
+time_here rows v limit loc row numbers here same level h =
     let live : level < length v.live = omega (arith, depth_counted rows v limit) in
-    let inside : level < length numbers = omega (arith, ap length same) in
-    let time : row_time row (slice_index numbers level) level ≡ time_at (content_of rows v limit) level loc = (λ i. row_time (here i) (slice_index (same i) level) level) ∙ sym (time_at_row rows v limit level loc live) in
-    each level inside ∙ ap (λ t. max (slice_index old level) t) time
+    (λ i. row_time (here i) (slice_index (same i) level) level) ∙ sym (time_at_row rows v limit level loc live)
 
--- the times of an operation by the rows of its operands
-pub after_by_rows : (rows : ℕ → Row) (v : Numbers) (limit left right latency : ℕ) (left_row right_row : Row) (numbers current new : List ℕ) → left_row ≡ rows left → right_row ≡ rows right → numbers ≡ v.live → ((k : ℕ) → k < length numbers → slice_index new k ≡ time_after (row_time left_row (slice_index numbers k) k) (row_time right_row (slice_index numbers k) k) (slice_index current k) latency)
-    → (level : ℕ) → level < depth (content_of rows v limit) → slice_index new level ≡ time_after (time_at (content_of rows v limit) level left) (time_at (content_of rows v limit) level right) (slice_index current level) latency
-after_by_rows rows v limit left right latency left_row right_row numbers current new here there same each level h =
-    let live : level < length v.live = omega (arith, depth_counted rows v limit) in
-    let inside : level < length numbers = omega (arith, ap length same) in
-    let first : row_time left_row (slice_index numbers level) level ≡ time_at (content_of rows v limit) level left = (λ i. row_time (here i) (slice_index (same i) level) level) ∙ sym (time_at_row rows v limit level left live) in
-    let second : row_time right_row (slice_index numbers level) level ≡ time_at (content_of rows v limit) level right = (λ i. row_time (there i) (slice_index (same i) level) level) ∙ sym (time_at_row rows v limit level right live) in
-    each level inside ∙ (λ i. time_after (first i) (second i) (slice_index current level) latency)
+-- times that come of a row's come of its location's
+pub by_location : (F : ℕ → ℕ → ℕ) (rows : ℕ → Row) (v : Numbers) (limit loc : ℕ) (row : Row) (numbers new : List ℕ) → row ≡ rows loc → numbers ≡ v.live → ((k : ℕ) → k < length numbers → slice_index new k ≡ F k (row_time row (slice_index numbers k) k))
+    → (level : ℕ) → level < depth (content_of rows v limit) → slice_index new level ≡ F level (time_at (content_of rows v limit) level loc)
+by_location F rows v limit loc row numbers new here same each level h =
+    let inside : level < length numbers = omega (arith, depth_counted rows v limit, ap (λ ns. length ns) same) in
+    each level inside ∙ ap (λ t. F level t) (time_here rows v limit loc row numbers here same level h)
+
+-- times that come of two rows' come of their locations'
+pub by_locations : (F : ℕ → ℕ → ℕ → ℕ) (rows : ℕ → Row) (v : Numbers) (limit left right : ℕ) (left_row right_row : Row) (numbers new : List ℕ) → left_row ≡ rows left → right_row ≡ rows right → numbers ≡ v.live → ((k : ℕ) → k < length numbers → slice_index new k ≡ F k (row_time left_row (slice_index numbers k) k) (row_time right_row (slice_index numbers k) k))
+    → (level : ℕ) → level < depth (content_of rows v limit) → slice_index new level ≡ F level (time_at (content_of rows v limit) level left) (time_at (content_of rows v limit) level right)
+by_locations F rows v limit left right left_row right_row numbers new here there same each level h =
+    let inside : level < length numbers = omega (arith, depth_counted rows v limit, ap (λ ns. length ns) same) in
+    let first = time_here rows v limit left left_row numbers here same level h in
+    let second = time_here rows v limit right right_row numbers there same level h in
+    each level inside ∙ (λ i. F level (first i) (second i))
+
+-- a location whose row has these times at all live levels
+pub content-set : (rows others : ℕ → Row) (v : Numbers) (limit loc : ℕ) (f : ℕ → ℕ) → ((at : ℕ) → at ≢ loc → others at ≡ rows at) → ((k : ℕ) → k < length v.live → row_time (others loc) (slice_index v.live k) k ≡ f k) → content_of others v limit ≡ written_by loc f (content_of rows v limit)
+content-set rows others v limit loc f rest each =
+    let n = depth (content_of rows v limit) in
+    let counted : n ≡ length v.live = depth_counted rows v limit in
+    let times = at_levels n f in
+    λ i. record { levels = levels-set rows others loc times v.live rest (λ k lt. each k lt ∙ sym (get_or-at_levels n f k (omega (arith, counted)))) (length-at_levels n f ∙ counted) i; entries = v.given; limit = limit }
+
+-- a location that got another's row
+pub content-passed : (rows others : ℕ → Row) (v : Numbers) (limit from to : ℕ) → ((at : ℕ) → at ≢ to → others at ≡ rows at) → others to ≡ rows from → content_of others v limit ≡ written_by to (λ level. time_at (content_of rows v limit) level from) (content_of rows v limit)
+content-passed rows others v limit from to rest here =
+    content-set rows others v limit to (λ level. time_at (content_of rows v limit) level from) rest (λ k lt. ap (λ r. row_time r (slice_index v.live k) k) here ∙ sym (time_at_row rows v limit k from lt))
+
+-- a location that was given these times and the last number's stamp
+pub content-stamped : (rows others : ℕ → Row) (v : Numbers) (limit loc : ℕ) (f : ℕ → ℕ) → WereGiven v.given v.live → ((at : ℕ) → at ≢ loc → others at ≡ rows at) → (others loc).stamp ≡ v.given → ((k : ℕ) → k < length v.live → slice_index (others loc).times k ≡ f k) → content_of others v limit ≡ written_by loc f (content_of rows v limit)
+content-stamped rows others v limit loc f given rest stamp each =
+    content-set rows others v limit loc f rest (λ k lt. row_time_since (others loc) (slice_index v.live k) k (let most : slice_index v.live k ≤ v.given = given_at v.given v.live given k lt in omega (arith, stamp)) ∙ each k lt)

@@ -1,5 +1,5 @@
 -- What the calls make of rows, and what that is of the maps that they stand for.
-use Rattle.std.proofs.Common.{◌≡◌, ℕ, ◌+◌, ◌-◌, ◌<◌, ◌≤◌, ◌≢◌, ⊎_elim, subst, zero, suc, List, [], ◌∷◌, ◌++◌, length, take, map, replicate, get_or, set, get_or-set_same, get_or-set_other, cond, Bool, true, false, nat_le, refl, ap, sym, ◌∙◌, arith}
+use Rattle.std.proofs.Common.{◌≡◌, ℕ, ◌+◌, ◌-◌, ◌<◌, ◌≤◌, ◌≢◌, ⊎_elim, subst, zero, suc, List, [], ◌∷◌, ◌++◌, length, take, map, replicate, get_or, set, get_or-set_same, get_or-set_other, cond, Bool, true, false, nat_le, nat_lt, refl, ap, sym, ◌∙◌, arith}
 use Rattle.std.specs.Prelude.{slice_index}
 use Rattle.std.proofs.lemmas.Bool.Decides.{nat_tests}
 use Rattle.std.proofs.lemmas.Bool.{cases_eq, cases_lt}
@@ -24,6 +24,12 @@ WereGiven-take given zero ns h = tt
 WereGiven-take given (suc k) [] h = tt
 WereGiven-take given (suc k) (n ∷ ns) h = (h.0, h.1, WereGiven-take given k ns h.2)
 
+-- the number of each level was given
+pub given_at : (given : ℕ) (ns : List ℕ) → WereGiven given ns → (k : ℕ) → k < length ns → get_or ns k 0 ≤ given
+given_at given [] h k lt = absurd (omega arith)
+given_at given (n ∷ ns) h zero lt = h.1
+given_at given (n ∷ ns) h (suc k) lt = given_at given ns h.2 k (omega arith)
+
 -- the number of the next instance after those that were given
 pub WereGiven-next : (given : ℕ) (ns : List ℕ) → WereGiven given ns → WereGiven (given + 1) (ns ++ (given + 1) ∷ [])
 WereGiven-next given ns h = WereGiven-append (given + 1) ns (given + 1) (WereGiven-later given (given + 1) ns (omega arith) h) (omega arith) (omega arith)
@@ -37,7 +43,7 @@ AreRising-take low zero ns h = tt
 AreRising-take low (suc k) [] h = tt
 AreRising-take low (suc k) (n ∷ ns) h = (h.0, AreRising-take n k ns h.1)
 
-above_low : (low : ℕ) (ns : List ℕ) → AreRising low ns → (k : ℕ) → k < length ns → low < get_or ns k 0
+pub above_low : (low : ℕ) (ns : List ℕ) → AreRising low ns → (k : ℕ) → k < length ns → low < get_or ns k 0
 above_low low [] h k lt = absurd (omega arith)
 above_low low (n ∷ ns) h zero lt = h.0
 above_low low (n ∷ ns) h (suc k) lt = let more : n < get_or ns k 0 = above_low n ns h.1 k (omega arith) in omega (arith, h.0)
@@ -50,14 +56,20 @@ rising_to low (n ∷ ns) h zero (suc k) le lt = let more : n < get_or ns k 0 = a
 rising_to low (n ∷ ns) h (suc i) zero le lt = absurd (omega arith)
 rising_to low (n ∷ ns) h (suc i) (suc k) le lt = rising_to n ns h.1 i k (omega arith) (omega arith)
 
-at_most : (n stamp : ℕ) → nat_le n stamp ≡ true → n ≤ stamp
-at_most n stamp h = grind (arith, nat_tests)
+-- what is live at a level is live at each outer one
+pub up_to : (ns : List ℕ) (stamp live : ℕ) → AreRising 0 ns → get_or ns (live - 1) 0 ≤ stamp → live ≤ length ns → (k : ℕ) → k < live → get_or ns k 0 ≤ stamp
+up_to ns stamp live rising last few k lt =
+    let up : get_or ns k 0 ≤ get_or ns (live - 1) 0 = rising_to 0 ns rising k (live - 1) (omega arith) (omega arith) in
+    omega arith
 
--- where the innermost level's instance began no later than a stamp was given, none did
-pub since_last : (ns : List ℕ) (stamp : ℕ) → AreRising 0 ns → nat_le (get_or ns (length ns - 1) 0) stamp ≡ true → (k : ℕ) → k < length ns → get_or ns k 0 ≤ stamp
-since_last ns stamp rising h k lt =
-    let up : get_or ns k 0 ≤ get_or ns (length ns - 1) 0 = rising_to 0 ns rising k (length ns - 1) (omega arith) (omega arith) in
-    let last : get_or ns (length ns - 1) 0 ≤ stamp = at_most (get_or ns (length ns - 1) 0) stamp h in
+is_below : (a b : ℕ) → nat_lt a b ≡ true → a < b
+is_below a b h = grind (arith, nat_tests)
+
+-- what is gone at the outermost level is gone at each
+pub from_first : (ns : List ℕ) (stamp : ℕ) → AreRising 0 ns → nat_lt stamp (get_or ns 0 0) ≡ true → (k : ℕ) → k < length ns → stamp < get_or ns k 0
+from_first ns stamp rising first k lt =
+    let up : get_or ns 0 0 ≤ get_or ns k 0 = rising_to 0 ns rising 0 k (omega arith) lt in
+    let low : stamp < get_or ns 0 0 = is_below stamp (get_or ns 0 0) first in
     omega arith
 
 pub WereStamped-later : (given later : ℕ) (rows : List Row) → given ≤ later → WereStamped given rows → WereStamped later rows
@@ -153,6 +165,35 @@ levels-written-from rows others loc given k (t ∷ ts) (n ∷ ns) stamp rest eac
 pub levels-written : (rows others : ℕ → Row) (loc given : ℕ) (times live : List ℕ) → IsWritten rows others loc given times → WereGiven given live → length times ≡ length live → levels_of others live ≡ set_times loc times (levels_of rows live)
 levels-written rows others loc given times live w given_all same =
     levels-written-from rows others loc given 0 times live w.stamp w.rest (λ i h. ap (λ j. slice_index (others loc).times j) (omega arith) ∙ w.each i h) given_all same
+
+-- one map after a location got a time
+with_time_set : (rows others : ℕ → Row) (loc n j t : ℕ) → row_time (others loc) n j ≡ t → ((at : ℕ) → at ≢ loc → others at ≡ rows at) → (at : ℕ) → row_time (others at) n j ≡ with_time loc t (λ l. row_time (rows l) n j) at
+with_time_set rows others loc n j t time rest at =
+    let m : ℕ → ℕ = λ l. row_time (rows l) n j in
+    let P : ℕ → Type 0 = λ x. row_time (others x) n j ≡ with_time loc t m x in
+    ⊎_elim
+    (λ (e : at ≡ loc). subst P (sym e) (time ∙ sym (with_time_here loc t m)))
+    (λ (ne : at ≢ loc). ap (λ r. row_time r n j) (rest at ne) ∙ sym (with_time_there loc t m at ne))
+    (cases_eq at loc)
+
+-- the maps after a location got times, from the place k on
+levels-set-from : (rows others : ℕ → Row) (loc k : ℕ) (times live : List ℕ) → ((at : ℕ) → at ≢ loc → others at ≡ rows at) → ((i : ℕ) → i < length live → row_time (others loc) (slice_index live i) (k + i) ≡ slice_index times i) → length times ≡ length live
+    → with_places (λ n j at. row_time (others at) n j) k live ≡ set_times loc times (with_places (λ n j at. row_time (rows at) n j) k live)
+levels-set-from rows others loc k [] [] rest each same = refl
+levels-set-from rows others loc k [] (n ∷ ns) rest each same = absurd (omega arith)
+levels-set-from rows others loc k (t ∷ ts) [] rest each same = absurd (omega arith)
+levels-set-from rows others loc k (t ∷ ts) (n ∷ ns) rest each same =
+    let zero_more : k ≡ k + 0 = omega arith in
+    let here : row_time (others loc) n k ≡ t = ap (λ j. row_time (others loc) n j) zero_more ∙ each 0 (omega arith) in
+    let later : (i : ℕ) → i < length ns → row_time (others loc) (slice_index ns i) (k + 1 + i) ≡ slice_index ts i = λ i h.
+    let more : k + 1 + i ≡ k + suc i = omega arith in ap (λ j. row_time (others loc) (slice_index ns i) j) more ∙ each (suc i) (omega arith) in
+    let fewer : length ts ≡ length ns = omega arith in
+    λ i. (λ at. with_time_set rows others loc n k t here rest at i) ∷ levels-set-from rows others loc (k + 1) ts ns rest later fewer i
+
+-- a location that got these times at all live levels
+pub levels-set : (rows others : ℕ → Row) (loc : ℕ) (times live : List ℕ) → ((at : ℕ) → at ≢ loc → others at ≡ rows at) → ((i : ℕ) → i < length live → row_time (others loc) (slice_index live i) i ≡ slice_index times i) → length times ≡ length live → levels_of others live ≡ set_times loc times (levels_of rows live)
+levels-set rows others loc times live rest each same =
+    levels-set-from rows others loc 0 times live rest (λ i h. ap (λ j. row_time (others loc) (slice_index live i) j) (omega arith) ∙ each i h) same
 
 -- rows of which some have the stamp 0, and the others are as before
 pub record IsCleared (rows others : ℕ → Row) (first count : ℕ) : Type 0 where

@@ -1,6 +1,6 @@
--- For contracts between crates: nobody has to believe it.
+-- Believed with a public law.
 -- *Shadow content*: what is seen of a shadow, and what each call makes of it.
-use Rattle.std.specs.Prelude.{ℕ, ◌+◌, ◌-◌, ◌%◌, ◌^◌, ◌==◌, ◌&&◌, max, nat_lt, nat_le, if◌then◌else◌, List, [], ◌∷◌, ◌++◌, length, take, map, slice_index_or}
+use Rattle.std.specs.Prelude.{ℕ, zero, suc, ◌+◌, ◌-◌, ◌%◌, ◌^◌, ◌==◌, ◌&&◌, max, nat_lt, nat_le, if◌then◌else◌, List, [], ◌∷◌, ◌++◌, length, take, map, slice_index, slice_index_or}
 
 -- a list with one finite map from location to time for each live level, outermost first (an absent location has
 -- time 0); how many levels were entered so far; and the limit below which every location lies
@@ -55,3 +55,25 @@ cleared first count c = record c { levels = map (without first count) c.levels }
 -- modulo 2^64
 abbrev pub time_after : ℕ → ℕ → ℕ → ℕ → ℕ
 time_after left right control latency = (max (max left right) control + latency) % 2 ^ 64
+
+-- what f gives for each of the n outermost levels
+unfoldable pub at_levels : ℕ → (ℕ → ℕ) → List ℕ
+at_levels zero f = []
+at_levels (suc n) f = f 0 ∷ at_levels n (λ k. f (k + 1))
+
+-- the time of an operation at a level, where what it waits for has these times: that time, and the latency more,
+-- modulo 2^64
+abbrev pub after_none : List ℕ → ℕ → ℕ → ℕ
+after_none before latency level = (slice_index before level + latency) % 2 ^ 64
+
+-- the same, with a location as an operand
+abbrev pub after_one : Content → ℕ → List ℕ → ℕ → ℕ → ℕ
+after_one c from before latency level = (max (time_at c level from) (slice_index before level) + latency) % 2 ^ 64
+
+-- the same, with two locations as operands
+abbrev pub after_two : Content → ℕ → ℕ → List ℕ → ℕ → ℕ → ℕ
+after_two c left right before latency level = time_after (time_at c level left) (time_at c level right) (slice_index before level) latency
+
+-- the location is set to the time of each level that f gives
+abbrev pub written_by : ℕ → (ℕ → ℕ) → Content → Content
+written_by loc f c = written loc (at_levels (length c.levels) f) c

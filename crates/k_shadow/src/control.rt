@@ -1,9 +1,8 @@
 //! The control stack: the entry on which the operations depend now, and the entries that were saved.
-ghost use Rattle.std.specs.Prelude.{◌≡◌, ℕ, ◌+◌, ◌*◌, ◌-◌, ◌^◌, ◌<◌, ◌≤◌, [], ◌∷◌, ◌++◌, true, length, take, slice_index, OnOk, OnErr};
-ghost use Rattle.k_shadow.specs.Numbers.{AreRising};
+ghost use Rattle.std.specs.Prelude.{◌≡◌, ◌+◌, ◌-◌, ◌^◌, ◌<◌, ◌≤◌, [], ◌∷◌, ◌++◌, true, length, take, slice_index, OnOk, OnErr};
 ghost use Rattle.k_shadow.specs.Stack.{IsNew, level_entered, level_left};
 
-use crate::row::{copy_times, time_since};
+use crate::lists::{copy_times, copy_to};
 use crate::{Row, Steps, Times, Versions};
 use k_num::NoMemory;
 use std::alloc::Global;
@@ -35,9 +34,6 @@ impl Model for Control {
 }
 
 impl Control {
-    ghost use Rattle.k_shadow.specs.Content.{time_after};
-    ghost use Rattle.k_shadow.specs.Rows.{row_time};
-
     /// No entry is saved, no level is live, and the current entry reads 0 at every level to come.
     pub fn new(alloc: Global) -> Control
         ensures { IsNew result }
@@ -100,7 +96,16 @@ impl Control {
         requires { length times.now ≡ length self.old.current }
         ensures current { self.new ≡ record self.old { current = times.now } }
     {
-        copy_times(&mut self.current, times.as_slice());
+        self.put(times.as_slice());
+    }
+
+    /// `under` from the slice that is filled for each operation.
+    #[inline]
+    pub fn put(&mut self, times: &[u64])
+        requires { length times.now ≡ length self.old.current }
+        ensures current { self.new ≡ record self.old { current = times.now } }
+    {
+        copy_times(&mut self.current, times);
     }
 
     /// Drops the newest saved entry.
@@ -120,6 +125,7 @@ impl Control {
     pub fn back(&mut self)
         requires { 0 < length self.old.saved }
         ensures saved { self.old.saved ≡ self.new.saved ++ self.new.current ∷ [] }
+        ensures levels { length self.new.current ≡ length self.old.current }
         ensures entries { self.new.entries ≡ self.old.entries }
         ensures room { self.old.room ≡ true → self.new.room ≡ true }
     {
@@ -147,6 +153,18 @@ impl Control {
         current[level]
     }
 
+    /// The current entry's times, in one step a level: `time` at every live level.
+    #[inline]
+    pub fn times<L: Ledger>(&self, steps: &mut Steps<L>) -> &[u64]
+        ensures times { result.now ≡ self.now.current }
+        ensures few { length result.now ≤ 32 }
+        ensures steps { steps.new ≡ steps.old + length self.now.current }
+    {
+        let times = &self.current[..self.versions.depth()];
+        steps.tick_each(times);
+        times
+    }
+
     /// Fills the list with the current entry's times, in one step a level: `time` at every live level.
     #[inline]
     pub fn fill<L: Ledger>(&self, times: &mut [u64], steps: &mut Steps<L>)
@@ -154,96 +172,6 @@ impl Control {
         ensures filled { times.new ≡ self.now.current }
         ensures steps { steps.new ≡ steps.old + length self.now.current }
     {
-        for level in 0..times.len() {
-            times[level] = self.time(level, steps);
-        }
+        copy_to(times, self.times(steps));
     }
-
-    /// Fills the list with the times of an operation with two operands, whose rows these are: at each live level the
-    /// latest of the two rows' times and the current entry's, and the latency more, modulo 2^64, in three steps a level.
-    /// The rows' levels have instances of these numbers.
-    #[inline]
-    pub fn times_after<L: Ledger>(
-        &self,
-        left: &Row,
-        right: &Row,
-        numbers: &[u64],
-        latency: u64,
-        times: &mut [u64],
-        steps: &mut Steps<L>,
-    )
-        requires few { length numbers.now ≤ 32 }
-        requires each { length times.old ≡ length numbers.now }
-        requires rising { AreRising 0 numbers.now }
-        requires live { length self.now.current ≡ length numbers.now }
-        ensures times { (k : ℕ) → k < length numbers.now → slice_index times.new k ≡ time_after (row_time left.now (slice_index numbers.now k) k) (row_time right.now (slice_index numbers.now k) k) (slice_index self.now.current k) latency }
-        ensures steps { steps.new ≡ steps.old + 3 * length numbers.now }
-    {
-        if are_since(numbers, left.stamp) && are_since(numbers, right.stamp) {
-            self.after_all(left, right, latency, times, steps);
-        } else {
-            self.after_each(left, right, numbers, latency, times, steps);
-        }
-    }
-
-    /// `times_after` where the rows' times are live at all levels.
-    #[inline]
-    fn after_all<L: Ledger>(
-        &self,
-        left: &Row,
-        right: &Row,
-        latency: u64,
-        times: &mut [u64],
-        steps: &mut Steps<L>,
-    )
-        requires few { length times.old ≤ 32 }
-        requires live { length self.now.current ≡ length times.old }
-        ensures times { (k : ℕ) → k < length times.old → slice_index times.new k ≡ time_after (slice_index left.now.times k) (slice_index right.now.times k) (slice_index self.now.current k) latency }
-        ensures steps { steps.new ≡ steps.old + 3 * length times.old }
-    {
-        for level in 0..times.len() {
-            steps.tick();
-            steps.tick();
-            let latest = left.times[level].max(right.times[level]);
-            times[level] = latest.max(self.time(level, steps)).wrapping_add(latency);
-        }
-    }
-
-    /// `times_after` where each level is looked at.
-    fn after_each<L: Ledger>(
-        &self,
-        left: &Row,
-        right: &Row,
-        numbers: &[u64],
-        latency: u64,
-        times: &mut [u64],
-        steps: &mut Steps<L>,
-    )
-        requires few { length numbers.now ≤ 32 }
-        requires each { length times.old ≡ length numbers.now }
-        requires live { length self.now.current ≡ length numbers.now }
-        ensures times { (k : ℕ) → k < length numbers.now → slice_index times.new k ≡ time_after (row_time left.now (slice_index numbers.now k) k) (row_time right.now (slice_index numbers.now k) k) (slice_index self.now.current k) latency }
-        ensures steps { steps.new ≡ steps.old + 3 * length numbers.now }
-    {
-        let (left_stamp, right_stamp) = (left.stamp, right.stamp);
-        for (level, number) in numbers.iter().enumerate() {
-            let before = time_since(*number, left_stamp, left.times[level], steps);
-            let beside = time_since(*number, right_stamp, right.times[level], steps);
-            let under = self.time(level, steps);
-            times[level] = before.max(beside).max(under).wrapping_add(latency);
-        }
-    }
-}
-
-/// Tells whether no level's instance began after that stamp was given: the innermost one did not, and it began last.
-#[inline]
-#[tactic(auto, using(crate::proofs::Rows::since_last))]
-fn are_since(numbers: &[u64], stamp: u64) -> bool
-    requires { AreRising 0 numbers.now }
-    ensures { result ≡ true → (k : ℕ) → k < length numbers.now → slice_index numbers.now k ≤ stamp }
-{
-    if numbers.is_empty() {
-        return true;
-    }
-    numbers[numbers.len() - 1] <= stamp
 }

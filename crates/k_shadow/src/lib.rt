@@ -2,8 +2,10 @@
 //! whose entries have one time for each live level too.
 #![tactic(auto)]
 
+mod cell;
 mod control;
 mod level_maps;
+mod lists;
 mod maps;
 mod row;
 mod shadow;
@@ -11,8 +13,10 @@ mod steps;
 mod times;
 mod versions;
 
+pub use cell::Cell;
 pub use control::Control;
 pub use level_maps::LevelMaps;
+pub use lists::{advance, live_levels, raise_each, times_after};
 pub use row::Row;
 pub use shadow::Shadow;
 pub use steps::Steps;

@@ -1,7 +1,10 @@
 //! One location's times, with one stamp.
-ghost use Rattle.std.specs.Prelude.{◌≡◌, ◌+◌, ◌<◌, ◌≤◌, ℕ, length, max, slice_index, nat_le, if◌then◌else◌, option_copied, unwrap_or};
+ghost use Rattle.std.specs.Prelude.{◌≡◌, ◌+◌, ◌*◌, ◌%◌, ◌^◌, ◌<◌, ◌≤◌, ℕ, length, max, slice_index, nat_le, if◌then◌else◌, option_copied, unwrap_or};
+ghost use Rattle.k_shadow.specs.Content.{time_after};
+ghost use Rattle.k_shadow.specs.Numbers.{AreRising};
 
 use crate::Steps;
+use crate::lists::{advance, copy_behind, copy_times, live_levels};
 use std::sync::ledger::Ledger;
 
 /// The times of one location, one for each level, and the number of the last entry into a level before they were
@@ -58,14 +61,90 @@ impl Row {
     pub fn raise<L: Ledger>(&self, numbers: &[u64], times: &mut [u64], steps: &mut Steps<L>)
         requires few { length numbers.now ≤ 32 }
         requires each { length times.old ≡ length numbers.now }
+        requires rising { AreRising 0 numbers.now }
         ensures raised { (k : ℕ) → k < length numbers.now → slice_index times.new k ≡ max (slice_index times.old k) (row_time self.now (slice_index numbers.now k) k) }
         ensures steps { steps.new ≡ steps.old + length numbers.now }
     {
-        let stamp = self.stamp;
-        for (level, number) in numbers.iter().enumerate() {
-            let time = time_since(*number, stamp, self.times[level], steps);
-            times[level] = times[level].max(time);
+        steps.tick_each(numbers);
+        for level in 0..live_levels(numbers, self.stamp) {
+            times[level] = times[level].max(self.times[level]);
         }
+    }
+
+    /// Fills the list with the later of two times at each level, `before`'s and the row's, in one step a level. The
+    /// levels' instances have these numbers.
+    #[inline]
+    pub fn latest<L: Ledger>(
+        &self,
+        numbers: &[u64],
+        before: &[u64],
+        times: &mut [u64],
+        steps: &mut Steps<L>,
+    )
+        requires few { length numbers.now ≤ 32 }
+        requires each { length before.now ≡ length numbers.now }
+        requires times { length times.old ≡ length numbers.now }
+        requires rising { AreRising 0 numbers.now }
+        ensures times { (k : ℕ) → k < length numbers.now → slice_index times.new k ≡ max (row_time self.now (slice_index numbers.now k) k) (slice_index before.now k) }
+        ensures steps { steps.new ≡ steps.old + length numbers.now }
+    {
+        steps.tick_each(numbers);
+        let live = live_levels(numbers, self.stamp);
+        for level in 0..live {
+            times[level] = self.times[level].max(before[level]);
+        }
+        copy_behind(live, before, times);
+    }
+
+    /// Fills the list with the times of an operation that waits for these times and for the row's: at each level the
+    /// later, and the latency more, modulo 2^64, in one step a level. Raises each level's path to them.
+    #[inline]
+    pub fn times_after<L: Ledger>(
+        &self,
+        numbers: &[u64],
+        before: &[u64],
+        latency: u64,
+        times: &mut [u64],
+        paths: &mut [u64],
+        steps: &mut Steps<L>,
+    )
+        requires few { length numbers.now ≤ 32 }
+        requires each { length before.now ≡ length numbers.now }
+        requires times { length times.old ≡ length numbers.now }
+        requires paths { length paths.old ≡ length numbers.now }
+        requires rising { AreRising 0 numbers.now }
+        ensures times { (k : ℕ) → k < length numbers.now → slice_index times.new k ≡ (max (row_time self.now (slice_index numbers.now k) k) (slice_index before.now k) + latency) % 2 ^ 64 }
+        ensures paths { (k : ℕ) → k < length numbers.now → slice_index paths.new k ≡ max (slice_index paths.old k) ((max (row_time self.now (slice_index numbers.now k) k) (slice_index before.now k) + latency) % 2 ^ 64) }
+        ensures steps { steps.new ≡ steps.old + length numbers.now }
+    {
+        self.latest(numbers, before, times, steps);
+        advance(times, latency, paths);
+    }
+
+    /// `times_after` with two rows, in two steps a level.
+    #[inline]
+    pub fn times_after_both<L: Ledger>(
+        &self,
+        other: &Row,
+        numbers: &[u64],
+        before: &[u64],
+        latency: u64,
+        times: &mut [u64],
+        paths: &mut [u64],
+        steps: &mut Steps<L>,
+    )
+        requires few { length numbers.now ≤ 32 }
+        requires each { length before.now ≡ length numbers.now }
+        requires times { length times.old ≡ length numbers.now }
+        requires paths { length paths.old ≡ length numbers.now }
+        requires rising { AreRising 0 numbers.now }
+        ensures times { (k : ℕ) → k < length numbers.now → slice_index times.new k ≡ time_after (row_time self.now (slice_index numbers.now k) k) (row_time other.now (slice_index numbers.now k) k) (slice_index before.now k) latency }
+        ensures paths { (k : ℕ) → k < length numbers.now → slice_index paths.new k ≡ max (slice_index paths.old k) (time_after (row_time self.now (slice_index numbers.now k) k) (row_time other.now (slice_index numbers.now k) k) (slice_index before.now k) latency) }
+        ensures steps { steps.new ≡ steps.old + 2 * length numbers.now }
+    {
+        self.latest(numbers, before, times, steps);
+        other.raise(numbers, times, steps);
+        advance(times, latency, paths);
     }
 
     /// Copies the row's times to the front of a list. The levels' instances have these numbers.
@@ -97,24 +176,3 @@ static BLANK: Row = Row {
     stamp: 0,
     times: [0; 32],
 };
-
-/// A time that was written when that stamp was given, and 0 where the instance of that number began later, in one step.
-#[inline]
-pub fn time_since<L: Ledger>(number: u64, stamp: u64, time: u64, steps: &mut Steps<L>) -> u64
-    ensures time { result ≡ (if nat_le number stamp then time else 0) }
-    ensures step { steps.new ≡ steps.old + 1 }
-{
-    steps.tick();
-    if number <= stamp { time } else { 0 }
-}
-
-/// Copies times to the front of a list.
-#[inline]
-pub fn copy_times(to: &mut [u64; 32], from: &[u64])
-    requires { length from.now ≤ 32 }
-    ensures { (k : ℕ) → k < length from.now → slice_index to.new k ≡ slice_index from.now k }
-{
-    for (level, time) in from.iter().enumerate() {
-        to[level] = *time;
-    }
-}

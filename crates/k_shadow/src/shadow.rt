@@ -1,8 +1,9 @@
 //! The contract of shadow storage.
 ghost use Rattle.std.specs.Prelude.{◌≡◌, ℕ, ◌+◌, ◌*◌, ◌^◌, ◌<◌, ◌≤◌, length, max, slice_index, OnOk};
-ghost use Rattle.k_shadow.specs.Content.{Content, depth, time_at, time_after, entered, left, written, cleared};
+ghost use Rattle.k_shadow.specs.Content.{Content, depth, time_at, after_none, after_one, after_two, entered, left, written, written_by, cleared};
 
-use crate::{Control, Steps, Times};
+use crate::lists::no_times;
+use crate::{Steps, Times, raise_each, times_after};
 use k_num::NoMemory;
 use std::sync::ledger::Ledger;
 
@@ -61,31 +62,169 @@ pub trait Shadow: Drop {
         }
     }
 
-    /// Fills the list with the times of an operation with two operands: at each live level the latest of the two
-    /// locations' times and the control entry's, and the latency more, modulo 2^64. It takes three steps a level: `read`
-    /// of each location and `Control::time` at every live level, for which each location is looked up once.
-    fn times_after<L: Ledger>(
+    /// Fills the list with the later of two times at each level, `before`'s and the location's, in one step a level.
+    fn latest<L: Ledger>(&self, loc: u32, before: &[u64], times: &mut [u64], steps: &mut Steps<L>)
+        requires below { loc < (content self.now).limit }
+        requires each { length before.now ≡ depth (content self.now) }
+        requires times { length times.old ≡ depth (content self.now) }
+        ensures times { (level : ℕ) → level < depth (content self.now) → slice_index times.new level ≡ max (time_at (content self.now) level loc) (slice_index before.now level) }
+        ensures steps { steps.new ≡ steps.old + depth (content self.now) }
+    {
+        for level in 0..times.len() {
+            times[level] = self.read(loc, level, steps).max(before[level]);
+        }
+    }
+
+    /// Fills the list with the times of an operation that waits for these times and for a location's: at each live level
+    /// the later, and the latency more, modulo 2^64, in one step a level. Raises each level's path to them.
+    fn times_after_one<L: Ledger>(
+        &self,
+        from: u32,
+        before: &[u64],
+        latency: u64,
+        times: &mut [u64],
+        paths: &mut [u64],
+        steps: &mut Steps<L>,
+    )
+        requires below { from < (content self.now).limit }
+        requires each { length before.now ≡ depth (content self.now) }
+        requires times { length times.old ≡ depth (content self.now) }
+        requires paths { length paths.old ≡ depth (content self.now) }
+        ensures times { (level : ℕ) → level < depth (content self.now) → slice_index times.new level ≡ after_one (content self.now) from before.now latency level }
+        ensures paths { (level : ℕ) → level < depth (content self.now) → slice_index paths.new level ≡ max (slice_index paths.old level) (after_one (content self.now) from before.now latency level) }
+        ensures steps { steps.new ≡ steps.old + depth (content self.now) }
+    {
+        for level in 0..times.len() {
+            let time = self
+                .read(from, level, steps)
+                .max(before[level])
+                .wrapping_add(latency);
+            times[level] = time;
+            paths[level] = paths[level].max(time);
+        }
+    }
+
+    /// `times_after_one` with two locations, in two steps a level.
+    fn times_after_two<L: Ledger>(
         &self,
         left: u32,
         right: u32,
-        control: &Control,
+        before: &[u64],
         latency: u64,
         times: &mut [u64],
+        paths: &mut [u64],
         steps: &mut Steps<L>,
     )
         requires left { left < (content self.now).limit }
         requires right { right < (content self.now).limit }
-        requires each { length times.old ≡ depth (content self.now) }
-        requires control { length control.now.current ≡ depth (content self.now) }
-        ensures times { (level : ℕ) → level < depth (content self.now) → slice_index times.new level ≡ time_after (time_at (content self.now) level left) (time_at (content self.now) level right) (slice_index control.now.current level) latency }
-        ensures steps { steps.new ≡ steps.old + 3 * depth (content self.now) }
+        requires each { length before.now ≡ depth (content self.now) }
+        requires times { length times.old ≡ depth (content self.now) }
+        requires paths { length paths.old ≡ depth (content self.now) }
+        ensures times { (level : ℕ) → level < depth (content self.now) → slice_index times.new level ≡ after_two (content self.now) left right before.now latency level }
+        ensures paths { (level : ℕ) → level < depth (content self.now) → slice_index paths.new level ≡ max (slice_index paths.old level) (after_two (content self.now) left right before.now latency level) }
+        ensures steps { steps.new ≡ steps.old + 2 * depth (content self.now) }
     {
         for level in 0..times.len() {
-            let latest = self
-                .read(left, level, steps)
-                .max(self.read(right, level, steps));
-            times[level] = latest.max(control.time(level, steps)).wrapping_add(latency);
+            let a = self.read(left, level, steps);
+            let b = self.read(right, level, steps);
+            let time = a.max(b).max(before[level]).wrapping_add(latency);
+            times[level] = time;
+            paths[level] = paths[level].max(time);
         }
+    }
+
+    /// Gives a location the times of an operation that waits for these times alone, and raises each level's path to
+    /// them. It takes no step.
+    fn write_after(&mut self, before: &[u64], latency: u64, to: u32, paths: &mut [u64])
+        requires below { to < (content self.old).limit }
+        requires few { length before.now ≤ 32 }
+        requires each { length before.now ≡ depth (content self.old) }
+        requires paths { length paths.old ≡ depth (content self.old) }
+        requires room { room self.old to }
+        ensures content { content self.new ≡ written_by to (after_none before.now latency) (content self.old) }
+        ensures paths { (level : ℕ) → level < depth (content self.old) → slice_index paths.new level ≡ max (slice_index paths.old level) (after_none before.now latency level) }
+        ensures kept { (at : ℕ) → room self.old at → room self.new at }
+    {
+        let mut times = no_times();
+        times_after(before, latency, &mut times[..before.len()], paths);
+        self.put(to, &times[..before.len()]);
+    }
+
+    /// Gives a location the times of `times_after_one`, and raises each level's path to them, in one step a level.
+    fn write_after_one<L: Ledger>(
+        &mut self,
+        from: u32,
+        before: &[u64],
+        latency: u64,
+        to: u32,
+        paths: &mut [u64],
+        steps: &mut Steps<L>,
+    )
+        requires from { from < (content self.old).limit }
+        requires below { to < (content self.old).limit }
+        requires few { length before.now ≤ 32 }
+        requires each { length before.now ≡ depth (content self.old) }
+        requires paths { length paths.old ≡ depth (content self.old) }
+        requires room { room self.old to }
+        ensures content { content self.new ≡ written_by to (after_one (content self.old) from before.now latency) (content self.old) }
+        ensures paths { (level : ℕ) → level < depth (content self.old) → slice_index paths.new level ≡ max (slice_index paths.old level) (after_one (content self.old) from before.now latency level) }
+        ensures steps { steps.new ≡ steps.old + depth (content self.old) }
+        ensures kept { (at : ℕ) → room self.old at → room self.new at }
+    {
+        let mut times = no_times();
+        let slots = &mut times[..before.len()];
+        self.times_after_one(from, before, latency, slots, paths, steps);
+        self.put(to, &times[..before.len()]);
+    }
+
+    /// Gives a location the times of `times_after_two`, and raises each level's path to them, in two steps a level.
+    fn write_after_two<L: Ledger>(
+        &mut self,
+        left: u32,
+        right: u32,
+        before: &[u64],
+        latency: u64,
+        to: u32,
+        paths: &mut [u64],
+        steps: &mut Steps<L>,
+    )
+        requires left { left < (content self.old).limit }
+        requires right { right < (content self.old).limit }
+        requires below { to < (content self.old).limit }
+        requires few { length before.now ≤ 32 }
+        requires each { length before.now ≡ depth (content self.old) }
+        requires paths { length paths.old ≡ depth (content self.old) }
+        requires room { room self.old to }
+        ensures content { content self.new ≡ written_by to (after_two (content self.old) left right before.now latency) (content self.old) }
+        ensures paths { (level : ℕ) → level < depth (content self.old) → slice_index paths.new level ≡ max (slice_index paths.old level) (after_two (content self.old) left right before.now latency level) }
+        ensures steps { steps.new ≡ steps.old + 2 * depth (content self.old) }
+        ensures kept { (at : ℕ) → room self.old at → room self.new at }
+    {
+        let mut times = no_times();
+        let slots = &mut times[..before.len()];
+        self.times_after_two(left, right, before, latency, slots, paths, steps);
+        self.put(to, &times[..before.len()]);
+    }
+
+    /// Gives a location another's times, as a parameter gets its argument's, and raises each of these times to them, in one
+    /// step a level.
+    fn pass<L: Ledger>(&mut self, from: u32, to: u32, times: &mut [u64], steps: &mut Steps<L>)
+        requires from { from < (content self.old).limit }
+        requires below { to < (content self.old).limit }
+        requires few { length times.old ≤ 32 }
+        requires each { length times.old ≡ depth (content self.old) }
+        requires room { room self.old to }
+        ensures content { content self.new ≡ written_by to (λ level. time_at (content self.old) level from) (content self.old) }
+        ensures raised { (level : ℕ) → level < depth (content self.old) → slice_index times.new level ≡ max (slice_index times.old level) (time_at (content self.old) level from) }
+        ensures steps { steps.new ≡ steps.old + depth (content self.old) }
+        ensures kept { (at : ℕ) → room self.old at → room self.new at }
+    {
+        let mut passed = no_times();
+        for level in 0..times.len() {
+            passed[level] = self.read(from, level, steps);
+        }
+        raise_each(times, &passed[..times.len()]);
+        self.put(to, &passed[..times.len()]);
     }
 
     /// Sets a location's time at every live level.

@@ -1,11 +1,11 @@
 //! The counter of reads.
-ghost use Rattle.std.specs.Prelude.{◌≡◌, ◌+◌, ◌<◌};
+ghost use Rattle.std.specs.Prelude.{◌≡◌, ◌+◌, ◌<◌, length};
 
 use std::marker::Model;
 use std::sync::ledger::{Blank, Book, Ledger, Share};
 
 /// How many steps were taken, a step being one read of a time. It takes no bytes at run time, and only `tick`
-/// changes it.
+/// and `tick_each` change it.
 #[derive(Drop)]
 pub struct Steps<L: Ledger> {
     book: Book<L>,
@@ -40,5 +40,13 @@ impl<L: Ledger> Steps<L> {
         ensures one { self.new ≡ self.old + 1 }
     {
         self.book.add(&mut self.share, 1);
+    }
+
+    /// Takes a step for each of these times.
+    #[inline]
+    pub fn tick_each(&mut self, times: &[u64])
+        ensures each { self.new ≡ self.old + length times.now }
+    {
+        self.book.add(&mut self.share, times.len() as u64);
     }
 }

@@ -2,15 +2,16 @@
 //! operands and of the control entry are read at each live level, and their maximum is written to one location at
 //! each live level.
 //!
-//! Words: the shadow (`maps`, `regs`, `pages` or `enter`), how its times are read (`read`, `raise` or `after`), how
-//! many locations, a power of two, how many levels, and how many operations. It prints the sum of all times at the
-//! outermost level, so that runs can be compared. Without words it runs a few operations over each of the three, in
-//! each of the three ways.
+//! Words: the shadow (`maps`, `regs`, `pages` or `enter`), how its times are read (`read`, `raise` or `after`), or `mix`
+//! for a mix of operations over registers and memory, how many locations, a power of two, how many levels, and how many
+//! operations. It prints the sum of all times at the outermost level, so that runs can be compared. Without words it
+//! runs a few operations over each of the three, in each way.
 #![tactic(auto)]
 
 ghost use Rattle.std.specs.Prelude.{◌≡◌, ◌<◌};
 
 mod draws;
+mod mix;
 mod operations;
 #[cfg(test)]
 mod tests;
@@ -19,6 +20,7 @@ mod ways;
 use k_shadow::{LevelMaps, Shadow, Steps};
 use k_spage::ShadowPages;
 use k_sreg::ShadowRegs;
+use mix::run_mix;
 use operations::{Plan, leave_and_enter, run};
 use std::alloc::Global;
 use std::marker::Brand;
@@ -84,6 +86,8 @@ enum Reading {
     ByLevel,
     ByOperand,
     AtOnce,
+    /// Not the one loop, but the mix of operations.
+    Mixed,
 }
 
 /// The way of that name.
@@ -92,6 +96,7 @@ fn reading_of(word: &str) -> Option<Reading> {
         "read" => Some(Reading::ByLevel),
         "raise" => Some(Reading::ByOperand),
         "after" => Some(Reading::AtOnce),
+        "mix" => Some(Reading::Mixed),
         _ => None,
     }
 }
@@ -126,6 +131,42 @@ fn answer<W: Way, L: Ledger>(
     }
 }
 
+/// The answer of the mix over a subject, where the registers stand in registers' rows if elements stand in pages.
+fn mixed_answer<L: Ledger>(alloc: Global, subject: Subject, plan: Plan, blank: Blank) -> Option<u64>
+    requires name { blank.name ≡ L.name }
+    requires parts { blank.parts ≡ L.parts }
+    requires some { 0 < blank.parts }
+{
+    let mut steps = Steps::<L>::new(blank);
+    match subject {
+        Subject::Maps => run_mix(
+            alloc,
+            &mut LevelMaps::new(alloc),
+            &mut LevelMaps::new(alloc),
+            plan,
+            &mut steps,
+        )
+        .ok(),
+        Subject::Registers => run_mix(
+            alloc,
+            &mut ShadowRegs::new(alloc),
+            &mut ShadowRegs::new(alloc),
+            plan,
+            &mut steps,
+        )
+        .ok(),
+        Subject::Pages => run_mix(
+            alloc,
+            &mut ShadowRegs::new(alloc),
+            &mut ShadowPages::new(alloc),
+            plan,
+            &mut steps,
+        )
+        .ok(),
+        Subject::Entering => None,
+    }
+}
+
 /// The same, in that way.
 fn answer_by<L: Ledger>(
     alloc: Global,
@@ -142,6 +183,7 @@ fn answer_by<L: Ledger>(
         Reading::ByLevel => answer::<ByLevel, L>(alloc, subject, plan, blank),
         Reading::ByOperand => answer::<ByOperand, L>(alloc, subject, plan, blank),
         Reading::AtOnce => answer::<AtOnce, L>(alloc, subject, plan, blank),
+        Reading::Mixed => mixed_answer::<L>(alloc, subject, plan, blank),
     }
 }
 
@@ -161,7 +203,12 @@ fn main(rt: HostRuntime) -> io::Result<()> {
         }
         _ => {
             for subject in [Subject::Maps, Subject::Registers, Subject::Pages] {
-                for way in [Reading::ByLevel, Reading::ByOperand, Reading::AtOnce] {
+                for way in [
+                    Reading::ByLevel,
+                    Reading::ByOperand,
+                    Reading::AtOnce,
+                    Reading::Mixed,
+                ] {
                     let sum = answer_by::<Brand>(rt.alloc(), way, subject, SMALL, Blank::new(1));
                     println!(rt; "{subject:?} {way:?} {sum:?}")?;
                 }

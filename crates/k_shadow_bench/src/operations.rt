@@ -46,19 +46,22 @@ pub fn run<W: Way, S: Shadow, L: Ledger>(
     times.resize(plan.levels);
     control.under(&times);
     let slots = times.as_mut_slice();
+    let mut paths = Times::new(alloc);
+    paths.resize(plan.levels);
+    let path_slots = paths.as_mut_slice();
     let mut draws = Draws::new();
     for _operation in 0..plan.operations {
         let left = draws.next(plan.last);
         let right = draws.next(plan.last);
         let to = draws.next(plan.last);
-        W::fill(shadow, &control, slots, left, right, steps);
+        W::fill(shadow, &control, slots, path_slots, left, right, steps);
         shadow.put(to, slots);
     }
     Ok(sum(shadow, plan.last, steps))
 }
 
 /// The sum of the times at the outermost level.
-fn sum<S: Shadow, L: Ledger>(shadow: &S, last: u32, steps: &mut Steps<L>) -> u64
+pub fn sum<S: Shadow, L: Ledger>(shadow: &S, last: u32, steps: &mut Steps<L>) -> u64
     requires below { last < (S.content shadow.now).limit }
     requires live { 0 < depth (S.content shadow.now) }
 {

@@ -24,6 +24,15 @@ enum Call {
     Write(u32, u64),
     /// `clear` of that many locations from the first on.
     Clear(u32, u32),
+    /// `reserve` of one location and `write_after` of it with a latency. An operation waits for 2 at the outermost level,
+    /// and for one less at each further one.
+    None(u32, u64),
+    /// `reserve` of one location and `write_after_one` of another's to it, with a latency.
+    One(u32, u32, u64),
+    /// `reserve` of one location and `write_after_two` of two others' to it, with a latency.
+    Two(u32, u32, u32, u64),
+    /// `reserve` of one location and `pass` of another's to it.
+    Pass(u32, u32),
 }
 
 /// The locations are below this number.
@@ -45,7 +54,12 @@ fn falling(alloc: Global, first: u64, levels: usize) -> Times
 
 /// Makes a call, where its condition holds.
 #[tactic(auto, using(k_shadow::proofs::Laws::depth_entered, k_shadow::proofs::Laws::depth_left, k_shadow::proofs::Laws::depth_written))]
-fn make<S: Shadow>(alloc: Global, shadow: &mut S, call: Call) -> Result<(), NoMemory>
+fn make<S: Shadow, L: Ledger>(
+    alloc: Global,
+    shadow: &mut S,
+    call: Call,
+    steps: &mut Steps<L>,
+) -> Result<(), NoMemory>
     requires few { (S.content shadow.old).entries < 2 ^ 62 }
     requires limit { 2097152 ≤ (S.content shadow.old).limit }
     ensures entries { (S.content shadow.new).entries ≤ (S.content shadow.old).entries + 1 }
@@ -64,6 +78,48 @@ fn make<S: Shadow>(alloc: Global, shadow: &mut S, call: Call) -> Result<(), NoMe
         }
         Call::Clear(first, count) if first < LIMIT && count <= LIMIT - first => {
             shadow.clear(first, count);
+        }
+        _ => operate(alloc, shadow, call, steps)?,
+    }
+    Ok(())
+}
+
+/// Makes a call that writes the times of an operation, where its condition holds.
+#[tactic(auto, using(k_shadow::proofs::Laws::depth_written))]
+fn operate<S: Shadow, L: Ledger>(
+    alloc: Global,
+    shadow: &mut S,
+    call: Call,
+    steps: &mut Steps<L>,
+) -> Result<(), NoMemory>
+    requires limit { 2097152 ≤ (S.content shadow.old).limit }
+    ensures entries { (S.content shadow.new).entries ≡ (S.content shadow.old).entries }
+    ensures limit { (S.content shadow.new).limit ≡ (S.content shadow.old).limit }
+{
+    let levels = shadow.depth();
+    if levels > 32 {
+        return Ok(());
+    }
+    let times = falling(alloc, 2, levels);
+    let before = times.as_slice();
+    let mut raised = falling(alloc, 0, levels);
+    let paths = raised.as_mut_slice();
+    match call {
+        Call::None(to, latency) if to < LIMIT => {
+            shadow.reserve(to, 1)?;
+            shadow.write_after(before, latency, to, paths);
+        }
+        Call::One(from, to, latency) if from < LIMIT && to < LIMIT => {
+            shadow.reserve(to, 1)?;
+            shadow.write_after_one(from, before, latency, to, paths, steps);
+        }
+        Call::Two(left, right, to, latency) if left < LIMIT && right < LIMIT && to < LIMIT => {
+            shadow.reserve(to, 1)?;
+            shadow.write_after_two(left, right, before, latency, to, paths, steps);
+        }
+        Call::Pass(from, to) if from < LIMIT && to < LIMIT => {
+            shadow.reserve(to, 1)?;
+            shadow.pass(from, to, paths, steps);
         }
         _ => {}
     }
@@ -100,10 +156,10 @@ fn play<S: Shadow, L: Ledger>(
     requires below { loc < 2097152 }
 {
     for _level in 0..case.levels {
-        make(alloc, &mut shadow, Call::Enter)?;
+        make(alloc, &mut shadow, Call::Enter, steps)?;
     }
     for call in case.calls {
-        make(alloc, &mut shadow, *call)?;
+        make(alloc, &mut shadow, *call, steps)?;
     }
     times_at(alloc, &shadow, loc, steps)
 }
@@ -116,7 +172,7 @@ struct Case {
     times: &'static [u64],
 }
 
-static CASES: [Case; 23] = [
+static CASES: [Case; 33] = [
     Case {
         levels: 0,
         calls: &[],
@@ -279,6 +335,106 @@ static CASES: [Case; 23] = [
         calls: &[Call::Write(8, 4)],
         loc: 2_097_151,
         times: &[0],
+    },
+    // Operations without an operand, and with one that was never written.
+    Case {
+        levels: 2,
+        calls: &[Call::None(4, 5)],
+        loc: 4,
+        times: &[7, 6],
+    },
+    Case {
+        levels: 2,
+        calls: &[Call::One(9, 4, 1)],
+        loc: 4,
+        times: &[3, 2],
+    },
+    // An operand that was written before the innermost level began counts at the outer level alone.
+    Case {
+        levels: 2,
+        calls: &[
+            Call::Write(1, 9),
+            Call::Leave,
+            Call::Enter,
+            Call::One(1, 4, 1),
+        ],
+        loc: 4,
+        times: &[10, 2],
+    },
+    Case {
+        levels: 2,
+        calls: &[
+            Call::Write(1, 9),
+            Call::Leave,
+            Call::Enter,
+            Call::Write(2, 5),
+            Call::Two(1, 2, 3, 4),
+        ],
+        loc: 3,
+        times: &[13, 8],
+    },
+    Case {
+        levels: 2,
+        calls: &[
+            Call::Write(1, 9),
+            Call::Leave,
+            Call::Enter,
+            Call::Write(2, 5),
+            Call::Two(2, 1, 3, 4),
+        ],
+        loc: 3,
+        times: &[13, 8],
+    },
+    // What is written may be an operand, and an operand may stand in another page.
+    Case {
+        levels: 2,
+        calls: &[
+            Call::Write(255, 9),
+            Call::Write(256, 20),
+            Call::Two(255, 256, 255, 1),
+        ],
+        loc: 255,
+        times: &[21, 20],
+    },
+    // A sum of 2^64 is 0.
+    Case {
+        levels: 2,
+        calls: &[
+            Call::Write(1, 18_446_744_073_709_551_615),
+            Call::One(1, 2, 1),
+        ],
+        loc: 2,
+        times: &[0, 18_446_744_073_709_551_615],
+    },
+    // A parameter has its argument's times, and they end with the level.
+    Case {
+        levels: 2,
+        calls: &[
+            Call::Write(1, 9),
+            Call::Leave,
+            Call::Enter,
+            Call::Write(2, 30),
+            Call::Pass(1, 2),
+        ],
+        loc: 2,
+        times: &[9, 0],
+    },
+    Case {
+        levels: 2,
+        calls: &[
+            Call::Write(1, 9),
+            Call::Pass(1, 2),
+            Call::Leave,
+            Call::Enter,
+        ],
+        loc: 2,
+        times: &[9, 0],
+    },
+    Case {
+        levels: 2,
+        calls: &[Call::Write(2, 9), Call::Pass(1, 2)],
+        loc: 2,
+        times: &[0, 0],
     },
     // As many levels as there can be.
     Case {

@@ -2,17 +2,18 @@
 ghost use Rattle.std.specs.Prelude.{◌≡◌, ◌+◌, ◌<◌, ◌≤◌, length};
 ghost use Rattle.k_shadow.specs.Content.{depth};
 
-use k_shadow::{Control, Shadow, Steps};
+use k_shadow::{Control, Shadow, Steps, advance};
 use std::sync::ledger::Ledger;
 
 /// A way to read the times of an operation's operands.
 pub trait Way {
     /// Fills the list with the times of an operation of latency 1: one more than the latest of its two operands and of
-    /// the control entry, at each level.
+    /// the control entry, at each level. Raises the paths to them.
     fn fill<S: Shadow, L: Ledger>(
         shadow: &S,
         control: &Control,
         times: &mut [u64],
+        paths: &mut [u64],
         left: u32,
         right: u32,
         steps: &mut Steps<L>,
@@ -20,6 +21,7 @@ pub trait Way {
         requires left { left < (S.content shadow.now).limit }
         requires right { right < (S.content shadow.now).limit }
         requires live { length times.old ≡ depth (S.content shadow.now) }
+        requires paths { length times.old ≡ length paths.old }
         requires control { length times.old ≡ length control.now.current };
 }
 
@@ -32,6 +34,7 @@ impl Way for ByLevel {
         shadow: &S,
         control: &Control,
         times: &mut [u64],
+        paths: &mut [u64],
         left: u32,
         right: u32,
         steps: &mut Steps<L>,
@@ -40,7 +43,9 @@ impl Way for ByLevel {
             let a = shadow.read(left, level, steps);
             let b = shadow.read(right, level, steps);
             let c = control.time(level, steps);
-            times[level] = a.max(b).max(c).wrapping_add(1);
+            let time = a.max(b).max(c).wrapping_add(1);
+            times[level] = time;
+            paths[level] = paths[level].max(time);
         }
     }
 }
@@ -54,6 +59,7 @@ impl Way for ByOperand {
         shadow: &S,
         control: &Control,
         times: &mut [u64],
+        paths: &mut [u64],
         left: u32,
         right: u32,
         steps: &mut Steps<L>,
@@ -61,13 +67,11 @@ impl Way for ByOperand {
         control.fill(times, steps);
         shadow.raise(left, times, steps);
         shadow.raise(right, times, steps);
-        for time in times.iter_mut() {
-            *time = time.wrapping_add(1);
-        }
+        advance(times, 1, paths);
     }
 }
 
-/// Both operands and the control entry at once, by `times_after`.
+/// Both operands and the control entry at once, by `times_after_two`.
 pub struct AtOnce;
 
 impl Way for AtOnce {
@@ -76,10 +80,11 @@ impl Way for AtOnce {
         shadow: &S,
         control: &Control,
         times: &mut [u64],
+        paths: &mut [u64],
         left: u32,
         right: u32,
         steps: &mut Steps<L>,
     ) {
-        shadow.times_after(left, right, control, 1, times, steps);
+        shadow.times_after_two(left, right, control.times(steps), 1, times, paths, steps);
     }
 }

@@ -195,25 +195,50 @@ pub fn clear_locations(
     first: usize,
     end: usize,
 )
-    requires { ArePages pages.old.slots table.now }
+    requires pages { ArePages pages.old.slots table.now }
+    requires few { end ≤ 4194304 }
     ensures pages { ArePages pages.new.slots table.now }
     ensures among { (loc : ℕ) → first ≤ loc → loc < end → (paged_row pages.new.slots table.now loc).stamp ≡ 0 }
     ensures before { (loc : ℕ) → loc < first → paged_row pages.new.slots table.now loc ≡ paged_row pages.old.slots table.now loc }
     ensures behind { (loc : ℕ) → end ≤ loc → paged_row pages.new.slots table.now loc ≡ paged_row pages.old.slots table.now loc }
 {
-    for loc in first..end {
-        clear_location(pages, table, loc);
+    for page in first / PAGE..(end + (PAGE - 1)) / PAGE {
+        let low = first.max(page * PAGE);
+        clear_page(pages, table, page, low, end.min((page + 1) * PAGE));
     }
 }
 
-/// Makes the row of a location read 0 at every level.
-fn clear_location(pages: &mut Slab<Vec<Row>>, table: &[Option<usize>], loc: usize)
-    requires { ArePages pages.old.slots table.now }
+/// Makes the rows of the locations from `first` to before `end`, which lie in the page of that number, read 0 at every
+/// level, if the page is there.
+fn clear_page(
+    pages: &mut Slab<Vec<Row>>,
+    table: &[Option<usize>],
+    page: usize,
+    first: usize,
+    end: usize,
+)
+    requires pages { ArePages pages.old.slots table.now }
+    requires inside { (loc : ℕ) → first ≤ loc → loc < end → loc / 256 ≡ page }
+    ensures pages { ArePages pages.new.slots table.now }
+    ensures among { (loc : ℕ) → first ≤ loc → loc < end → (paged_row pages.new.slots table.now loc).stamp ≡ 0 }
+    ensures before { (loc : ℕ) → loc < first → paged_row pages.new.slots table.now loc ≡ paged_row pages.old.slots table.now loc }
+    ensures behind { (loc : ℕ) → end ≤ loc → paged_row pages.new.slots table.now loc ≡ paged_row pages.old.slots table.now loc }
+{
+    if let Some(key) = key_of(table, page) {
+        for loc in first..end {
+            clear_location(pages, table, key, loc);
+        }
+    }
+}
+
+/// Makes the row of a location, whose page is at that key, read 0 at every level.
+#[inline]
+fn clear_location(pages: &mut Slab<Vec<Row>>, table: &[Option<usize>], key: usize, loc: usize)
+    requires pages { ArePages pages.old.slots table.now }
+    requires named { key_of table.now (loc / 256) ≡ Some key }
     ensures pages { ArePages pages.new.slots table.now }
     ensures here { (paged_row pages.new.slots table.now loc).stamp ≡ 0 }
     ensures rest { (at : ℕ) → at ≢ loc → paged_row pages.new.slots table.now at ≡ paged_row pages.old.slots table.now at }
 {
-    if let Some(key) = key_of(table, loc / PAGE) {
-        clear_row(pages, key, loc % PAGE);
-    }
+    clear_row(pages, key, loc % PAGE);
 }

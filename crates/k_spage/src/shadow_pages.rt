@@ -3,9 +3,9 @@ ghost use Rattle.std.specs.Prelude.{◌≡◌, ℕ, ◌≤◌};
 ghost use Rattle.k_shadow.specs.Content.{empty};
 ghost use Rattle.k_spage.specs.Pages.{paged_row, ArePages};
 
-use crate::pages::{PAGE, clear_locations, key_of_page, make_pages, row_of, write_row};
+use crate::pages::{PAGE, clear_locations, key_of, key_of_page, make_pages, row_of, write_row};
 use k_num::NoMemory;
-use k_shadow::{Control, Row, Shadow, Steps, Times, Versions};
+use k_shadow::{Row, Shadow, Steps, Times, Versions};
 use slab::Slab;
 use std::alloc::Global;
 use std::sync::ledger::Ledger;
@@ -82,6 +82,7 @@ impl Shadow for ShadowPages {
         self.versions.leave();
     }
 
+    #[inline]
     fn reserve(&mut self, first: u32, count: u32) -> Result<(), NoMemory>
         requires { first + count ≤ (pages_content self.old).limit }
         ensures content { pages_content self.new ≡ pages_content self.old }
@@ -92,6 +93,9 @@ impl Shadow for ShadowPages {
         ensures pages_kept { (page : ℕ) → has_page self.old page ≡ true → has_page self.new page ≡ true }
         ensures no_other { (page : ℕ) → (IsTouched first count page → ⊥) → has_page self.new page ≡ has_page self.old page }
     {
+        if count == 1 && key_of(&self.table, first as usize / PAGE).is_some() {
+            return Ok(());
+        }
         let end = (first + count) as usize;
         make_pages(
             self.alloc,
@@ -116,23 +120,45 @@ impl Shadow for ShadowPages {
     }
 
     #[inline]
-    fn times_after<L: Ledger>(
+    fn latest<L: Ledger>(&self, loc: u32, before: &[u64], times: &mut [u64], steps: &mut Steps<L>) {
+        let row = row_of(&self.pages, &self.table, loc as usize);
+        row.latest(self.versions.live(), before, times, steps);
+    }
+
+    #[inline]
+    fn times_after_one<L: Ledger>(
+        &self,
+        from: u32,
+        before: &[u64],
+        latency: u64,
+        times: &mut [u64],
+        paths: &mut [u64],
+        steps: &mut Steps<L>,
+    ) {
+        let row = row_of(&self.pages, &self.table, from as usize);
+        row.times_after(self.versions.live(), before, latency, times, paths, steps);
+    }
+
+    #[inline]
+    fn times_after_two<L: Ledger>(
         &self,
         left: u32,
         right: u32,
-        control: &Control,
+        before: &[u64],
         latency: u64,
         times: &mut [u64],
+        paths: &mut [u64],
         steps: &mut Steps<L>,
     ) {
         let left_row = row_of(&self.pages, &self.table, left as usize);
         let right_row = row_of(&self.pages, &self.table, right as usize);
-        control.times_after(
-            left_row,
+        left_row.times_after_both(
             right_row,
             self.versions.live(),
+            before,
             latency,
             times,
+            paths,
             steps,
         );
     }

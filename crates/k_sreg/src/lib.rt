@@ -1,6 +1,7 @@
 //! The shadow of registers: one row of times for each absolute register number.
 #![tactic(auto)]
 
+mod given;
 mod rows;
 mod shadow_regs;
 

@@ -1,5 +1,5 @@
 //! Rows in the order of register numbers.
-ghost use Rattle.std.specs.Prelude.{◌≡◌, ◌<◌, ◌≤◌, ℕ, length, vec_len, OnOk, option_copied, unwrap_or};
+ghost use Rattle.std.specs.Prelude.{◌≡◌, ◌≢◌, ◌<◌, ◌≤◌, ℕ, length, vec_len, OnOk, option_copied, unwrap_or};
 ghost use Rattle.k_shadow.specs.Rows.{row_at, blank_row};
 
 use k_num::NoMemory;
@@ -44,4 +44,16 @@ pub fn clear_rows(rows: &mut [Row], first: usize, end: usize)
         let row = &mut rows[at];
         row.stamp = 0;
     }
+}
+
+/// Gives a location the row of another, or a blank one where that has none.
+#[inline]
+pub fn copy_row(rows: &mut [Row], from: usize, to: usize)
+    requires { to < length rows.old }
+    ensures here { row_at rows.new to ≡ row_at rows.old from }
+    ensures others { (at : ℕ) → at ≢ to → row_at rows.new at ≡ row_at rows.old at }
+    ensures size { length rows.new ≡ length rows.old }
+{
+    let row = *row_or_blank(rows, from);
+    rows[to] = row;
 }

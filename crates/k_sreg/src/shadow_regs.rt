@@ -3,9 +3,10 @@ ghost use Rattle.std.specs.Prelude.{◌≡◌, ℕ, ◌≤◌};
 ghost use Rattle.k_shadow.specs.Content.{empty};
 ghost use Rattle.k_shadow.specs.Rows.{row_at};
 
-use crate::rows::{clear_rows, grow_to, row_of, row_or_blank};
+use crate::given::{write_both, write_none, write_one};
+use crate::rows::{clear_rows, copy_row, grow_to, row_of, row_or_blank};
 use k_num::NoMemory;
-use k_shadow::{Control, Row, Shadow, Steps, Versions};
+use k_shadow::{Row, Shadow, Steps, Versions};
 use std::alloc::Global;
 use std::sync::ledger::Ledger;
 
@@ -74,29 +75,115 @@ impl Shadow for ShadowRegs {
 
     #[inline]
     fn raise<L: Ledger>(&self, loc: u32, times: &mut [u64], steps: &mut Steps<L>) {
-        row_or_blank(&self.rows, loc as usize).raise(self.versions.live(), times, steps);
+        let row = row_or_blank(&self.rows, loc as usize);
+        row.raise(self.versions.live(), times, steps);
     }
 
     #[inline]
-    fn times_after<L: Ledger>(
+    fn latest<L: Ledger>(&self, loc: u32, before: &[u64], times: &mut [u64], steps: &mut Steps<L>) {
+        let row = row_or_blank(&self.rows, loc as usize);
+        row.latest(self.versions.live(), before, times, steps);
+    }
+
+    #[inline]
+    fn times_after_one<L: Ledger>(
+        &self,
+        from: u32,
+        before: &[u64],
+        latency: u64,
+        times: &mut [u64],
+        paths: &mut [u64],
+        steps: &mut Steps<L>,
+    ) {
+        let row = row_or_blank(&self.rows, from as usize);
+        row.times_after(self.versions.live(), before, latency, times, paths, steps);
+    }
+
+    #[inline]
+    fn times_after_two<L: Ledger>(
         &self,
         left: u32,
         right: u32,
-        control: &Control,
+        before: &[u64],
         latency: u64,
         times: &mut [u64],
+        paths: &mut [u64],
         steps: &mut Steps<L>,
     ) {
         let left_row = row_or_blank(&self.rows, left as usize);
         let right_row = row_or_blank(&self.rows, right as usize);
-        control.times_after(
-            left_row,
+        left_row.times_after_both(
             right_row,
             self.versions.live(),
+            before,
             latency,
             times,
+            paths,
             steps,
         );
+    }
+
+    #[inline]
+    fn write_after(&mut self, before: &[u64], latency: u64, to: u32, paths: &mut [u64]) {
+        let stamp = self.versions.last_given();
+        write_none(&mut self.rows, to as usize, stamp, before, latency, paths);
+    }
+
+    #[inline]
+    fn write_after_one<L: Ledger>(
+        &mut self,
+        from: u32,
+        before: &[u64],
+        latency: u64,
+        to: u32,
+        paths: &mut [u64],
+        steps: &mut Steps<L>,
+    ) {
+        steps.tick_each(before);
+        let stamp = self.versions.last_given();
+        write_one(
+            &mut self.rows,
+            from as usize,
+            to as usize,
+            self.versions.live(),
+            stamp,
+            before,
+            latency,
+            paths,
+        );
+    }
+
+    #[inline]
+    fn write_after_two<L: Ledger>(
+        &mut self,
+        left: u32,
+        right: u32,
+        before: &[u64],
+        latency: u64,
+        to: u32,
+        paths: &mut [u64],
+        steps: &mut Steps<L>,
+    ) {
+        steps.tick_each(before);
+        steps.tick_each(before);
+        let stamp = self.versions.last_given();
+        write_both(
+            &mut self.rows,
+            left as usize,
+            right as usize,
+            to as usize,
+            self.versions.live(),
+            stamp,
+            before,
+            latency,
+            paths,
+        );
+    }
+
+    #[inline]
+    fn pass<L: Ledger>(&mut self, from: u32, to: u32, times: &mut [u64], steps: &mut Steps<L>) {
+        self.raise(from, times, steps);
+        copy_row(&mut self.rows, from as usize, to as usize);
     }
 
     #[inline]

@@ -4,7 +4,7 @@ ghost use Rattle.std.specs.Prelude.{◌≡◌, ◌<◌, [], ◌∷◌, length};
 ghost use Rattle.k_shadow.specs.Content.{empty};
 
 use k_num::NoMemory;
-use k_shadow::{Control, LevelMaps, Shadow, Steps, Times, Versions};
+use k_shadow::{Cell, Control, LevelMaps, Shadow, Steps, Times, Versions};
 use std::alloc::Global;
 use std::marker::Brand;
 use std::process::Abort;
@@ -89,8 +89,9 @@ fn control_comes_back<L: Ledger>(
     control.leave();
     control.enter();
     assert_current(rt, &control, [5, 0], &mut steps);
-    control.under(&two_times(alloc, 9, 9));
+    control.put([9, 9].as_slice());
     control.keep();
+    assert_eq!(rt; control.times(&mut steps), [9, 9].as_slice());
     assert_eq!(rt; control.saved(), 0);
     assert_current(rt, &control, [9, 9], &mut steps);
     Ok(())
@@ -100,6 +101,29 @@ fn control_comes_back<L: Ledger>(
 fn control(rt: HostRuntime) -> Result<(), Fail> {
     control_comes_back::<Brand>(&rt, rt.alloc(), Blank::new(1))?;
     Ok(())
+}
+
+/// What was put into a cell is there at the levels that are still live.
+fn cell_keeps_times<L: Ledger>(rt: &impl Abort, blank: Blank)
+    requires name { blank.name ≡ L.name }
+    requires parts { blank.parts ≡ L.parts }
+    requires some { 0 < blank.parts }
+{
+    let mut steps = Steps::<L>::new(blank);
+    let mut cell = Cell::new();
+    assert_eq!(rt; cell.times(&mut steps).len(), 0);
+    cell.enter();
+    cell.enter();
+    cell.put([5, 3].as_slice());
+    assert_eq!(rt; cell.times(&mut steps), [5, 3].as_slice());
+    cell.leave();
+    cell.enter();
+    assert_eq!(rt; cell.times(&mut steps), [5, 0].as_slice());
+}
+
+#[test]
+fn cell(rt: HostRuntime) {
+    cell_keeps_times::<Brand>(&rt, Blank::new(1));
 }
 
 /// A shadow through its trait: a time that was written is read at its level alone, and not after the level was left.

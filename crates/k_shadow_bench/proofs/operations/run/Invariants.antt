@@ -19,4 +19,5 @@ invariant-loop-operation g l = let content = g.S.Shadow.content in record {
   limit : (content l.shadow).limit ≡ (content l.initial.shadow).limit;
   room : (loc : ℕ) → loc ≤ l.plan.last → g.S.Shadow.room l.shadow loc;
   times : length l.slots ≡ depth (content l.initial.shadow);
+  paths : length l.path_slots ≡ depth (content l.initial.shadow);
 }

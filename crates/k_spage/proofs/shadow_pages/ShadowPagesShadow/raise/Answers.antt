@@ -1,6 +1,7 @@
-use Rattle.std.proofs.Common.{◌≡◌, ◌+◌, length, ◌∙◌, ap, sym}
-use Rattle.k_shadow.proofs.Contents.{depth_counted, raised_by_location}
+use Rattle.std.proofs.Common.{length, ◌+◌, ◌∙◌, ap, sym, max}
+use Rattle.std.specs.Prelude.{slice_index}
 use Rattle.k_spage.specs.Pages.{paged_row}
+use Rattle.k_shadow.proofs.Contents.{depth_counted, by_location}
 use Rattle.k_spage.proofs.shadow_pages.ShadowPagesShadow.raise.Goals as goal
 
 pub raise-requires-clause-each : goal.raise-requires-clause-each
@@ -11,9 +12,8 @@ raise-requires-clause-each g c =
 pub returns-clause-raised : goal.returns-clause-raised
 returns-clause-raised g c =
     let s = c.args.self.now in
-    let rows = paged_row s.pages.slots s.table.items in
-    let here : c.row_of-row.result.now ≡ rows c.args.loc = c.row_of-row.ensures ∙ ap (λ table. paged_row s.pages.slots table c.args.loc) c.deref.ensures.value in
-    raised_by_location rows s.versions 4194304 c.args.loc c.row_of-row.result.now c.live.result.now c.args.times.now c.raise.new.times here c.live.ensures.live c.raise.ensures.raised
+    let here = c.row_of-row.ensures ∙ ap (λ table. paged_row s.pages.slots table c.args.loc) c.deref.ensures.value in
+    by_location (λ k t. max (slice_index c.args.times.now k) t) (paged_row s.pages.slots s.table.items) s.versions 4194304 c.args.loc c.row_of-row.result.now c.live.result.now c.raise.new.times here c.live.ensures.live c.raise.ensures.raised
 
 pub returns-clause-steps : goal.returns-clause-steps
 returns-clause-steps g c =

@@ -1,6 +1,7 @@
-use Rattle.std.proofs.Common.{◌≡◌, ◌+◌, length, ◌∙◌, ap, sym}
-use Rattle.k_shadow.proofs.Contents.{depth_counted, raised_by_location}
+use Rattle.std.proofs.Common.{length, ◌+◌, ◌∙◌, ap, sym, max}
+use Rattle.std.specs.Prelude.{slice_index}
 use Rattle.k_shadow.specs.Rows.{row_at}
+use Rattle.k_shadow.proofs.Contents.{depth_counted, by_location}
 use Rattle.k_sreg.proofs.shadow_regs.ShadowRegsShadow.raise.Goals as goal
 
 pub raise-requires-clause-each : goal.raise-requires-clause-each
@@ -11,9 +12,8 @@ raise-requires-clause-each g c =
 pub returns-clause-raised : goal.returns-clause-raised
 returns-clause-raised g c =
     let s = c.args.self.now in
-    let rows = row_at s.rows.items in
-    let here : c.row_or_blank.result.now ≡ rows c.args.loc = c.row_or_blank.ensures ∙ ap (λ rs. row_at rs c.args.loc) c.deref.ensures.value in
-    raised_by_location rows s.versions 2097152 c.args.loc c.row_or_blank.result.now c.live.result.now c.args.times.now c.raise.new.times here c.live.ensures.live c.raise.ensures.raised
+    let here = c.row_or_blank-row.ensures ∙ ap (λ rs. row_at rs c.args.loc) c.deref.ensures.value in
+    by_location (λ k t. max (slice_index c.args.times.now k) t) (row_at s.rows.items) s.versions 2097152 c.args.loc c.row_or_blank-row.result.now c.live.result.now c.raise.new.times here c.live.ensures.live c.raise.ensures.raised
 
 pub returns-clause-steps : goal.returns-clause-steps
 returns-clause-steps g c =
