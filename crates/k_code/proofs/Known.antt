@@ -1,11 +1,9 @@
 -- What is known of balances, after one more is noted.
-use Rattle.std.proofs.Common.{◌≡◌, ◌≢◌, ℕ, zero, suc, ◌<◌, inl, inr, List, [], ◌∷◌, length, Option, Some, None, true, nat_eq, refl, sym, ◌∙◌, subst, ap, arith}
-use Rattle.std.specs.Prelude.{◌⊎◌, ◌&&◌, nat_lt, slice_get, slice_set}
-use Rattle.std.proofs.lemmas.Bool.{cases_eq, and_parts, and_from, eqb-true, eq-eqb, ltb-true, lt-ltb}
-use Rattle.std.proofs.lemmas.List.{length-set}
-use Rattle.std.proofs.lemmas.Option.{none-some, slice_get_within, cond_some}
+use Rattle.std.proofs.Common.{◌≡◌, ◌≢◌, ℕ, zero, suc, ◌<◌, inl, inr, List, [], ◌∷◌, length, Option, Some, None, Bool, true, false, refl, sym, ◌∙◌, ap, arith}
+use Rattle.std.specs.Prelude.{◌⊎◌, slice_get, slice_set}
+use Rattle.std.proofs.lemmas.Option.{none-some, same_Some}
 use Rattle.k_code.specs.declared.balance.Balance.{Balance}
-use Rattle.k_code.specs.Checking.{is_same, known_or_none, known, noted, agreed_with, agreed, passed}
+use Rattle.k_code.specs.Decides.{Adds, Agrees, Differs, IsKnown, IsOpen}
 
 -- an element that was written
 pub get_set_same : {X : Type 0} (xs : List X) (k : ℕ) (x : X) → k < length xs → slice_get (slice_set xs k x) k ≡ Some x
@@ -21,105 +19,62 @@ get_set_other (y ∷ xs) zero (suc j) x ne = refl
 get_set_other (y ∷ xs) (suc k) zero x ne = refl
 get_set_other (y ∷ xs) (suc k) (suc j) x ne = get_set_other xs k j x (λ e. ne (ap (λ n. suc n) e))
 
--- a balance that was noted
-known_set_same : (list : List (Option Balance)) (k : ℕ) (b : Balance) → k < length list → known (slice_set list k (Some b)) k ≡ Some b
-unfolding known
-known_set_same list k b h = ap known_or_none (get_set_same list k (Some b) h)
+-- where none is known none is
+pub not_both : (list : List (Option Balance)) (k : ℕ) (c : Balance) → IsOpen list k → IsKnown list k c → ⊥
+not_both list k c open_is known = none-some c (same_Some None (Some c) (sym open_is ∙ known))
 
-known_set_other : (list : List (Option Balance)) (k j : ℕ) (s : Option Balance) → j ≢ k → known (slice_set list k s) j ≡ known list j
-unfolding known
-known_set_other list k j s ne = ap known_or_none (get_set_other list k j s ne)
+-- nothing is added where it was known
+pub stays_added : (at : ℕ → Type 0) (b : Balance) (old : List (Option Balance)) → ((t : ℕ) → at t → IsKnown old t b) → Adds at b old old
+stays_added at b old is = record { long = refl; here = is; kept = λ t c e. e; only = λ t c e. inl e }
 
-within : (list : List (Option Balance)) (k : ℕ) (b : Balance) (s : Option (Option Balance)) → slice_get list k ≡ s → known_or_none s ≡ Some b → k < length list
-within list k b None is e = absurd (none-some b e)
-within list k b (Some x) is e = slice_get_within list k x is
-
--- something is known of instructions that are there alone
-pub known_within : (list : List (Option Balance)) (k : ℕ) (b : Balance) → known list k ≡ Some b → k < length list
-unfolding known
-known_within list k b e = within list k b (slice_get list k) refl e
-
--- what is_same says
-pub same_balance : (a b : Balance) → is_same a b ≡ true → a ≡ b
-same_balance a b e =
-    let one = and_parts (nat_eq a.saved b.saved) (nat_eq a.objects b.objects && nat_eq a.regions b.regions) e in
-    let two = and_parts (nat_eq a.objects b.objects) (nat_eq a.regions b.regions) one.1 in
-    let saved : a.saved ≡ b.saved = eqb-true a.saved b.saved one.0 in
-    let objects : a.objects ≡ b.objects = eqb-true a.objects b.objects two.0 in
-    let regions : a.regions ≡ b.regions = eqb-true a.regions b.regions two.1 in
-    λ i. record { saved = saved i; objects = objects i; regions = regions i }
-
-pub balance_same : (a b : Balance) → a ≡ b → is_same a b ≡ true
-balance_same a b e =
-    and_from (nat_eq a.saved b.saved) (nat_eq a.objects b.objects && nat_eq a.regions b.regions) (eq-eqb a.saved b.saved (ap (λ (x : Balance). x.saved) e))
-    (and_from (nat_eq a.objects b.objects) (nat_eq a.regions b.regions) (eq-eqb a.objects b.objects (ap (λ (x : Balance). x.objects) e))
-    (eq-eqb a.regions b.regions (ap (λ (x : Balance). x.regions) e)))
-
--- a balance is known from now on, and what was known still is
-pub record Adds (k : ℕ) (b : Balance) (old new : List (Option Balance)) : Type 0 where
-  pub long : length new ≡ length old
-  pub here : known new k ≡ Some b
-  pub other : (j : ℕ) → j ≢ k → known new j ≡ known old j
-  pub was : (known old k ≡ None) ⊎ (known old k ≡ Some b)
-
-set_adds : (k : ℕ) (b : Balance) (old : List (Option Balance)) → k < length old → known old k ≡ None → Adds k b old (slice_set old k (Some b))
-set_adds k b old h none = record {
-  long = length-set old k (Some b);
-  here = known_set_same old k b h;
-  other = λ j ne. known_set_other old k j (Some b) ne;
-  was = inl none;
+-- at the places of both
+both_add : (one two at : ℕ → Type 0) (b : Balance) (old mid new : List (Option Balance)) → ((t : ℕ) → at t → one t ⊎ two t) → ((t : ℕ) → one t → at t) → ((t : ℕ) → two t → at t)
+    → Adds one b old mid → Adds two b mid new → Adds at b old new
+both_add one two at b old mid new parts from_one from_two x y = record {
+  long = y.long ∙ x.long;
+  here = λ t there. here t (parts t there);
+  kept = λ t c e. y.kept t c (x.kept t c e);
+  only = λ t c e. second t c (y.only t c e);
 }
-
-noted_adds : (k : ℕ) (b : Balance) (old new : List (Option Balance)) → known old k ≡ None → noted k b old ≡ Some new → Adds k b old new
-noted_adds k b old new none e =
-    let c = cond_some (nat_lt k (length old)) (slice_set old k (Some b)) new e in
-    subst (λ l. Adds k b old l) c.1 (set_adds k b old (ltb-true k (length old) c.0) none)
-
-stays_added : (k : ℕ) (b : Balance) (old : List (Option Balance)) → known old k ≡ Some b → Adds k b old old
-stays_added k b old is = record { long = refl; here = is; other = λ j ne. refl; was = inr is }
-
-agreed_by : (o : Option Balance) (k : ℕ) (b : Balance) (old new : List (Option Balance)) → known old k ≡ o → agreed_with o k b old ≡ Some new → Adds k b old new
-agreed_by None k b old new is e = noted_adds k b old new is e
-agreed_by (Some c) k b old new is e =
-    let parts = cond_some (is_same c b) old new e in
-    subst (λ l. Adds k b old l) parts.1 (stays_added k b old (is ∙ ap (λ (x : Balance). Some x) (same_balance c b parts.0)))
-
--- one that agrees is known from now on
-pub agreed_adds : (k : ℕ) (b : Balance) (old new : List (Option Balance)) → agreed k b old ≡ Some new → Adds k b old new
-unfolding agreed
-agreed_adds k b old new e = agreed_by (known old k) k b old new refl e
-
-agrees_by : (o : Option Balance) (k : ℕ) (b : Balance) (old : List (Option Balance)) → known old k ≡ o → k < length old → ((c : Balance) → known old k ≡ Some c → c ≡ b)
-    → (new : List (Option Balance)) × (agreed_with o k b old ≡ Some new)
-agrees_by None k b old is h agree = (slice_set old k (Some b), rw (lt-ltb k (length old) h) refl)
-agrees_by (Some c) k b old is h agree = (old, rw (balance_same c b (agree c is)) refl)
-
--- and each agrees that may
-pub agrees : (k : ℕ) (b : Balance) (old : List (Option Balance)) → k < length old → ((c : Balance) → known old k ≡ Some c → c ≡ b)
-    → (new : List (Option Balance)) × (agreed k b old ≡ Some new)
-unfolding agreed
-agrees k b old h agree = agrees_by (known old k) k b old refl h agree
-
--- where nothing was known
-pub passed_adds : (k : ℕ) (b : Balance) (old : List (Option Balance)) → k < length old → known old k ≡ None → Adds k b old (passed k b old)
-unfolding passed
-passed_adds k b old h none = rw none (set_adds k b old h none)
-
--- where something was
-pub passed_stays : (k : ℕ) (b c : Balance) (old : List (Option Balance)) → known old k ≡ Some c → passed k b old ≡ old
-unfolding passed
-passed_stays k b c old is = rw is refl
-
--- what was known still is
-pub keeps : (k : ℕ) (b : Balance) (old new : List (Option Balance)) → Adds k b old new → (j : ℕ) (c : Balance) → known old j ≡ Some c → known new j ≡ Some c
-keeps k b old new adds j c is =
-    elim (cases_eq j k) [
-      | inl same ↦ here same adds.was
-      | inr other ↦ adds.other j other ∙ is
-    ]
   where
-    here : j ≡ k → (known old k ≡ None) ⊎ (known old k ≡ Some b) → known new j ≡ Some c
-    here same (inl none) = absurd (none-some c (sym none ∙ (ap (λ n. known old n) (sym same) ∙ is)))
-    here same (inr some) =
-        let e : Some b ≡ Some c = sym some ∙ (ap (λ n. known old n) (sym same) ∙ is) in
-        ap (λ n. known new n) same ∙ (adds.here ∙ e)
+    here : (t : ℕ) → one t ⊎ two t → IsKnown new t b
+    here t (inl p) = y.kept t b (x.here t p)
+    here t (inr p) = y.here t p
+
+    first : (t : ℕ) (c : Balance) → IsKnown old t c ⊎ (one t × (c ≡ b)) → IsKnown old t c ⊎ (at t × (c ≡ b))
+    first t c (inl e) = inl e
+    first t c (inr p) = inr (from_one t p.0, p.1)
+
+    second : (t : ℕ) (c : Balance) → IsKnown mid t c ⊎ (two t × (c ≡ b)) → IsKnown old t c ⊎ (at t × (c ≡ b))
+    second t c (inl e) = first t c (x.only t c e)
+    second t c (inr p) = inr (from_two t p.0, p.1)
+
+-- a difference behind what was added was there before
+was_different : (one two at : ℕ → Type 0) (b : Balance) (old mid : List (Option Balance)) → ((t : ℕ) → two t → at t) → Adds one b old mid → Differs two b mid → Differs at b old
+was_different one two at b old mid from_two x d =
+    elim (x.only d.place d.other d.known) [
+      | inl was ↦ record { place = d.place; other = d.other; there = from_two d.place d.there; known = was; differs = d.differs }
+      | inr now ↦ absurd (d.differs now.1)
+    ]
+
+-- the targets of a test: one after the other
+pub first_differs : (one at : ℕ → Type 0) (b : Balance) (old new mid : List (Option Balance)) → ((t : ℕ) → one t → at t) → Agrees false one b old mid → Agrees false at b old new
+first_differs one at b old new mid from_one d = record { place = d.place; other = d.other; there = from_one d.place d.there; known = d.known; differs = d.differs }
+
+pub then_agrees : (one two at : ℕ → Type 0) (b : Balance) (old mid new : List (Option Balance)) (answer : Bool) → ((t : ℕ) → at t → one t ⊎ two t) → ((t : ℕ) → one t → at t) → ((t : ℕ) → two t → at t)
+    → Agrees true one b old mid → Agrees answer two b mid new → Agrees answer at b old new
+then_agrees one two at b old mid new true parts from_one from_two x y = both_add one two at b old mid new parts from_one from_two x y
+then_agrees one two at b old mid new false parts from_one from_two x y = was_different one two at b old mid from_two x y
+
+-- at places that are the same
+pub agrees_at : (one at : ℕ → Type 0) (b : Balance) (old new : List (Option Balance)) (answer : Bool) → ((t : ℕ) → at t → one t) → ((t : ℕ) → one t → at t) → Agrees answer one b old new → Agrees answer at b old new
+agrees_at one at b old new true to from x = record {
+  long = x.long;
+  here = λ t there. x.here t (to t there);
+  kept = x.kept;
+  only = λ t c e. elim (x.only t c e) [
+    | inl was ↦ inl was
+    | inr now ↦ inr (from t now.0, now.1)
+  ];
+}
+agrees_at one at b old new false to from d = first_differs one at b old new new from d

@@ -1,26 +1,27 @@
 -- The marks of entries tell where functions end.
-use Rattle.std.proofs.Common.{◌≡◌, ◌≢◌, ℕ, zero, suc, ◌-◌, ◌<◌, ◌≤◌, inl, inr, List, [], ◌∷◌, length, min, take, drop, replicate, Option, Some, None, Result, Ok, Err, Bool, true, false, nat_eq, refl, sym, ◌∙◌, subst, ap, arith}
-use Rattle.std.specs.Prelude.{IfOk, ◌⊎◌, ◌||◌, ◌&&◌, nat_lt, if◌then◌else◌, slice_get, slice_set}
+use Rattle.std.proofs.Common.{◌≡◌, ◌≢◌, ℕ, zero, suc, ◌+◌, ◌-◌, ◌<◌, ◌≤◌, inl, inr, List, [], ◌∷◌, ◌++◌, length, min, take, drop, replicate, Option, Some, Bool, true, false, nat_eq, refl, sym, ◌∙◌, subst, ap, arith}
+use Rattle.std.specs.Prelude.{◌⊎◌, ◌||◌, nat_lt, if◌then◌else◌, slice_get, slice_set}
 use Rattle.std.proofs.lemmas.Bool.{cases_lt, eqb-true, eqb-false, ltb-true, ltb-false, true≢false}
-use Rattle.std.proofs.lemmas.List.{length-set, length-replicate}
-use Rattle.std.proofs.lemmas.Option.{none-some, same_Some}
+use Rattle.std.proofs.lemmas.List.{length-set, length-replicate, length-append}
+use Rattle.std.proofs.lemmas.Option.{none-some, same_Some, slice_get_within}
+use Rattle.std.proofs.Math.ListN.{drop_of_length-le}
 use Rattle.k_code.specs.declared.code.Code.{Code}
 use Rattle.k_code.specs.declared.code.CodeFunc.{CodeFunc}
 use Rattle.k_code.specs.declared.instruction.Instr.{Instr}
 use Rattle.k_code.specs.declared.validity.extents.Extent.{Extent}
-use Rattle.k_code.specs.Checking.{all_in_range, all_settled, at_entry, all_needed, body_fits, is_entry, marked, marks_of, IsNext, extent_from, extent_at, AreExtents, entry_passes, entry_fits}
+use Rattle.k_code.specs.Decides.{is_entry, AreMarks, Marks, IsNext, AreNeeded, IsExtent, IsExtentOf, AreExtents, AreExtentsOf}
 use Rattle.k_code.specs.Valid.{end_of, body_of}
 use Rattle.k_code.proofs.Decided.{HasEntry, entry_is, entry_has, end_bounds}
 use Rattle.k_code.proofs.Known.{get_set_same, get_set_other}
 
+-- marks of the entries of functions, beside those that are there
+abbrev pub marked : List CodeFunc → List Bool → List Bool
+marked [] marks = marks
+marked (f ∷ funcs) marks = marked funcs (slice_set marks f.entry true)
+
 marked_length : (funcs : List CodeFunc) (marks : List Bool) → length (marked funcs marks) ≡ length marks
 marked_length [] marks = refl
 marked_length (f ∷ funcs) marks = marked_length funcs (slice_set marks f.entry true) ∙ length-set marks f.entry true
-
--- as many marks as instructions
-pub marks_length : (code : Code) → length (marks_of code) ≡ length code.instrs
-unfolding marks_of
-marks_length code = marked_length code.funcs (replicate (length code.instrs) false) ∙ length-replicate (length code.instrs) false
 
 or_true : (b : Bool) → (b || true) ≡ true
 or_true true = refl
@@ -58,12 +59,22 @@ none_marked zero k low = absurd (omega arith)
 none_marked (suc n) zero low = refl
 none_marked (suc n) (suc k) low = none_marked n k (omega arith)
 
+pub marks_set : (funcs : List CodeFunc) (old new : List Bool) → new ≡ marked funcs old → Marks funcs old new
+marks_set funcs old new is = (
+  ap length is ∙ marked_length funcs old,
+  λ k b at. ap (λ l. slice_get l k) is ∙ marked_get funcs old k b (slice_get_within old k b at) at,
+)
+
+pub marked_done : (funcs : List CodeFunc) (k : ℕ) (marks : List Bool) (all : List Bool) → length funcs ≤ k → marked (drop k funcs) marks ≡ all → marks ≡ all
+marked_done funcs k marks all past is = ap (λ l. marked l marks) (sym (drop_of_length-le funcs past)) ∙ is
+
 -- a mark says whether a function begins there
-pub marks_get : (code : Code) (k : ℕ) → k < length code.instrs → slice_get (marks_of code) k ≡ Some (is_entry code.funcs k)
-unfolding marks_of
-marks_get code k low =
-    let long : k < length (replicate (length code.instrs) false) = (let e = length-replicate (length code.instrs) false in omega (arith, e)) in
-    marked_get code.funcs (replicate (length code.instrs) false) k false long (none_marked (length code.instrs) k low) ∙ ap (λ x. Some x) (or_false (is_entry code.funcs k))
+pub are_marks : (code : Code) (count : ℕ) (old new : List Bool) → count ≡ length code.instrs → old ≡ replicate count false → Marks code.funcs old new → AreMarks code new
+are_marks code count old new all made set = let is : old ≡ replicate (length code.instrs) false = made ∙ ap (λ n. replicate n false) all in (
+  set.0 ∙ (ap length is ∙ length-replicate (length code.instrs) false),
+  λ k low.
+      set.1 k false (ap (λ l. slice_get l k) is ∙ none_marked (length code.instrs) k low) ∙ ap (λ x. Some x) (or_false (is_entry code.funcs k)),
+)
 
 -- no function begins between an entry and the end
 end_least : (funcs : List CodeFunc) (all entry n : ℕ) (f : CodeFunc) → slice_get funcs n ≡ Some f → entry < f.entry → end_of funcs all entry ≤ f.entry
@@ -118,17 +129,17 @@ entry_least code entry k low h =
     let r = end_least code.funcs (length code.instrs) entry h.number h.func h.is (subst (λ n. entry < n) (sym e) low) in
     omega (arith, r, e)
 
-is_marked : (code : Code) (k : ℕ) (b : Bool) → k < length code.instrs → slice_get (marks_of code) k ≡ Some b → is_entry code.funcs k ≡ b
-is_marked code k b low is = same_Some (is_entry code.funcs k) b (sym (marks_get code k low) ∙ is)
+pub marked_is : (code : Code) (marks : List Bool) (k : ℕ) (b : Bool) → AreMarks code marks → k < length code.instrs → slice_get marks k ≡ Some b → is_entry code.funcs k ≡ b
+marked_is code marks k b are low is = same_Some (is_entry code.funcs k) b (sym (are.1 k low) ∙ is)
 
 has_is : (funcs : List CodeFunc) (n : ℕ) (f : CodeFunc) → slice_get funcs n ≡ Some f → is_entry funcs f.entry ≡ true
 has_is funcs n f is = entry_is funcs n f is
 
 -- the next mark is where the function ends
-pub next_is_end : (code : Code) (entry next : ℕ) → entry < length code.instrs → IsNext (marks_of code) entry next → next ≡ end_of code.funcs (length code.instrs) entry
-next_is_end code entry next low n =
-    let long = marks_length code in
-    let within : next ≤ length (marks_of code) = n.within in
+pub next_is_end : (code : Code) (marks : List Bool) (entry next : ℕ) → AreMarks code marks → entry < length code.instrs → IsNext marks entry next → next ≡ end_of code.funcs (length code.instrs) entry
+next_is_end code marks entry next are low n =
+    let long : length marks ≡ length code.instrs = are.0 in
+    let within : next ≤ length marks = n.within in
     let later : entry < next = n.later in
     let bounds = end_bounds code.funcs (length code.instrs) entry low in
     let least : end_of code.funcs (length code.instrs) entry ≤ next = at_least (cases_lt next (length code.instrs)) in
@@ -137,25 +148,25 @@ next_is_end code entry next low n =
   where
     at_least : (next < length code.instrs) ⊎ (length code.instrs ≤ next) → end_of code.funcs (length code.instrs) entry ≤ next
     at_least (inl inside) =
-        let long = marks_length code in
-        let here : slice_get (marks_of code) next ≡ Some true = n.marked (omega (arith, long, inside)) in
-        entry_least code entry next n.later (entry_has code.funcs next (is_marked code next true inside here))
+        let long : length marks ≡ length code.instrs = are.0 in
+        let here : slice_get marks next ≡ Some true = n.marked (omega (arith, long, inside)) in
+        entry_least code entry next n.later (entry_has code.funcs next (marked_is code marks next true are inside here))
     at_least (inr past) = let b = end_bounds code.funcs (length code.instrs) entry low in omega (arith, b.1, past)
 
     no_entry : (k : ℕ) → entry < k → k < next → BeginsAt code.funcs entry k → ⊥
     no_entry k above below b =
-        let long = marks_length code in
-        let within : next ≤ length (marks_of code) = n.within in
+        let long : length marks ≡ length code.instrs = are.0 in
+        let within : next ≤ length marks = n.within in
         let inside : k < length code.instrs = omega (arith, long, within, below) in
-        let none : is_entry code.funcs k ≡ false = is_marked code k false inside (n.unmarked k above below) in
+        let none : is_entry code.funcs k ≡ false = marked_is code marks k false are inside (n.unmarked k above below) in
         let some : is_entry code.funcs k ≡ true = subst (λ m. is_entry code.funcs m ≡ true) b.at (has_is code.funcs b.number b.func b.is) in
         true≢false (sym some ∙ none)
 
     at_most : (end_of code.funcs (length code.instrs) entry < next) ⊎ (next ≤ end_of code.funcs (length code.instrs) entry) → next ≤ end_of code.funcs (length code.instrs) entry
     at_most (inr fine) = fine
     at_most (inl below) =
-        let long = marks_length code in
-        let within : next ≤ length (marks_of code) = n.within in
+        let long : length marks ≡ length code.instrs = are.0 in
+        let within : next ≤ length marks = n.within in
         let b = end_bounds code.funcs (length code.instrs) entry low in
         elim (end_reached code.funcs (length code.instrs) entry) [
           | inl all ↦ absurd (omega (arith, all, long, within, below))
@@ -163,94 +174,66 @@ next_is_end code entry next low n =
         ]
 
 -- marks are as many as instructions
-pub marks_long : (code : Code) (marks : List Bool) → marks ≡ marks_of code → (k : ℕ) → k < length code.instrs → k < length marks
-marks_long code marks are k low = let e : length marks ≡ length code.instrs = ap length are ∙ marks_length code in omega (arith, e, low)
-
-marked_is : (code : Code) (marks : List Bool) (entry : ℕ) (b : Bool) → marks ≡ marks_of code → entry < length code.instrs → slice_get marks entry ≡ Some b → is_entry code.funcs entry ≡ b
-marked_is code marks entry b are low is = is_marked code entry b low (ap (λ l. slice_get l entry) (sym are) ∙ is)
-
--- the extent where a mark is set
-pub extent_some : (code : Code) (marks : List Bool) (entry : ℕ) (e : Extent) → marks ≡ marks_of code → entry < length code.instrs → slice_get marks entry ≡ Some true
-    → e ≡ extent_from code entry → Some e ≡ extent_at code entry
-unfolding extent_at
-extent_some code marks entry e are low is same = rw (marked_is code marks entry true are low is) (ap (λ x. Some x) same)
-
--- and where none is
-pub extent_none : (code : Code) (marks : List Bool) (entry : ℕ) → marks ≡ marks_of code → entry < length code.instrs → slice_get marks entry ≡ Some false → None ≡ extent_at code entry
-unfolding extent_at
-extent_none code marks entry are low is = rw (marked_is code marks entry false are low is) refl
+pub marks_long : (code : Code) (marks : List Bool) → AreMarks code marks → (k : ℕ) → k < length code.instrs → k < length marks
+marks_long code marks are k low = let e : length marks ≡ length code.instrs = are.0 in omega (arith, e, low)
 
 -- the next mark is behind the entry, and within the instructions
-pub next_bounds : (code : Code) (marks : List Bool) (entry next : ℕ) → marks ≡ marks_of code → IsNext marks entry next → (entry ≤ next) × (next ≤ length code.instrs)
+pub next_bounds : (code : Code) (marks : List Bool) (entry next : ℕ) → AreMarks code marks → IsNext marks entry next → (entry ≤ next) × (next ≤ length code.instrs)
 next_bounds code marks entry next are n =
-    let e : length marks ≡ length code.instrs = ap length are ∙ marks_length code in
+    let e : length marks ≡ length code.instrs = are.0 in
     let later : entry < next = n.later in
     let within : next ≤ length marks = n.within in
     (omega arith, omega (arith, e))
 
 -- the extent that is found
-pub extent_found : (code : Code) (marks : List Bool) (entry next registers : ℕ) (instrs : List Instr) → marks ≡ marks_of code → entry < length code.instrs → IsNext marks entry next
-    → registers ≡ all_needed instrs → instrs ≡ take (next - entry) (drop entry code.instrs)
-    → ◌≡◌ {A = Extent} (record { end = next; registers = registers }) (extent_from code entry)
+pub extent_found : (code : Code) (marks : List Bool) (entry next registers : ℕ) (instrs : List Instr) → AreMarks code marks → entry < length code.instrs → IsNext marks entry next
+    → AreNeeded instrs registers → instrs ≡ take (next - entry) (drop entry code.instrs)
+    → IsExtent code entry (record { end = next; registers = registers })
 unfolding body_of
 extent_found code marks entry next registers instrs are low n needed is =
-    let end : next ≡ end_of code.funcs (length code.instrs) entry = next_is_end code entry next low (subst (λ l. IsNext l entry next) are n) in
+    let end : next ≡ end_of code.funcs (length code.instrs) entry = next_is_end code marks entry next are low n in
     let body : instrs ≡ take (end_of code.funcs (length code.instrs) entry - entry) (drop entry code.instrs) = is ∙ ap (λ e. take (e - entry) (drop entry code.instrs)) end in
-    let all : registers ≡ all_needed (take (end_of code.funcs (length code.instrs) entry - entry) (drop entry code.instrs)) = needed ∙ ap all_needed body in
-    λ i. record { end = end i; registers = all i }
+    record { end = end; registers = subst (λ l. AreNeeded l registers) body needed }
 
--- what is found of a list of extents
-pub found_is : (code : Code) (extents : List (Option Extent)) (entry : ℕ) (o : Option Extent) → AreExtents code extents → entry < length code.instrs → slice_get extents entry ≡ Some o
-    → extent_at code entry ≡ o
-found_is code extents entry o are low is = same_Some (extent_at code entry) o (sym (are.1 entry low) ∙ is)
+pub no_extents : (code : Code) (list : List (Option Extent)) → list ≡ [] → AreExtentsOf code 0 list
+no_extents code list none = (ap length none, λ k o is. absurd (none-some o (sym (ap (λ l. slice_get l k) none) ∙ is)))
 
-pub found_from : (code : Code) (entry : ℕ) (e : Extent) → extent_at code entry ≡ Some e → e ≡ extent_from code entry
-unfolding extent_at
-found_from code entry e is = by (is_entry code.funcs entry) is
+pub extents_all : (code : Code) (k last : ℕ) (list : List (Option Extent)) → k ≤ last → last ≤ k → last ≡ length code.instrs → AreExtentsOf code k list → AreExtents code list
+extents_all code k last list low high all are = let same : k ≡ length code.instrs = omega (arith, low, high, all) in (are.0 ∙ same, are.1)
+
+-- one extent more
+pub extents_more : (code : Code) (k : ℕ) (list : List (Option Extent)) (o : Option Extent) → AreExtentsOf code k list → IsExtentOf code k o → AreExtentsOf code (k + 1) (list ++ o ∷ [])
+extents_more code k list o are one = (
+  (let e = length-append list (o ∷ []) in let l : length list ≡ k = are.0 in omega (arith, e, l)),
+  λ n x is. by n x is (cases_lt n (length list)),
+)
   where
-    by : (b : Bool) → (if b then Some (extent_from code entry) else None) ≡ Some e → e ≡ extent_from code entry
-    by true is = sym (same_Some (extent_from code entry) e is)
-    by false is = absurd (none-some e is)
+    last : (xs : List (Option Extent)) (n : ℕ) (x : Option Extent) → slice_get (xs ++ o ∷ []) n ≡ Some x → length xs ≤ n → (n ≡ length xs) × (o ≡ x)
+    last [] zero x is past = (refl, same_Some o x is)
+    last [] (suc n) x is past = absurd (none-some x is)
+    last (y ∷ xs) zero x is past = absurd (omega (arith, past))
+    last (y ∷ xs) (suc n) x is past = let r = last xs n x is (omega (arith, past)) in (let e : n ≡ length xs = r.0 in omega (arith, e), r.1)
 
--- whether the body with an extent passes is whether the entry does
-pub entry_some : (code : Code) (entry : ℕ) (e : Extent) → extent_at code entry ≡ Some e → body_fits code entry (body_of code entry) ≡ entry_fits code entry
-unfolding entry_fits
-entry_some code entry e is = sym (ap (λ x. entry_passes code entry x) is)
+    front : (xs : List (Option Extent)) (n : ℕ) (x : Option Extent) → slice_get (xs ++ o ∷ []) n ≡ Some x → n < length xs → slice_get xs n ≡ Some x
+    front [] n x is low = absurd (omega (arith, low))
+    front (y ∷ xs) zero x is low = is
+    front (y ∷ xs) (suc n) x is low = front xs n x is (omega (arith, low))
 
-pub entry_none : (code : Code) (entry : ℕ) → extent_at code entry ≡ None → true ≡ entry_fits code entry
-unfolding entry_fits
-entry_none code entry is = sym (ap (λ x. entry_passes code entry x) is)
+    by : (n : ℕ) (x : Option Extent) → slice_get (list ++ o ∷ []) n ≡ Some x → (n < length list) ⊎ (length list ≤ n) → IsExtentOf code n x
+    by n x is (inl low) = are.1 n x (front list n x is low)
+    by n x is (inr past) =
+        let r = last list n x is past in
+        let l : length list ≡ k = are.0 in
+        let at : n ≡ k = r.0 ∙ l in
+        subst (λ m. IsExtentOf code m x) (sym at) (subst (IsExtentOf code k) r.1 one)
 
 -- the instructions from an entry to its end
-pub part_is_body : (code : Code) (entry : ℕ) (e : Extent) (instrs : List Instr) → e ≡ extent_from code entry → instrs ≡ take (e.end - entry) (drop entry code.instrs) → instrs ≡ body_of code entry
+pub part_is_body : (code : Code) (entry : ℕ) (e : Extent) (instrs : List Instr) → IsExtent code entry e → instrs ≡ take (e.end - entry) (drop entry code.instrs) → instrs ≡ body_of code entry
 unfolding body_of
-part_is_body code entry e instrs same is = is ∙ ap (λ (x : Extent). take (x.end - entry) (drop entry code.instrs)) same
+part_is_body code entry e instrs same is = is ∙ ap (λ n. take (n - entry) (drop entry code.instrs)) same.end
 
-pub extent_bounds : (code : Code) (entry : ℕ) (e : Extent) → e ≡ extent_from code entry → entry < length code.instrs → (entry ≤ e.end) × (e.end ≤ length code.instrs)
+pub extent_bounds : (code : Code) (entry : ℕ) (e : Extent) → IsExtent code entry e → entry < length code.instrs → (entry ≤ e.end) × (e.end ≤ length code.instrs)
 extent_bounds code entry e same low =
     let b = end_bounds code.funcs (length code.instrs) entry low in
-    let at : e.end ≡ end_of code.funcs (length code.instrs) entry = ap (λ (x : Extent). x.end) same in
+    let at : e.end ≡ end_of code.funcs (length code.instrs) entry = same.end in
     (omega (arith, b.0, at), omega (arith, b.1, at))
-
-unfit : (code : Code) (entry : ℕ) (instrs : List Instr) → false ≡ all_in_range code entry (length instrs) 0 instrs → false ≡ body_fits code entry instrs
-unfolding body_fits
-unfit code entry instrs fails = ap (λ b. b && all_settled entry 0 instrs (at_entry (length instrs))) fails
-
-fit : (code : Code) (entry : ℕ) (instrs : List Instr) → true ≡ all_in_range code entry (length instrs) 0 instrs
-    → all_settled entry 0 instrs (at_entry (length instrs)) ≡ body_fits code entry instrs
-unfolding body_fits
-fit code entry instrs passes = ap (λ b. b && all_settled entry 0 instrs (at_entry (length instrs))) passes
-
--- what a result tells of one test, it tells of an equal one
-pub if_ok_on : {E : Type 0} (r : Result Bool E) (x y : Bool) → x ≡ y → IfOk r (λ b. b ≡ x) → IfOk r (λ b. b ≡ y)
-if_ok_on (Ok b) x y same h = h ∙ same
-if_ok_on (Err e) x y same h = h
-
--- whether a body passes, by its two checks
-pub body_unfit : (code : Code) (entry : ℕ) (instrs : List Instr) → instrs ≡ body_of code entry → false ≡ all_in_range code entry (length instrs) 0 instrs → false ≡ body_fits code entry (body_of code entry)
-body_unfit code entry instrs same fails = subst (λ l. false ≡ body_fits code entry l) same (unfit code entry instrs fails)
-
-pub body_fit : (code : Code) (entry : ℕ) (instrs : List Instr) → instrs ≡ body_of code entry → true ≡ all_in_range code entry (length instrs) 0 instrs
-    → all_settled entry 0 instrs (at_entry (length instrs)) ≡ body_fits code entry (body_of code entry)
-body_fit code entry instrs same passes =
-    subst (λ l. all_settled entry 0 instrs (at_entry (length instrs)) ≡ body_fits code entry l) same (fit code entry instrs passes)

@@ -1,6 +1,6 @@
 pub mod Balances
 pub mod Budgets
-pub mod Checking
+pub mod Decides
 pub mod Endings
 pub mod Examples
 pub mod Finds

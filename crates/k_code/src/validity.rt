@@ -1,7 +1,7 @@
 //! Whether code is valid.
-ghost use Rattle.std.specs.Prelude.{◌≡◌, ◌<◌, ◌↔◌, length, slice_get, Some, IsTrue, IfOk};
-ghost use Rattle.k_code.specs.Checking.{AreExtents, EntriesFit, all_extents_fit as all_extents_fit_in, all_numbers_fit as all_numbers_fit_in, body_fits as body_fits_in, entry_fits as entry_fits_in, extent_fits as extent_fits_in, extent_from, extent_passes as extent_passes_for, numbers_fit as numbers_fit_in};
-ghost use Rattle.k_code.specs.Valid.{IsValid, body_of};
+ghost use Rattle.std.specs.Prelude.{◌≡◌, ◌<◌, ◌↔◌, length, slice_get, true, IsTrue, IfOk, Some, ◌-◌, ◌*◌, ◌≤◌};
+ghost use Rattle.k_code.specs.Decides.{AreExtents, BodyFits, EntriesFit, EntryFits, HasNumbers, HasRoom, HaveNumbers, HaveRoom, IsExtent, IsExtentOf, is_entry};
+ghost use Rattle.k_code.specs.Valid.{IsValid};
 
 use crate::{Code, CodeFunc, Instr};
 use balances::is_balanced;
@@ -41,7 +41,7 @@ pub fn valid(alloc: Global, code: &Code) -> Result<bool, NoMemory>
 
 /// Whether the numbers of all functions are in their ranges.
 fn all_numbers_fit(code: &Code, funcs: &[CodeFunc]) -> bool
-    ensures { result ≡ all_numbers_fit_in code.now funcs.now }
+    ensures { IsTrue result ↔ HaveNumbers code.now funcs.now }
 {
     for func in funcs {
         if !numbers_fit(code, func) {
@@ -52,9 +52,8 @@ fn all_numbers_fit(code: &Code, funcs: &[CodeFunc]) -> bool
 }
 
 /// Whether those of a function are.
-#[tactic(auto, unfolding(crate::specs::Checking::numbers_fit))]
 fn numbers_fit(code: &Code, func: &CodeFunc) -> bool
-    ensures { result ≡ numbers_fit_in code.now func.now }
+    ensures { IsTrue result ↔ HasNumbers code.now func.now }
 {
     (func.entry as usize) < code.instrs.len()
         && (func.region as usize) < code.regions.len()
@@ -66,8 +65,10 @@ fn numbers_fit(code: &Code, func: &CodeFunc) -> bool
 
 /// Whether all functions have few enough instructions, and registers enough for them.
 fn all_extents_fit(code: &Code, funcs: &[CodeFunc], extents: &[Option<Extent>]) -> bool
-    requires { AreExtents code.now extents.now }
-    ensures { result ≡ all_extents_fit_in code.now funcs.now }
+    requires extents { AreExtents code.now extents.now }
+    requires funcs { funcs.now ≡ code.now.funcs }
+    requires numbers { HaveNumbers code.now funcs.now }
+    ensures { IsTrue result ↔ HaveRoom code.now funcs.now }
 {
     for func in funcs {
         if !extent_fits(code, extents, func) {
@@ -78,27 +79,24 @@ fn all_extents_fit(code: &Code, funcs: &[CodeFunc], extents: &[Option<Extent>]) 
 }
 
 /// Whether a function has.
-#[tactic(auto, unfolding(crate::specs::Checking::extent_fits))]
 fn extent_fits(code: &Code, extents: &[Option<Extent>], func: &CodeFunc) -> bool
-    requires { AreExtents code.now extents.now }
-    ensures { result ≡ extent_fits_in code.now func.now }
+    requires extents { AreExtents code.now extents.now }
+    requires entry { func.now.entry < length code.now.instrs }
+    requires begins { is_entry code.now.funcs func.now.entry ≡ true }
+    ensures { IsTrue result ↔ HasRoom code.now func.now }
 {
-    let entry = func.entry as usize;
-    entry < extents.len() && extent_passes(extents[entry], func)
+    match extent_found(extents, func.entry as usize) {
+        Some(extent) => extent_passes(extent, func),
+        None => false,
+    }
 }
 
 /// Whether a function with this extent has.
-fn extent_passes(extent: Option<Extent>, func: &CodeFunc) -> bool
-    ensures { result ≡ extent_passes_for extent func.now }
+fn extent_passes(extent: Extent, func: &CodeFunc) -> bool
+    ensures { IsTrue result ↔ ((extent.end - func.now.entry ≤ 512 * func.now.size) × (extent.registers ≤ func.now.registers)) }
 {
-    match extent {
-        Some(extent) => {
-            extent.end.saturating_sub(func.entry as usize) as u64
-                <= INSTRUCTIONS * u64::from(func.size)
-                && extent.registers <= u64::from(func.registers)
-        }
-        None => false,
-    }
+    extent.end.saturating_sub(func.entry as usize) as u64 <= INSTRUCTIONS * u64::from(func.size)
+        && extent.registers <= u64::from(func.registers)
 }
 
 /// Whether each function is in its ranges and balanced.
@@ -123,7 +121,7 @@ fn entry_fits(
 ) -> Result<bool, NoMemory>
     requires extents { AreExtents code.now extents.now }
     requires entry { entry < length code.now.instrs }
-    ensures { IfOk result (λ b. b ≡ entry_fits_in code.now entry) }
+    ensures { IfOk result (λ b. IsTrue b ↔ EntryFits code.now entry) }
 {
     match extent_found(extents, entry) {
         Some(extent) => body_fits(alloc, code, entry, extent),
@@ -140,11 +138,10 @@ fn extent_found(extents: &[Option<Extent>], entry: usize) -> Option<Extent>
 }
 
 /// Whether a function with this entry and this extent is.
-#[tactic(auto, unfolding(crate::specs::Checking::body_fits))]
 fn body_fits(alloc: Global, code: &Code, entry: usize, extent: Extent) -> Result<bool, NoMemory>
     requires entry { entry < length code.now.instrs }
-    requires extent { extent ≡ extent_from code.now entry }
-    ensures { IfOk result (λ b. b ≡ body_fits_in code.now entry (body_of code.now entry)) }
+    requires extent { IsExtent code.now entry extent }
+    ensures { IfOk result (λ b. IsTrue b ↔ BodyFits code.now entry) }
 {
     let instrs = part(code.instrs.as_slice(), entry, extent.end);
     if !all_in_range(code, entry, instrs) {

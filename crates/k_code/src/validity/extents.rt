@@ -1,6 +1,6 @@
 //! Where functions begin and end.
 ghost use Rattle.std.specs.Prelude.{◌≡◌, ◌-◌, ◌<◌, ◌≤◌, length, take, drop, replicate, slice_get, slice_set, Some, IfOk, true, false};
-ghost use Rattle.k_code.specs.Checking.{AreExtents, IsNext, extent_at as extent_at_of, extent_from as extent_from_of, marked, marks_of};
+ghost use Rattle.k_code.specs.Decides.{AreExtents, AreMarks, IsExtent, IsExtentOf, IsNext, Marks};
 
 use super::registers::all_needed;
 use crate::{Code, CodeFunc, Instr};
@@ -30,9 +30,9 @@ pub(super) fn extents(alloc: Global, code: &Code) -> Result<Vec<Option<Extent>>,
 
 /// The extent of the function that begins with the instruction of this number, if there is one.
 fn extent_at(code: &Code, marks: &[bool], entry: usize) -> Option<Extent>
-    requires marks { marks.now ≡ marks_of code.now }
+    requires marks { AreMarks code.now marks.now }
     requires entry { entry < length code.now.instrs }
-    ensures { result ≡ extent_at_of code.now entry }
+    ensures { IsExtentOf code.now entry result }
 {
     if is_marked(marks, entry) {
         return Some(extent_from(code, marks, entry));
@@ -50,9 +50,9 @@ fn is_marked(marks: &[bool], number: usize) -> bool
 
 /// The extent of a function with this entry.
 fn extent_from(code: &Code, marks: &[bool], entry: usize) -> Extent
-    requires marks { marks.now ≡ marks_of code.now }
+    requires marks { AreMarks code.now marks.now }
     requires entry { entry < length code.now.instrs }
-    ensures { result ≡ extent_from_of code.now entry }
+    ensures { IsExtent code.now entry result }
 {
     let end = next_mark(marks, entry);
     let registers = all_needed(part(code.instrs.as_slice(), entry, end));
@@ -82,9 +82,8 @@ fn next_mark(marks: &[bool], first: usize) -> usize
 }
 
 /// Of each instruction, whether a function begins with it.
-#[tactic(auto, unfolding(crate::specs::Checking::marks_of))]
 fn marks(alloc: Global, code: &Code) -> Result<Vec<bool>, NoMemory>
-    ensures { IfOk result (λ marks. marks.items ≡ marks_of code.now) }
+    ensures { IfOk result (λ marks. AreMarks code.now marks.items) }
 {
     let mut marks = all_unmarked(alloc, code.instrs.len())?;
     mark_all(code.funcs.as_slice(), &mut marks);
@@ -104,14 +103,14 @@ fn all_unmarked(alloc: Global, count: usize) -> Result<Vec<bool>, NoMemory>
 
 /// Sets the marks of these functions' entries.
 fn mark_all(funcs: &[CodeFunc], marks: &mut Vec<bool>)
-    ensures { marks.new.items ≡ marked funcs.now marks.old.items }
+    ensures { Marks funcs.now marks.old.items marks.new.items }
 {
     mark_each(funcs, marks.as_mut_slice())
 }
 
 /// Sets the marks of these functions' entries.
 fn mark_each(funcs: &[CodeFunc], marks: &mut [bool])
-    ensures { marks.new ≡ marked funcs.now marks.old }
+    ensures { Marks funcs.now marks.old marks.new }
 {
     for func in funcs {
         mark(func.entry, marks);

@@ -1,7 +1,7 @@
 //! The ranges of an instruction's numbers.
-ghost use Rattle.std.specs.Prelude.{◌≡◌, ◌+◌, ◌<◌, ◌≤◌, ◌^◌, length, nat_le, sum_by};
+ghost use Rattle.std.specs.Prelude.{◌≡◌, ◌+◌, ◌<◌, ◌≤◌, ◌^◌, ◌↔◌, length, nat_le, sum_by, IsTrue};
 ghost use Rattle.k_code.specs.Balances.{goes_on as goes_on_by};
-ghost use Rattle.k_code.specs.Checking.{all_in_range as all_in_range_of};
+ghost use Rattle.k_code.specs.Decides.{AreInRange};
 ghost use Rattle.k_code.specs.Named.{chunk_bytes, is_there as is_there_of, object_is_there as object_is_there_of, out_is_short as out_is_short_of, text_is_short as text_is_short_of};
 ghost use Rattle.k_code.specs.Valid.{class_fits as class_fits_by, is_in_range as is_in_range_of, is_of_tests as is_of_tests_in, is_within as is_within_of, stays_within as stays_within_of};
 
@@ -18,7 +18,7 @@ const GREATEST_LATENCY: u64 = 10_000;
 /// them has the number `entry`.
 pub(super) fn all_in_range(code: &Code, entry: usize, instrs: &[Instr]) -> bool
     requires { entry + length instrs.now < 2 ^ 64 }
-    ensures { result ≡ all_in_range_of code.now entry (length instrs.now) 0 instrs.now }
+    ensures { IsTrue result ↔ AreInRange code.now entry instrs.now }
 {
     for (k, instr) in instrs.iter().enumerate() {
         if !is_in_range(code, entry, instrs.len(), k, instr) {

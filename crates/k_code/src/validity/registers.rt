@@ -1,13 +1,13 @@
 //! How many registers instructions need.
 ghost use Rattle.std.specs.Prelude.{◌≡◌, [], ◌∷◌};
-ghost use Rattle.k_code.specs.Checking.{all_needed as all_needed_by};
+ghost use Rattle.k_code.specs.Decides.{AreNeeded};
 ghost use Rattle.k_code.specs.Named.{operands, register_set as register_set_by, registers_needed as registers_needed_by, up_to_operand as up_to_operand_of, up_to_operands as up_to_operands_of, up_to_register as up_to_register_of, returned};
 
 use crate::{Arg, Do, Instr};
 
 /// How many registers these instructions need.
 pub(super) fn all_needed(instrs: &[Instr]) -> u64
-    ensures { result ≡ all_needed_by instrs.now }
+    ensures { AreNeeded instrs.now result }
 {
     let mut most = 0;
     for instr in instrs {

@@ -1,6 +1,6 @@
-use Rattle.std.proofs.Common.{◌≡◌, drop}
-use Rattle.k_code.specs.Checking.{all_numbers_fit}
+use Rattle.k_code.specs.Decides.{HasNumbers}
+use Rattle.k_code.proofs.Decided.{EachBefore}
 use Rattle.k_code.proofs.validity.all_numbers_fit.Given as goal
 
 abbrev pub invariant-loop-func : goal.invariant-loop-func
-invariant-loop-func l = all_numbers_fit l.code (drop l.func-index l.funcs) ≡ all_numbers_fit l.code l.funcs
+invariant-loop-func l = EachBefore (λ n f. HasNumbers l.code f) l.funcs l.func-index

@@ -1,8 +1,8 @@
-use Rattle.std.proofs.Common.{◌∙◌, length, subst, sym}
-use Rattle.k_code.specs.Checking.{AreBelow}
-use Rattle.k_code.proofs.Passing.{entry_below}
+use Rattle.std.proofs.Common.{◌∙◌, subst, sym}
+use Rattle.k_code.specs.Decides.{Knows}
+use Rattle.k_code.proofs.Balanced.{entry_knows}
 use Rattle.k_code.proofs.validity.balances.is_balanced.Goals as goal
 
-pub all_settled-requires-clause-below : goal.all_settled-requires-clause-below
-all_settled-requires-clause-below c =
-    subst (λ l. AreBelow 1 l) (sym (c.as_mut_slice.ensures.value ∙ c.in_ok-before.ensures)) (entry_below (length c.args.instrs.now))
+pub all_settled-requires-clause-known : goal.all_settled-requires-clause-known
+all_settled-requires-clause-known c =
+    subst (λ l. Knows c.args.entry c.args.instrs.now 0 l) (sym (c.as_mut_slice.ensures.value ∙ c.in_ok-before.ensures)) (entry_knows c.args.entry c.args.instrs.now)

@@ -1,5 +1,5 @@
 use Rattle.std.proofs.Common.{◌≡◌, drop}
-use Rattle.k_code.specs.Checking.{marked}
+use Rattle.k_code.proofs.Marking.{marked}
 use Rattle.k_code.proofs.validity.extents.mark_each.Given as goal
 
 abbrev pub invariant-loop-func : goal.invariant-loop-func

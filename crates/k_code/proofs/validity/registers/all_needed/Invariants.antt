@@ -1,5 +1,5 @@
 use Rattle.std.proofs.Common.{◌≡◌, drop, max}
-use Rattle.k_code.specs.Checking.{all_needed}
+use Rattle.k_code.proofs.Decided.{all_needed}
 use Rattle.k_code.proofs.validity.registers.all_needed.Given as goal
 
 abbrev pub invariant-loop-instr : goal.invariant-loop-instr
