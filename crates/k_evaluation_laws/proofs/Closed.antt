@@ -64,7 +64,7 @@ fine_so vs carries Gives kinds (Stops end w) each h = tt
 
 -- all numbers are in range, with those of strings
 ranged_of : (unit : source.Unit) (program : Program) → IsProgramOf unit program → AreInRange program.unit
-ranged_of unit program it = all_in_range unit program.unit it.typed it.faultless it.strings it.in_range
+ranged_of unit program it = all_in_range unit program.unit it.ranked it.typed it.faultless it.strings it.numbers it.characters it.objects
 
 -- each function fits
 all_fit : (unit : source.Unit) (program : Program) → IsProgramOf unit program → (n : ℕ) (f : TFunc) → slice_get program.unit.functions n ≡ Some f → FunctionFits program.unit f

@@ -1,27 +1,32 @@
 -- No format of a source whose strings fit writes more bytes than an int can count.
-use Rattle.std.proofs.Common.{ℕ, suc, ◌≡◌, ◌+◌, ◌*◌, ◌≤◌, Bool, true, false, if◌then◌else◌, ◌&&◌, List, [], ◌∷◌, map, length, Option, Some, None, refl, ap, arith}
-use Rattle.std.specs.Prelude.{◌==◌, nat_le, nat_lt, sum, All}
-use Rattle.std.proofs.lemmas.Bool.{le-leb, leb-true}
-use Rattle.std.proofs.lemmas.List.Elements.{All-nil, All-cons}
+use Rattle.std.proofs.Common.{ℕ, suc, ◌≡◌, ◌+◌, ◌*◌, ◌<◌, ◌≤◌, Bool, true, false, if◌then◌else◌, ◌&&◌, List, [], ◌∷◌, map, length, Option, Some, None, refl, ap, arith}
+use Rattle.std.specs.Prelude.{◌==◌, int_le, pos, nat_le, nat_lt, sum, All}
+use Rattle.std.proofs.lemmas.Bool.{and_from, le-leb, leb-true}
+use Rattle.std.proofs.lemmas.List.Elements.{All-nil, All-cons, All-head, All-tail}
 use Rattle.std.proofs.lemmas.List.Sums.{sum_by-cons}
 use Rattle.std.proofs.lemmas.Option.{none-some, same_Some}
+use Rattle.k_num.specs.declared.numbers.Kind.TheVariants.{U64}
+use Rattle.k_num.specs.Kind.{greatest, is_held, least}
+use Rattle.k_num.proofs.KindLaws.{held_converted}
 use Rattle.k_tree.specs.declared.tokens.TokenKind.{TokenKind}
 use Rattle.k_tree.specs.declared.tokens.TokenKind.TheVariants as token
-use Rattle.k_tree.specs.Literals.{string_bytes}
+use Rattle.k_tree.specs.Literals.{NumberIsHeld, string_bytes}
 use Rattle.k_tree.specs.Spelling.{Spelled}
 use Rattle.k_types_meaning.specs.declared.tree.expression.Piece.{Piece}
 use Rattle.k_types_meaning.specs.declared.tree.expression.Piece.TheVariants as piece
 use Rattle.k_types_meaning.specs.Formats.{Mark, Literal, Takes, Reading, Outside, Behind, mark_before, mark_ended, marks_from, byte_before, pieces_of}
-use Rattle.k_lower_texts.specs.Laws.{FormatsFollow, TokenPasses}
+use Rattle.k_lower_texts.specs.Laws.{FormatsFollow, NumbersFollow, TokenPasses}
 use Rattle.k_lower_texts.specs.Passing.{Asks}
-use Rattle.k_evaluation_laws.proofs.Ranges.{most_written}
+use Rattle.k_evaluation_laws.specs.Ranges.{CharacterIsHeld}
+use Rattle.k_evaluation_laws.proofs.Ranges.{is_in_range, most_written}
 
--- WHAT IS ASKED: strings are short, and formats write few bytes
+-- WHAT IS ASKED: strings are short, formats write few bytes, and constants are numbers of their kinds
 abbrev pub asks : Asks
 asks = record {
   bytes = λ bytes. nat_le (length bytes) 4194304;
   format = λ pieces. nat_le (most_written pieces) 2147483647;
   call = λ of n. true;
+  number = is_in_range;
 }
 
 -- marks that there may be are no more than this
@@ -80,13 +85,27 @@ formats_follow bytes marks short is =
     let made : most_written (pieces_of marks) ≤ 65 * length marks = pieces_few marks in
     le-leb (most_written (pieces_of marks)) 2147483647 (omega (arith, low, few, made))
 
--- EACH STRING is short where all together are
-token_short : (t : TokenKind) → string_bytes t ≤ 4194304 → TokenPasses asks t
-token_short (token.Str bytes) few = le-leb (length bytes) 4194304 few
-token_short _ few = tt
+-- what typing makes of constants is so
+size_held : (n : ℕ) → n < 134217728 → is_held U64 (pos n) ≡ true
+size_held n few = and_from (int_le (least U64) (pos n)) (int_le (pos n) (greatest U64)) (le-leb 0 n (omega arith)) (le-leb n 18446744073709551615 (omega (arith, few)))
 
-pub strings_pass : (tokens : Spelled) → sum (map string_bytes tokens) ≤ 4194304 → All (TokenPasses asks) tokens
-strings_pass [] few = All-nil (TokenPasses asks)
-strings_pass (t ∷ tokens) few =
+pub numbers_follow : NumbersFollow asks
+numbers_follow = record {
+  conversions = λ kind z. held_converted kind z;
+  sizes = size_held;
+  short = λ bytes h. leb-true (length bytes) 4194304 h;
+}
+
+-- EACH LITERAL is so where all are
+token_passes : (t : TokenKind) → string_bytes t ≤ 4194304 → NumberIsHeld t → CharacterIsHeld t → TokenPasses asks t
+token_passes (token.Str bytes) few number character = le-leb (length bytes) 4194304 few
+token_passes (token.Number kind n) few number character = number
+token_passes (token.Char z) few number character = character
+token_passes _ few number character = tt
+
+pub literals_pass : (tokens : Spelled) → sum (map string_bytes tokens) ≤ 4194304 → All NumberIsHeld tokens → All CharacterIsHeld tokens → All (TokenPasses asks) tokens
+literals_pass [] few numbers characters = All-nil (TokenPasses asks)
+literals_pass (t ∷ tokens) few numbers characters =
     let total : sum (string_bytes t ∷ map string_bytes tokens) ≡ string_bytes t + sum (map string_bytes tokens) = sum_by-cons (λ x. x) (string_bytes t) (map string_bytes tokens) in
-    All-cons (TokenPasses asks) t tokens (token_short t (omega (arith, total, few))) (strings_pass tokens (omega (arith, total, few)))
+    All-cons (TokenPasses asks) t tokens (token_passes t (omega (arith, total, few)) (All-head NumberIsHeld t tokens numbers) (All-head CharacterIsHeld t tokens characters))
+    (literals_pass tokens (omega (arith, total, few)) (All-tail NumberIsHeld t tokens numbers) (All-tail CharacterIsHeld t tokens characters))

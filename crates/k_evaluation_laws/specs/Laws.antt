@@ -5,7 +5,8 @@ use Rattle.k_num.specs.declared.numbers.Kind.{Kind}
 use Rattle.k_num.specs.declared.numbers.Kind.TheVariants.{I32}
 use Rattle.k_num.specs.Kind.{converted, is_held}
 use Rattle.k_tree.specs.declared.tree.unit.Unit as source
-use Rattle.k_tree.specs.Literals.{StringsOfUnitFit}
+use Rattle.k_tree.specs.Literals.{NumbersOfUnitAreHeld, StringsOfUnitFit}
+use Rattle.k_tree.specs.Ranked.{RankedUnit}
 use Rattle.k_types_meaning.specs.declared.tree.expression.TExpr.{TExpr}
 use Rattle.k_types_meaning.specs.declared.tree.statement.TStmt.{TStmt}
 use Rattle.k_types_meaning.specs.declared.tree.unit.TFunc.{TFunc}
@@ -28,15 +29,19 @@ use Rattle.k_marks_laws.specs.Closed.{IsCountedOf}
 use Rattle.k_marks_laws.specs.Counted.{IsOfKind, step_of}
 use Rattle.k_marks_laws.specs.Turns.{HoldsNumber, IsBeforeTest, TLoop, parts_of}
 use Rattle.k_evaluation_laws.specs.Kinds.{Sort, ANumber, Grows, IsRight, IsValue, sort_of, start_kinds}
-use Rattle.k_evaluation_laws.specs.Ranges.{IsInRange}
+use Rattle.k_evaluation_laws.specs.Ranges.{CharactersOfUnitAreHeld, ObjectsAreInRange}
 use Rattle.k_evaluation_laws.specs.Standing.{IsExpressionOf, StandsInFunction}
 
--- the program is a source without faults, whose strings are within the limit and whose constants are in range
+-- The program is a source that the grammar gives, without faults, whose strings are within the limit; the kinds of its integer constants hold these, and
+-- int its character constants; and its objects begin with numbers of their kinds
 pub record IsProgramOf (unit : source.Unit) (program : Program) : Type 0 where
   pub typed : IsTyped unit program.unit
   pub faultless : faults unit ≡ []
   pub strings : StringsOfUnitFit unit
-  pub in_range : IsInRange program.unit
+  pub ranked : RankedUnit unit
+  pub numbers : NumbersOfUnitAreHeld unit
+  pub characters : CharactersOfUnitAreHeld unit
+  pub objects : ObjectsAreInRange program.unit
 
 -- its function of this number, in a state whose variables and objects hold what their types say. These are the kinds of all objects that were made so far:
 -- those with which the program starts, and more

@@ -6,8 +6,9 @@ ghost use Rattle.k_evaluation_laws.specs.Laws.{ElementsAreHeld, ExpressionsGiveT
 /// a function that is entered with arguments of its parameters' types begins so, and no expression, no statement and no function changes
 /// it. An expression gives a value of its type, a function one of the type of its result, and main an int.
 ///
-/// That the constants of the source are numbers of their kinds is a premise, `IsInRange`; so are that its strings are within the limit, and
-/// that each byte of the input is less than 256.
+/// Of the source it is a premise that the grammar gives it, that its strings are within the limit, that the kinds of its integer constants hold
+/// these and int its character constants, and that its file objects begin with numbers of their kinds; of the input, that each byte is less than
+/// 256. That every other constant in the typed tree, as one that is converted or the size of a type, is a number of its kind, is proved.
 pub fn values_are_of_their_kinds()
     ensures start { RunsStartRight }
     ensures expressions { ExpressionsGiveTheirTypes }

@@ -19,7 +19,7 @@ use Rattle.k_types_meaning.specs.Formats.{Mark, Literal, Takes, Reading, Outside
 use Rattle.k_world.specs.declared.act.Out.TheVariants as out
 use Rattle.k_code.specs.Named.{chunk_bytes, out_is_short}
 use Rattle.k_evaluation.specs.Library.{chunk_of, conversion_of}
-use Rattle.k_lower_texts.specs.Laws.{FormatsFollow, TokenPasses}
+use Rattle.k_lower_texts.specs.Laws.{FormatsFollow, NumbersFollow, TokenPasses}
 use Rattle.k_lower_texts.specs.Passing.{Asks}
 use Rattle.k_lower_runs.specs.Sound.{call_fits}
 
@@ -29,6 +29,7 @@ asks_of unit = record {
   bytes = λ bytes. nat_le (length bytes) 4194304;
   format = λ pieces. out_is_short (out.Format (map chunk_of pieces));
   call = λ of n. call_fits (slice_get unit.functions n) of;
+  number = λ of z. true;
 }
 
 -- marks that there may be are no more than this
@@ -127,9 +128,15 @@ formats_follow unit bytes marks short is =
     and_from (nat_le (length (map chunk_of (pieces_of marks))) 4194304) (nat_le (bytes_in (pieces_of marks)) 4194304)
     (le-leb (length (map chunk_of (pieces_of marks))) 4194304 (omega (arith, chunks, l, few, low))) (le-leb (bytes_in (pieces_of marks)) 4194304 (omega (arith, c, few, low)))
 
+-- nothing is asked of constants
+pub numbers_follow : (unit : TUnit) → NumbersFollow (asks_of unit)
+numbers_follow unit = record { conversions = λ kind z. refl; sizes = λ n few. refl; short = λ bytes h. leb-true (length bytes) 4194304 h }
+
 -- EACH STRING is short where all together are
 token_short : (unit : TUnit) (t : TokenKind) → string_bytes t ≤ 4194304 → TokenPasses (asks_of unit) t
 token_short unit (token.Str bytes) few = le-leb (length bytes) 4194304 few
+token_short unit (token.Number kind n) few = refl
+token_short unit (token.Char z) few = refl
 token_short unit _ few = tt
 
 pub strings_pass : (unit : TUnit) (tokens : Spelled) → sum (map string_bytes tokens) ≤ 4194304 → All (TokenPasses (asks_of unit)) tokens

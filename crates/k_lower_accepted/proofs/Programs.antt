@@ -41,7 +41,7 @@ use Rattle.k_lower_accepted.specs.Accepted.{IsAccepted}
 use Rattle.k_lower_accepted.specs.Laws.{AcceptedProgramsAreSound, AcceptedProgramsFit}
 use Rattle.k_lower_accepted.specs.Sound.{body_sound}
 use Rattle.k_lower_runs.specs.Sound.{alike, call_fits, calls_fit}
-use Rattle.k_lower_accepted.proofs.Formats.{asks_of, formats_follow, strings_pass}
+use Rattle.k_lower_accepted.proofs.Formats.{asks_of, formats_follow, numbers_follow, strings_pass}
 use Rattle.k_lower_accepted.proofs.Statements.{body_shown}
 
 -- THE STRINGS of the tree are those of the tokens
@@ -105,7 +105,7 @@ module _ (unit : source.Unit) (program : Program) (h : IsAccepted unit program) 
   function_right number f is =
       let fits : FunctionFits program.unit f = functions_fit unit program.unit number f h.typed h.faultless is in
       let passes : body_passes (asks_of program.unit) f.body ≡ true =
-      functions_pass (asks_of program.unit) unit program.unit number f (formats_follow program.unit) (strings_pass program.unit (spelling unit) (spelled_so unit program h)) (calls_pass program.unit)
+      functions_pass (asks_of program.unit) unit program.unit number f (formats_follow program.unit) (numbers_follow program.unit) (strings_pass program.unit (spelling unit) (spelled_so unit program h)) (calls_pass program.unit) h.ranked
       h.typed h.faultless is in
       let funcs : length (flattened program).funcs ≡ length program.unit.functions = funcs_many program in
       let callees : length (map callee program.unit.functions) ≡ length program.unit.functions = length-map program.unit.functions callee in

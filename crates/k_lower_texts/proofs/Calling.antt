@@ -31,20 +31,27 @@ use Rattle.k_types_meaning.proofs.Fine.{AllOf, IfFine, IfThere}
 use Rattle.k_types_meaning.proofs.Folds.{typed_Call, typed_Getchar, typed_Putchar, typed_Puts, typed_Printf}
 use Rattle.k_lower_fits.proofs.Calling.{first_of_both}
 use Rattle.k_lower_fits.proofs.Named.{NamesEach, found}
-use Rattle.k_lower_texts.specs.Laws.{FormatsFollow}
+use Rattle.k_lower_texts.specs.Laws.{FormatsFollow, NumbersFollow}
 use Rattle.k_lower_texts.specs.Passing.{Asks, all_pass, expr_step, expr_passes}
 use Rattle.k_lower_texts.proofs.Conversions.{Passes, all_of_them, in_its_kind, is_passed}
 use Rattle.k_lower_texts.proofs.Operands.{G}
+use Rattle.k_lower_texts.proofs.Small.{SmallMeaning, SmallType}
 
--- a call of what a name means passes, where it is a function of the source
+-- a call of what a name means passes, where it is a function of the source, and its type is small
 abbrev pub NameAsks : Asks → List (List ℕ) → List ℕ → Meaning → Type 0
-NameAsks asks defined x (meaning.Variable n of fixed) = Unit {0}
-NameAsks asks defined x (meaning.Object n of fixed) = Unit {0}
-NameAsks asks defined x (meaning.Function s) = (is_some (meaning_in library x) ≡ false) × (is_name defined x ≡ true → asks.call (told s.result) s.number ≡ true)
+NameAsks asks defined x (meaning.Variable n of fixed) = SmallType of
+NameAsks asks defined x (meaning.Object n of fixed) = SmallType of
+NameAsks asks defined x (meaning.Function s) = (is_some (meaning_in library x) ≡ false) × (is_name defined x ≡ true → asks.call (told s.result) s.number ≡ true) × SmallType s.result
 NameAsks asks defined x (meaning.Library function) = Unit {0}
 
+pub asks_small : (asks : Asks) (defined : List (List ℕ)) (x : List ℕ) (m : Meaning) → NameAsks asks defined x m → SmallMeaning m
+asks_small asks defined x (meaning.Variable n of fixed) h = h
+asks_small asks defined x (meaning.Object n of fixed) h = h
+asks_small asks defined x (meaning.Function s) h = h.2
+asks_small asks defined x (meaning.Library function) h = tt
+
 -- the first of two of which the second is not
-module _ (asks : Asks) where
+module _ (asks : Asks) (numbers : NumbersFollow asks) where
   -- what is passed to parameters passes
   abbrev PassingPasses : Passing → Type 0
   PassingPasses (Passed trees) = AllOf (Passes asks) trees
@@ -61,18 +68,18 @@ module _ (asks : Asks) where
   passing_passes [] [] h = tt
   passing_passes [] (a ∷ args) h = tt
   passing_passes (t ∷ types) [] h = tt
-  passing_passes (t ∷ types) (a ∷ args) h = before_passes (passed t a) (passing types args) (is_passed asks t a h.0) (passing_passes types args h.1)
+  passing_passes (t ∷ types) (a ∷ args) h = before_passes (passed t a) (passing types args) (is_passed asks numbers t a (h.0).0) (passing_passes types args h.1)
 
   -- CALLS of a function
-  with_passes : (p : Place) (result : CType) (tree : List TExpr → TExpr) (taken : List ℕ) (given : Passing) → PassingPasses given
+  with_passes : (p : Place) (result : CType) (tree : List TExpr → TExpr) (taken : List ℕ) (given : Passing) → SmallType result → PassingPasses given
       → ((trees : List TExpr) → AllOf (Passes asks) trees → Passes asks (tree trees)) → IfFine (G asks) (called_with p result tree taken given)
-  with_passes p result tree taken (Passed trees) h each = each trees h
-  with_passes p result tree taken WrongKind h each = tt
-  with_passes p result tree taken WrongCount h each = tt
+  with_passes p result tree taken (Passed trees) small h each = (each trees h, small)
+  with_passes p result tree taken WrongKind small h each = tt
+  with_passes p result tree taken WrongCount small h each = tt
 
-  function_passes : (p : Place) (s : Signature) (args : List Typed) → asks.call (told s.result) s.number ≡ true → AllOf (G asks) args → IfFine (G asks) (function_called p s args)
-  function_passes p s args c h =
-      with_passes p s.result (λ trees. typed.Call (at p (told s.result)) s.number trees) (all_taken args) (passing s.params args) (passing_passes s.params args h)
+  function_passes : (p : Place) (s : Signature) (args : List Typed) → SmallType s.result → asks.call (told s.result) s.number ≡ true → AllOf (G asks) args → IfFine (G asks) (function_called p s args)
+  function_passes p s args small c h =
+      with_passes p s.result (λ trees. typed.Call (at p (told s.result)) s.number trees) (all_taken args) (passing s.params args) small (passing_passes s.params args h)
       (λ trees all.
       typed_Call Bool (expr_step asks) (at p (told s.result)) s.number trees
       ∙ and_from (asks.call (told s.result) s.number) (all_pass (map (expr_passes asks) trees)) c (all_of_them asks trees all))
@@ -82,7 +89,7 @@ module _ (asks : Asks) where
   getchar_is p = typed_Getchar Bool (expr_step asks) (at p (ttype.Number I32))
 
   getchar_passes : (p : Place) (args : List Typed) → IfFine (G asks) (getchar_called p args)
-  getchar_passes p [] = getchar_is p
+  getchar_passes p [] = (getchar_is p, tt)
   getchar_passes p (a ∷ args) = tt
 
   putchar_is : (p : Place) (trees : List TExpr) → AllOf (Passes asks) trees → Passes asks (putchar_tree p trees)
@@ -91,7 +98,7 @@ module _ (asks : Asks) where
 
   putchar_passes : (p : Place) (args : List Typed) → AllOf (G asks) args → IfFine (G asks) (putchar_called p args)
   putchar_passes p args h =
-      with_passes p (ctype.Number I32) (putchar_tree p) (all_taken args) (passing (ctype.Number I32 ∷ []) args) (passing_passes (ctype.Number I32 ∷ []) args h) (putchar_is p)
+      with_passes p (ctype.Number I32) (putchar_tree p) (all_taken args) (passing (ctype.Number I32 ∷ []) args) tt (passing_passes (ctype.Number I32 ∷ []) args h) (putchar_is p)
 
   line_passes : (p : Place) (taken : List ℕ) (v : Typed) (o : Option (List ℕ)) → G asks v → IfFine (G asks) (put_line p taken v.tree o)
   line_passes p taken v None h = tt
@@ -99,7 +106,7 @@ module _ (asks : Asks) where
     where
       by : (b : Bool) → IfFine (G asks) (if b then refused (fault.BadFormat p) else Fine (number I32 (typed.Puts (at p (ttype.Number I32)) v.tree) taken))
       by true = tt
-      by false = typed_Puts Bool (expr_step asks) (at p (ttype.Number I32)) v.tree ∙ h
+      by false = (typed_Puts Bool (expr_step asks) (at p (ttype.Number I32)) v.tree ∙ h.0, tt)
 
   puts_passes : (p : Place) (args : List Typed) → AllOf (G asks) args → IfFine (G asks) (puts_called p args)
   puts_passes p [] h = tt
@@ -119,7 +126,7 @@ module _ (asks : Asks) where
   formatted_passes to a (Some from) h = by (size (promoted from) == size to)
     where
       by : (b : Bool) → IfThere (Passes asks) (if b then Some (in_kind from to a.tree) else None)
-      by true = in_its_kind asks from to a.tree h
+      by true = in_its_kind asks numbers from to a.tree h.0
       by false = tt
 
   tree_before_passes : (o : Option TExpr) (rest : Option (List TExpr)) → IfThere (Passes asks) o → IfThere (AllOf (Passes asks)) rest → IfThere (AllOf (Passes asks)) (tree_before o rest)
@@ -137,9 +144,11 @@ module _ (asks : Asks) where
   print_trees_passes : (p : Place) (marks : List Mark) (taken : List ℕ) (o : Option (List TExpr)) → asks.format (pieces_of marks) ≡ true → IfThere (AllOf (Passes asks)) o
       → IfFine (G asks) (print_trees p marks taken o)
   print_trees_passes p marks taken None format h = tt
-  print_trees_passes p marks taken (Some trees) format h =
-      typed_Printf Bool (expr_step asks) (at p (ttype.Number I32)) (pieces_of marks) trees
-      ∙ and_from (asks.format (pieces_of marks)) (all_pass (map (expr_passes asks) trees)) format (all_of_them asks trees h)
+  print_trees_passes p marks taken (Some trees) format h = (
+    typed_Printf Bool (expr_step asks) (at p (ttype.Number I32)) (pieces_of marks) trees
+        ∙ and_from (asks.format (pieces_of marks)) (all_pass (map (expr_passes asks) trees)) format (all_of_them asks trees h),
+    tt,
+  )
 
   module _ (follow : FormatsFollow asks) where
     print_marks_passes : (p : Place) (taken : List ℕ) (args : List Typed) (o : Option (List Mark)) → ((marks : List Mark) → o ≡ Some marks → asks.format (pieces_of marks) ≡ true) → AllOf (G asks) args
@@ -155,7 +164,7 @@ module _ (asks : Asks) where
 
     printf_passes : (p : Place) (args : List Typed) → AllOf (G asks) args → IfFine (G asks) (printf_called p args)
     printf_passes p [] h = tt
-    printf_passes p (a ∷ args) h = print_bytes_passes p (all_taken (a ∷ args)) args (bytes_in a.tree) (λ bytes is. bytes_pass a.tree bytes is h.0) h.1
+    printf_passes p (a ∷ args) h = print_bytes_passes p (all_taken (a ∷ args)) args (bytes_in a.tree) (λ bytes is. bytes_pass a.tree bytes is (h.0).0) h.1
 
     library_passes : (p : Place) (f : Library) (args : List Typed) → AllOf (G asks) args → IfFine (G asks) (library_called p f args)
     library_passes p Getchar args h = getchar_passes p args
@@ -170,7 +179,7 @@ module _ (asks : Asks) where
     called_passes defined p x args (Some (meaning.Object n of fixed)) fits there h = tt
     called_passes defined p x args (Some (meaning.Function s)) fits there h =
         let here = fits (meaning.Function s) refl in
-        function_passes p s args (here.1 (first_of_both (is_name defined x) (is_some (meaning_in library x)) here.0 there)) h
+        function_passes p s args here.2 (here.1 (first_of_both (is_name defined x) (is_some (meaning_in library x)) here.0 there)) h
     called_passes defined p x args (Some (meaning.Library function)) fits there h = library_passes p function args h
 
     pub call_passes : (defined : List (List ℕ)) (names : Names) (p : Place) (x : List ℕ) (args : List Typed) → NamesEach (NameAsks asks defined) names

@@ -30,14 +30,14 @@ use Rattle.k_types_meaning.specs.Types.{elements}
 use Rattle.k_types_meaning.proofs.Elaborates.{expressions_elaborate}
 use Rattle.k_types_meaning.proofs.Fine.{AllOf, Anything, IfFine, IfThere, anything, both_has, cond_has, if_fine, then_has}
 use Rattle.k_lower_fits.proofs.Split.{front, two}
-use Rattle.k_lower_texts.specs.Laws.{FormatsFollow, TokenPasses}
+use Rattle.k_lower_texts.specs.Laws.{FormatsFollow, NumbersFollow, TokenPasses}
 use Rattle.k_lower_texts.specs.Passing.{Asks, expr_passes, item_passes, items_pass, init_passes}
 use Rattle.k_lower_texts.proofs.Conversions.{Passes, is_passed}
 use Rattle.k_lower_texts.proofs.Expressions.{NamesAsk, expr_good}
 use Rattle.k_lower_texts.proofs.Operands.{G}
 use Rattle.k_lower_texts.proofs.Split.{Each, commas_each}
 
-module _ (asks : Asks) where
+module _ (asks : Asks) (numbers : NumbersFollow asks) where
   both_pass : (xs ys : List TItem) → items_pass asks xs ≡ true → items_pass asks ys ≡ true → items_pass asks (xs ++ ys) ≡ true
   both_pass [] ys h k = k
   both_pass (x ∷ xs) ys h k =
@@ -59,7 +59,7 @@ module _ (asks : Asks) where
   string_item_passes p n taken (Some bytes) = refl
 
   one_item_passes : (file : Bool) (p : Place) (kind : Kind) (dims : List ℕ) (n : ℕ) (text : Option (List ℕ)) (v : Typed) → G asks v → IfFine ItemsPass (one_item file p kind dims n text v)
-  one_item_passes file p kind [] n text v h = given_passes file p n v.taken (passed (ctype.Number kind) v) (is_passed asks (ctype.Number kind) v h)
+  one_item_passes file p kind [] n text v h = given_passes file p n v.taken (passed (ctype.Number kind) v) (is_passed asks numbers (ctype.Number kind) v h.0)
   one_item_passes file p kind (d ∷ ds) n text v h = string_item_passes p n v.taken (fitting kind ds d text)
 
   -- what an initialiser gives passes
@@ -86,7 +86,7 @@ module _ (asks : Asks) where
       then_has Anything ItemsPass (all_made (map (λ (g : Giving). g.alone) gs)) (λ taken. excess p) (anything (all_made (map (λ (g : Giving). g.alone) gs))) (λ taken h. tt)
   braces_pass file p kind (d ∷ ds) n gs all = within_passes file kind ds (room d) n gs all
 
-module _ (asks : Asks) (follow : FormatsFollow asks) (defined : List (List ℕ)) (names : Names) (fit : NamesAsk asks follow defined names) where
+module _ (asks : Asks) (follow : FormatsFollow asks) (numbers : NumbersFollow asks) (defined : List (List ℕ)) (names : Names) (fit : NamesAsk asks follow numbers defined names) where
   abbrev D : List Called → Type 0
   D calls = AllOf (IsDefined defined) calls
 
@@ -95,16 +95,16 @@ module _ (asks : Asks) (follow : FormatsFollow asks) (defined : List (List ℕ))
 
   -- a judged expression passes
   judged : (e : Expr) → D (expr_calls e) → T (spell_expr e) → IfFine (G asks) (judge names e)
-  judged e calls texts = if_fine (G asks) (judge names e) (λ v is. expr_good asks follow defined names e v fit calls texts ((expressions_elaborate names e v).0 is))
+  judged e calls texts = if_fine (G asks) (judge names e) (λ v is. expr_good asks follow numbers defined names e v fit calls texts ((expressions_elaborate names e v).0 is))
 
   -- what an initialiser gives passes
   abbrev GivenPasses : Init → Type 0
-  GivenPasses i = D (init_calls i) → T (spell_init i) → GivesPassing asks (giving names i)
+  GivenPasses i = D (init_calls i) → T (spell_init i) → GivesPassing asks numbers (giving names i)
 
   abbrev inits : List ((i : Init) × GivenPasses i) → List Init
   inits xs = map (λ (x : (i : Init) × GivenPasses i). x.0) xs
 
-  all_given : (xs : List ((i : Init) × GivenPasses i)) → D (all_calls (map init_calls (inits xs))) → Each (TokenPasses asks) (map spell_init (inits xs)) → AllOf (GivesPassing asks) (map (giving names) (inits xs))
+  all_given : (xs : List ((i : Init) × GivenPasses i)) → D (all_calls (map init_calls (inits xs))) → Each (TokenPasses asks) (map spell_init (inits xs)) → AllOf (GivesPassing asks numbers) (map (giving names) (inits xs))
   all_given [] calls texts = tt
   all_given (x ∷ xs) calls texts =
       let c = two (IsDefined defined) (init_calls x.0 ++ all_calls (map init_calls (inits xs))) (init_calls x.0) (all_calls (map init_calls (inits xs))) refl calls in
@@ -113,7 +113,7 @@ module _ (asks : Asks) (follow : FormatsFollow asks) (defined : List (List ℕ))
   abbrev Layer : Init-F Init → Type 0
   Layer z =
       D (init_calls_step (map-Init Init (List Called) init_calls z)) → T (spell_init_step (map-Init Init Spelled spell_init z))
-      → GivesPassing asks (giving_step names (map-Init Init Giving (giving names) z))
+      → GivesPassing asks numbers (giving_step names (map-Init Init Giving (giving names) z))
 
   -- the items in braces
   in_list : (p : Place) (pieces : List Spelled) (comma : Bool) → T (spell_init_step (Init-F.List p pieces comma)) → Each (TokenPasses asks) pieces
@@ -123,19 +123,19 @@ module _ (asks : Asks) (follow : FormatsFollow asks) (defined : List (List ℕ))
 
   given_by : (y : Init-F ((i : Init) × GivenPasses i)) → Layer (map-Init _ Init (λ (x : (i : Init) × GivenPasses i). x.0) y)
   given_by (Init-F.One p e) calls texts file kind dims n =
-      then_has (G asks) (ItemsPass asks) (judge names e) (one_item file p kind dims n (string_of e)) (judged e calls texts) (λ v h. one_item_passes asks file p kind dims n (string_of e) v h)
+      then_has (G asks) (ItemsPass asks numbers) (judge names e) (one_item file p kind dims n (string_of e)) (judged e calls texts) (λ v h. one_item_passes asks numbers file p kind dims n (string_of e) v h)
   given_by (Init-F.List p items comma) calls texts file kind dims n =
-      braces_pass asks file p kind dims n (map (giving names) (inits items)) (all_given items calls (in_list p (map spell_init (inits items)) comma texts))
+      braces_pass asks numbers file p kind dims n (map (giving names) (inits items)) (all_given items calls (in_list p (map spell_init (inits items)) comma texts))
 
-  shifted : (c d : List Called) (s t : Spelled) (g h : Giving) → c ≡ d → s ≡ t → g ≡ h → (D d → T t → GivesPassing asks h) → D c → T s → GivesPassing asks g
-  shifted c d s t g h is same_tokens alike given calls texts = subst (GivesPassing asks) (sym alike) (given (subst D is calls) (subst T same_tokens texts))
+  shifted : (c d : List Called) (s t : Spelled) (g h : Giving) → c ≡ d → s ≡ t → g ≡ h → (D d → T t → GivesPassing asks numbers h) → D c → T s → GivesPassing asks numbers g
+  shifted c d s t g h is same_tokens alike given calls texts = subst (GivesPassing asks numbers) (sym alike) (given (subst D is calls) (subst T same_tokens texts))
 
   giving_passes : (i : Init) → GivenPasses i
   giving_passes =
       ind-Init GivenPasses
       (λ x y is. shifted _ _ _ _ _ _ (fold-roll-Init (List Called) init_calls_step x) (fold-roll-Init Spelled spell_init_step x) (fold-roll-Init Giving (giving_step names) x) (subst Layer is (given_by y)))
 
-  all_giving : (items : List Init) → D (all_calls (map init_calls items)) → Each (TokenPasses asks) (map spell_init items) → AllOf (GivesPassing asks) (map (giving names) items)
+  all_giving : (items : List Init) → D (all_calls (map init_calls items)) → Each (TokenPasses asks) (map spell_init items) → AllOf (GivesPassing asks numbers) (map (giving names) items)
   all_giving [] calls texts = tt
   all_giving (i ∷ items) calls texts =
       let c = two (IsDefined defined) (init_calls i ++ all_calls (map init_calls items)) (init_calls i) (all_calls (map init_calls items)) refl calls in
@@ -162,8 +162,8 @@ module _ (asks : Asks) (follow : FormatsFollow asks) (defined : List (List ℕ))
 
   one_passes : (file : Bool) (of : CType) (text : Option (List ℕ)) (v : Typed) → G asks v → IfThere InitPasses (one_given file of text v)
   one_passes file ctype.Void text v h = tt
-  one_passes file (ctype.Number kind) text v h = value_passes file (passed (ctype.Number kind) v) (is_passed asks (ctype.Number kind) v h)
-  one_passes file (ctype.Pointer e) text v h = value_passes file (passed (ctype.Pointer e) v) (is_passed asks (ctype.Pointer e) v h)
+  one_passes file (ctype.Number kind) text v h = value_passes file (passed (ctype.Number kind) v) (is_passed asks numbers (ctype.Number kind) v h.0)
+  one_passes file (ctype.Pointer e) text v h = value_passes file (passed (ctype.Pointer e) v) (is_passed asks numbers (ctype.Pointer e) v h.0)
   one_passes file (ctype.Array count e) text v h = string_passes (fitting e.kind e.dims count text)
 
   alone_passes : (gs : List Giving) → IfFine BeginsPassing (then_made (all_made (map (λ (g : Giving). g.alone) gs)) (λ taken. Fine (beginning None (concat taken))))
@@ -171,10 +171,10 @@ module _ (asks : Asks) (follow : FormatsFollow asks) (defined : List (List ℕ))
       then_has Anything BeginsPassing (all_made (map (λ (g : Giving). g.alone) gs)) (λ taken. Fine (beginning None (concat taken)))
       (anything (all_made (map (λ (g : Giving). g.alone) gs))) (λ taken h. tt)
 
-  list_passes : (file : Bool) (of : CType) (gs : List Giving) → AllOf (GivesPassing asks) gs → IfFine BeginsPassing (list_given file of gs)
+  list_passes : (file : Bool) (of : CType) (gs : List Giving) → AllOf (GivesPassing asks numbers) gs → IfFine BeginsPassing (list_given file of gs)
   list_passes file (ctype.Array count e) gs all =
-      then_has (ItemsPass asks) BeginsPassing (items_within file e.kind e.dims (room count) 0 gs)
-      (λ found. Fine (beginning (Some (begins.Elements found.items)) found.taken)) (within_passes asks file e.kind e.dims (room count) 0 gs all) (λ found h. h)
+      then_has (ItemsPass asks numbers) BeginsPassing (items_within file e.kind e.dims (room count) 0 gs)
+      (λ found. Fine (beginning (Some (begins.Elements found.items)) found.taken)) (within_passes asks numbers file e.kind e.dims (room count) 0 gs all) (λ found h. h)
   list_passes file ctype.Void gs all = alone_passes gs
   list_passes file (ctype.Number kind) gs all = alone_passes gs
   list_passes file (ctype.Pointer e) gs all = alone_passes gs

@@ -2,9 +2,11 @@ pub mod Alike
 pub mod Calling
 pub mod Conversions
 pub mod Expressions
+pub mod Filled
 pub mod Initialisers
 pub mod Operands
 pub mod Operations
+pub mod Small
 pub mod Sources
 pub mod Split
 pub mod Statements

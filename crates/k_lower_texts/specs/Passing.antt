@@ -1,6 +1,6 @@
 -- Believed with a public law.
--- Tests of the strings, of the formats and of the calls in a typed function.
-use Rattle.std.specs.Prelude.{ℕ, Bool, true, ◌&&◌, List, [], ◌∷◌, map, Option, Some, None}
+-- Tests of the strings, of the formats, of the calls and of the constants in a typed function.
+use Rattle.std.specs.Prelude.{ℕ, ℤ, Bool, true, ◌&&◌, List, [], ◌∷◌, map, Option, Some, None}
 use Rattle.k_types_meaning.specs.declared.tree.declaration.TDeclarator.{TDeclarator}
 use Rattle.k_types_meaning.specs.declared.tree.declaration.TInit.{TInit}
 use Rattle.k_types_meaning.specs.declared.tree.declaration.TInit.TheVariants as begins
@@ -15,11 +15,12 @@ use Rattle.k_types_meaning.specs.declared.tree.statement.TStmt.{TStmt, fold-TStm
 use Rattle.k_types_meaning.specs.declared.tree.statement.TPart.TheOpen.{TPart-F, TStmt-F}
 use Rattle.k_types_meaning.specs.declared.types.TType.{TType}
 
--- What is tested: the bytes of a string, the pieces of a format, and a call of this type of the function of this number.
+-- What is tested: the bytes of a string, the pieces of a format, a call of this type of the function of this number, and a constant of this type.
 pub record Asks : Type 0 where
   pub bytes : List ℕ → Bool
   pub format : List Piece → Bool
   pub call : TType → ℕ → Bool
+  pub number : TType → ℤ → Bool
 
 -- all these pass
 abbrev pub all_pass : List Bool → Bool
@@ -33,7 +34,7 @@ if_passes (Some b) = b
 
 -- an expression passes, of whose operands it is known
 abbrev pub expr_step : Asks → TExpr-F Bool → Bool
-expr_step asks (TExpr-F.Number node z) = true
+expr_step asks (TExpr-F.Number node z) = asks.number node.of z
 expr_step asks (TExpr-F.Str node n bytes) = asks.bytes bytes
 expr_step asks (TExpr-F.Object node n) = true
 expr_step asks (TExpr-F.Variable node n) = true
