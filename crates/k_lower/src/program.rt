@@ -1,6 +1,9 @@
 //! A whole program.
 ghost use Rattle.std.specs.Prelude.{◌≡◌, IfOk};
+ghost use Rattle.k_code.specs.Valid.{IsValid};
 ghost use Rattle.k_lower_code.specs.Programs.{flattened};
+ghost use Rattle.k_lower.specs.Promises.{RunsAs, WhereAccepted};
+ghost use Rattle.k_regions.specs.Regions.{regions_of};
 
 use crate::functions::push_functions;
 use crate::source::Source;
@@ -22,6 +25,9 @@ pub fn lower(
     latencies: &Latencies,
 ) -> Result<Code, NoMemory>
     ensures text { IfOk result (λ code. code ≡ flattened (record { unit = unit.now; marks = marks.now; latencies = latencies.now })) }
+    ensures valid { IfOk result (λ code. WhereAccepted (record { unit = unit.now; marks = marks.now; latencies = latencies.now }) (IsValid code)) }
+    ensures regions { IfOk result (λ code. code.regions ≡ regions_of unit.now) }
+    ensures runs { IfOk result (λ code. WhereAccepted (record { unit = unit.now; marks = marks.now; latencies = latencies.now }) (RunsAs (record { unit = unit.now; marks = marks.now; latencies = latencies.now }) code)) }
 {
     let extents = extents_of(alloc, unit, marks)?;
     let table = extents.statements.as_slice();

@@ -174,16 +174,19 @@ summed vs = fold-TExpr ExpressionExtent (summed_step vs)
 abbrev pub none : ExpressionExtent
 none = no_place ttype.Void 0 0
 
--- so many operands, and arguments of this size
+-- an expression without operands
 abbrev pub no_operand : Operands
 no_operand = record { first = none; second = none; third = none; args = 0 }
 
+-- one with one operand
 abbrev pub one_operand : ExpressionExtent → Operands
 one_operand a = record { first = a; second = none; third = none; args = 0 }
 
+-- one with two
 abbrev pub two_operands : ExpressionExtent → ExpressionExtent → Operands
 two_operands a b = record { first = a; second = b; third = none; args = 0 }
 
+-- a call, whose arguments have the size of all together
 abbrev pub arguments : List ExpressionExtent → Operands
 arguments args = record { first = none; second = none; third = none; args = total args }
 

@@ -1,3 +1,4 @@
+pub mod Apart
 pub mod Jumps
 pub mod Lengths
 pub mod Numbers

@@ -14,11 +14,11 @@ use Rattle.k_regions.proofs.Listed.{function_listed, number_of}
 use Rattle.k_lower_sound.proofs.Lengths.{function_alike}
 
 -- these numbers count up from this one
-abbrev Up : ℕ → List ℕ → Type 0
+abbrev pub Up : ℕ → List ℕ → Type 0
 Up c [] = Unit {0}
 Up c (n ∷ ns) = (n ≡ c) × Up (suc c) ns
 
-up_from : (c k : ℕ) → Up c (numbers_from c k)
+pub up_from : (c k : ℕ) → Up c (numbers_from c k)
 up_from c zero = tt
 up_from c (suc k) = (refl, up_from (suc c) k)
 

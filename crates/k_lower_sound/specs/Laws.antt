@@ -10,6 +10,7 @@ use Rattle.k_code.specs.Valid.{IsValid}
 use Rattle.k_lower_code.specs.Programs.{flattened}
 use Rattle.k_lower_flows.specs.Laws.{IsReady}
 use Rattle.k_lower_accepted.specs.Accepted.{IsAccepted}
+use Rattle.k_lower_sound.specs.Numbers.{GoUp, statements_of}
 
 -- main is there, and each function is sound, where the marks of the program are those of its source
 abbrev pub AcceptedProgramsAreReady : Type 0
@@ -25,3 +26,8 @@ pub record IsLowered (program : Program) : Type 0 where
 -- so it is of each accepted program, with the marks of its source
 abbrev pub AcceptedProgramsAreLowered : Type 0
 AcceptedProgramsAreLowered = (unit : source.Unit) (program : Program) → IsAccepted unit program → program.marks ≡ marks_of program.unit → IsLowered program
+
+-- THE NUMBERS OF STATEMENTS of an accepted program go up in text order, and are less than its count of nodes: so no two statements have one number,
+-- and a table with as many entries as there are nodes has one for each
+abbrev pub AcceptedStatementsHaveNumbers : Type 0
+AcceptedStatementsHaveNumbers = (unit : source.Unit) (program : Program) → IsAccepted unit program → GoUp 0 program.unit.nodes (statements_of program.unit.functions)
