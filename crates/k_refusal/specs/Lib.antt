@@ -1,0 +1,9 @@
+pub mod Fronts
+pub mod Lexical
+pub mod Lines
+pub mod Refusals
+pub mod Rules
+pub mod Sentences
+pub mod Syntax
+pub mod Tables
+pub mod Typing
