@@ -208,7 +208,7 @@ laid_counted trees n count (run ∷ runs) = elim (cases_order n run.entry) [
   ]
 ]
 
-beside-bare : (f : Forest) → beside f bare ≡ f
+pub beside-bare : (f : Forest) → beside f bare ≡ f
 beside-bare bare = refl
 beside-bare (grown x i l) = ap (grown x i) (beside-bare l)
 

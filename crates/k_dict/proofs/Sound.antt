@@ -44,7 +44,7 @@ count_of-total n (run ∷ runs) = elim (cases_order n run.entry) [
   ]
 ]
 
-AreRuns-wider : (low high more : ℕ) (runs : List Run) → high ≤ more → AreRuns low high runs → AreRuns low more runs
+pub AreRuns-wider : (low high more : ℕ) (runs : List Run) → high ≤ more → AreRuns low high runs → AreRuns low more runs
 AreRuns-wider low high more [] wider are = tt
 AreRuns-wider low high more (run ∷ runs) wider are =
     let below : run.entry < high = are.1 in (are.0, omega arith, are.2, AreRuns-wider (run.entry + 1) high more runs wider are.3)

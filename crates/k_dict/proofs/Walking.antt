@@ -73,7 +73,7 @@ shape_there entries seen are x i knows n at =
     )
 
 -- a shape that was seen has its entry
-entry_there : (entries : List Entry) (seen : List Tree) (are : AreEntriesOf entries seen) (x : Label) (i : Forest) (n : ℕ) (k : Tree)
+pub entry_there : (entries : List Entry) (seen : List Tree) (are : AreEntriesOf entries seen) (x : Label) (i : Forest) (n : ℕ) (k : Tree)
     → slice_get are.shapes n ≡ Some k → SameShape (record { label = x; inner = i }) k → IsIn entries (entry_at x (code entries i []))
 entry_there entries seen are x i n k at same =
     let t : Tree = record { label = x; inner = i } in

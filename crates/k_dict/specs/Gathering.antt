@@ -1,4 +1,4 @@
--- For contracts between crates: nobody has to believe it.
+-- Believed with a public law.
 -- Where a gathering stands, and what each node of the list makes of it.
 use Rattle.std.specs.Prelude.{ℕ, zero, suc, ◌+◌, ◌-◌, ◌^◌, ◌<◌, ◌≡◌, ◌≤◌, Bool, true, false, ◌&&◌, nat_eq, List, [], ◌∷◌, ◌++◌, length, Result, Ok, Err, Some, if◌then◌else◌}
 use Rattle.std.specs.Cmp.Lexicographic.{pointwise}
@@ -54,6 +54,7 @@ abbrev pub closed_of : List Entry → List Level → State
 closed_of dict [] = record { dict = dict; levels = [] }
 closed_of dict (l ∷ levels) = record { dict = with_entry dict (summary l); levels = with_child (number_of dict (summary l)) levels }
 
+-- the same, of a state
 abbrev pub closed : State → State
 closed s = closed_of s.dict s.levels
 

@@ -1,4 +1,4 @@
--- For contracts between crates: nobody has to believe it.
+-- Believed with a public law.
 -- How often each entry occurs among children.
 use Rattle.std.specs.Prelude.{ℕ, ◌+◌, ◌<◌, ◌≡◌, List, [], ◌∷◌, nat_lt, if◌then◌else◌}
 use Rattle.k_dict.specs.declared.entry.Run.{Run}

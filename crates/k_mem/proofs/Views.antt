@@ -1,5 +1,5 @@
 -- What extents and cells are seen as: objects that follow on, with as many elements as there are cells.
-use Rattle.std.proofs.Common.{◌≡◌, ℕ, ◌+◌, ◌<◌, ◌≤◌, List, [], ◌∷◌, length, take, drop, Option, Some, None, ℤ, sum_by, slice_get, arith, ap, sym, subst, ◌∙◌}
+use Rattle.std.proofs.Common.{◌≡◌, ℕ, ◌+◌, ◌<◌, ◌≤◌, List, [], ◌∷◌, length, take, drop, Option, Some, None, ℤ, sum_by, slice_get, option_map, zero, suc, refl, arith, ap, sym, subst, ◌∙◌}
 use Rattle.std.proofs.lemmas.List.{length-take-le, length-drop, get_or-take, get_or-drop}
 use Rattle.std.proofs.lemmas.List.Sums.{sum_by-cons}
 use Rattle.std.proofs.lemmas.Option.{slice_get-get_or}
@@ -61,3 +61,10 @@ laid_out extents cells made kept = record {
 pub laid_out_seen : (extents : List Extent) (cells : List (Option ℤ)) (made : ℕ) (m : Memory) → AreKept extents (length cells) made
     → memory_in extents cells made ≡ m → IsLaidOut m
 laid_out_seen extents cells made m kept seen = subst IsLaidOut seen (laid_out extents cells made kept)
+
+-- the numbers of objects are those of their extents
+pub number_seen : (extents : List Extent) (cells : List (Option ℤ)) (place : ℕ)
+    → option_map (λ (e : Extent). e.number) (slice_get extents place) ≡ option_map (λ (o : Object). o.number) (slice_get (objects_in extents cells) place)
+number_seen [] cells place = refl
+number_seen (e ∷ extents) cells zero = refl
+number_seen (e ∷ extents) cells (suc place) = number_seen extents cells place

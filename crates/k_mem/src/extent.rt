@@ -1,5 +1,6 @@
 //! Where the elements of a live object stand among the cells.
-ghost use Rattle.std.specs.Prelude.{◌≡◌, ◌+◌, ◌<◌, ◌≤◌, ◌^◌, ◌+ℤ◌, pos, length, slice_get, IfOk};
+ghost use Rattle.std.specs.Prelude.{◌≡◌, ◌+◌, ◌<◌, ◌≤◌, ◌^◌, ◌+ℤ◌, pos, length, slice_get, option_map, IfOk};
+ghost use Rattle.k_mem.specs.declared.extent.Extent.{Extent};
 ghost use Rattle.k_mem.specs.Calls.{where_live, where_within, where_both_live, offset_within, difference, is_same};
 ghost use Rattle.k_mem.specs.Layout.{AreExtents, extent_with, element_among, store_among, fill_among, shift_among};
 
@@ -58,6 +59,16 @@ pub fn extent_at(extents: &[Extent], at: usize) -> Extent
     ensures { slice_get extents.now at ≡ Some result }
 {
     extents[at]
+}
+
+/// The number of the object whose extent is at that place.
+pub fn number_at(extents: &[Extent], at: usize) -> Option<u64>
+    ensures { result ≡ option_map (λ (e : Extent). e.number) (slice_get extents.now at) }
+{
+    match extents.get(at) {
+        Some(extent) => Some(extent.number),
+        None => None,
+    }
 }
 
 /// The number of the element pointed to.

@@ -1,6 +1,6 @@
 //! The objects of a running program.
-ghost use Rattle.std.specs.Prelude.{◌≡◌, ◌+◌, ◌^◌, ◌<◌, ◌≤◌, [], ◌∷◌, ◌++◌, length, vec_len, IfOk, OnOk, OnErr, ◌↔◌, None, Some};
-ghost use Rattle.k_mem.specs.Memory.{IsLaidOut, live_elements};
+ghost use Rattle.std.specs.Prelude.{◌≡◌, ◌+◌, ◌^◌, ◌<◌, ◌≤◌, [], ◌∷◌, ◌++◌, length, vec_len, IfOk, OnOk, OnErr, ◌↔◌, None, Some, slice_get, option_map};
+ghost use Rattle.k_mem.specs.Memory.{IsLaidOut, Object, live_elements};
 ghost use Rattle.k_mem.specs.Layout.{extent_made};
 ghost use Rattle.k_mem.specs.Calls.{HasLength, elements_at, is_over_limit, push_of, popped, load_of, store_of, stored, fill_of, filled, first_of, length_of, element_of, shift_of, order_of, same_of};
 
@@ -177,6 +177,22 @@ impl Objects {
         ensures laid_out { IsLaidOut self.now }
     {
         element_at(&self.extents, at)
+    }
+
+    /// The number of the element pointed to, where it may be written.
+    pub fn element_to_store(&self, at: Pointer) -> Result<u32, MemTrap>
+        ensures element { result ≡ store_of self.now at }
+        ensures laid_out { IsLaidOut self.now }
+    {
+        writable_at(&self.extents, at)
+    }
+
+    /// The number of the live object at a place among them, the oldest of which is at 0.
+    pub fn number_at(&self, place: u64) -> Option<u64>
+        ensures number { result ≡ option_map (λ (o : Object). o.number) (slice_get self.now.live place) }
+        ensures laid_out { IsLaidOut self.now }
+    {
+        extent::number_at(&self.extents, place as usize)
     }
 
     /// The pointer that lies `by` elements further on.

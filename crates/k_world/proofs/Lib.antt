@@ -10,3 +10,4 @@ pub mod Operations
 pub mod Origins
 pub mod Sorted
 pub mod Sound
+pub mod Stored

@@ -1,5 +1,6 @@
 -- How an operation goes, by what is left, by its operands and by what its act gives.
-use Rattle.std.proofs.Common.{◌≡◌, ℕ, ◌+◌, ◌-◌, List, [], ◌∷◌, ◌++◌, Option, Some, None, Result, Ok, Err, Bool, true, false, nat_eq, refl, sym, ◌∙◌, ap, subst}
+use Rattle.std.proofs.Common.{◌≡◌, ℕ, ◌+◌, ◌-◌, List, [], ◌∷◌, ◌++◌, Option, Some, None, Result, Ok, Err, Bool, true, false, nat_eq, ◌<◌, refl, sym, ◌∙◌, ap, subst, arith}
+use Rattle.std.proofs.lemmas.Bool.{ne_eqb}
 use Rattle.k_num.specs.declared.place.Place.{Place}
 use Rattle.k_optab.specs.declared.class.Class.{Class}
 use Rattle.k_optab.specs.declared.event.Event.{Event}
@@ -8,6 +9,7 @@ use Rattle.k_ending.specs.declared.ending.End.TheVariants.{Trapped, OutOfSteps}
 use Rattle.k_ending.specs.declared.ending.Trap.{Trap}
 use Rattle.k_ending.specs.declared.ending.Trap.TheVariants.{Uninit}
 use Rattle.k_world.specs.declared.act.Act.{Act}
+use Rattle.k_world.specs.declared.act.Act.TheVariants as act
 use Rattle.k_world.specs.declared.answer.Done.{Done}
 use Rattle.k_world.specs.declared.answer.Performed.{Performed}
 use Rattle.k_world.specs.declared.answer.Refusal.{Refusal}
@@ -124,3 +126,13 @@ pub performs_alone : (what : Act) (values : List Value) (w : World) (given : Giv
     → touched what values w.memory ≡ None → effect what w.made values w ≡ w → Performs what values w (performed_of given) w
 performs_alone what values w (Ok v) is hid element same = (is, hid, element, sym same)
 performs_alone what values w (Err t) is hid element same = (is, refl)
+
+-- a value that is held is moved where an operation is left
+pub move_made : (w after : World) (held : Held) (p : Performed) (control : Option ℕ) (done : Done) → 0 < w.left → p ≡ record { value = held.value; hidden = None; element = None }
+    → control ≡ w.control → done ≡ done_of w.made p control → after ≡ record w { made = w.made + 1; left = w.left - 1 }
+    → (class : Class) (latency : ℕ) (place : Place) (broken : Bool) → Makes class latency place act.Move (record { slot = Some held; broken = broken } ∷ []) w (Ok done) after
+unfolding work hidden touched effect
+move_made w after held p control done some is control_is done_is after_is class latency place broken =
+    let reads : List Read = record { slot = Some held; broken = broken } ∷ [] in
+    let performs : Performs act.Move (values_of reads) w (Ok p) w = rw is (refl, refl, refl, refl) in
+    operation_told class latency place act.Move reads w w p control done after (ne_eqb w.left 0 (λ e. omega (arith, e, some))) refl performs control_is done_is after_is

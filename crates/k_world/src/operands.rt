@@ -1,5 +1,6 @@
 //! Operands by their sorts.
-ghost use Rattle.std.specs.Prelude.{◌≡◌, true};
+ghost use Rattle.std.specs.Prelude.{◌≡◌, [], ◌∷◌, ℤ, option_map, true};
+ghost use Rattle.k_mem.specs.declared.pointer.Pointer.{Pointer};
 ghost use Rattle.k_world.specs.Acts.{one_number as one_number_in, two_numbers as two_numbers_in, one_pointer as one_pointer_in, pointer_and_number as pointer_and_number_in, two_pointers as two_pointers_in, one_value as one_value_in, two_values as two_values_in, first_number as first_number_in, number_of, pointer_of};
 ghost use Rattle.k_world.specs.Operands.{are_set as are_all_set, is_set, value_in, values_of};
 
@@ -127,6 +128,15 @@ pub fn pointer_and_number(reads: &[Read]) -> Option<(Pointer, i128)>
 {
     let (a, b) = two_values(reads)?;
     Some((a.pointer()?, b.number()?))
+}
+
+/// The pointer by which a store of a number goes, whether or not both operands are set.
+pub fn pointer_to_store(at: Read, a: Read) -> Option<Pointer>
+    ensures { result ≡ option_map (λ (s : Pointer × ℤ). s.0) (pointer_and_number_in (values_of (at ∷ a ∷ []))) }
+{
+    let (at, a) = (at.value()?, a.value()?);
+    let (pointer, _) = (at.pointer()?, a.number()?);
+    Some(pointer)
 }
 
 /// The pointers that are the two operands.

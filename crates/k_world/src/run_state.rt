@@ -1,9 +1,10 @@
 //! The state of a running program, but for the list of its events.
-ghost use Rattle.std.specs.Prelude.{◌≡◌, ◌+◌, ◌-◌, ◌<◌, ℕ, List, length, true, IfOk};
+ghost use Rattle.std.specs.Prelude.{◌≡◌, ◌+◌, ◌-◌, ◌<◌, ℕ, List, [], ◌∷◌, length, Bool, true, IfOk};
+ghost use Rattle.k_num.specs.declared.place.Place.{Place};
 ghost use Rattle.k_optab.specs.declared.class.Class.{Class};
 ghost use Rattle.k_world.specs.Acts.{behind_byte as behind_byte_of, next_byte as next_byte_of, origin_of, touched, with_origin};
 ghost use Rattle.k_world.specs.Answers.{Makes, Performs, act_of, done_of, performed_of, stop_of};
-ghost use Rattle.k_world.specs.declared.act.Act.TheVariants.{Load, Store, Input, Output, Test};
+ghost use Rattle.k_world.specs.declared.act.Act.TheVariants.{Move, Load, Store, Input, Output, Test};
 ghost use Rattle.k_world.specs.declared.value.Value.{Value};
 ghost use Rattle.k_world.specs.Operands.{are_set as are_all_set, values_of};
 ghost use Rattle.k_world.specs.Worlds.{fresh};
@@ -108,6 +109,13 @@ impl<'a> RunState<'a> {
         &self.output
     }
 
+    /// The bytes that were written so far are kept no longer.
+    pub fn drop_written(&mut self)
+        ensures { self.new ≡ record self.old { output = [] } }
+    {
+        self.output.clear();
+    }
+
     /// Makes an operation, or says how the run ends before it. Its class and its latency are told by the event alone, which
     /// is the caller's to add.
     pub fn operation(&mut self, place: Place, act: ActRef<'_>, reads: &[Read]) -> Result<Done, Stop>
@@ -125,6 +133,21 @@ impl<'a> RunState<'a> {
             Ok(performed) => Ok(self.count(performed, control)),
             Err(refusal) => Err(stopped(refusal, place)),
         }
+    }
+
+    /// Moves a value by an operation, which is left: so it is made.
+    #[tactic(auto, using(crate::proofs::Operations::move_made))]
+    pub fn move_held(&mut self, held: Held) -> Done
+        requires { 0 < self.old.left }
+        ensures { (class : Class) (latency : ℕ) (place : Place) (broken : Bool) → Makes class latency place Move (record { slot = Some held; broken = broken } ∷ []) self.old (Ok result) self.new }
+    {
+        let control = self.control;
+        let performed = Performed {
+            value: held.value,
+            hidden: None,
+            element: None,
+        };
+        self.count(performed, control)
     }
 
     /// An operation was made.

@@ -11,6 +11,13 @@ impl<'a> RunState<'a> {
         self.budget.saturating_sub(self.made)
     }
 
+    /// How many operations were made.
+    pub fn made(&self) -> u64
+        ensures { result ≡ self.now.made }
+    {
+        self.made
+    }
+
     /// How many objects are live.
     pub fn live_objects(&self) -> u64
         ensures { result ≡ length self.now.memory.live }

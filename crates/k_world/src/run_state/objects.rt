@@ -1,9 +1,15 @@
 //! The objects of a running program's state: made, set and let die without an operation.
-ghost use Rattle.std.specs.Prelude.{◌≡◌, ◌+◌, ◌^◌, ◌<◌, ◌≤◌, ◌++◌, ◌↔◌, length, replicate, vec_len, IfOk, OnOk, OnErr};
-ghost use Rattle.k_mem.specs.Calls.{HasLength, fill_of, push_of, stored};
+ghost use Rattle.std.specs.Prelude.{◌≡◌, ◌+◌, ◌^◌, ◌<◌, ◌≤◌, ◌++◌, ◌↔◌, [], ◌∷◌, length, replicate, slice_get, option_map, vec_len, IfOk, OnOk, OnErr};
+ghost use Rattle.k_mem.specs.Calls.{HasLength, fill_of, first_of, length_of, push_of, store_of, stored};
+ghost use Rattle.k_mem.specs.Memory.{Object};
+ghost use Rattle.k_world.specs.Acts.{element_or_none, touched};
+ghost use Rattle.k_world.specs.Operands.{values_of};
+ghost use Rattle.k_world.specs.declared.act.Act.TheVariants.{Store};
 ghost use Rattle.k_world.specs.Changes.{item_stored, memory_filled, object_filled, object_made, objects_kept, without_origins};
 
 use super::RunState;
+use crate::Read;
+use crate::operands::pointer_to_store;
 use k_mem::{MemTrap, Objects, Pointer, PushFault, Start};
 use k_num::{Initial, NoMemory};
 
@@ -42,6 +48,47 @@ impl<'a> RunState<'a> {
         fill_items(&mut self.objects, object, items)?;
         clear_origins(&mut self.origins, first, count);
         Ok(())
+    }
+
+    /// The number of the live object at a place among them, the oldest of which is at 0.
+    pub fn number_at(&self, place: u64) -> Option<u64>
+        ensures { result ≡ option_map (λ (o : Object). o.number) (slice_get self.now.memory.live place) }
+    {
+        self.objects.number_at(place)
+    }
+
+    /// The number of an object's first element, or the one that it would have. The others follow it.
+    pub fn first_element(&self, object: u64) -> Result<u32, MemTrap>
+        ensures { result ≡ first_of self.now.memory object }
+    {
+        self.objects.first_element(object)
+    }
+
+    /// How many elements an object has.
+    pub fn length(&self, object: u64) -> Result<u32, MemTrap>
+        ensures { result ≡ length_of self.now.memory object }
+    {
+        self.objects.length(object)
+    }
+
+    /// The element that a store of these operands would write.
+    pub fn element_to_store(&self, at: Read, a: Read) -> Option<u32>
+        ensures { result ≡ touched Store (values_of (at ∷ a ∷ [])) self.now.memory }
+    {
+        match pointer_to_store(at, a) {
+            Some(pointer) => self.element_written(pointer),
+            None => None,
+        }
+    }
+
+    /// The element that a store to a pointer writes.
+    fn element_written(&self, pointer: Pointer) -> Option<u32>
+        ensures { result ≡ element_or_none (store_of self.now.memory pointer) }
+    {
+        match self.objects.element_to_store(pointer) {
+            Ok(element) => Some(element),
+            Err(_) => None,
+        }
     }
 
     /// Lets the newest objects die until `keep` are live.
