@@ -1,0 +1,16 @@
+pub mod Alone
+pub mod Carried
+pub mod Effects
+pub mod Elements
+pub mod Ending
+pub mod Entering
+pub mod Giving
+pub mod Levels
+pub mod Lists
+pub mod Making
+pub mod Opened
+pub mod Operations
+pub mod Registers
+pub mod Rows
+pub mod Saving
+pub mod Timings

@@ -1,0 +1,10 @@
+pub mod Beginning
+pub mod Entering
+pub mod Leaving
+pub mod Longer
+pub mod Moving
+pub mod Operating
+pub mod Sending
+pub mod Setting
+pub mod Stepping
+pub mod Telling

@@ -1,0 +1,6 @@
+pub mod Calls
+pub mod Kept
+pub mod Leads
+pub mod Opening
+pub mod Parts
+pub mod Sound

@@ -1,0 +1,13 @@
+//! The values of the machine that runs flat code: an exact configuration with its sources, but without its events and without the output that
+//! was taken.
+#![tactic(auto)]
+
+mod answer;
+mod call;
+mod operands;
+mod registers;
+mod state;
+mod store;
+
+pub use answer::{Alone, Calling};
+pub use store::Store;

@@ -1,0 +1,59 @@
+//! What a store keeps, and its registers. Its functions tell how the calls share what they hold; the store itself keeps that they do.
+ghost use Rattle.std.specs.Prelude.{◌≡◌};
+ghost use Rattle.k_hcpa_store.specs.Parts.{IsWithin, set_and_on};
+
+use crate::call::{Call, Caller};
+use k_code::Code;
+use k_world::{Held, Read, RunState};
+use std::marker::Model;
+
+mod alone;
+mod calls;
+mod getters;
+mod operations;
+mod start;
+
+/// What a store keeps.
+#[derive(Drop)]
+pub struct State<'a> {
+    code: &'a Code,
+    pc: usize,
+    call: Call,
+    waiting: Vec<Caller>,
+    registers: Vec<Option<Held>>,
+    saved: Vec<Option<u64>>,
+    world: RunState<'a>,
+    /// What operands read, where there may be more than two.
+    reads: Vec<Read>,
+}
+
+impl<'a> Model for State<'a> {
+    ghost use Rattle.std.specs.Prelude.{reverse};
+    ghost use Rattle.k_hcpa_store.specs.Kept.{Kept};
+
+    ghost Value = { Kept };
+
+    ghost view = { λ s. record {
+      code = s.code.now;
+      pc = s.pc;
+      call = s.call;
+      waiting = reverse s.waiting.items;
+      registers = s.registers.items;
+      saved = s.saved.items;
+      world = s.world;
+    } };
+}
+
+impl<'a> State<'a> {
+    /// A register of the newest call holds this from now on, or nothing, and the run goes on at an instruction.
+    fn set_and_on(&mut self, to: Option<u32>, slot: Option<Held>, pc: usize)
+        requires { IsWithin self.old.call.first to self.old.registers }
+        ensures { self.new ≡ set_and_on to slot pc self.old }
+    {
+        if let Some(r) = to {
+            let at = self.call.first + r as usize;
+            self.registers[at] = slot;
+        }
+        self.pc = pc;
+    }
+}

@@ -1,0 +1,167 @@
+//! The store: each instruction of flat code by its exact step.
+ghost use Rattle.std.specs.Prelude.{◌≡◌, ℕ, ◌+◌, ◌^◌, ◌≤◌, [], length, List, Option, Some, slice_get, true};
+ghost use Rattle.k_optab.specs.declared.class.Class.{Class};
+ghost use Rattle.k_world.specs.declared.act.Act.{Act};
+ghost use Rattle.k_code.specs.declared.code.CodeFunc.{CodeFunc};
+ghost use Rattle.k_code.specs.declared.instruction.Arg.{Arg};
+ghost use Rattle.k_code.specs.declared.instruction.Do.TheVariants as act;
+ghost use Rattle.k_code.specs.Finds.{Finds};
+ghost use Rattle.k_code.specs.Valid.{IsValid};
+ghost use Rattle.k_hcpa_meaning.specs.Locations.{first_register as first_meant, frames_of, saved_in, waiting_frames, width};
+ghost use Rattle.k_hcpa_store.specs.Kept.{configuration_of};
+ghost use Rattle.k_hcpa_store.specs.Leads.{Calls, GoesAlone, IsNext, Leaves, MayReturn, Operates, Starts, goes_alone, goes_by, may_leave, stored_element};
+
+use crate::state::State;
+use crate::{Alone, Calling};
+use k_code::{Code, Instr};
+use k_ending::End;
+use k_world::{Done, Stop};
+use std::alloc::Global;
+use std::marker::Model;
+
+/// An exact configuration of flat code with its sources, but without its events and without the output that was taken.
+#[derive(Drop)]
+pub struct Store<'a> {
+    state: State<'a>,
+}
+
+impl<'a> Model for Store<'a> {
+    ghost use Rattle.k_hcpa_store.specs.Kept.{Kept};
+    ghost use Rattle.k_hcpa_store.specs.Sound.{IsSound};
+
+    ghost Value = { Kept };
+
+    ghost view = { λ s. s.state };
+
+    ghost invariant = { λ s. IsSound s.state };
+}
+
+impl<'a> Store<'a> {
+    /// A run of valid code begins, of at most so many operations; or it has ended at once.
+    pub fn start(
+        alloc: Global,
+        code: &'a Code,
+        input: &'a [u8],
+        budget: u64,
+    ) -> Result<Store<'a>, Stop>
+        requires { IsValid code.now }
+        ensures { Starts code.now input.now budget result }
+    {
+        match State::start(alloc, code, input, budget) {
+            Ok(state) => Ok(Store { state }),
+            Err(stop) => Err(stop),
+        }
+    }
+
+    /// The instruction that is next.
+    pub fn instruction(&self) -> &'a Instr
+        requires { Finds self.now.code (configuration_of self.now) }
+        ensures { IsNext self.now result.now }
+    {
+        self.state.instruction()
+    }
+
+    /// Does an instruction that makes an operation and goes on in its call.
+    pub fn operate(&mut self, instr: &'a Instr) -> Result<Done, Stop>
+        requires { IsNext self.old instr.now }
+        ensures { (o : Class × Act) → goes_by instr.now.act ≡ Some o → Operates self.old instr.now o result self.new }
+    {
+        self.state.operate(instr)
+    }
+
+    /// Does an instruction that makes no operation and is no return.
+    pub fn alone(&mut self, instr: &'a Instr) -> Result<Alone, Stop>
+        requires next { IsNext self.old instr.now }
+        requires alone { goes_alone instr.now.act ≡ true }
+        ensures { GoesAlone self.old instr.now.act result self.new }
+    {
+        self.state.alone(instr)
+    }
+
+    /// Calls a function, by an operation.
+    pub fn call(&mut self, instr: &'a Instr) -> Result<Calling, Stop>
+        requires { IsNext self.old instr.now }
+        ensures { (func : ℕ) (args : List Arg) (to : Option ℕ) (f : CodeFunc) → instr.now.act ≡ act.Call func args to → slice_get self.old.code.funcs func ≡ Some f → Calls self.old instr.now f result self.new }
+    {
+        self.state.call(instr)
+    }
+
+    /// The element that a store would write, for any other instruction none.
+    pub fn element_to_store(&self, instr: &Instr) -> Option<u32>
+        ensures { result ≡ stored_element (configuration_of self.now) instr.now.act }
+    {
+        self.state.element_to_store(instr)
+    }
+
+    /// Whether a return may be made; else how the run ends.
+    pub fn may_return(&self, instr: &Instr) -> Result<(), End>
+        requires { IsNext self.now instr.now }
+        ensures { (value : Option Arg) → instr.now.act ≡ act.Return value → MayReturn self.now instr.now result }
+    {
+        self.state.may_return(instr)
+    }
+
+    /// Does a return that may be made: the caller goes on, or the run is over.
+    pub fn leave(&mut self, instr: &'a Instr) -> Option<End>
+        requires next { IsNext self.old instr.now }
+        requires may { may_leave (configuration_of self.old) instr.now.act ≡ true }
+        ensures { (value : Option Arg) → instr.now.act ≡ act.Return value → Leaves self.old instr.now result self.new }
+    {
+        self.state.leave_by(instr)
+    }
+
+    /// How many regions a return leaves.
+    #[tactic(auto, unfolding(crate::specs::Kept::configuration_of))]
+    pub fn regions(&self) -> u64
+        ensures { result ≡ (configuration_of self.now).frame.regions + 1 }
+    {
+        self.state.regions()
+    }
+
+    /// How many operations were made.
+    #[tactic(auto, unfolding(crate::specs::Kept::configuration_of))]
+    pub fn made(&self) -> u64
+        ensures { result ≡ (configuration_of self.now).world.made }
+    {
+        self.state.made()
+    }
+
+    /// The output that was not yet taken.
+    #[tactic(auto, unfolding(crate::specs::Kept::configuration_of))]
+    pub fn pending(&self) -> &[u8]
+        ensures { result.now ≡ (configuration_of self.now).world.output }
+    {
+        self.state.pending()
+    }
+
+    /// The output is taken.
+    #[tactic(auto, unfolding(crate::specs::Kept::configuration_of))]
+    pub fn drop_pending(&mut self)
+        ensures code { self.new.code ≡ self.old.code }
+        ensures dropped { configuration_of self.new ≡ record (configuration_of self.old) { world = record (configuration_of self.old).world { output = [] } } }
+    {
+        self.state.drop_pending();
+    }
+
+    /// How many control sources the older calls have saved.
+    pub fn saved_before(&self) -> usize
+        ensures { result ≡ length (saved_in (waiting_frames (configuration_of self.now).waiting)) }
+    {
+        self.state.saved_before()
+    }
+
+    /// How many control sources all calls have saved.
+    pub fn saved(&self) -> usize
+        ensures { result ≡ length (saved_in (frames_of (configuration_of self.now))) }
+    {
+        self.state.saved()
+    }
+
+    /// The number of the newest call's first register.
+    pub fn first_register(&self) -> u32
+        ensures first { result ≡ first_meant self.now.code (configuration_of self.now) }
+        ensures few { result + width self.now.code (configuration_of self.now).frame.func ≤ 2 ^ 21 }
+    {
+        self.state.first() as u32
+    }
+}

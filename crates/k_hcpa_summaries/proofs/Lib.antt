@@ -1,0 +1,4 @@
+pub mod Events
+pub mod Opens
+pub mod Steps
+pub mod Wholes

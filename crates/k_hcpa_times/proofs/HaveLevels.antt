@@ -1,0 +1,96 @@
+-- Each list of the times goes on with one time for each live level.
+use Rattle.std.proofs.Common.{◌≡◌, ℕ, ◌+◌, ◌-◌, zero, suc, List, [], ◌∷◌, ◌++◌, length, map, refl, ap, sym, subst, ◌∙◌, arith, length-append}
+use Rattle.std.specs.Prelude.{slice_get, Some}
+use Rattle.std.proofs.lemmas.List.{length-take-le}
+use Rattle.std.proofs.lemmas.Option.{none-some, same_Some}
+use Rattle.k_hcpa_meaning.specs.Timings.{Timing, HasLevels, entered, left, without_last}
+use Rattle.k_shadow.specs.Content.{Content, entered as content_entered, left as content_left}
+use Rattle.k_shadow.specs.Stack.{Stack, level_entered as stack_entered, level_left as stack_left}
+use Rattle.k_hcpa_times.specs.Seen.{seen_of}
+
+-- a list more has a time more for the level that is entered
+longer : {A : Type 0} (xs : List A) (x : A) (n : ℕ) → length xs ≡ n → length (xs ++ x ∷ []) ≡ n + 1
+longer xs x n same = length-append xs (x ∷ []) ∙ ap (λ k. k + 1) same
+
+-- each list has one less
+shorter : {A : Type 0} (xs : List A) (n : ℕ) → length xs ≡ n → length (without_last xs) ≡ n - 1
+shorter xs n same = length-take-le (length xs - 1) xs (omega arith) ∙ ap (λ k. k - 1) same
+
+-- what holds of the lengths of lists holds of those that are made of each
+each_made : (f : List ℕ → List ℕ) (m n : ℕ) → ((xs : List ℕ) → length xs ≡ m → length (f xs) ≡ n) → (lists : List (List ℕ))
+    → ((k : ℕ) (xs : List ℕ) → slice_get lists k ≡ Some xs → length xs ≡ m)
+    → (k : ℕ) (xs : List ℕ) → slice_get (map f lists) k ≡ Some xs → length xs ≡ n
+each_made f m n step [] each k xs found = absurd (none-some xs found)
+each_made f m n step (ys ∷ lists) each zero xs found = sym (ap (λ zs. length zs) (same_Some (f ys) xs found)) ∙ step ys (each 0 ys refl)
+each_made f m n step (ys ∷ lists) each (suc k) xs found = each_made f m n step lists (λ j zs. each (suc j) zs) k xs found
+
+levels_entered : (n : ℕ) (t : Timing) → HasLevels n t → HasLevels (n + 1) (entered t)
+levels_entered n t h = record {
+  registers = longer t.registers (λ _. 0) n h.registers;
+  elements = longer t.elements (λ _. 0) n h.elements;
+  control = longer t.control 0 n h.control;
+  saved = each_made (λ times. times ++ 0 ∷ []) n (n + 1) (λ xs. longer xs 0 n) t.saved h.saved;
+  in_cell = longer t.in_cell 0 n h.in_cell;
+  out_cell = longer t.out_cell 0 n h.out_cell;
+  row = longer t.row 0 n h.row;
+  paths = longer t.paths 0 n h.paths;
+}
+
+levels_left : (n : ℕ) (t : Timing) → HasLevels n t → HasLevels (n - 1) (left t)
+levels_left n t h = record {
+  registers = shorter t.registers n h.registers;
+  elements = shorter t.elements n h.elements;
+  control = shorter t.control n h.control;
+  saved = each_made without_last n (n - 1) (λ xs. shorter xs n) t.saved h.saved;
+  in_cell = shorter t.in_cell n h.in_cell;
+  out_cell = shorter t.out_cell n h.out_cell;
+  row = shorter t.row n h.row;
+  paths = shorter t.paths n h.paths;
+}
+
+at_same : {m n : ℕ} {t u : Timing} → u ≡ t → m ≡ n → HasLevels n t → HasLevels m u
+at_same {m} {n} {t} {u} same counts h = subst (λ k. HasLevels k u) (sym counts) (subst (λ v. HasLevels n v) (sym same) h)
+
+-- a level is entered everywhere
+pub all_entered : (r e : Content) (c : Stack) → {r' e' : Content} {c' : Stack} {i i' o o' w w' p p' : List ℕ} → r' ≡ content_entered r → e' ≡ content_entered e → c' ≡ stack_entered c
+    → i' ≡ i ++ 0 ∷ [] → o' ≡ o ++ 0 ∷ [] → w' ≡ w ++ 0 ∷ [] → p' ≡ p ++ 0 ∷ []
+    → HasLevels (length p) (seen_of r e c i o w p).timing → HasLevels (length p') (seen_of r' e' c' i' o' w' p').timing
+all_entered r e c {r'} {e'} {c'} {i} {i'} {o} {o'} {w} {w'} {p} {p'} rs es cs is os ws ps h =
+    let same : (seen_of r' e' c' i' o' w' p').timing ≡ entered (seen_of r e c i o w p).timing = λ j. (seen_of (rs j) (es j) (cs j) (is j) (os j) (ws j) (ps j)).timing in
+    at_same same (ap (λ xs. length xs) ps ∙ longer p 0 (length p) refl) (levels_entered (length p) (seen_of r e c i o w p).timing h)
+
+-- the innermost level is left everywhere
+pub all_left : (r e : Content) (c : Stack) → {r' e' : Content} {c' : Stack} {i i' o o' w w' p p' : List ℕ} → r' ≡ content_left r → e' ≡ content_left e → c' ≡ stack_left c
+    → i' ≡ without_last i → o' ≡ without_last o → w' ≡ without_last w → p' ≡ without_last p
+    → HasLevels (length p) (seen_of r e c i o w p).timing → HasLevels (length p') (seen_of r' e' c' i' o' w' p').timing
+all_left r e c {r'} {e'} {c'} {i} {i'} {o} {o'} {w} {w'} {p} {p'} rs es cs is os ws ps h =
+    let same : (seen_of r' e' c' i' o' w' p').timing ≡ left (seen_of r e c i o w p).timing = λ j. (seen_of (rs j) (es j) (cs j) (is j) (os j) (ws j) (ps j)).timing in
+    at_same same (ap (λ xs. length xs) ps ∙ shorter p (length p) refl) (levels_left (length p) (seen_of r e c i o w p).timing h)
+
+-- as long lists stand in the places of the row and of the paths
+pub row_and_paths : {t : Timing} {row paths : List ℕ} → length row ≡ length t.row → length paths ≡ length t.paths → HasLevels (length t.paths) t
+    → HasLevels (length paths) (record t { row = row; paths = paths })
+row_and_paths {t} {row} {paths} rows ps h = record {
+  registers = h.registers ∙ sym ps;
+  elements = h.elements ∙ sym ps;
+  control = h.control ∙ sym ps;
+  saved = λ n times found. h.saved n times found ∙ sym ps;
+  in_cell = h.in_cell ∙ sym ps;
+  out_cell = h.out_cell ∙ sym ps;
+  row = rows ∙ h.row ∙ sym ps;
+  paths = refl;
+}
+
+-- as long lists stand in the places of the registers' and of the row
+pub registers_and_row : {n : ℕ} {t : Timing} {registers : List (ℕ → ℕ)} {row : List ℕ} → length registers ≡ length t.registers → length row ≡ length t.row → HasLevels n t
+    → HasLevels n (record t { registers = registers; row = row })
+registers_and_row {n} {t} {registers} {row} rs rows h = record {
+  registers = rs ∙ h.registers;
+  elements = h.elements;
+  control = h.control;
+  saved = h.saved;
+  in_cell = h.in_cell;
+  out_cell = h.out_cell;
+  row = rows ∙ h.row;
+  paths = h.paths;
+}

@@ -1,0 +1,4 @@
+pub mod Args
+pub mod HaveLevels
+pub mod Leaving
+pub mod Lists

@@ -1,0 +1,222 @@
+//! The times of all locations over two shadows.
+ghost use Rattle.std.specs.Prelude.{◌≡◌, length};
+ghost use Rattle.k_shadow.specs.Content.{empty};
+ghost use Rattle.k_hcpa_meaning.specs.Timings.{HasLevels, no_levels};
+ghost use Rattle.k_hcpa_times.specs.Seen.{seen_of};
+
+use crate::each::{
+    copy_times, count_reads, delay_times, enter_times, leave_times, paths_behind, raise_by,
+    raise_times, raise_unless, read_by,
+};
+use crate::timed::Timed;
+use k_num::NoMemory;
+use k_shadow::{Control, Shadow, Steps, Times};
+use std::alloc::Global;
+use std::sync::ledger::Ledger;
+
+/// The times of all locations: a shadow of registers and one of elements, the control sources, and a list of times for each cell, for the operation
+/// that is being made, and for the paths.
+#[derive(Drop)]
+pub struct LocationTimes<R: Shadow, P: Shadow> {
+    registers: R,
+    elements: P,
+    control: Control,
+    in_cell: Times,
+    out_cell: Times,
+    row: Times,
+    paths: Times,
+    /// What a register holds while it is handed on.
+    handed: Times,
+    ghost levels: { HasLevels (length paths) (seen_of (R.content registers) (P.content elements) control in_cell out_cell row paths).timing },
+    ghost handed_levels: { length handed ≡ length paths },
+    ghost element_entries: { (P.content elements).entries ≡ (R.content registers).entries },
+    ghost control_entries: { control.entries ≡ (R.content registers).entries },
+}
+
+impl<R: Shadow, P: Shadow> LocationTimes<R, P> {
+    /// No level is live. It takes no memory.
+    pub fn new(alloc: Global, registers: R, elements: P) -> LocationTimes<R, P>
+        requires registers { R.content registers ≡ empty (R.content registers).limit }
+        requires elements { P.content elements ≡ empty (P.content elements).limit }
+        ensures { ⟦<LocationTimes<R, P> as Timed>⟧.seen result ≡ record { timing = no_levels; entries = 0; registers = (R.content registers).limit; elements = (P.content elements).limit } }
+    {
+        LocationTimes {
+            registers,
+            elements,
+            control: Control::new(alloc),
+            in_cell: Times::new(alloc),
+            out_cell: Times::new(alloc),
+            row: Times::new(alloc),
+            paths: Times::new(alloc),
+            handed: Times::new(alloc),
+        }
+    }
+}
+
+impl<R: Shadow, P: Shadow> Timed for LocationTimes<R, P> {
+    ghost use Rattle.k_hcpa_times.specs.Seen.{room_of};
+
+    ghost seen = { λ t. seen_of (R.content t.registers) (P.content t.elements) t.control t.in_cell t.out_cell t.row t.paths };
+
+    ghost room = { λ t. room_of (R.room t.registers) (P.room t.elements) t.control.room };
+
+    #[inline]
+    fn levels(&self) -> usize {
+        self.paths.len()
+    }
+
+    #[inline]
+    fn paths(&self) -> &[u64] {
+        self.paths.as_slice()
+    }
+
+    fn enter(&mut self) {
+        self.registers.enter();
+        self.elements.enter();
+        self.control.enter();
+        enter_times(&mut self.in_cell);
+        enter_times(&mut self.out_cell);
+        enter_times(&mut self.row);
+        enter_times(&mut self.paths);
+        enter_times(&mut self.handed);
+    }
+
+    fn leave(&mut self) {
+        self.registers.leave();
+        self.elements.leave();
+        self.control.leave();
+        leave_times(&mut self.in_cell);
+        leave_times(&mut self.out_cell);
+        leave_times(&mut self.row);
+        leave_times(&mut self.paths);
+        leave_times(&mut self.handed);
+    }
+
+    fn reserve_registers(&mut self, first: u32, count: u32) -> Result<(), NoMemory> {
+        self.registers.reserve(first, count)
+    }
+
+    fn reserve_element(&mut self, element: u32) -> Result<(), NoMemory> {
+        self.elements.reserve(element, 1)
+    }
+
+    fn reserve_saved(&mut self) -> Result<(), NoMemory> {
+        self.control.reserve()
+    }
+
+    #[inline]
+    fn begin<L: Ledger>(&mut self, steps: &mut Steps<L>) {
+        self.control.fill(self.row.as_mut_slice(), steps);
+    }
+
+    #[tactic(auto, using(crate::proofs::Lists::later_length), unfolding(k_hcpa_meaning::specs::Timings::times_at))]
+    #[inline]
+    fn raise_register<L: Ledger>(&mut self, register: u32, steps: &mut Steps<L>) {
+        raise_by(&self.registers, register, &mut self.row, steps);
+    }
+
+    #[tactic(auto, using(crate::proofs::Lists::later_length), unfolding(k_hcpa_meaning::specs::Timings::times_at))]
+    #[inline]
+    fn raise_element<L: Ledger>(&mut self, element: u32, steps: &mut Steps<L>) {
+        raise_by(&self.elements, element, &mut self.row, steps);
+    }
+
+    #[tactic(auto, using(crate::proofs::Lists::later_length), unfolding(k_hcpa_meaning::specs::Timings::times_at))]
+    #[inline]
+    fn raise_input<L: Ledger>(&mut self, steps: &mut Steps<L>) {
+        count_reads(&self.in_cell, steps);
+        raise_times(&mut self.row, &self.in_cell);
+    }
+
+    #[tactic(auto, using(crate::proofs::Lists::later_length), unfolding(k_hcpa_meaning::specs::Timings::times_at))]
+    #[inline]
+    fn raise_output<L: Ledger>(&mut self, steps: &mut Steps<L>) {
+        count_reads(&self.out_cell, steps);
+        raise_times(&mut self.row, &self.out_cell);
+    }
+
+    #[tactic(auto, using(crate::proofs::Lists::later_length))]
+    #[inline]
+    fn settle(&mut self, latency: u64) {
+        delay_times(&mut self.row, latency);
+        raise_times(&mut self.paths, &self.row);
+    }
+
+    #[tactic(auto, using(crate::proofs::Lists::later_length))]
+    fn paths_behind(&self, latency: u64, paths: &mut [u64]) {
+        paths_behind(&self.paths, &self.row, latency, paths);
+    }
+
+    #[tactic(auto, using(k_shadow::proofs::Laws::depth_written), unfolding(k_hcpa_meaning::specs::Timings::given_to))]
+    #[inline]
+    fn give_register(&mut self, register: u32) {
+        self.registers.write(register, &self.row);
+    }
+
+    #[tactic(auto, using(k_shadow::proofs::Laws::depth_written), unfolding(k_hcpa_meaning::specs::Timings::given_to))]
+    #[inline]
+    fn give_element(&mut self, element: u32) {
+        self.elements.write(element, &self.row);
+    }
+
+    #[tactic(auto, unfolding(k_hcpa_meaning::specs::Timings::given_to))]
+    #[inline]
+    fn give_input(&mut self) {
+        copy_times(&mut self.in_cell, &self.row);
+    }
+
+    #[tactic(auto, unfolding(k_hcpa_meaning::specs::Timings::given_to))]
+    #[inline]
+    fn give_output(&mut self) {
+        copy_times(&mut self.out_cell, &self.row);
+    }
+
+    #[tactic(auto, unfolding(k_hcpa_meaning::specs::Timings::given_to))]
+    #[inline]
+    fn give_control(&mut self) {
+        self.control.under(&self.row);
+    }
+
+    #[tactic(auto, unfolding(k_hcpa_meaning::specs::Timings::times_at))]
+    fn hand<L: Ledger>(&mut self, from: u32, broken: bool, to: u32, steps: &mut Steps<L>) {
+        read_by(&self.registers, from, &mut self.handed, steps);
+        raise_unless(broken, &mut self.row, &self.handed);
+        self.registers.write(to, &self.handed);
+    }
+
+    #[inline]
+    fn clear_registers(&mut self, first: u32, count: u32) {
+        self.registers.clear(first, count);
+    }
+
+    #[inline]
+    fn clear_elements(&mut self, first: u32, count: u32) {
+        self.elements.clear(first, count);
+    }
+
+    #[inline]
+    fn saved(&self) -> usize {
+        self.control.saved()
+    }
+
+    #[inline]
+    fn save(&mut self) {
+        self.control.save();
+    }
+
+    #[inline]
+    fn keep(&mut self) {
+        self.control.keep();
+    }
+
+    #[inline]
+    fn back(&mut self) {
+        self.control.back();
+    }
+
+    #[inline]
+    fn restore(&mut self) {
+        self.control.back();
+        self.control.save();
+    }
+}

@@ -1,0 +1,5 @@
+pub mod Bounds
+pub mod Coming
+pub mod Running
+pub mod Stepping
+pub mod Worlds
