@@ -1,4 +1,4 @@
--- For contracts between crates: nobody has to believe it.
+-- Believed with the theorem on the top call.
 -- Which sentence tells of a fault of the tokens, by what stands at its place.
 use Rattle.std.specs.Prelude.{ℕ, Bool, ◌&&◌, ◌||◌, not, nat_le, nat_eq, ◌==◌, if◌then◌else◌, List, drop, unwrap_or, codes}
 use Rattle.std.specs.List.{list_any}

@@ -1,4 +1,4 @@
--- For contracts between crates: nobody has to believe it.
+-- Believed with the theorem on the top call.
 -- The line of a source at a place, as it is shown, and the caret under the place.
 use Rattle.std.specs.Prelude.{ℕ, suc, ◌-◌, ◌&&◌, ◌||◌, not, nat_le, ◌==◌, if◌then◌else◌, min, List, [], ◌∷◌, ◌++◌, take, drop, length, map, codes}
 use Rattle.std.specs.List.{flat_map}

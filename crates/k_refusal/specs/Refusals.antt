@@ -1,4 +1,4 @@
--- For contracts between crates: nobody has to believe it.
+-- Believed with the theorem on the top call.
 -- Why a source is refused, as it is told to whoever wrote it.
 use Rattle.std.specs.Prelude.{ℕ, ◌-◌, List, ◌++◌, take, drop, codes}
 use Rattle.k_num.specs.declared.place.Place.{Place}

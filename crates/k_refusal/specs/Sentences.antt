@@ -1,4 +1,4 @@
--- For contracts between crates: nobody has to believe it.
+-- Believed with the theorem on the top call.
 -- The sentences that tell why a source is refused, and what to write in its place.
 use Rattle.std.specs.Prelude.{ℕ, List, codes}
 use Rattle.k_refusal.specs.declared.sentence.Sentence.{Sentence}

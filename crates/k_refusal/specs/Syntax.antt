@@ -1,4 +1,4 @@
--- For contracts between crates: nobody has to believe it.
+-- Believed with the theorem on the top call.
 -- Which sentence tells of a token that can't stand at its place, by that token.
 use Rattle.std.specs.Prelude.{ℕ, ◌&&◌, ◌==◌, if◌then◌else◌, List, [], ◌∷◌, take, unwrap_or, Option, Some, None}
 use Rattle.k_refusal.specs.declared.sentence.Sentence.{Sentence}

@@ -1,4 +1,4 @@
--- For contracts between crates: nobody has to believe it.
+-- Believed with the theorem on the top call.
 -- Which sentence tells of a fault in names and types, by what stands at its place.
 use Rattle.std.specs.Prelude.{ℕ, Bool, ◌&&◌, ◌==◌, nat_eq, if◌then◌else◌, List, [], ◌∷◌, drop, unwrap_or, Option, Some, None, codes}
 use Rattle.std.specs.Cmp.Lexicographic.{pointwise}

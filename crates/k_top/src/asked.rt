@@ -7,6 +7,7 @@ ghost use Rattle.k_top_answers.specs.Answers.{done};
 ghost use Rattle.k_top_lemmas.specs.Parts.{GivesText};
 ghost use Rattle.k_top_lemmas.specs.Phases.{FindsAnswer, FindsJob};
 
+use crate::checked::check_answer;
 use crate::demo::demo_answer;
 use crate::graph::graph_answer;
 use crate::reported::run_answer;
@@ -100,6 +101,7 @@ fn job_answer<F: Files, S: Source>(
             latency,
         } => graph_job(alloc, files, input, file, steps, depth, latency),
         Job::Show { file, dict } => show_answer(alloc, files, file, dict),
+        Job::Check { file } => check_answer(alloc, files, file),
         Job::Demo { number, loops } => demo_answer(alloc, number, loops),
     }
 }

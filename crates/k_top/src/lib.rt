@@ -2,6 +2,7 @@
 #![tactic(auto)]
 
 mod asked;
+mod checked;
 mod demo;
 mod graph;
 mod input;

@@ -31,8 +31,9 @@ use Rattle.k_top_answers.specs.declared.answer.Answer.{Answer}
 use Rattle.k_top_answers.specs.declared.answer.SavedFile.{SavedFile}
 use Rattle.k_top_answers.specs.declared.failure.Failure.{Failure}
 use Rattle.k_top_answers.specs.declared.failure.Failure.TheVariants as why
+use Rattle.k_top_answers.specs.Checks.{told}
 use Rattle.k_top_answers.specs.Failures.{failure_of_end}
-use Rattle.k_top_answers.specs.Steps.{AnswersFile, AnswersProgram, AnswersRunning, AnswersSource, Outside, Running, profile_limit, run_of}
+use Rattle.k_top_answers.specs.Steps.{AnswersFile, AnswersProgram, AnswersRunning, AnswersSource, Outside, Running, file_limit, profile_limit, run_of}
 use Rattle.k_top_answers.specs.Texts.{IsSummary, with_report}
 
 -- the call ran to its end, and saved nothing
@@ -42,6 +43,10 @@ done text = record { out = text; failure = None; saved = None }
 -- a refusal: nothing is put on out
 abbrev pub refusal : Failure → Answer
 refusal failure = record { out = []; failure = Some failure; saved = None }
+
+-- a refusal of which this is told
+abbrev pub checked : List ℕ → Failure → Answer
+checked text failure = record { out = text; failure = Some failure; saved = None }
 
 -- a run's answer where nothing is saved: what is put on out, and why the run failed, if it did
 abbrev pub ended : List ℕ → ℕ → End → Answer
@@ -82,6 +87,11 @@ abbrev pub AnswersProfile : Bool → Answer → List ℕ → Result Saved ℕ �
 AnswersProfile dict answer bytes (Ok profile) = Reads bytes (Ok profile) × ((text : List ℕ) × IsReport profile dict text × (answer ≡ done text))
 AnswersProfile dict answer bytes (Err place) = Reads bytes (Err (NotSaved place)) × (answer ≡ refusal (why.Saved place))
 
+-- CHECK: nothing of a source that is accepted, and of one that is refused what is told of that
+abbrev pub AnswersChecked : List ℕ → Answer → List ℕ → Type 0
+AnswersChecked file answer source =
+    AnswersSource (λ failure. answer ≡ checked (told file source failure) failure) (λ typed. answer ≡ done []) source
+
 -- DEMO, by how the run of the made program ended: its summary where main returned, and else nothing
 abbrev pub AnswersMade : ℕ → ℕ → Answer → Running → End → Type 0
 AnswersMade number loops answer r (Returned exit) =
@@ -100,6 +110,7 @@ AnswersJob outside answer (job.Graph file steps depth latency) =
     AnswersRunning (λ failure. answer ≡ refusal failure) outside file latency steps (IsListed depth answer)
 AnswersJob outside answer (job.Show file dict) =
     AnswersFile (λ failure. answer ≡ refusal failure) outside profile_limit file (λ bytes. (read : Result Saved ℕ) × AnswersProfile dict answer bytes read)
+AnswersJob outside answer (job.Check file) = AnswersFile (λ failure. answer ≡ refusal failure) outside file_limit file (AnswersChecked file answer)
 AnswersJob outside answer (job.Demo number loops) =
     AnswersSource (λ failure. answer ≡ refusal failure) (λ typed. AnswersMade number loops answer (made_running typed) (run_of (made_running typed)).end)
     (program number loops)
@@ -129,6 +140,7 @@ abbrev pub JobCalls : Outside → Job → Type 0
 JobCalls outside (job.Run file steps depth latency dict save) = FilesCall outside file latency
 JobCalls outside (job.Graph file steps depth latency) = FilesCall outside file latency
 JobCalls outside (job.Show file dict) = ⊥
+JobCalls outside (job.Check file) = ⊥
 JobCalls outside (job.Demo number loops) = ⊥
 
 -- THE INPUT IS ASKED FOR: the words run an accepted program that calls `getchar`
@@ -140,6 +152,7 @@ abbrev pub JobLoads : Job → Type 0
 JobLoads (job.Run file steps depth latency dict save) = Unit {0}
 JobLoads (job.Graph file steps depth latency) = Unit {0}
 JobLoads (job.Show file dict) = Unit {0}
+JobLoads (job.Check file) = Unit {0}
 JobLoads (job.Demo number loops) = ⊥
 
 -- A FILE IS ASKED FOR: the words are those of a job that reads one

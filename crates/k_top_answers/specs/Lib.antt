@@ -4,5 +4,6 @@ pub mod Steps
 pub mod Texts
 pub mod Answers
 pub mod Requests
+pub mod Checks
 pub mod Clauses
 pub mod Laws

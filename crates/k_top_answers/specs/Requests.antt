@@ -27,6 +27,7 @@ abbrev pub loads_of : Job → List Request
 loads_of (job.Run file steps depth latency dict save) = files_of file latency
 loads_of (job.Graph file steps depth latency) = files_of file latency
 loads_of (job.Show file dict) = Load file ∷ []
+loads_of (job.Check file) = Load file ∷ []
 loads_of (job.Demo number loops) = []
 
 -- these are the files to load for the words: those of the job that they ask for, and none where a word is wrong

@@ -1,6 +1,6 @@
 //! What the call answers.
 ghost use Rattle.std.specs.Prelude.{◌≡◌};
-ghost use Rattle.k_top_answers.specs.Answers.{done, ended};
+ghost use Rattle.k_top_answers.specs.Answers.{checked, done, ended};
 
 use crate::failure::Failure;
 use k_ending::End;
@@ -30,6 +30,17 @@ impl Answer {
         Answer {
             out: Seq::from_vec(text),
             failure: None,
+            saved: None,
+        }
+    }
+
+    /// What `check` puts on out of a source that is refused so, in a file of this name.
+    pub fn checked(text: Vec<u8>, failure: Failure) -> Answer
+        ensures { result ≡ checked text.items failure }
+    {
+        Answer {
+            out: Seq::from_vec(text),
+            failure: Some(failure),
             saved: None,
         }
     }

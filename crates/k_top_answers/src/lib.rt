@@ -4,6 +4,7 @@
 mod answer;
 mod failure;
 mod faults;
+mod told;
 mod written;
 
 pub use answer::{Answer, SavedFile};

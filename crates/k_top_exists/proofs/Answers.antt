@@ -41,10 +41,10 @@ abbrev pub IsSoundWith : List ℕ → ℕ → TUnit → Type 0
 IsSoundWith latencies steps typed = (input : List ℕ) → IsSound (record { typed = typed; latencies = latencies; input = input; steps = steps })
 
 -- A SOURCE is refused or accepted, and then answered
-module _ (P : Answer → TUnit → Type 0) (latencies : List ℕ) (bounded : AreAtMost 10000 latencies) (steps : ℕ)
+module _ (told : Failure → Answer) (P : Answer → TUnit → Type 0) (latencies : List ℕ) (bounded : AreAtMost 10000 latencies) (steps : ℕ)
     (limited : steps ≤ 1000000000) (next : (typed : TUnit) → IsSoundWith latencies steps typed → Answered (λ a. P a typed)) (bytes : List ℕ) where
   accepted_answers : (list : List Token) (unit : tree.Unit) → tokens bytes ≡ Ok list → (parsed : IsParse list (Ok unit)) → faults unit ≡ []
-      → (typed : TUnit) × IsTyped unit typed → Answered (λ a. AnswersTyped (refused_by a) (P a) unit [])
+      → (typed : TUnit) × IsTyped unit typed → Answered (λ a. AnswersTyped (λ failure. a ≡ told failure) (P a) unit [])
   accepted_answers list unit lexed parsed is (typed, is_typed) =
       let found : Answered (λ a. P a typed) =
       next typed (λ input. record {
@@ -59,24 +59,24 @@ module _ (P : Answer → TUnit → Type 0) (latencies : List ℕ) (bounded : Are
       (found.0, (typed, is_typed, found.1))
 
   typed_answers : (list : List Token) (unit : tree.Unit) → tokens bytes ≡ Ok list → IsParse list (Ok unit) → (fs : List TypeFault) → faults unit ≡ fs
-      → Answered (λ a. AnswersTyped (refused_by a) (P a) unit fs)
-  typed_answers list unit lexed parsed (fault ∷ fs) is = (refusal (why.Types fault), refl)
+      → Answered (λ a. AnswersTyped (λ failure. a ≡ told failure) (P a) unit fs)
+  typed_answers list unit lexed parsed (fault ∷ fs) is = (told (why.Types fault), refl)
   typed_answers list unit lexed parsed [] is = accepted_answers list unit lexed parsed is (faultless_sources_are_typed unit is)
 
   tree_answers : (list : List Token) → tokens bytes ≡ Ok list → (found : Result tree.Unit ParseFault) → IsParse list found
-      → Answered (λ a. AnswersTree (refused_by a) (P a) found)
-  tree_answers list lexed (Err fault) is = (refusal (why.Parse fault), refl)
+      → Answered (λ a. AnswersTree (λ failure. a ≡ told failure) (P a) found)
+  tree_answers list lexed (Err fault) is = (told (why.Parse fault), refl)
   tree_answers list lexed (Ok unit) is = typed_answers list unit lexed is (faults unit) refl
 
   read_answers : (list : List Token) → tokens bytes ≡ Ok list → (found : Result tree.Unit ParseFault) × IsParse list found
-      → Answered (λ a. AnswersTokens (refused_by a) (P a) (Ok list))
-  read_answers list lexed (found, is) = let a : Answered (λ a. AnswersTree (refused_by a) (P a) found) = tree_answers list lexed found is in (a.0, (found, is, a.1))
+      → Answered (λ a. AnswersTokens (λ failure. a ≡ told failure) (P a) (Ok list))
+  read_answers list lexed (found, is) = let a : Answered (λ a. AnswersTree (λ failure. a ≡ told failure) (P a) found) = tree_answers list lexed found is in (a.0, (found, is, a.1))
 
-  tokens_answers : (found : Result (List Token) LexFault) → tokens bytes ≡ found → Answered (λ a. AnswersTokens (refused_by a) (P a) found)
-  tokens_answers (Err fault) is = (refusal (why.Lex fault), refl)
+  tokens_answers : (found : Result (List Token) LexFault) → tokens bytes ≡ found → Answered (λ a. AnswersTokens (λ failure. a ≡ told failure) (P a) found)
+  tokens_answers (Err fault) is = (told (why.Lex fault), refl)
   tokens_answers (Ok list) is = let read = lists_are_read bytes list is in read_answers list is (read.0, read.1)
 
-  pub source_answers : Answered (λ a. AnswersSource (refused_by a) (P a) bytes)
+  pub source_answers : Answered (λ a. AnswersSource (λ failure. a ≡ told failure) (P a) bytes)
   source_answers = tokens_answers (tokens bytes) refl
 
 -- A FILE is absent, too long, or answered
@@ -124,7 +124,7 @@ module _ (outside : Outside) (steps : ℕ) (limited : steps ≤ 1000000000)
       (λ input. next (record { typed = typed; latencies = latencies; input = input; steps = steps }) (sound input)) (calls_getchar typed) outside.input
 
   by_source : (bytes latencies : List ℕ) → AreAtMost 10000 latencies → Answered (λ a. AnswersSource (refused_by a) (Input a latencies) bytes)
-  by_source bytes latencies bounded = source_answers (λ a. Input a latencies) latencies bounded steps limited (by_input latencies) bytes
+  by_source bytes latencies bounded = source_answers refusal (λ a. Input a latencies) latencies bounded steps limited (by_input latencies) bytes
 
   pub running_answers : (file : List ℕ) (latency : Option (List ℕ)) → Answered (λ a. AnswersRunning (refused_by a) outside file latency steps (P a))
   running_answers file latency =

@@ -26,8 +26,9 @@ use Rattle.k_words.specs.declared.usage.Usage.TheVariants as usage
 use Rattle.k_words.proofs.Within.{jobs_are_within}
 use Rattle.k_top_answers.specs.declared.failure.Failure.TheVariants as why
 use Rattle.k_evaluation.specs.Runs.{listing_of}
-use Rattle.k_top_answers.specs.Answers.{AnswersAsked, AnswersJob, AnswersMade, AnswersProfile, AnswersRun, AnswersWords, IsAnswer, IsListed, done, ended, made_running, ran_of, refusal, saved_file}
-use Rattle.k_top_answers.specs.Steps.{Outside, Running, profile_limit, run_of}
+use Rattle.k_top_answers.specs.Answers.{AnswersAsked, AnswersChecked, AnswersJob, AnswersMade, AnswersProfile, AnswersRun, AnswersWords, IsAnswer, IsListed, checked, done, ended, made_running, ran_of, refusal, saved_file}
+use Rattle.k_top_answers.specs.Checks.{told}
+use Rattle.k_top_answers.specs.Steps.{Outside, Running, file_limit, profile_limit, run_of}
 use Rattle.k_top_answers.specs.Texts.{AreProfileLines, demo_line, plan_line, run_lines, tree_lines, with_report}
 use Rattle.k_top_answers.specs.Texts as texts
 use Rattle.k_top_lemmas.proofs.LatencyLemmas.{standard_bounded}
@@ -92,6 +93,12 @@ by_profile : (dict : Bool) (bytes : List ℕ) → SpellsProfileOrIsWrong bytes �
 by_profile dict bytes (inl (saved, is)) = let text = read_reports_exist rows_exist contexts_exist plans_exist bytes saved dict is in (done text.0, (Ok saved, (is, (text.0, text.1, refl))))
 by_profile dict bytes (inr (place, is)) = (refusal (why.Saved place), (Err place, (is, refl)))
 
+-- CHECK
+checked_answers : (file bytes : List ℕ) → Answered (λ a. AnswersChecked file a bytes)
+checked_answers file bytes =
+    source_answers (λ failure. checked (told file bytes failure) failure) (λ a typed. a ≡ done []) standard_latencies (standard_bounded standard_latencies refl) 1 (omega arith)
+    (λ typed sound. (done [], refl)) bytes
+
 -- DEMO
 made_answers : (number loops : ℕ) (r : Running) → IsSound r → (how : End) → (run_of r).end ≡ how → Answered (λ a. AnswersMade number loops a r how)
 made_answers number loops r sound (end.Returned exit) is =
@@ -115,8 +122,9 @@ job_answers outside (job.Graph file steps depth latency) within =
 job_answers outside (job.Show file dict) within =
     found_answers profile_limit file (λ a bytes. (read : Result Saved ℕ) × AnswersProfile dict a bytes read)
     (λ bytes fits. by_profile dict bytes (saved_file_is_answered bytes)) (outside.files file)
+job_answers outside (job.Check file) within = found_answers file_limit file (AnswersChecked file) (λ bytes fits. checked_answers file bytes) (outside.files file)
 job_answers outside (job.Demo number loops) within =
-    source_answers (λ a t. AnswersMade number loops a (made_running t) (run_of (made_running t)).end)
+    source_answers refusal (λ a t. AnswersMade number loops a (made_running t) (run_of (made_running t)).end)
     standard_latencies (standard_bounded standard_latencies refl) 100000000 (omega arith)
     (λ t sound. made_answers number loops (made_running t) (sound []) (run_of (made_running t)).end refl) (program number loops)
 

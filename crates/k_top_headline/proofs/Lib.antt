@@ -1,3 +1,4 @@
+pub mod Checked
 pub mod Given
 pub mod OtherRuns
 pub mod Ready

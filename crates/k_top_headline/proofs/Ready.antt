@@ -1,13 +1,15 @@
 -- What is answered where the outside holds an accepted program with its input is answered of the run of that program.
-use Rattle.std.proofs.Common.{ℕ, ◌≡◌, ◌≤◌, ◌<◌, Bool, true, false, MatchBool, arith, sym, subst, ◌∙◌, ap, List, [], length, Option, Some, None, Result, Ok, inl, inr}
+use Rattle.std.proofs.Common.{ℕ, ◌≡◌, ◌≤◌, ◌<◌, Bool, true, false, MatchBool, arith, sym, subst, ◌∙◌, ap, List, [], ◌∷◌, length, Option, Some, None, Result, Ok, Err, inl, inr}
 use Rattle.std.proofs.lemmas.Option.{none-some, same_Some}
 use Rattle.k_optab.specs.Latencies.{standard_latencies}
 use Rattle.k_tree.specs.declared.tokens.Token.{Token}
 use Rattle.k_tree.specs.declared.tree.unit.Unit as source
+use Rattle.k_lex.specs.Tokens.{tokens}
 use Rattle.k_lex.specs.declared.fault.LexFault.{LexFault}
 use Rattle.k_parse.proofs.OneAnswer.{one_answer}
 use Rattle.k_parse.specs.declared.fault.ParseFault.{ParseFault}
 use Rattle.k_types_meaning.proofs.OneTree.{one_typed_tree}
+use Rattle.k_types_meaning.specs.Units.{faults}
 use Rattle.k_types_meaning.specs.declared.fault.TypeFault.{TypeFault}
 use Rattle.k_types_meaning.specs.declared.tree.unit.TUnit.{TUnit}
 use Rattle.k_types_calls.specs.Getchar.{calls_getchar}
@@ -50,6 +52,24 @@ module _ (F : Failure → Type 0) where
     -- AN ACCEPTED SOURCE gives its typed tree
     pub source_answered : AnswersSource F P bytes → P typed
     source_answered holds = by_tokens (subst (λ (r : Result (List Token) LexFault). AnswersTokens F P r) is.cut holds)
+
+  -- A SOURCE THAT IS REFUSED fails by its first fault
+  module _ (P : TUnit → Type 0) (failure : Failure) where
+    typed_refused : (unit : source.Unit) (fs : List TypeFault) → AnswersTyped (λ first. first ≡ failure) (λ typed. ⊥) unit fs → AnswersTyped F P unit fs → F failure
+    typed_refused unit [] (typed, is, none) holds = absurd none
+    typed_refused unit (fault ∷ fs) is holds = subst F is holds
+
+    tree_refused : (found : Result source.Unit ParseFault) → AnswersTree (λ first. first ≡ failure) (λ typed. ⊥) found → AnswersTree F P found → F failure
+    tree_refused (Err fault) is holds = subst F is holds
+    tree_refused (Ok unit) is holds = typed_refused unit (faults unit) is holds
+
+    tokens_refused : (found : Result (List Token) LexFault) → AnswersTokens (λ first. first ≡ failure) (λ typed. ⊥) found → AnswersTokens F P found → F failure
+    tokens_refused (Err fault) is holds = subst F is holds
+    tokens_refused (Ok list) (found, read, is) (other, other_read, holds) =
+        tree_refused found is (subst (λ (r : Result source.Unit ParseFault). AnswersTree F P r) (one_answer list other found other_read read) holds)
+
+    pub source_refused : (bytes : List ℕ) → AnswersSource (λ first. first ≡ failure) (λ typed. ⊥) bytes → AnswersSource F P bytes → F failure
+    source_refused bytes is holds = tokens_refused (tokens bytes) is holds
 
   -- THE INPUT that the run reads
   by_read : (next : List ℕ → Type 0) (input bytes : List ℕ) → input ≡ bytes → length bytes ≤ input_limit → AnswersRead F next input → next bytes

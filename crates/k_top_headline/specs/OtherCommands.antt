@@ -1,6 +1,6 @@
 -- Believed with a public law.
--- What `kremlin graph`, `show` and `demo` write, and with which status they end, where nothing goes wrong outside and memory suffices.
-use Rattle.std.specs.Prelude.{ℕ, ◌-◌, ◌≡◌, ◌≤◌, Bool, List, [], length, None}
+-- What `kremlin graph`, `show`, `check` and `demo` write, and with which status they end, where nothing goes wrong outside and memory suffices.
+use Rattle.std.specs.Prelude.{ℕ, ◌-◌, ◌≡◌, ◌≤◌, Bool, List, [], length, Option, Some, None}
 use Rattle.k_edge.specs.SinkWords.{Grows}
 use Rattle.k_optab.specs.declared.node.Node.{Node}
 use Rattle.k_ending.specs.declared.ending.End.{End}
@@ -23,8 +23,11 @@ use Rattle.k_types_meaning.specs.declared.tree.unit.TUnit.{TUnit}
 use Rattle.k_words.specs.Setting.{standard_depth}
 use Rattle.k_words.specs.declared.job.Job.TheVariants as job
 use Rattle.k_top_answers.specs.Answers.{made_running, ran_of}
-use Rattle.k_top_answers.specs.Clauses.{Keeps, World}
-use Rattle.k_top_answers.specs.Steps.{Running, profile_limit, run_of}
+use Rattle.k_top_answers.specs.declared.failure.Failure.{Failure}
+use Rattle.k_top_answers.specs.Checks.{told}
+use Rattle.k_top_answers.specs.Clauses.{Keeps, TellsEnd, World}
+use Rattle.k_top_answers.specs.Failures.{status_of}
+use Rattle.k_top_answers.specs.Steps.{AnswersSource, Running, file_limit, profile_limit, run_of}
 use Rattle.k_top_answers.specs.Texts.{IsSummary}
 use Rattle.k_top_headline.specs.Headline.{HoldsProgram, IsAccepted, TellsFile, TellsOfRun, WentWell}
 
@@ -81,6 +84,31 @@ abbrev pub ShowIsTold : Type 0
 ShowIsTold = (words : List (List ℕ)) (status : ℕ) (old new : World) (name : List ℕ) (file : File) (dict : Bool)
     → Keeps words status old new → WentWell words (job.Show name dict) status old new → HoldsProfile old name file
     → ShowTells file dict status old new
+
+-- the files tell that one of this name has these bytes, which are no more than a source may have
+pub record HoldsSource (old : World) (file bytes : List ℕ) : Type 0 where
+  pub held : TellsFile old.files.held file bytes
+  pub few : length bytes ≤ file_limit
+
+-- what a call tells that has this text to write, and ends so: out has grown by the text, the status is that of the end, and err has grown by its line
+pub record Tells (text : List ℕ) (failure : Option Failure) (status : ℕ) (old new : World) : Type 0 where
+  pub grows : Grows old.out.written text new.out.written
+  pub status_is : status ≡ status_of failure
+  pub told : TellsEnd failure old.err new.err
+
+-- CHECK of a source that is accepted: the words ask to check a file, and it is one; nothing is written, and the status is 0
+abbrev pub AcceptedIsTold : Type 0
+AcceptedIsTold = (words : List (List ℕ)) (status : ℕ) (old new : World) (file bytes : List ℕ) (typed : TUnit)
+    → Keeps words status old new → WentWell words (job.Check file) status old new → HoldsSource old file bytes → IsAccepted bytes typed
+    → Tells [] None status old new
+
+-- CHECK of a source that is refused: the words ask to check a file, and its first fault is this one; out has grown by what is told of that fault,
+-- and the status and the line on err are those of the refusal
+abbrev pub RefusalIsTold : Type 0
+RefusalIsTold = (words : List (List ℕ)) (status : ℕ) (old new : World) (file bytes : List ℕ) (failure : Failure)
+    → Keeps words status old new → WentWell words (job.Check file) status old new → HoldsSource old file bytes
+    → AnswersSource (λ first. first ≡ failure) (λ typed. ⊥) bytes
+    → Tells (told file bytes failure) (Some failure) status old new
 
 -- what is written of a made program, by how its run ended: the summary of the run where main returned, and else nothing
 abbrev pub Sums : ℕ → ℕ → Running → List ℕ → End → Type 0

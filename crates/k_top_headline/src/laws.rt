@@ -1,6 +1,6 @@
 //! What each command writes: each function's contract is a law, and its body does nothing.
 ghost use Rattle.k_top_headline.specs.Headline.{RunIsTold};
-ghost use Rattle.k_top_headline.specs.OtherCommands.{DemoIsTold, GraphIsTold, ShowIsTold};
+ghost use Rattle.k_top_headline.specs.OtherCommands.{AcceptedIsTold, DemoIsTold, GraphIsTold, RefusalIsTold, ShowIsTold};
 
 /// `run` of an accepted source writes the program's output and, where main returned, the report of the tree of that run.
 pub fn run_is_told()
@@ -15,6 +15,12 @@ pub fn graph_is_told()
 /// `show` of a saved profile, of either format, writes the report of that file's own tree.
 pub fn show_is_told()
     ensures { ShowIsTold }
+{}
+
+/// `check` writes nothing of a source that is accepted, and of one that is refused its place, a sentence, and its line with a caret.
+pub fn check_is_told()
+    ensures accepted { AcceptedIsTold }
+    ensures refused { RefusalIsTold }
 {}
 
 /// `demo` writes the summary of the run of the program that it makes.

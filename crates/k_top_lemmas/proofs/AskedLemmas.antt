@@ -1,19 +1,12 @@
 -- What finding the answer to the words comes to.
-use Rattle.std.proofs.Common.{ℕ, ◌≡◌, ◌≢◌, ◌≤◌, pos, length, Bool, true, false, ◌||◌, MatchBool, if◌then◌else◌, nat_eq, is_some, codes, ap, refl, sym, subst, ◌∙◌, List, [], ◌∷◌, Option, Some, None, Result, Ok, Err, inl, inr}
+use Rattle.std.proofs.Common.{ℕ, ◌≡◌, ◌≢◌, Bool, true, false, ◌||◌, MatchBool, if◌then◌else◌, nat_eq, is_some, codes, ap, refl, sym, subst, ◌∙◌, List, [], ◌∷◌, Option, Some, None, Result, Ok, Err, inl, inr}
 use Rattle.std.specs.Prelude.{⊤}
 use Rattle.std.proofs.lemmas.Slice.Eq.{slice_eq-Decides}
 use Rattle.std.specs.Cmp.{unsigned_Decides}
 use Rattle.std.specs.Cmp.Lexicographic.{pointwise}
-use Rattle.k_edge.specs.FilesWords.{FilesState, Has, Loads, after}
+use Rattle.k_edge.specs.FilesWords.{FilesState, after}
 use Rattle.k_edge.specs.declared.request.Request.{Request}
-use Rattle.k_edge.specs.declared.request.Request.TheVariants.{Load}
 use Rattle.k_edge.specs.SinkWords.{SinkState}
-use Rattle.k_edge.specs.declared.files.LoadFault.{LoadFault}
-use Rattle.k_edge.specs.declared.files.LoadFault.TheVariants as load
-use Rattle.k_dict_saved.specs.declared.fault.SavedFault.{SavedFault}
-use Rattle.k_dict_saved.specs.declared.fault.SavedFault.TheVariants as saved
-use Rattle.k_dict_saved.specs.Profile.{Reads}
-use Rattle.k_dict_saved.specs.declared.saved.Saved.{Saved}
 use Rattle.k_ending.specs.declared.ending.End.{End}
 use Rattle.k_ending.specs.declared.ending.End.TheVariants as end
 use Rattle.k_types_calls.specs.Getchar.{calls_getchar}
@@ -31,16 +24,16 @@ use Rattle.k_top_answers.specs.declared.answer.Answer.{Answer}
 use Rattle.k_top_answers.specs.declared.failure.Failure.{Failure}
 use Rattle.k_top_answers.specs.declared.failure.Failure.TheVariants as why
 use Rattle.k_top_lemmas.specs.declared.running.Ready.{Ready}
-use Rattle.k_top_answers.specs.Answers.{AnswersAsked, AnswersJob, AnswersProfile, AnswersRun, AnswersWords, CallsForFiles, CallsForInput, IsAnswer, IsListed, JobCalls, JobLoads, done, refusal}
-use Rattle.k_top_answers.specs.Failures.{failure_of_load, failure_of_saved, failure_of_usage}
+use Rattle.k_top_answers.specs.Answers.{AnswersAsked, AnswersJob, AnswersRun, AnswersWords, CallsForFiles, CallsForInput, IsAnswer, IsListed, JobCalls, JobLoads, done, refusal}
+use Rattle.k_top_answers.specs.Failures.{failure_of_usage}
 use Rattle.k_top_answers.specs.Requests.{AreToLoad, loads_of}
-use Rattle.k_top_lemmas.specs.Parts.{Delivers, EndsAs, GivesText, ShowsFile, running_of}
-use Rattle.k_top_lemmas.specs.Phases.{Around, Everywhere, FailsBefore, FindsAnswer, FindsJob, InputDone, IsEnd, IsView, MakesDemo, MakesReady, Performs, View, no_view, of_files}
-use Rattle.k_top_answers.specs.Steps.{AnswersInput, AnswersRead, AnswersRunning, Outside, Running, profile_limit, run_of}
-use Rattle.k_top_lemmas.proofs.ProgramLemmas.{long_of, one_seen}
+use Rattle.k_top_lemmas.specs.Parts.{Delivers, EndsAs, GivesText, running_of}
+use Rattle.k_top_lemmas.specs.Phases.{Around, FailsBefore, FindsAnswer, FindsJob, InputDone, IsEnd, IsView, MakesDemo, MakesReady, Performs, View, no_view}
+use Rattle.k_top_answers.specs.Steps.{AnswersInput, AnswersRead, AnswersRunning, Outside, Running, run_of}
 use Rattle.k_top_lemmas.proofs.ReadyLemmas.{not_seen, refusal_maps, told_once}
-use Rattle.k_top_lemmas.proofs.Requesting.{after_none, front_same, some_asked}
-use Rattle.k_top_lemmas.proofs.StepLemmas.{absent, loaded, program_maps, too_long}
+use Rattle.k_top_lemmas.proofs.Requesting.{after_none, front_same}
+use Rattle.k_top_lemmas.proofs.Statuses.{done_low, ended_low}
+use Rattle.k_top_lemmas.proofs.StepLemmas.{program_maps}
 
 -- what a program that is ready to run answers is carried over
 module _ (F G : Failure → Type 0) (on_failure : (failure : Failure) → F failure → G failure) where
@@ -77,21 +70,15 @@ module _ (file : List ℕ) (latency : Option (List ℕ)) (steps depth : ℕ) (ol
   -- RUN
   run_ends : (dict : Bool) (save : Option (List ℕ)) (answer : Answer) (r : Running) (how : End) → AnswersRun depth dict save answer r how → IsEnd answer
   run_ends dict save answer r (end.Returned exit) is = record {
-    steps = 0;
-    end = end.Returned exit;
-    failure = ap (λ (a : Answer). a.failure) is.is;
+    low = done_low answer.failure (ap (λ (a : Answer). a.failure) is.is);
     saves = inl (ap (λ (a : Answer). a.failure) is.is);
   }
   run_ends dict save answer r (end.Trapped trap place) is = record {
-    steps = r.steps;
-    end = end.Trapped trap place;
-    failure = ap (λ (a : Answer). a.failure) is;
+    low = ended_low r.steps (end.Trapped trap place) answer.failure (ap (λ (a : Answer). a.failure) is);
     saves = inr (ap (λ (a : Answer). a.saved) is);
   }
   run_ends dict save answer r end.OutOfSteps is = record {
-    steps = r.steps;
-    end = end.OutOfSteps;
-    failure = ap (λ (a : Answer). a.failure) is;
+    low = ended_low r.steps end.OutOfSteps answer.failure (ap (λ (a : Answer). a.failure) is);
     saves = inr (ap (λ (a : Answer). a.saved) is);
   }
 
@@ -131,9 +118,7 @@ module _ (file : List ℕ) (latency : Option (List ℕ)) (steps depth : ℕ) (ol
   -- GRAPH
   graph_ends : (answer : Answer) (r : Running) → IsListed depth answer r → IsEnd answer
   graph_ends answer r is = record {
-    steps = r.steps;
-    end = (run_of r).end;
-    failure = ap (λ (a : Answer). a.failure) is.is;
+    low = ended_low r.steps (run_of r).end answer.failure (ap (λ (a : Answer). a.failure) is.is);
     saves = inr (ap (λ (a : Answer). a.saved) is.is);
   }
 
@@ -170,89 +155,6 @@ module _ (file : List ℕ) (latency : Option (List ℕ)) (steps depth : ℕ) (ol
 -- nothing was seen
 nothing_seen : (old : Around) → IsView no_view old
 nothing_seen old = record { files = tt; input = not_seen old.input.left }
-
--- SHOW: it makes no program, so the input is not asked for
-module _ (file : List ℕ) (dict : Bool) (old new : Around) (same_input : new.input ≡ old.input) where
-  -- nothing is asked of the input, and the file holds these bytes
-  shown_input : (view : View) → InputDone (λ outside. JobCalls outside (job.Show file dict)) view old.input new.input
-  shown_input view = inl (same_input, λ outside shows calls. calls)
-
-  -- the file is loaded, and these bytes decide
-  with_bytes : (bytes : List ℕ) → Has old.files.held file (Some bytes) → length bytes ≤ profile_limit → (answer : Answer) (read : Result Saved ℕ)
-      → AnswersProfile dict answer bytes read → Everywhere (of_files (one_seen file (Some bytes))) (λ outside. AnswersJob outside answer (job.Show file dict))
-  with_bytes bytes has fits answer read is outside shows =
-      loaded (λ failure. answer ≡ refusal failure) outside profile_limit file (λ found. (read : Result Saved ℕ) × AnswersProfile dict answer found read) bytes
-      shows.files.0 fits (read, is)
-
-  -- a failure of a load
-  show_unloaded : (fault : LoadFault) → Loads (Err fault) file profile_limit old.files new.files → FindsJob (Err (failure_of_load file fault)) (job.Show file dict) old new
-  show_unloaded load.Absent (has, rose, same) = (
-    of_files (one_seen file None),
-    record { files = (has, tt, tt); input = not_seen old.input.left },
-    (
-      inl (tt, (Load file ∷ [], refl, (Load file ∷ [], (front_same (Load file ∷ []) (Load file ∷ []) refl, ([], refl)), (rose, same))), same_input),
-      λ outside shows. absent (λ other. refusal (why.Absent file) ≡ refusal other) outside profile_limit file _ shows.files.0 refl,
-    ),
-  )
-  show_unloaded load.TooLong (has, rose, same) =
-      let long = long_of old.files.held file profile_limit has in (
-        of_files (one_seen file (Some long.0)),
-        record { files = (long.1, tt, tt); input = not_seen old.input.left },
-        (
-          inl (tt, (Load file ∷ [], refl, (Load file ∷ [], (front_same (Load file ∷ []) (Load file ∷ []) refl, ([], refl)), (rose, same))), same_input),
-          λ outside shows. too_long (λ other. refusal (why.FileLong file) ≡ refusal other) outside profile_limit file _ long.0 shows.files.0 long.2 refl,
-        ),
-      )
-  show_unloaded load.Failed (rose, same) = (
-    of_files [],
-    record { files = tt; input = not_seen old.input.left },
-    (inl (tt, (Load file ∷ [], refl, (Load file ∷ [], (front_same (Load file ∷ []) (Load file ∷ []) refl, some_asked (Load file) []), (rose, same))), same_input), tt),
-  )
-  show_unloaded load.Memory (inl same) = (
-    of_files [],
-    record { files = tt; input = not_seen old.input.left },
-    (inl (tt, (Load file ∷ [], refl, (Load file ∷ [], front_same (Load file ∷ []) (Load file ∷ []) refl, same)), same_input), tt),
-  )
-  show_unloaded load.Memory (inr same) = (
-    of_files [],
-    record { files = tt; input = not_seen old.input.left },
-    (inl (tt, (Load file ∷ [], refl, ([], (Load file ∷ [], refl), same ∙ after_none old.files)), same_input), tt),
-  )
-
-  -- bytes that spell no profile
-  show_refused : (bytes : List ℕ) → Has old.files.held file (Some bytes) → length bytes ≤ profile_limit → new.files ≡ after (Load file ∷ []) old.files → (fault : SavedFault)
-      → Reads bytes (Err fault) → FindsJob (Err (failure_of_saved fault)) (job.Show file dict) old new
-  show_refused bytes has fits same (saved.NotSaved place) is = (
-    of_files (one_seen file (Some bytes)),
-    record { files = (has, tt, tt); input = not_seen old.input.left },
-    (inl (tt, (Load file ∷ [], refl, (Load file ∷ [], refl, same)), same_input), with_bytes bytes has fits (refusal (why.Saved place)) (Err place) (is, refl)),
-  )
-  show_refused bytes has fits same saved.Memory is = (
-    of_files (one_seen file (Some bytes)),
-    record { files = (has, tt, tt); input = not_seen old.input.left },
-    (inl (tt, (Load file ∷ [], refl, (Load file ∷ [], front_same (Load file ∷ []) (Load file ∷ []) refl, same)), same_input), tt),
-  )
-
-  pub show_found : (result : Result Answer Failure) → ShowsFile result file dict old.files new.files → FindsJob result (job.Show file dict) old new
-  show_found (Ok answer) (bytes, (has, fits, same), (profile, (reads, (text, report, is)))) = (
-    of_files (one_seen file (Some bytes.items)),
-    record { files = (has, tt, tt); input = not_seen old.input.left },
-    (
-      (Load file ∷ [], refl, same),
-      shown_input (of_files (one_seen file (Some bytes.items))),
-      record {
-        steps = 0;
-        end = end.Returned (pos 0);
-        failure = ap (λ (a : Answer). a.failure) is;
-        saves = inl (ap (λ (a : Answer). a.failure) is);
-      },
-      with_bytes bytes.items has fits answer (Ok profile) (reads, (text, report, is)),
-    ),
-  )
-  show_found (Err failure) (inl (bytes, (has, fits, same), (fault, is, reads))) =
-      subst (λ f. FindsJob (Err f) (job.Show file dict) old new) (sym is) (show_refused bytes.items has fits same fault reads)
-  show_found (Err failure) (inr (fault, is, loads)) =
-      subst (λ f. FindsJob (Err f) (job.Show file dict) old new) (sym is) (show_unloaded fault loads)
 
 -- DEMO: it asks nothing of the outside
 pub demo_found : (result : Result Answer Failure) (number loops : ℕ) (old new : Around) → new ≡ old → MakesDemo result number loops
@@ -403,9 +305,7 @@ pub text_told : (list : List (List ℕ)) (x : Asked) (text : List ℕ) → asked
 text_told list x text asked answers (Ok answer) is old new same =
     text_found list x answer asked
     (record {
-      steps = 0;
-      end = end.Returned (pos 0);
-      failure = ap (λ (a : Answer). a.failure) is;
+      low = done_low answer.failure (ap (λ (a : Answer). a.failure) is);
       saves = inl (ap (λ (a : Answer). a.failure) is);
     })
     (answers answer is) old new same

@@ -13,15 +13,13 @@ use Rattle.k_edge.specs.declared.files.SaveFault.{SaveFault}
 use Rattle.k_edge.specs.declared.files.SaveFault.TheVariants as saving
 use Rattle.k_edge.specs.declared.sink.PutFault.{PutFault}
 use Rattle.k_edge.specs.declared.sink.PutFault.TheVariants as putting
-use Rattle.k_ending.specs.declared.ending.End.{End}
-use Rattle.k_ending.specs.declared.ending.End.TheVariants as end
 use Rattle.k_top_answers.specs.declared.answer.Answer.{Answer}
 use Rattle.k_top_answers.specs.declared.answer.SavedFile.{SavedFile}
 use Rattle.k_top_answers.specs.declared.failure.Failure.{Failure}
 use Rattle.k_top_answers.specs.declared.failure.Failure.TheVariants as why
 use Rattle.k_top_answers.specs.Answers.{CallsForInput, IsAnswer}
 use Rattle.k_top_answers.specs.Clauses.{AsksFiles, Cause, HoldsAfter, IsGiven, GoesFar, Keeps, KeepsAllBut, MayGive, ReadsInput, TellsEnd, TellsFault, World, faults_of, is_blame, nothing, put_fault, save_fault}
-use Rattle.k_top_answers.specs.Failures.{failure_line, failure_of_end, failure_of_put, failure_of_save, failure_status, status_of}
+use Rattle.k_top_answers.specs.Failures.{failure_line, failure_of_put, failure_of_save, failure_status, status_of}
 use Rattle.k_top_answers.specs.Requests.{AreToLoad, IsFront, saves_of}
 use Rattle.k_top_lemmas.specs.Parts.{Delivers, EndsAs, EndsBy, PutsAll, SavesFile, Tells}
 use Rattle.k_top_lemmas.specs.Phases.{Around, InputDone, IsEnd, IsView, Shows, View}
@@ -84,7 +82,7 @@ failure_in (Some failure) = failure
 pub record EndsWell (failure : Option Failure) (status : ℕ) (old new : SinkState) : Type 0 where
   pub status_is : status ≡ status_of failure
   pub told : TellsEnd failure old new
-  pub small : status ≤ 2
+  pub small : status ≤ 3
 
 -- the line of want of memory was told in part, of an answer that is a failure
 pub record EndsShort (failure : Option Failure) (status : ℕ) (old new : SinkState) : Type 0 where
@@ -102,7 +100,7 @@ some_there failure is = (let wrong : true ≡ false = ap is_some is in cc)
 none_there : (failure : Failure) → None ≡ Some failure → ⊥
 none_there failure is = (let wrong : false ≡ true = ap is_some is in cc)
 
-ends_failed : (given : Failure) (low : failure_status given ≤ 2) (other : Failure) → Some given ≡ Some other → (status : ℕ) (old new : SinkState)
+ends_failed : (given : Failure) (low : failure_status given ≤ 3) (other : Failure) → Some given ≡ Some other → (status : ℕ) (old new : SinkState)
     → Tells (Err other) status old new → EndsSo (Some given) status old new
 ends_failed given low other same status old new tells = by_line (subst (λ f. Tells (Err f) status old new) (sym (ap failure_in same)) tells)
   where
@@ -110,24 +108,23 @@ ends_failed given low other same status old new tells = by_line (subst (λ f. Te
     by_line (inl (is, told)) = inl (record { status_is = is; told = told; small = omega (arith, is, low) })
     by_line (inr (eight, part)) = inr (record { eight = eight; told = part; failed = some_there given })
 
-ends : (steps : ℕ) (how : End) (done : Result ⊤ Failure) → EndsBy done (failure_of_end steps how) → (status : ℕ) (old new : SinkState)
-    → Tells done status old new → EndsSo (failure_of_end steps how) status old new
-ends steps (end.Returned exit) (Ok done) by status old new (is, same) = inl (record { status_is = is; told = same; small = omega (arith, is) })
-ends steps (end.Returned exit) (Err failure) by status old new tells = absurd (none_there failure by)
-ends steps (end.Trapped trap place) (Ok done) by status old new tells = absurd (some_there (why.Trapped trap place) by)
-ends steps (end.Trapped trap place) (Err failure) by status old new tells = ends_failed (why.Trapped trap place) (omega arith) failure by status old new tells
-ends steps end.OutOfSteps (Ok done) by status old new tells = absurd (some_there (why.OutOfSteps steps) by)
-ends steps end.OutOfSteps (Err failure) by status old new tells = ends_failed (why.OutOfSteps steps) (omega arith) failure by status old new tells
+ends : (failure : Option Failure) → status_of failure ≤ 3 → (done : Result ⊤ Failure) → EndsBy done failure → (status : ℕ) (old new : SinkState)
+    → Tells done status old new → EndsSo failure status old new
+ends None low (Ok done) by status old new (is, same) = inl (record { status_is = is; told = same; small = omega (arith, is) })
+ends None low (Err failure) by status old new tells = absurd (none_there failure by)
+ends (Some given) low (Ok done) by status old new tells = absurd (some_there given by)
+ends (Some given) low (Err failure) by status old new tells = ends_failed given low failure by status old new tells
 
 -- a low status blames nothing outside
-low_blame : (status : ℕ) → status ≤ 2 → is_blame status ≡ false
+low_blame : (status : ℕ) → status ≤ 3 → is_blame status ≡ false
 low_blame zero low = refl
 low_blame (suc zero) low = refl
 low_blame (suc (suc zero)) low = refl
-low_blame (suc (suc (suc n))) low = absurd (omega (arith, low))
+low_blame (suc (suc (suc zero))) low = refl
+low_blame (suc (suc (suc (suc n)))) low = absurd (omega (arith, low))
 
 -- a low status is of no fault
-low_told : (status : ℕ) → status ≤ 2 → (old new : SinkState) → TellsFault status old new
+low_told : (status : ℕ) → status ≤ 3 → (old new : SinkState) → TellsFault status old new
 low_told status low old new = record {
   read_fault = λ six. absurd (omega (arith, low, six));
   write_fault = λ seven. absurd (omega (arith, low, seven));
@@ -396,7 +393,5 @@ module _ (words : List (List ℕ)) (old new : World) (view : View) (is_view : Is
       → EndsAs done delivered answer → Tells done status old.err new.err → Keeps words status old new
   found status done (Ok ok) ((grows, puts), saves) by tells =
       let (holds, counts, requests) = saved_well answer.saved saves in
-      delivered status grows puts holds counts requests
-      (subst (λ f. EndsSo f status old.err new.err) (sym is_end.failure)
-      (ends is_end.steps is_end.end done (subst (λ f. EndsBy done f) is_end.failure by) status old.err new.err tells))
+      delivered status grows puts holds counts requests (ends answer.failure is_end.low done by status old.err new.err tells)
   found status done (Err failure) delivers is tells = undelivered status failure delivers (subst (λ d. Tells d status old.err new.err) is tells)

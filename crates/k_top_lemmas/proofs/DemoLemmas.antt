@@ -1,5 +1,5 @@
 -- What the answer of `demo` comes to.
-use Rattle.std.proofs.Common.{ℕ, ◌≡◌, List, [], ap, sym, subst, pos, Ok, Err, inl, inr}
+use Rattle.std.proofs.Common.{ℕ, ◌≡◌, List, [], ap, sym, subst, Ok, Err, inl, inr}
 use Rattle.k_optab.specs.Latencies.{standard_latencies}
 use Rattle.k_ending.specs.declared.ending.End.{End}
 use Rattle.k_ending.specs.declared.ending.End.TheVariants as end
@@ -14,6 +14,7 @@ use Rattle.k_top_lemmas.specs.Parts.{AcceptsSource, running_of}
 use Rattle.k_top_lemmas.specs.Phases.{IsEnd, MakesDemo}
 use Rattle.k_top_answers.specs.Steps.{AnswersSource, Running, run_of}
 use Rattle.k_top_lemmas.proofs.ProgramLemmas.{refuses}
+use Rattle.k_top_lemmas.proofs.Statuses.{done_low, ended_low}
 use Rattle.k_top_lemmas.proofs.StepLemmas.{source_maps, source_quiet}
 
 -- a program as it is made ready
@@ -22,21 +23,15 @@ ready_of p = running_of (record { program = p; input = []; steps = standard_step
 
 made_ends : (number loops : ℕ) (answer : Answer) (r : Running) (how : End) → AnswersMade number loops answer r how → IsEnd answer
 made_ends number loops answer r (end.Returned exit) (text, is_summary, is) = record {
-  steps = 0;
-  end = end.Returned (pos 0);
-  failure = ap (λ (a : Answer). a.failure) is;
+  low = done_low answer.failure (ap (λ (a : Answer). a.failure) is);
   saves = inl (ap (λ (a : Answer). a.failure) is);
 }
 made_ends number loops answer r (end.Trapped trap place) is = record {
-  steps = r.steps;
-  end = end.Trapped trap place;
-  failure = ap (λ (a : Answer). a.failure) is;
+  low = ended_low r.steps (end.Trapped trap place) answer.failure (ap (λ (a : Answer). a.failure) is);
   saves = inr (ap (λ (a : Answer). a.saved) is);
 }
 made_ends number loops answer r end.OutOfSteps is = record {
-  steps = r.steps;
-  end = end.OutOfSteps;
-  failure = ap (λ (a : Answer). a.failure) is;
+  low = ended_low r.steps end.OutOfSteps answer.failure (ap (λ (a : Answer). a.failure) is);
   saves = inr (ap (λ (a : Answer). a.saved) is);
 }
 

@@ -12,10 +12,12 @@ pub mod ReadyLemmas
 pub mod RunLemmas
 pub mod Reporting
 pub mod SummaryLemmas
+mod Statuses
 pub mod DemoLemmas
 mod OneListing
 mod OneReport
 pub mod AskedLemmas
+pub mod FileLemmas
 mod Sounding
 mod OneSummary
 pub mod OneAnswer

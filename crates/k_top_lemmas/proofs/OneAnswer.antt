@@ -1,5 +1,5 @@
 -- Words have one answer, whatever the outside holds.
-use Rattle.std.proofs.Common.{ℕ, ◌≡◌, ◌≤◌, Bool, ap, refl, sym, subst, ◌∙◌, List, Option, Some, None, Result, Ok, Err, arith, inl, inr}
+use Rattle.std.proofs.Common.{ℕ, ◌≡◌, ◌≤◌, Bool, ap, refl, sym, subst, ◌∙◌, List, [], Option, Some, None, Result, Ok, Err, arith, inl, inr}
 use Rattle.k_ending.specs.declared.ending.End.{End}
 use Rattle.k_ending.specs.declared.ending.End.TheVariants as end
 use Rattle.k_dict_saved.proofs.Files.{first_wrong_is_one}
@@ -22,11 +22,13 @@ use Rattle.k_words.specs.declared.job.Job.TheVariants as job
 use Rattle.k_words.specs.declared.usage.Usage.{Usage}
 use Rattle.k_words.specs.declared.usage.Usage.TheVariants as usage
 use Rattle.k_top_answers.specs.declared.answer.Answer.{Answer}
+use Rattle.k_top_answers.specs.declared.failure.Failure.{Failure}
 use Rattle.k_top_answers.specs.declared.failure.Failure.TheVariants as why
-use Rattle.k_top_answers.specs.Answers.{AnswersAsked, AnswersJob, AnswersProfile, AnswersRun, AnswersWords, IsListed, done, refusal}
+use Rattle.k_top_answers.specs.Answers.{AnswersAsked, AnswersChecked, AnswersJob, AnswersProfile, AnswersRun, AnswersWords, IsListed, checked, done, refusal}
+use Rattle.k_top_answers.specs.Checks.{told}
 use Rattle.k_top_answers.specs.Laws.{AnswersAreUnique}
-use Rattle.k_top_answers.specs.Steps.{Outside, Running, profile_limit, run_of}
-use Rattle.k_top_lemmas.proofs.Agreeing.{Agree, file_agrees, running_agrees}
+use Rattle.k_top_answers.specs.Steps.{Outside, Running, file_limit, profile_limit, run_of}
+use Rattle.k_top_lemmas.proofs.Agreeing.{Agree, file_agrees, running_agrees, source_agrees}
 use Rattle.k_top_lemmas.proofs.OneListing.{one_listed}
 use Rattle.k_top_lemmas.proofs.OneReport.{one_reported}
 use Rattle.k_top_lemmas.proofs.OneSummary.{one_demo}
@@ -72,6 +74,23 @@ by_file : (dict : Bool) (one other : Answer) → Agree {A = List ℕ} (λ failur
 by_file dict one other (inl (failure, a, b)) = a ∙ sym b
 by_file dict one other (inr (bytes, (x, a), (y, b))) = one_profile dict one other bytes x y a b
 
+-- CHECK
+both_same : {X : Type 0} (one other answer : Answer) (refused : Failure → Answer) → Agree {A = X} (λ failure. one ≡ refused failure) (λ failure. other ≡ refused failure)
+    (λ found. one ≡ answer) (λ found. other ≡ answer) → one ≡ other
+both_same one other answer refused (inl (failure, a, b)) = a ∙ sym b
+both_same one other answer refused (inr (found, a, b)) = a ∙ sym b
+
+one_checked : (file : List ℕ) (one other : Answer) (bytes : List ℕ) → AnswersChecked file one bytes → AnswersChecked file other bytes → one ≡ other
+one_checked file one other bytes a b =
+    both_same one other (done []) (λ failure. checked (told file bytes failure) failure)
+    (source_agrees (λ failure. one ≡ checked (told file bytes failure) failure) (λ failure. other ≡ checked (told file bytes failure) failure) (λ typed. one ≡ done [])
+    (λ typed. other ≡ done []) bytes a b)
+
+by_check : (file : List ℕ) (one other : Answer) → Agree {A = List ℕ} (λ failure. one ≡ refusal failure) (λ failure. other ≡ refusal failure) (AnswersChecked file one)
+    (AnswersChecked file other) → one ≡ other
+by_check file one other (inl (failure, a, b)) = a ∙ sym b
+by_check file one other (inr (bytes, a, b)) = one_checked file one other bytes a b
+
 one_job : (outside : Outside) (one other : Answer) (asked : Job) → IsJobWithin asked → AnswersJob outside one asked → AnswersJob outside other asked → one ≡ other
 one_job outside one other (job.Run file steps depth latency dict save) within a b =
     by_run one other (λ r. AnswersRun depth dict save one r (run_of r).end × IsSound r) (λ r. AnswersRun depth dict save other r (run_of r).end)
@@ -85,6 +104,9 @@ one_job outside one other (job.Graph file steps depth latency) within a b =
     (running_sound (λ failure. one ≡ refusal failure) (IsListed depth one) outside steps (omega (arith, most)) file latency a) b)
 one_job outside one other (job.Show file dict) within a b =
     by_file dict one other (file_agrees (λ failure. one ≡ refusal failure) (λ failure. other ≡ refusal failure) _ _ outside profile_limit file a b)
+one_job outside one other (job.Check file) within a b =
+    by_check file one other
+    (file_agrees (λ failure. one ≡ refusal failure) (λ failure. other ≡ refusal failure) (AnswersChecked file one) (AnswersChecked file other) outside file_limit file a b)
 one_job outside one other (job.Demo number loops) within a b = one_demo number loops outside one other a b
 
 one_reading : (outside : Outside) (list : List (List ℕ)) (one other : Answer) (x : Result Job Usage) → words.IsAnswer list x → AnswersWords outside one x

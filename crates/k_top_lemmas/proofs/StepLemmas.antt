@@ -1,5 +1,5 @@
 -- What the steps of the call answer, once it is known what they come to.
-use Rattle.std.proofs.Common.{ℕ, ◌≡◌, ◌≢◌, ◌≤◌, ◌<◌, refl, sym, subst, List, [], ◌∷◌, length, Option, Some, None, Result, Ok, Err, inl, inr}
+use Rattle.std.proofs.Common.{ℕ, true, ◌≡◌, ◌≢◌, ◌≤◌, ◌<◌, refl, sym, subst, List, [], ◌∷◌, length, Option, Some, None, Result, Ok, Err, inl, inr}
 use Rattle.k_optab.specs.Latencies.{standard_latencies}
 use Rattle.k_optab.specs.TomlTable.{IsRefused, IsTold}
 use Rattle.k_optab.specs.declared.toml_table.TableFault.{TableFault}
@@ -16,6 +16,7 @@ use Rattle.k_types_meaning.specs.declared.fault.TypeFault.{TypeFault}
 use Rattle.k_types_meaning.specs.declared.tree.unit.TUnit.{TUnit}
 use Rattle.k_top_answers.specs.declared.failure.Failure.{Failure}
 use Rattle.k_top_answers.specs.declared.failure.Failure.TheVariants as why
+use Rattle.k_top_answers.specs.Checks.{refuses_source}
 use Rattle.k_top_lemmas.specs.Phases.{IsQuiet, LoadsStop}
 use Rattle.k_top_answers.specs.Steps.{AnswersFile, AnswersFound, AnswersLatency, AnswersProgram, AnswersSource, AnswersTable, AnswersTokens, AnswersTree, AnswersTyped, Outside, file_limit}
 
@@ -58,40 +59,46 @@ pub refused : (failed : Failure → Type 0) (next : List ℕ → Type 0) (bytes 
     → failed (why.Table fault) → AnswersTable failed next bytes
 refused failed next bytes fault other is holds = inr (fault, other, is, holds)
 
+-- a source is refused by its tokens, by its tree, or by names and types; or it is accepted
+module _ (F : Failure → Type 0) (P : TUnit → Type 0) (R : Type 0) (on_lex : (fault : LexFault) → F (why.Lex fault) → R)
+    (on_parse : (fault : ParseFault) → F (why.Parse fault) → R) (on_types : (fault : TypeFault) → F (why.Types fault) → R)
+    (on_typed : (typed : TUnit) → P typed → R) where
+  typed_case : (unit : tree.Unit) (fs : List TypeFault) → AnswersTyped F P unit fs → R
+  typed_case unit [] (typed, is, holds) = on_typed typed holds
+  typed_case unit (fault ∷ fs) holds = on_types fault holds
+
+  tree_case : (found : Result tree.Unit ParseFault) → AnswersTree F P found → R
+  tree_case (Err fault) holds = on_parse fault holds
+  tree_case (Ok unit) holds = typed_case unit (faults unit) holds
+
+  tokens_case : (found : Result (List Token) LexFault) → AnswersTokens F P found → R
+  tokens_case (Err fault) holds = on_lex fault holds
+  tokens_case (Ok list) (found, is, holds) = tree_case found holds
+
+  pub source_case : (bytes : List ℕ) → AnswersSource F P bytes → R
+  source_case bytes holds = tokens_case (tokens bytes) holds
+
+-- what is so of the failures of sources is so of this one
+module _ (Q : Failure → Type 0) (of_lex : (fault : LexFault) → Q (why.Lex fault)) (of_parse : (fault : ParseFault) → Q (why.Parse fault))
+    (of_types : (fault : TypeFault) → Q (why.Types fault)) where
+  of_failure : (failure : Failure) (bytes : List ℕ) → AnswersSource (λ other. other ≡ failure) (λ source. ⊥) bytes → Q failure
+  of_failure failure bytes holds =
+      source_case (λ other. other ≡ failure) (λ source. ⊥) (Q failure) (λ fault is. subst Q is (of_lex fault)) (λ fault is. subst Q is (of_parse fault))
+      (λ fault is. subst Q is (of_types fault)) (λ typed none. absurd none) bytes holds
+
 -- a failure of a source comes behind all loads
-module _ (failure : Failure) (loads : List Request) (old new : FilesState) (same : new ≡ after loads old) where
-  typed_fails : (unit : tree.Unit) (fs : List TypeFault) → AnswersTyped (λ other. other ≡ failure) (λ source. ⊥) unit fs → LoadsStop failure loads old new
-  typed_fails unit [] (typed, is, holds) = absurd holds
-  typed_fails unit (fault ∷ fs) is = subst (λ f. LoadsStop f loads old new) is (loads, refl, same)
-
-  tree_fails : (found : Result tree.Unit ParseFault) → AnswersTree (λ other. other ≡ failure) (λ source. ⊥) found → LoadsStop failure loads old new
-  tree_fails (Err fault) is = subst (λ f. LoadsStop f loads old new) is (loads, refl, same)
-  tree_fails (Ok unit) holds = typed_fails unit (faults unit) holds
-
-  tokens_fail : (found : Result (List Token) LexFault) → AnswersTokens (λ other. other ≡ failure) (λ source. ⊥) found → LoadsStop failure loads old new
-  tokens_fail (Err fault) is = subst (λ f. LoadsStop f loads old new) is (loads, refl, same)
-  tokens_fail (Ok list) (found, is, holds) = tree_fails found holds
-
 pub source_fails : (failure : Failure) (bytes : List ℕ) (loads : List Request) (old new : FilesState) → new ≡ after loads old → AnswersSource (λ other. other ≡ failure) (λ source. ⊥) bytes
     → LoadsStop failure loads old new
-source_fails failure bytes loads old new same holds = tokens_fail failure loads old new same (tokens bytes) holds
+source_fails failure bytes loads old new same holds =
+    of_failure (λ f. LoadsStop f loads old new) (λ fault. (loads, refl, same)) (λ fault. (loads, refl, same)) (λ fault. (loads, refl, same)) failure bytes holds
 
 -- and nothing of the outside at all
-module _ (failure : Failure) where
-  typed_quiet : (unit : tree.Unit) (fs : List TypeFault) → AnswersTyped (λ other. other ≡ failure) (λ source. ⊥) unit fs → IsQuiet failure
-  typed_quiet unit [] (typed, is, holds) = absurd holds
-  typed_quiet unit (fault ∷ fs) is = subst IsQuiet is tt
+pub source_quiet : (failure : Failure) (bytes : List ℕ) → AnswersSource (λ other. other ≡ failure) (λ source. ⊥) bytes → IsQuiet failure
+source_quiet failure bytes holds = of_failure IsQuiet (λ fault. tt) (λ fault. tt) (λ fault. tt) failure bytes holds
 
-  tree_quiet : (found : Result tree.Unit ParseFault) → AnswersTree (λ other. other ≡ failure) (λ source. ⊥) found → IsQuiet failure
-  tree_quiet (Err fault) is = subst IsQuiet is tt
-  tree_quiet (Ok unit) holds = typed_quiet unit (faults unit) holds
-
-  tokens_quiet : (found : Result (List Token) LexFault) → AnswersTokens (λ other. other ≡ failure) (λ source. ⊥) found → IsQuiet failure
-  tokens_quiet (Err fault) is = subst IsQuiet is tt
-  tokens_quiet (Ok list) (found, is, holds) = tree_quiet found holds
-
-  pub source_quiet : (bytes : List ℕ) → AnswersSource (λ other. other ≡ failure) (λ source. ⊥) bytes → IsQuiet failure
-  source_quiet bytes holds = tokens_quiet (tokens bytes) holds
+-- it refuses the source
+pub source_refuses : (failure : Failure) (bytes : List ℕ) → AnswersSource (λ other. other ≡ failure) (λ source. ⊥) bytes → refuses_source failure ≡ true
+source_refuses failure bytes holds = of_failure (λ f. refuses_source f ≡ true) (λ fault. refl) (λ fault. refl) (λ fault. refl) failure bytes holds
 
 -- what two files answer is carried over, where its failures and its programs are
 module _ (F G : Failure → Type 0) (P Q : List ℕ → TUnit → Type 0) (on_failure : (failure : Failure) → F failure → G failure)

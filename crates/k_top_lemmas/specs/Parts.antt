@@ -41,7 +41,7 @@ use Rattle.k_top_answers.specs.declared.failure.Failure.{Failure}
 use Rattle.k_top_answers.specs.declared.failure.Failure.TheVariants as why
 use Rattle.k_top_lemmas.specs.declared.program.Program.{Program}
 use Rattle.k_top_lemmas.specs.declared.running.Ready.{Ready}
-use Rattle.k_top_answers.specs.Answers.{AnswersProfile, done}
+use Rattle.k_top_answers.specs.Answers.{AnswersChecked, AnswersProfile, done}
 use Rattle.k_top_answers.specs.Clauses.{Told}
 use Rattle.k_top_answers.specs.Failures.{failure_line, failure_of_load, failure_of_put, failure_of_reading, failure_of_save, failure_of_saved, failure_of_table, failure_status}
 use Rattle.k_top_answers.specs.Steps.{AnswersSource, Running, file_limit, input_limit, profile_limit}
@@ -144,6 +144,18 @@ ShowsFile (Ok answer) file dict old new = (bytes : Vec ℕ Global) × Loads (Ok 
 ShowsFile (Err failure) file dict old new =
     ((bytes : Vec ℕ Global) × Loads (Ok bytes) file profile_limit old new × ShowsProfile (Err failure) bytes.items dict)
     ⊎ LoadsFile (Err failure) file profile_limit old new
+
+-- what checking a source comes to
+abbrev pub ChecksSource : Result Answer Failure → List ℕ → List ℕ → Type 0
+ChecksSource (Ok answer) file bytes = AnswersChecked file answer bytes
+ChecksSource (Err failure) file bytes = failure ≡ why.NoMemory
+
+-- what loading a source and checking it comes to
+abbrev pub ChecksFile : Result Answer Failure → List ℕ → FilesState → FilesState → Type 0
+ChecksFile (Ok answer) file old new = (bytes : Vec ℕ Global) × Loads (Ok bytes) file file_limit old new × ChecksSource (Ok answer) file bytes.items
+ChecksFile (Err failure) file old new =
+    ((bytes : Vec ℕ Global) × Loads (Ok bytes) file file_limit old new × ChecksSource (Err failure) file bytes.items)
+    ⊎ LoadsFile (Err failure) file file_limit old new
 
 -- the lines of a summary on a tree of these instances
 abbrev pub IsTreeText : List Node → List ℕ → Type 0

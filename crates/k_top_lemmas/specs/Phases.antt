@@ -8,7 +8,6 @@ use Rattle.k_edge.specs.declared.request.Request.{Request}
 use Rattle.k_edge.specs.ReadAll.{DrawsTooMany, DrawsWithin, ReadsAll}
 use Rattle.k_edge.specs.SinkWords.{SinkState}
 use Rattle.k_edge.specs.SourceWords.{SourceState}
-use Rattle.k_ending.specs.declared.ending.End.{End}
 use Rattle.k_words.specs.declared.job.Job.{Job}
 use Rattle.k_words.specs.declared.job.Job.TheVariants as job
 use Rattle.k_top_answers.specs.declared.answer.Answer.{Answer}
@@ -18,7 +17,7 @@ use Rattle.k_top_lemmas.specs.declared.program.Program.{Program}
 use Rattle.k_top_lemmas.specs.declared.running.Ready.{Ready}
 use Rattle.k_top_answers.specs.Answers.{AnswersJob, CallsForFiles, CallsForInput, FilesCall, IsAnswer, JobCalls, JobLoads, refusal}
 use Rattle.k_top_answers.specs.Clauses.{MayGive}
-use Rattle.k_top_answers.specs.Failures.{failure_of_end}
+use Rattle.k_top_answers.specs.Failures.{status_of}
 use Rattle.k_top_lemmas.specs.Parts.{Delivers, EndsAs, IfRefusal, running_of}
 use Rattle.k_top_answers.specs.Requests.{AreToLoad, EndsAt, IsFront, files_of, loads_of}
 use Rattle.k_top_answers.specs.Steps.{AnswersProgram, AnswersRunning, Outside, input_limit}
@@ -170,11 +169,9 @@ ReadySeen (Err failure) view file latency steps old new =
 abbrev pub MakesReady : Result Ready Failure → List ℕ → Option (List ℕ) → ℕ → Around → Around → Type 0
 MakesReady result file latency steps old new = (view : View) × IsView view old × ReadySeen result view file latency steps old new
 
--- the answer is that of a run's end, and saves nothing where that is a failure; or of something that was done
+-- the status of the answer is that of something that was done, of a run's end or of a source that was checked; and it saves nothing where it failed
 pub record IsEnd (answer : Answer) : Type 0 where
-  pub steps : ℕ
-  pub end : End
-  pub failure : answer.failure ≡ failure_of_end steps end
+  pub low : status_of answer.failure ≤ 3
   pub saves : (answer.failure ≡ None) ⊎ (answer.saved ≡ None)
 
 -- what finding an answer comes to, where this was seen: an answer that is no refusal, or a failure before anything was put

@@ -6,7 +6,7 @@ use Rattle.std.proofs.lemmas.Option.{none-some, same_Some, slice_get_past}
 use Rattle.k_words.specs.declared.job.Job.{Job}
 use Rattle.k_words.specs.declared.job.Job.TheVariants as job
 use Rattle.k_words.specs.declared.option.Command.{Command}
-use Rattle.k_words.specs.declared.option.Command.TheVariants.{Run, Graph, Show, Demo}
+use Rattle.k_words.specs.declared.option.Command.TheVariants.{Run, Graph, Show, Check, Demo}
 use Rattle.k_words.specs.declared.option.Setting.{Setting}
 use Rattle.k_words.specs.declared.usage.Usage.{Usage}
 use Rattle.k_words.specs.declared.usage.Usage.TheVariants.{NoCommand, UnknownWord, BadNumber, Twice, NoFile, Memory}
@@ -72,6 +72,7 @@ behind_other None arguments k = tt
 behind_other (Some Run) arguments k = file_other Run arguments k
 behind_other (Some Graph) arguments k = file_other Graph arguments k
 behind_other (Some Show) arguments k = file_other Show arguments k
+behind_other (Some Check) arguments k = file_other Check arguments k
 behind_other (Some Demo) arguments k = demo_other arguments k
 
 command_other : (command : Option Command) → IsNoMemory (command_fault command)
@@ -113,6 +114,7 @@ behind_past None arguments k past = refl
 behind_past (Some Run) arguments k past = file_past Run arguments k past
 behind_past (Some Graph) arguments k past = file_past Graph arguments k past
 behind_past (Some Show) arguments k past = file_past Show arguments k past
+behind_past (Some Check) arguments k past = file_past Check arguments k past
 behind_past (Some Demo) arguments k past = demo_past arguments k past
 
 fault_past : (words : List (List ℕ)) (k : ℕ) → length words < k → fault_at words k ≡ None
@@ -142,6 +144,8 @@ job_behind (Some Graph) [] known right = absurd (none-some _ (sym (right 0)))
 job_behind (Some Graph) (file ∷ words) known right = (graph_of file (given Graph words), refl)
 job_behind (Some Show) [] known right = absurd (none-some _ (sym (right 0)))
 job_behind (Some Show) (file ∷ words) known right = (show_of file (given Show words), refl)
+job_behind (Some Check) [] known right = absurd (none-some _ (sym (right 0)))
+job_behind (Some Check) (file ∷ words) known right = (job.Check file, refl)
 job_behind (Some Demo) arguments known right = demo_there arguments right
 
 job_there : (words : List (List ℕ)) → AreRight (fault_at words) → (j : Job) × (job_of words ≡ Some j)

@@ -7,7 +7,7 @@ use Rattle.std.specs.Str.Parse.{digits_value}
 use Rattle.k_words.specs.declared.job.Job.{Job}
 use Rattle.k_words.specs.declared.job.Job.TheVariants as job
 use Rattle.k_words.specs.declared.option.Command.{Command}
-use Rattle.k_words.specs.declared.option.Command.TheVariants.{Run, Graph, Show, Demo}
+use Rattle.k_words.specs.declared.option.Command.TheVariants.{Run, Graph, Show, Check, Demo}
 use Rattle.k_words.specs.declared.option.Setting.TheVariants.{Steps, Depth}
 use Rattle.k_words.specs.Number.{is_numeral, number_within, within}
 use Rattle.k_words.specs.Setting.{most_depth, most_steps, or_else}
@@ -93,6 +93,8 @@ command_within Graph (file ∷ words) asked is =
     (options_within Graph words 200000 (record { at_least = omega arith; at_most = omega arith }))
 command_within Show [] asked is = no_some asked is
 command_within Show (file ∷ words) asked is = subst IsJobWithin (some_inner _ asked is) tt
+command_within Check [] asked is = no_some asked is
+command_within Check (file ∷ words) asked is = subst IsJobWithin (some_inner _ asked is) tt
 command_within Demo [] asked is = no_some asked is
 command_within Demo (number ∷ []) asked is = no_some asked is
 command_within Demo (number ∷ loops ∷ words) asked is =

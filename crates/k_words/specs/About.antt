@@ -34,6 +34,7 @@ help_text = concat (
     codes "kremlin run FILE [OPTION ..]    runs a C program and writes its output, its profile and a plan\n" ∷
     codes "kremlin graph FILE [OPTION ..]  lists the events of the run and a heaviest path for each region instance\n" ∷
     codes "kremlin show FILE [--dict]      writes the report of a saved profile\n" ∷
+    codes "kremlin check FILE              reads and checks a C program and does not run it; what is refused it shows in its line\n" ∷
     codes "kremlin demo NUMBER LOOPS       makes a program of LOOPS loops (1 to 2000) from NUMBER and sums up its run\n" ∷
     codes "kremlin --help, -h              writes this text\n" ∷
     codes "kremlin --version, -V           writes the product and its number\n" ∷

@@ -4,7 +4,7 @@ use Rattle.std.specs.Prelude.{ℕ, Bool, true, false, ◌==◌, nat_eq, if◌the
 use Rattle.std.specs.List.{starts_with}
 use Rattle.std.specs.Cmp.Lexicographic.{pointwise}
 use Rattle.k_words.specs.declared.option.Command.{Command}
-use Rattle.k_words.specs.declared.option.Command.TheVariants.{Run, Graph, Show, Demo}
+use Rattle.k_words.specs.declared.option.Command.TheVariants.{Run, Graph, Show, Check, Demo}
 use Rattle.k_words.specs.declared.option.Setting.{Setting}
 use Rattle.k_words.specs.declared.option.Setting.TheVariants.{Steps, Depth, Latency, Dict, Save}
 use Rattle.k_words.specs.Number.{number_within}
@@ -48,6 +48,7 @@ is_taken Show Depth = false
 is_taken Show Latency = false
 is_taken Show Dict = true
 is_taken Show Save = false
+is_taken Check setting = false
 is_taken Demo setting = false
 
 -- an option that the command takes
@@ -63,6 +64,7 @@ abbrev pub most_steps : Command → ℕ
 most_steps Run = 1000000000
 most_steps Graph = 200000
 most_steps Show = 1000000000
+most_steps Check = 1000000000
 most_steps Demo = 1000000000
 
 -- the greatest depth

@@ -6,7 +6,7 @@ use Rattle.std.specs.Cmp.Lexicographic.{pointwise}
 use Rattle.k_words.specs.declared.job.Job.{Job}
 use Rattle.k_words.specs.declared.job.Job.TheVariants as job
 use Rattle.k_words.specs.declared.option.Command.{Command}
-use Rattle.k_words.specs.declared.option.Command.TheVariants.{Run, Graph, Show, Demo}
+use Rattle.k_words.specs.declared.option.Command.TheVariants.{Run, Graph, Show, Check, Demo}
 use Rattle.k_words.specs.declared.usage.Usage.{Usage}
 use Rattle.k_words.specs.declared.usage.Usage.TheVariants.{NoCommand, UnknownWord, BadNumber, Twice, NoFile, Memory}
 use Rattle.k_words.specs.Number.{number_within}
@@ -60,7 +60,8 @@ is word text = pointwise nat_eq word text
 unfoldable pub command_of : List ℕ → Option Command
 command_of word =
     if is word (codes "run") then Some Run else if is word (codes "graph") then Some Graph
-    else if is word (codes "show") then Some Show else if is word (codes "demo") then Some Demo else None
+    else if is word (codes "show") then Some Show else if is word (codes "check") then Some Check
+    else if is word (codes "demo") then Some Demo else None
 
 -- what is wrong with the command
 abbrev pub command_fault : Option Command → Option Usage
@@ -72,6 +73,7 @@ abbrev pub argument_fault : Command → List (List ℕ) → ℕ → Option Usage
 argument_fault Run words k = file_fault Run words k
 argument_fault Graph words k = file_fault Graph words k
 argument_fault Show words k = file_fault Show words k
+argument_fault Check words k = file_fault Check words k
 argument_fault Demo words k = demo_fault words k
 
 -- the same where the command may be none, which is what is wrong then
@@ -113,6 +115,11 @@ abbrev pub show_job : List (List ℕ) → Option Job
 show_job [] = None
 show_job (file ∷ words) = Some (show_of file (given Show words))
 
+-- what `check` with these arguments asks for
+abbrev pub check_job : List (List ℕ) → Option Job
+check_job [] = None
+check_job (file ∷ words) = Some (job.Check file)
+
 -- what `demo` with these arguments asks for
 abbrev pub demo_job : List (List ℕ) → Option Job
 demo_job [] = None
@@ -124,6 +131,7 @@ abbrev pub job_with : List (List ℕ) → Command → Option Job
 job_with words Run = run_job words
 job_with words Graph = graph_job words
 job_with words Show = show_job words
+job_with words Check = check_job words
 job_with words Demo = demo_job words
 
 -- what the words ask for, where none of them is wrong

@@ -48,6 +48,7 @@ kremlin: which loops of a serial C program are worth making parallel
 kremlin run FILE [OPTION ..]    runs a C program and writes its output, its profile and a plan
 kremlin graph FILE [OPTION ..]  lists the events of the run and a heaviest path for each region instance
 kremlin show FILE [--dict]      writes the report of a saved profile
+kremlin check FILE              reads and checks a C program and does not run it; what is refused it shows in its line
 kremlin demo NUMBER LOOPS       makes a program of LOOPS loops (1 to 2000) from NUMBER and sums up its run
 kremlin --help, -h              writes this text
 kremlin --version, -V           writes the product and its number

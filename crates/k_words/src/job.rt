@@ -1,7 +1,7 @@
 //! What the words of the command line ask for.
 ghost use Rattle.std.specs.Prelude.{◌≡◌, MatchResult, IfOk, option_map};
 ghost use Rattle.k_words.specs.Settings.{IsFirst, seen, seen_words};
-ghost use Rattle.k_words.specs.Words.{Answers, IsAnswer, ReadsFile, command_of, demo_fault, demo_job, file_fault, graph_job, is_no_file, run_job, show_job};
+ghost use Rattle.k_words.specs.Words.{Answers, IsAnswer, ReadsFile, check_job, command_of, demo_fault, demo_job, file_fault, graph_job, is_no_file, run_job, show_job};
 
 use crate::number::number_within;
 use crate::option::{Command, STANDARD_DEPTH, STANDARD_STEPS};
@@ -35,6 +35,10 @@ pub enum Job {
         file: Text,
         dict: bool,
     },
+    /// A source is read and checked, and not run.
+    Check {
+        file: Text,
+    },
     /// A program of so many loops is made from a number, run and summed up.
     Demo {
         number: u64,
@@ -53,6 +57,7 @@ pub fn words(alloc: Global, list: &[String]) -> Result<Job, Usage>
         Some(Command::Run) => run_job(alloc, arguments),
         Some(Command::Graph) => graph_job(alloc, arguments),
         Some(Command::Show) => show_job(alloc, arguments),
+        Some(Command::Check) => check_job(alloc, arguments),
         Some(Command::Demo) => demo_job(arguments),
         None => Err(Usage::UnknownWord(0)),
     }
@@ -69,6 +74,8 @@ fn command_of(word: &str) -> Option<Command>
         Some(Command::Graph)
     } else if word == "show" {
         Some(Command::Show)
+    } else if word == "check" {
+        Some(Command::Check)
     } else if word == "demo" {
         Some(Command::Demo)
     } else {
@@ -122,6 +129,18 @@ fn show_job(alloc: Global, arguments: &[String]) -> Result<Job, Usage>
         file: Text::copy_of(alloc, file)?,
         dict: settings.dict,
     })
+}
+
+/// What `check` with these arguments asks for.
+fn check_job(alloc: Global, arguments: &[String]) -> Result<Job, Usage>
+    ensures { Answers (file_fault Command.Check (seen_words arguments.now)) (check_job (seen_words arguments.now)) result }
+{
+    match file_and_settings(Command::Check, arguments) {
+        Ok((file, _)) => Ok(Job::Check {
+            file: Text::copy_of(alloc, file)?,
+        }),
+        Err(fault) => Err(fault),
+    }
 }
 
 /// What `demo` with these arguments asks for.

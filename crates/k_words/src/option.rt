@@ -8,6 +8,7 @@ pub enum Command {
     Run,
     Graph,
     Show,
+    Check,
     Demo,
 }
 
@@ -86,7 +87,7 @@ fn is_taken(command: Command, setting: Setting) -> bool
         Command::Run => true,
         Command::Graph => matches!(setting, Setting::Steps | Setting::Depth | Setting::Latency),
         Command::Show => matches!(setting, Setting::Dict),
-        Command::Demo => false,
+        Command::Check | Command::Demo => false,
     }
 }
 

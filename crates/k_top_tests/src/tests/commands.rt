@@ -48,6 +48,38 @@ static TABLES: [Row; 3] = [
     ),
 ];
 
+/// Sources that are checked.
+static CHECKED: [Row; 4] = [
+    // accepted, though its run would trap, and though it reads its input
+    (
+        "check a.c",
+        &[("a.c", "int main(void){return 1/(getchar()-getchar());}")],
+        (0, "", ""),
+    ),
+    // refused behind a tab
+    (
+        "check a.c",
+        &[("a.c", "int main(void)\n{\n\tfloat x;\n}\n")],
+        (
+            3,
+            "a.c:3:2: error: `double` and `float` are left out: count in whole numbers, as in thousandths [Syntax]\n\tfloat x;\n\t^\n",
+            "kremlin: source refused: Syntax at 3:2\n",
+        ),
+    ),
+    // refused by a name
+    (
+        "check a.c",
+        &[("a.c", "int main(void){return x;}")],
+        (
+            3,
+            "a.c:1:23: error: no declaration of this name stands before it: declare it, or look at its spelling [Unknown(x)]\nint main(void){return x;}\n                      ^\n",
+            "kremlin: source refused: Unknown(x) at 1:23\n",
+        ),
+    ),
+    // absent
+    ("check b.c", &[], (5, "", "kremlin: no such file: b.c\n")),
+];
+
 /// The list of the dictionary, and saved profiles.
 static PROFILES: [Row; 4] = [
     // odd sum with dictionary
@@ -127,6 +159,7 @@ static OTHERS: [Row; 2] = [
 #[test]
 fn commands(rt: HostRuntime) -> Result<(), Fail> {
     expect_rows(&rt, rt.alloc(), &TABLES)?;
+    expect_rows(&rt, rt.alloc(), &CHECKED)?;
     expect_rows(&rt, rt.alloc(), &PROFILES)?;
     expect_rows(&rt, rt.alloc(), &OTHERS)
 }

@@ -217,7 +217,7 @@ static READS: [Row; 6] = [
 ];
 
 /// Puts on out that fail.
-static PUTS: [Row; 7] = [
+static PUTS: [Row; 8] = [
     (
         "run a.c",
         RETURN_ZERO,
@@ -248,6 +248,13 @@ static PUTS: [Row; 7] = [
         "run a.c --steps=3",
         "int main(void){putchar('a'); while(1);return 0;}",
         [&[], &[], &[0], &[]],
+        (7, "", WRITE_FAULT),
+    ),
+    // What is told of a source is put before the line of its refusal, and that is not told where the put failed.
+    (
+        "check a.c",
+        "int main(void){return x;}",
+        [&[], &[0], &[0], &[]],
         (7, "", WRITE_FAULT),
     ),
     // A listing is put however the run ended.

@@ -31,7 +31,7 @@ fn parts(fault: Usage) -> (&'static str, u32) {
 }
 
 /// Lines of words that are refused, each with its fault and the fault's index.
-static REFUSED: [(&str, &str, u32); 60] = [
+static REFUSED: [(&str, &str, u32); 64] = [
     ("", "NoCommand", 0),
     ("ruN", "UnknownWord", 0),
     ("--help", "UnknownWord", 0),
@@ -39,6 +39,7 @@ static REFUSED: [(&str, &str, u32); 60] = [
     ("run", "NoFile", 0),
     ("graph", "NoFile", 0),
     ("show", "NoFile", 0),
+    ("check", "NoFile", 0),
     ("demo", "NoFile", 0),
     ("run --dict a.c", "NoFile", 0),
     ("run --", "NoFile", 0),
@@ -62,6 +63,9 @@ static REFUSED: [(&str, &str, u32); 60] = [
     ("show p.txt --depth=5", "UnknownWord", 2),
     ("show p.txt --latency=l", "UnknownWord", 2),
     ("show p.txt --save=q", "UnknownWord", 2),
+    ("check a.c --dict", "UnknownWord", 2),
+    ("check a.c b.c", "UnknownWord", 2),
+    ("checks a.c", "UnknownWord", 0),
     ("run a.c --steps=0", "BadNumber", 2),
     ("run a.c --steps=", "BadNumber", 2),
     ("run a.c --steps=1000000001", "BadNumber", 2),
@@ -153,12 +157,13 @@ fn job_parts(job: &Job) -> ([&str; 4], [u64; 2], bool) {
             false,
         ),
         Job::Show { file, dict } => (["show", file.as_str(), "", ""], [0, 0], *dict),
+        Job::Check { file } => (["check", file.as_str(), "", ""], [0, 0], false),
         Job::Demo { number, loops } => (["demo", "", "", ""], [*number, u64::from(*loops)], false),
     }
 }
 
 /// Lines of words, each with its job's names, numbers and whether the dictionary is listed.
-static ACCEPTED: [(&str, [&str; 4], [u64; 2], bool); 16] = [
+static ACCEPTED: [(&str, [&str; 4], [u64; 2], bool); 17] = [
     ("run a.c", ["run", "a.c", "", ""], [100_000_000, 24], false),
     ("run -", ["run", "-", "", ""], [100_000_000, 24], false),
     ("run -x", ["run", "-x", "", ""], [100_000_000, 24], false),
@@ -208,6 +213,7 @@ static ACCEPTED: [(&str, [&str; 4], [u64; 2], bool); 16] = [
     ),
     ("show p", ["show", "p", "", ""], [0, 0], false),
     ("show p --dict", ["show", "p", "", ""], [0, 0], true),
+    ("check a.c", ["check", "a.c", "", ""], [0, 0], false),
     ("demo 0 1", ["demo", "", "", ""], [0, 1], false),
     (
         "demo 18446744073709551615 2000",
