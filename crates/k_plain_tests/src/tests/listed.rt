@@ -1,8 +1,11 @@
 //! What the run of a source comes to, as a text: its end, and then its events, each behind a blank. `E2` enters the region of that
 //! number and `X` leaves the newest. `mul@24(0! 3)` is an operation with its class, the column at which it stands (behind its line,
 //! where that is not the first) and its sources, of which a broken one has a `!`. The operations are numbered from 0.
+//! Each source is also lowered, and its flat code is valid.
+use k_code::valid;
 use k_ending::{End, name as trap_name};
 use k_lex::lex;
+use k_lower::lower;
 use k_marks::mark;
 use k_num::Place;
 use k_optab::{Class, Event, Src, name as class_name, of, standard};
@@ -26,6 +29,14 @@ fn run(alloc: Global, source: &str, input: &str, budget: u64) -> Option<Listing>
     let unit = typed(alloc, source)?;
     let marks = mark(alloc, &unit).ok()?;
     plain(alloc, &unit, &marks, &standard(), input.as_bytes(), budget).ok()
+}
+
+/// Whether the flat code of a source is valid, if it has one.
+fn has_valid_code(alloc: Global, source: &str) -> Option<bool> {
+    let unit = typed(alloc, source)?;
+    let marks = mark(alloc, &unit).ok()?;
+    let code = lower(alloc, &unit, &marks, &standard()).ok()?;
+    valid(alloc, &code).ok()
 }
 
 /// A place: its column, behind its line where that is not the first.
@@ -114,7 +125,7 @@ fn summed(alloc: Global, listing: &Listing) -> Result<String, AllocError> {
     Ok(text)
 }
 
-/// A source's run ends so, with these events and this output.
+/// A source's run ends so, with these events and this output, and its flat code is valid.
 pub fn is_listed(
     rt: &impl Abort,
     alloc: Global,
@@ -126,6 +137,7 @@ pub fn is_listed(
 ) -> Result<(), Fail> {
     let run = run(alloc, source, input, budget);
     assert!(rt; run.is_some(), "{source}");
+    assert_eq!(rt; has_valid_code(alloc, source), Some(true), "{source}");
     if let Some(listing) = run {
         let text = listed(alloc, &listing)?;
         assert_eq!(rt; text.as_str(), wanted, "{source}");
@@ -144,7 +156,7 @@ pub fn are_listed(rt: &impl Abort, alloc: Global, rows: &[(&str, &str)]) -> Resu
     Ok(())
 }
 
-/// A source's run ends so, after so many operations, with this output.
+/// A source's run ends so, after so many operations, with this output, and its flat code is valid.
 pub fn is_summed(
     rt: &impl Abort,
     alloc: Global,
@@ -156,6 +168,7 @@ pub fn is_summed(
 ) -> Result<(), Fail> {
     let run = run(alloc, source, input, budget);
     assert!(rt; run.is_some(), "{source}");
+    assert_eq!(rt; has_valid_code(alloc, source), Some(true), "{source}");
     if let Some(listing) = run {
         let text = summed(alloc, &listing)?;
         assert_eq!(rt; text.as_str(), wanted, "{source}");

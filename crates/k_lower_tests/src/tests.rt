@@ -1,0 +1,12 @@
+//! Lowered sources.
+mod assignments;
+mod calls;
+mod choices;
+mod declarations;
+mod examples;
+mod loops;
+mod operators;
+mod places;
+mod source;
+mod statements;
+mod switches;
