@@ -21,7 +21,8 @@ use Rattle.k_evaluation.specs.Statements.{does}
 use Rattle.k_evaluation.specs.States.{Goes, Outcome, Program, Stops, ◌>>=◌, read}
 use Rattle.k_regions.proofs.Names.{main_found}
 use Rattle.k_evaluation_laws.specs.Kinds.{kind_in, start_kinds, Sort, ANumber, IsValue, sort_of}
-use Rattle.k_evaluation_laws.specs.Laws.{AreArguments, ExpressionsGiveTheirTypes, FunctionsBeginRight, RunsStartRight, GoesOnRightTo, FunctionsKeepKinds, GoesOnRight, IsProgramOf, IsResult, IsReturned, MainGivesAnInt, StatementsKeepKinds}
+use Rattle.k_evaluation_laws.specs.Laws.{AreArguments, ExpressionsGiveTheirTypes, FunctionsBeginRight, RunsStartRight, GoesOnRightTo, FunctionsKeepKinds, GoesOnRight, IsProgramOf, IsResult, IsReturned, MainGivesAnInt, ObjectsBeginRight, StatementsKeepKinds}
+use Rattle.k_evaluation_laws.proofs.Beginnings.{objects_in_range}
 use Rattle.k_evaluation_laws.proofs.Numbered.{all_in_range}
 use Rattle.k_evaluation_laws.proofs.Ranges.{AreInRange, expr_in_range, stmt_in_range}
 use Rattle.k_evaluation_laws.specs.Standing.{expressions_at}
@@ -62,15 +63,18 @@ fine_so : {A : Type 0} (vs : Here) (carries : A → List Waiting) (Gives : List 
 fine_so vs carries Gives kinds (Goes a t) each h = (h.0, h.1, h.2, each h.0 a h.3)
 fine_so vs carries Gives kinds (Stops end w) each h = tt
 
+pub objects_begin_right : ObjectsBeginRight IsProgramOf
+objects_begin_right unit program it = objects_in_range unit program.unit it.ranked it.typed it.faultless it.strings it.numbers it.characters
+
 -- all numbers are in range, with those of strings
 ranged_of : (unit : source.Unit) (program : Program) → IsProgramOf unit program → AreInRange program.unit
-ranged_of unit program it = all_in_range unit program.unit it.ranked it.typed it.faultless it.strings it.numbers it.characters it.objects
+ranged_of unit program it = all_in_range unit program.unit it.ranked it.typed it.faultless it.strings it.numbers it.characters (objects_begin_right unit program it)
 
 -- each function fits
 all_fit : (unit : source.Unit) (program : Program) → IsProgramOf unit program → (n : ℕ) (f : TFunc) → slice_get program.unit.functions n ≡ Some f → FunctionFits program.unit f
 all_fit unit program it n f there = functions_fit unit program.unit n f it.typed it.faultless there
 
-pub statements_keep_kinds : StatementsKeepKinds
+pub statements_keep_kinds : StatementsKeepKinds IsProgramOf
 statements_keep_kinds unit program depth number f part kinds s it stands right =
     let vs : Here = here program f.variables in
     let strings : ℕ = length program.unit.strings in
@@ -89,7 +93,7 @@ operand_so : (vs : Here) (s : Sort) (kinds : List Kind) (o : Outcome Operand) �
 operand_so vs s kinds (Goes a t) h = (h.0, h.1, h.2, held_as s h.0 (read t a).slot (operand_read h.0 vs t s a h.2 h.3.0))
 operand_so vs s kinds (Stops end w) h = tt
 
-pub expressions_give_their_types : ExpressionsGiveTheirTypes
+pub expressions_give_their_types : ExpressionsGiveTheirTypes IsProgramOf
 expressions_give_their_types unit program depth number f e used kinds s it stands right =
     let vs : Here = here program f.variables in
     let site : Around = around_of program.unit f in
@@ -111,7 +115,7 @@ expressions_give_their_types unit program depth number f e used kinds s it stand
     operand_so vs (sort_of it_is.node.of) kinds (it_is.value used s)
     (((eval_right program f.variables (sort_of f.result) (calls depth program) inner e fit in_range).value used).brings kinds s right.started right.right tt)
 
-pub functions_keep_kinds : FunctionsKeepKinds
+pub functions_keep_kinds : FunctionsKeepKinds IsProgramOf
 functions_keep_kinds unit program depth number f kinds s it right =
     let vs : Here = here program f.variables in
     let inner = calls_right program (ranged_of unit program it) (all_fit unit program it) depth in
@@ -124,7 +128,7 @@ number_alone : (kinds : List Kind) (kind : Kind) (v : Value) → IsValue kinds (
 number_alone kinds kind (value.Number z) h = h
 number_alone kinds kind (value.Pointer p) h = h
 
-pub main_gives_an_int : MainGivesAnInt
+pub main_gives_an_int : MainGivesAnInt IsProgramOf
 main_gives_an_int unit program input budget held t it bytes is =
     let main = main_found unit program.unit it.typed it.faultless in
     let f : TFunc = main.0 in
@@ -138,7 +142,7 @@ start_so : {A : Type 0} (kinds : List Kind) (o : Outcome A) → Starts kinds o �
 start_so kinds (Goes a t) h = (kinds, λ n kind is. absurd (none-some kind is), record { vars = tt; world = h }, refl)
 start_so kinds (Stops end w) h = tt
 
-pub runs_start_right : RunsStartRight
+pub runs_start_right : RunsStartRight IsProgramOf
 runs_start_right unit program input budget it bytes =
     let objects : List Kind = map (λ (o : TObject). kind_in (sort_of o.of)) program.unit.objects in
     start_so (start_kinds program.unit) ((starts_objects program.unit.objects >>= λ started. starts_strings program.unit.strings) (initial input budget))

@@ -1,9 +1,11 @@
 pub mod Acts
 pub mod Alike
+pub mod Beginnings
 pub mod Begun
 pub mod Bodies
 pub mod Called
 pub mod Closed
+pub mod Constants
 pub mod Evaluated
 pub mod Executed
 pub mod Fits

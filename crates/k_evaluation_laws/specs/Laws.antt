@@ -32,8 +32,8 @@ use Rattle.k_evaluation_laws.specs.Kinds.{Sort, ANumber, Grows, IsRight, IsValue
 use Rattle.k_evaluation_laws.specs.Ranges.{CharactersOfUnitAreHeld, ObjectsAreInRange}
 use Rattle.k_evaluation_laws.specs.Standing.{IsExpressionOf, StandsInFunction}
 
--- The program is a source that the grammar gives, without faults, whose strings are within the limit; the kinds of its integer constants hold these, and
--- int its character constants; and its objects begin with numbers of their kinds
+-- The program is a source that the grammar gives, without faults, whose strings are within the limit; and the kinds of its integer constants hold these,
+-- and int its character constants
 pub record IsProgramOf (unit : source.Unit) (program : Program) : Type 0 where
   pub typed : IsTyped unit program.unit
   pub faultless : faults unit ≡ []
@@ -41,7 +41,6 @@ pub record IsProgramOf (unit : source.Unit) (program : Program) : Type 0 where
   pub ranked : RankedUnit unit
   pub numbers : NumbersOfUnitAreHeld unit
   pub characters : CharactersOfUnitAreHeld unit
-  pub objects : ObjectsAreInRange program.unit
 
 -- its function of this number, in a state whose variables and objects hold what their types say. These are the kinds of all objects that were made so far:
 -- those with which the program starts, and more
@@ -72,13 +71,17 @@ abbrev pub GoesOnRightTo : List Kind → List TVariable → Sort → Outcome Ope
 GoesOnRightTo kinds vs s (Goes a t) = (more : List Kind) × Grows kinds more × IsRight more vs t × IsResult s more (read t a).slot
 GoesOnRightTo kinds vs s (Stops end w) = Unit {0}
 
--- a run starts so: its file objects and strings are made, and hold numbers of their kinds
-abbrev pub RunsStartRight : Type 0
-RunsStartRight =
+-- THE LAWS speak of the programs for which `Is` holds. A run starts so: its file objects and strings are made, and hold numbers of their kinds
+abbrev pub RunsStartRight : (source.Unit → Program → Type 0) → Type 0
+RunsStartRight Is =
     (unit : source.Unit) (program : Program) (input : List ℕ) (budget : ℕ)
-    → IsProgramOf unit program
+    → Is unit program
     → AreBytes input
     → GoesOnRight [] [] (λ more started. more ≡ start_kinds program.unit) ((starts_objects program.unit.objects >>= λ objects. starts_strings program.unit.strings) (initial input budget))
+
+-- each file object of a program begins with numbers of its kind: what a constant expression comes to is of its type (C17 6.6, 6.7.9)
+abbrev pub ObjectsBeginRight : (source.Unit → Program → Type 0) → Type 0
+ObjectsBeginRight Is = (unit : source.Unit) (program : Program) → Is unit program → ObjectsAreInRange program.unit
 
 -- each argument is of the type of its parameter
 abbrev pub AreArguments : List Kind → List TVariable → List (Option Held) → Type 0
@@ -95,36 +98,36 @@ FunctionsBeginRight =
     → IsRight kinds f.variables (entered f args s)
 
 -- each statement of a function keeps values of their kinds
-abbrev pub StatementsKeepKinds : Type 0
-StatementsKeepKinds =
+abbrev pub StatementsKeepKinds : (source.Unit → Program → Type 0) → Type 0
+StatementsKeepKinds Is =
     (unit : source.Unit) (program : Program) (depth number : ℕ) (f : TFunc) (part : TStmt) (kinds : List Kind) (s : State)
-    → IsProgramOf unit program
+    → Is unit program
     → StandsInFunction part f
     → IsRightIn program number f kinds s
     → GoesOnRight kinds f.variables (IsReturned (sort_of f.result)) ((does (within program (calls depth program) number f) part).does s)
 
 -- so does each expression, whether its value is used or not; and it gives a value of its type
-abbrev pub ExpressionsGiveTheirTypes : Type 0
-ExpressionsGiveTheirTypes =
+abbrev pub ExpressionsGiveTheirTypes : (source.Unit → Program → Type 0) → Type 0
+ExpressionsGiveTheirTypes Is =
     (unit : source.Unit) (program : Program) (depth number : ℕ) (f : TFunc) (e : TExpr) (used : Bool) (kinds : List Kind) (s : State)
-    → IsProgramOf unit program
+    → Is unit program
     → IsExpressionOf e f
     → IsRightIn program number f kinds s
     → (let it = eval program f.variables (calls depth program) e in GoesOnRightTo kinds f.variables (sort_of it.node.of) (it.value used s))
 
 -- so does each function, where its parameters hold arguments of their types; and it gives a value of the type of its result
-abbrev pub FunctionsKeepKinds : Type 0
-FunctionsKeepKinds =
+abbrev pub FunctionsKeepKinds : (source.Unit → Program → Type 0) → Type 0
+FunctionsKeepKinds Is =
     (unit : source.Unit) (program : Program) (depth number : ℕ) (f : TFunc) (kinds : List Kind) (s : State)
-    → IsProgramOf unit program
+    → Is unit program
     → IsRightIn program number f kinds s
     → GoesOnRight kinds f.variables (IsResult (sort_of f.result)) (runs program (calls depth program) number f s)
 
 -- C17 5.1.2.2.3p1: what main returned is an int
-abbrev pub MainGivesAnInt : Type 0
-MainGivesAnInt =
+abbrev pub MainGivesAnInt : (source.Unit → Program → Type 0) → Type 0
+MainGivesAnInt Is =
     (unit : source.Unit) (program : Program) (input : List ℕ) (budget : ℕ) (held : Held) (t : State)
-    → IsProgramOf unit program
+    → Is unit program
     → AreBytes input
     → whole program (initial input budget) ≡ Goes (Some held) t
     → IsValue [] (ANumber I32) held.value

@@ -15,23 +15,25 @@ use Rattle.k_tree.specs.declared.tree.unit.Head.{Head}
 use Rattle.k_tree.specs.declared.tree.unit.Item.{Item}
 use Rattle.k_tree.specs.declared.tree.unit.Unit as source
 use Rattle.k_tree.specs.Ranked.{RankedItem, RankedParts, RankedUnit}
-use Rattle.k_tree.specs.Spelling.{Spelled, in_braces, in_row, spell_head, spell_item, spell_stmt, spelling, the_mark}
+use Rattle.k_tree.specs.Spelling.{Spelled, in_braces, in_row, spell_declarator, spell_head, spell_item, spell_stmt, spelling, the_mark}
 use Rattle.k_types_meaning.specs.declared.names.Meaning.TheVariants as meaning
 use Rattle.k_types_meaning.specs.declared.types.CType.{CType}
 use Rattle.k_types_meaning.specs.declared.types.TType.{TType}
 use Rattle.k_types_meaning.specs.declared.tree.unit.TFunc.{TFunc}
+use Rattle.k_types_meaning.specs.declared.tree.unit.TObject.{TObject}
 use Rattle.k_types_meaning.specs.declared.tree.unit.TUnit.{TUnit}
-use Rattle.k_types_meaning.specs.Bare.{bare_function}
-use Rattle.k_types_meaning.specs.Called.{all_calls, item_calls, params_calls, stmt_calls}
-use Rattle.k_types_meaning.specs.Declarations.{Saying, saying}
+use Rattle.k_types_meaning.specs.Bare.{IsTyped, bare_function}
+use Rattle.k_types_meaning.specs.Called.{all_calls, declarator_calls, declarators_calls, dims_calls, item_calls, params_calls, start_calls, stmt_calls}
+use Rattle.k_types_meaning.specs.Declarations.{Object, Saying, object_fixed, saying}
 use Rattle.k_types_meaning.specs.Functions.{within_function, behind_param, entered_option, type_of_param, param_fixed, params_of, signature, meaning_here, names_behind_head, body_names}
 use Rattle.k_types_meaning.specs.Laws.{MeansTree}
 use Rattle.k_types_meaning.specs.Names.{Names, place_in}
 use Rattle.k_types_meaning.specs.Statements.{Known}
 use Rattle.k_types_meaning.specs.Types.{told}
-use Rattle.k_types_meaning.specs.Units.{FileKnown, Parts, defined_by, is_name, nothing_known}
+use Rattle.k_types_meaning.specs.Units.{FileKnown, Parts, defined_by, faults, is_name, nothing_known}
 use Rattle.k_types_meaning.specs.ElaboratedFunctions.{ElabParams, ElabFunction, MayDeclare, no_params, more_params, definition, within, known_to_body}
-use Rattle.k_types_meaning.specs.ElaboratedUnits.{ElabUnit, IsDefined, ElabObjects, ElabItem, ElabItems, no_objects, more_objects, function, prototype_alone, objects, no_items, more_items, whole, with_object}
+use Rattle.k_types_meaning.specs.ElaboratedDeclarators.{ElabObject}
+use Rattle.k_types_meaning.specs.ElaboratedUnits.{ElabUnit, IsDefined, ElabObjects, ElabItem, ElabItems, no_objects, more_objects, function, prototype_alone, objects, no_items, more_items, whole, object_tree, with_object}
 use Rattle.k_types_meaning.proofs.Fine.{AllOf}
 use Rattle.k_types_meaning.proofs.SourcesElaborate.{typed_trees_elaborate}
 use Rattle.k_lower_fits.specs.Fits.{Callee, callee, has_values}
@@ -40,18 +42,29 @@ use Rattle.k_lower_fits.proofs.Named.{NamesEach, entered_each}
 use Rattle.k_lower_fits.proofs.Signatures.{shape, settled, item_settled, function_may, prototype_may}
 use Rattle.k_lower_fits.proofs.Sources.{same_callees, unit_calls}
 use Rattle.k_lower_fits.proofs.Split.{all_of, behind, front, joined, two}
-use Rattle.k_lower_texts.specs.Laws.{CallsPass, FormatsFollow, FunctionsPass, NumbersFollow, TokenPasses}
-use Rattle.k_lower_texts.specs.Passing.{Asks, body_passes}
+use Rattle.k_lower_texts.specs.Laws.{CallsPass, FormatsFollow, FunctionsPass, LiteralsPass, NumbersFollow, TokenPasses}
+use Rattle.k_lower_texts.specs.Passing.{Asks, body_passes, init_passes}
 use Rattle.k_lower_texts.proofs.Alike.{body_pass}
 use Rattle.k_lower_texts.proofs.Calling.{NameAsks}
 use Rattle.k_lower_texts.proofs.Filled.{filled_list, filled_start, list_filled, parts_filled, start_gives}
 use Rattle.k_lower_texts.proofs.Small.{SmallType, declared_small, parameter_small, result_small}
 use Rattle.k_lower_texts.proofs.Split.{Each, row_each}
-use Rattle.k_lower_texts.proofs.Statements.{stmts_come}
+use Rattle.k_lower_texts.proofs.Statements.{declaration_text, declarator_text, object_passes, stmts_come}
 
 -- calls of the functions of this list pass that have a value exactly where these have one
 abbrev CalleesAsk : Asks → List Callee → Type 0
 CalleesAsk asks callees = (of : TType) (n : ℕ) (c : Callee) → slice_get callees n ≡ Some c → has_values of ≡ c.gives → asks.call of n ≡ true
+
+-- A FILE OBJECT begins with what passes: a declarator means it
+pub record IsPassing (asks : Asks) (x : TObject) : Type 0 where
+  pub saying : Saying
+  pub number : ℕ
+  pub names : Names
+  pub declarator : Declarator
+  pub declared : Object
+  pub means : ElabObject true saying number names declarator declared
+  pub is : object_tree declared ≡ x
+  pub passes : init_passes asks declared.init ≡ true
 
 module _ (asks : Asks) (follow : FormatsFollow asks) (numbers : NumbersFollow asks) (C : List ℕ → Option Callee) (listed : List (List ℕ)) (callees : List Callee)
     (there : (x : List ℕ) → is_name listed x ≡ true → slice_get callees (place_in listed x) ≡ C x) (ask : CalleesAsk asks callees) where
@@ -101,15 +114,28 @@ module _ (asks : Asks) (follow : FormatsFollow asks) (numbers : NumbersFollow as
       (body_names_ask names head inside.names inner (params_ask true (within_function names) (params_of head.params) types inside given (tt, outer)))).0
 
   -- ITEMS
-  objects_ask : (s : Saying) (known : FileKnown) (ds : List Declarator) (parts : Parts) (after : FileKnown) → ElabObjects s known ds parts after → filled_list ds ≡ true → Ask known.names → Ask after.names
-  objects_ask _ _ _ _ _ (no_objects s known) full fit = fit
-  objects_ask _ _ _ _ _ (more_objects s known d ds o rest after x xs) full fit =
+  objects_ask : (s : Saying) (known : FileKnown) (ds : List Declarator) (parts : Parts) (after : FileKnown) → ElabObjects s known ds parts after → filled_list ds ≡ true
+      → AllOf (IsDefined listed) (declarators_calls ds) → Each P (map spell_declarator ds) → Ask known.names → AllOf (IsPassing asks) parts.objects × Ask after.names
+  objects_ask _ _ _ _ _ (no_objects s known) full calls texts fit = (tt, fit)
+  objects_ask _ _ _ _ _ (more_objects s known d ds o rest after x xs) full calls texts fit =
       let f = and_parts (filled_start d.init) (filled_list ds) full in
-      objects_ask s (with_object known o) ds rest after xs f.1
-      (entered_each (NameAsks asks listed) o.name (meaning.Object known.objects o.of o.fixed) known.names (declared_small true s known.objects known.names d o (start_gives d.init f.0) x) fit)
+      let c = two (IsDefined listed) (declarator_calls d ++ declarators_calls ds) (declarator_calls d) (declarators_calls ds) refl calls in
+      let small : SmallType o.of = declared_small true s known.objects known.names d o (start_gives d.init f.0) x in
+      let later =
+      objects_ask s (with_object known o) ds rest after xs f.1 c.1 texts.1
+      (entered_each (NameAsks asks listed) o.name (meaning.Object known.objects o.of o.fixed) known.names small fit) in
+      let passes : init_passes asks o.init ≡ true =
+      object_passes asks follow numbers listed true s known.objects known.names d o x
+      (entered_each (NameAsks asks listed) d.name (meaning.Object known.objects o.of (object_fixed s.fixed d.stars)) known.names small fit)
+      (behind (IsDefined listed) (dims_calls d.dims) (start_calls d.init) c.0) (declarator_text asks follow numbers listed d texts.0) in
+      ((record { saying = s; number = known.objects; names = known.names; declarator = d; declared = o; means = x; is = refl; passes = passes }, later.0), later.1)
+
+  -- what is known of an item
+  abbrev ItemPasses : Parts → FileKnown → Type 0
+  ItemPasses parts after = AllOf FunctionPasses parts.functions × AllOf (IsPassing asks) parts.objects × Ask after.names
 
   item_passes : (known : FileKnown) (i : Item) (parts : Parts) (after : FileKnown) (items : List Item) → ElabItem listed known i parts after
-      → ((x : List ℕ) → settled after.names items x ≡ C x) → Ask known.names → AllOf (IsDefined listed) (item_calls i) → T (spell_item i) → RankedItem i → AllOf FunctionPasses parts.functions × Ask after.names
+      → ((x : List ℕ) → settled after.names items x ≡ C x) → Ask known.names → AllOf (IsDefined listed) (item_calls i) → T (spell_item i) → RankedItem i → ItemPasses parts after
   item_passes _ _ _ _ items (function defines known p head body close f x) is fit calls texts ranks =
       let again : Bool = is_name known.functions head.name in
       let inner : Ask (names_behind_head listed known.names head) = head_asks known.names head again items (function_may listed again known.names p head body close f x) is fit in
@@ -119,24 +145,27 @@ module _ (asks : Asks) (follow : FormatsFollow asks) (numbers : NumbersFollow as
               (row_each P (map spell_stmt body) (front P (in_row (map spell_stmt body)) (the_mark mark.RightBrace) block.1)) ranks.1,
           tt,
         ),
+        tt,
         inner,
       )
-  item_passes _ _ _ _ items (prototype_alone defines known p head x) is fit calls texts ranks = (tt, head_asks known.names head false items (prototype_may listed known.names head x) is fit)
+  item_passes _ _ _ _ items (prototype_alone defines known p head x) is fit calls texts ranks = (tt, tt, head_asks known.names head false items (prototype_may listed known.names head x) is fit)
   item_passes _ _ _ _ items (objects defines known p specs list parts after x) is fit calls texts ranks =
-      (subst (AllOf FunctionPasses) (sym (no_functions (saying true specs) known list parts after x)) tt, objects_ask (saying true specs) known list parts after x (list_filled list ranks.2) fit)
+      let here = objects_ask (saying true specs) known list parts after x (list_filled list ranks.2) calls (declaration_text asks follow numbers listed specs list texts) fit in
+      (subst (AllOf FunctionPasses) (sym (no_functions (saying true specs) known list parts after x)) tt, here.0, here.1)
 
   items_pass : (known : FileKnown) (items : List Item) (parts : Parts) (after : FileKnown) → ElabItems listed known items parts after
-      → ((x : List ℕ) → settled known.names items x ≡ C x) → Ask known.names → AllOf (IsDefined listed) (all_calls (map item_calls items)) → Each P (map spell_item items) → All RankedItem items → AllOf FunctionPasses parts.functions
-  items_pass _ _ _ _ (no_items defines known) is fit calls texts ranks = tt
+      → ((x : List ℕ) → settled known.names items x ≡ C x) → Ask known.names → AllOf (IsDefined listed) (all_calls (map item_calls items)) → Each P (map spell_item items) → All RankedItem items → AllOf FunctionPasses parts.functions × AllOf (IsPassing asks) parts.objects
+  items_pass _ _ _ _ (no_items defines known) is fit calls texts ranks = (tt, tt)
   items_pass _ _ _ _ (more_items defines known i items a b middle after x xs) is fit calls texts ranks =
       let c = two (IsDefined listed) (item_calls i ++ all_calls (map item_calls items)) (item_calls i) (all_calls (map item_calls items)) refl calls in
       let next : (y : List ℕ) → settled middle.names items y ≡ C y = λ y. item_settled listed known i a middle x items y ∙ is y in
       let first = item_passes known i a middle items x next fit c.0 texts.0 (All-head RankedItem i items ranks) in
-      joined FunctionPasses a.functions b.functions first.0 (items_pass middle items b after xs next first.1 c.1 texts.1 (All-tail RankedItem i items ranks))
+      let later = items_pass middle items b after xs next first.2 c.1 texts.1 (All-tail RankedItem i items ranks) in
+      (joined FunctionPasses a.functions b.functions first.0 later.0, joined (IsPassing asks) a.objects b.objects first.1 later.1)
 
 -- THE WHOLE SOURCE
 unit_passes : (asks : Asks) (unit : source.Unit) (parts : Parts) → FormatsFollow asks → NumbersFollow asks → RankedUnit unit → CalleesAsk asks (map callee parts.functions) → AllOf (TokenPasses asks) (spelling unit) → ElabUnit unit parts
-    → AllOf (λ (f : TFunc). body_passes asks f.body ≡ true) parts.functions
+    → AllOf (λ (f : TFunc). body_passes asks f.body ≡ true) parts.functions × AllOf (IsPassing asks) parts.objects
 unit_passes asks _ _ follow numbers ranks ask texts (whole unit parts after items calls main) =
     let C : List ℕ → Option Callee = settled nothing_known.names unit.items in
     let named : map (λ (f : TFunc). f.name) parts.functions ≡ defined_by unit = items_named (defined_by unit) nothing_known unit.items parts after items in
@@ -164,12 +193,23 @@ there_passes asks [] n f is h = absurd (none-some f is)
 there_passes asks (g ∷ fs) zero f is h = subst (λ (k : TFunc). body_passes asks k.body ≡ true) (same_Some g f is) (sym (body_pass asks g.body) ∙ h.0)
 there_passes asks (g ∷ fs) (suc n) f is h = there_passes asks fs n f is h.1
 
-pub functions_pass : FunctionsPass
-functions_pass asks unit typed n f follow numbers literals calls ranks h none is =
+-- what passes of a source, with its numbers
+tree_passes : (asks : Asks) (unit : source.Unit) (typed : TUnit) → FormatsFollow asks → NumbersFollow asks → LiteralsPass asks unit → CallsPass asks typed → RankedUnit unit → IsTyped unit typed
+    → faults unit ≡ [] → AllOf (λ (g : TFunc). body_passes asks g.body ≡ true) (map bare_function typed.functions) × AllOf (IsPassing asks) typed.objects
+tree_passes asks unit typed follow numbers literals calls ranks h none =
     let means : MeansTree unit typed = (typed_trees_elaborate unit typed).0 (h, none) in
     let parts : Parts = means.0 in
     let fs : map bare_function typed.functions ≡ parts.functions = ap (λ (u : TUnit). u.functions) (means.2).0 in
+    let os : typed.objects ≡ parts.objects = ap (λ (u : TUnit). u.objects) (means.2).0 in
     let ask : CalleesAsk asks (map callee parts.functions) =
     subst (λ (gs : List TFunc). CalleesAsk asks (map callee gs)) fs (subst (CalleesAsk asks) (sym (same_callees typed.functions)) (callees_ask asks typed calls)) in
-    there_passes asks typed.functions n f is
-    (subst (AllOf (λ (g : TFunc). body_passes asks g.body ≡ true)) (sym fs) (unit_passes asks unit parts follow numbers ranks ask (all_of (TokenPasses asks) (spelling unit) literals) means.1))
+    let all = unit_passes asks unit parts follow numbers ranks ask (all_of (TokenPasses asks) (spelling unit) literals) means.1 in
+    (subst (AllOf (λ (g : TFunc). body_passes asks g.body ≡ true)) (sym fs) all.0, subst (AllOf (IsPassing asks)) (sym os) all.1)
+
+pub functions_pass : FunctionsPass
+functions_pass asks unit typed n f follow numbers literals calls ranks h none is = there_passes asks typed.functions n f is (tree_passes asks unit typed follow numbers literals calls ranks h none).0
+
+-- EACH FILE OBJECT begins with what passes
+pub objects_pass : (asks : Asks) (unit : source.Unit) (typed : TUnit) → FormatsFollow asks → NumbersFollow asks → LiteralsPass asks unit → CallsPass asks typed → RankedUnit unit → IsTyped unit typed
+    → faults unit ≡ [] → AllOf (IsPassing asks) typed.objects
+objects_pass asks unit typed follow numbers literals calls ranks h none = (tree_passes asks unit typed follow numbers literals calls ranks h none).1

@@ -89,14 +89,14 @@ module _ (asks : Asks) (follow : FormatsFollow asks) (numbers : NumbersFollow as
   made_of known v tree h each fit = let k = h fit in (each k.0, k.1)
 
   -- DECLARATORS
-  object_passes : (file : Bool) (s : Saying) (n : ℕ) (names : Names) (d : Declarator) (o : Object) → ElabObject file s n names d o → Ask (names_within file s n names d o.of)
+  pub object_passes : (file : Bool) (s : Saying) (n : ℕ) (names : Names) (d : Declarator) (o : Object) → ElabObject file s n names d o → Ask (names_within file s n names d o.of)
       → D (start_calls d.init) → T (spell_initialised d.init) → init_passes asks o.init ≡ true
   object_passes _ _ _ _ _ _ (object file s n names d sizes of start init twice dims has declared gave is) fit calls texts =
       subst (IfThere (λ i. init_passes asks i ≡ true)) is
       (subst (IfFine (λ (b : Beginning). IfThere (λ i. init_passes asks i ≡ true) b.init)) gave
       (begun_passes asks follow numbers defined (names_within file s n names d of) fit file of d.init calls texts))
 
-  declarator_text : (d : Declarator) → T (spell_declarator d) → T (spell_initialised d.init)
+  pub declarator_text : (d : Declarator) → T (spell_declarator d) → T (spell_initialised d.init)
   declarator_text d texts =
       behind P (spell_dims d.dims) (spell_initialised d.init) (behind P (spell_stars d.stars) (the_name d.name ++ (spell_dims d.dims ++ spell_initialised d.init)) texts).1
 
@@ -117,7 +117,7 @@ module _ (asks : Asks) (follow : FormatsFollow asks) (numbers : NumbersFollow as
       let c = two (IsDefined defined) (declarator_calls d ++ declarators_calls ds) (declarator_calls d) (declarators_calls ds) refl calls in
       both known (with_variable known o) after (init_passes asks o.init) (declared_pass asks ts) (declarator_comes s known d o x c.0 texts.0 f.0) (declared_comes s (with_variable known o) ds ts after rest c.1 texts.1 f.1)
 
-  declaration_text : (specs : List Word) (list : List Declarator) → T (spell_declaration specs list) → Each P (map spell_declarator list)
+  pub declaration_text : (specs : List Word) (list : List Declarator) → T (spell_declaration specs list) → Each P (map spell_declarator list)
   declaration_text specs list texts =
       commas_each P (map spell_declarator list)
       (front P (with_commas (map spell_declarator list)) (the_mark mark.Semicolon)

@@ -5,51 +5,19 @@ use Rattle.std.proofs.lemmas.Bool.{ne_eqb}
 use Rattle.std.proofs.lemmas.Nat.Gcd.{IsGcd-from_mod, IsGcd-from_zero}
 use Rattle.std.proofs.lemmas.Option.{none-some, same_Some}
 use Rattle.k_optab.specs.declared.node.Node.{Node}
-use Rattle.k_optab.specs.declared.region.Region.{Region}
-use Rattle.k_optab.specs.declared.region.RegionKind.{RegionKind}
 use Rattle.k_optab.specs.declared.region.RegionKind.TheVariants.{Func, Loop, Body}
-use Rattle.k_dict.specs.Trees.{Forest, Label, Tree, alone, bare, grown, list_of}
-use Rattle.k_dict.specs.Dictionary.{IsDictionary}
-use Rattle.k_dict.specs.declared.entry.Entry.{Entry}
-use Rattle.k_dict.specs.declared.entry.Run.{Run}
+use Rattle.k_dict.specs.Trees.{alone, bare, grown, list_of}
 use Rattle.k_dict.proofs.Walking.{walk_is}
-use Rattle.k_selfpar.specs.Contexts.{AreContexts, AreUnder, group, none}
+use Rattle.k_selfpar.specs.Contexts.{AreUnder, group, none}
 use Rattle.k_selfpar.specs.Ratio.{IsRatio}
-use Rattle.k_selfpar.specs.Rows.{AreRows, HasRow, IsRow, of_region}
-use Rattle.k_selfpar.specs.declared.context.Context.{Context}
+use Rattle.k_selfpar.specs.Rows.{HasRow, IsRow, of_region}
 use Rattle.k_selfpar.specs.declared.row.Row.{Row}
 use Rattle.k_selfpar.proofs.Lowest.{quotients_ratio}
-
-abbrev label : ℕ → ℕ → ℕ → Label
-label region work path = record { region = region; work = work; path = path }
-
--- a turn that does less, and one that does more, before others
-abbrev two_turns : Forest → Forest
-two_turns later = grown (label 2 2 2) bare (grown (label 2 3 3) bare later)
-
-abbrev turns : Forest
-turns = two_turns (two_turns (two_turns bare))
-
--- the run: a function, in it the loop, and in that the turns
-abbrev odd_sum : Tree
-odd_sum = record { label = label 0 35 4; inner = grown (label 1 35 4) turns bare }
-
-abbrev entry : ℕ → ℕ → ℕ → List Run → Entry
-entry region work path runs = record { region = region; work = work; path = path; runs = runs }
-
-abbrev run : ℕ → ℕ → Run
-run n count = record { entry = n; count = count }
+use Rattle.k_selfpar_laws.specs.Example.{HasContexts, HasEntries, HasRows, context, label, odd_sum, regions, row, rows, turns}
 
 -- its dictionary has two kinds of turns, the loop and the function
-dictionary : IsDictionary (list_of odd_sum) (entry 2 2 2 [] ∷ entry 2 3 3 [] ∷ entry 1 35 4 (run 0 3 ∷ run 1 3 ∷ []) ∷ entry 0 35 4 (run 2 1 ∷ []) ∷ [])
+pub dictionary : HasEntries
 dictionary = (odd_sum, refl, walk_is odd_sum)
-
-abbrev row : ℕ → ℕ → ℕ → ℕ → ℕ → ℕ → Row
-row region instances work path num den = record { region = region; instances = instances; work = work; path = path; sp = (num, den) }
-
--- its rows
-abbrev rows : List Row
-rows = row 0 1 35 4 1 1 ∷ row 1 1 35 4 35 4 ∷ row 2 6 15 15 1 1 ∷ []
 
 ratio_loop : IsRatio 35 4 35 4
 ratio_loop =
@@ -95,7 +63,8 @@ low =
     let b : 1 < 3 = omega arith in
     let c : 2 < 3 = omega arith in (a, (b, (c, (c, (c, (c, (c, (c, tt))))))))
 
-are_rows : AreRows (list_of odd_sum) rows
+-- its rows
+pub are_rows : HasRows
 are_rows = record {
   each = each;
   whole = whole;
@@ -120,18 +89,8 @@ are_rows = record {
     whole (suc (suc zero)) there = (2, row 2 6 15 15 1 1, refl, refl)
     whole (suc (suc (suc region))) there = absurd (let none_there = none_of (suc (suc (suc region))) (list_of odd_sum) low (omega arith) in omega arith)
 
-abbrev region : RegionKind → Region
-region kind = record { kind = kind; func = []; place = record { line = 1; column = 1 } }
-
-abbrev context : ℕ → ℕ → RegionKind → ℕ → ℕ → ℕ → ℕ → ℕ → ℕ → Context
-context parent region kind instances turns work path num den =
-    record { parent = parent; region = region; kind = kind; instances = instances; turns = turns; work = work; path = path; sp = (num, den) }
-
-abbrev regions : List Region
-regions = region Func ∷ region Loop ∷ region Body ∷ []
-
 -- and its contexts
-are_contexts : AreContexts regions (list_of odd_sum) (context 0 0 Func 1 0 35 4 1 1 ∷ context 0 1 Loop 1 6 35 4 35 4 ∷ context 1 2 Body 6 0 15 15 1 1 ∷ [])
+pub are_contexts : HasContexts
 are_contexts = (
   odd_sum,
   refl,

@@ -1,4 +1,5 @@
 //! What contexts, rows and dictionaries are: each function's contract is a law, and its body does nothing.
+ghost use Rattle.k_selfpar_laws.specs.Example.{HasContexts, HasEntries, HasRows};
 ghost use Rattle.k_selfpar_laws.specs.Laws.{ContextsAreInOrder, ContextsAreOneByPaths, RowsAreSums};
 ghost use Rattle.k_selfpar_laws.specs.Renumbered.{EntriesAreGatheredAgain};
 
@@ -22,4 +23,12 @@ pub fn entries_again()
 /// No other contexts are those of a forest by their paths.
 pub fn one_by_paths()
     ensures { ContextsAreOneByPaths }
+{}
+
+/// A worked example, by hand: a loop of six turns of two kinds has a dictionary of four entries, three rows and three contexts, and could be
+/// 35/4 times as fast.
+pub fn worked_example()
+    ensures entries { HasEntries }
+    ensures rows { HasRows }
+    ensures contexts { HasContexts }
 {}

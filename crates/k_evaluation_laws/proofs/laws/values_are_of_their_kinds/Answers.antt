@@ -1,4 +1,4 @@
-use Rattle.k_evaluation_laws.proofs.Closed.{expressions_give_their_types, functions_begin_right, functions_keep_kinds, main_gives_an_int, runs_start_right, statements_keep_kinds}
+use Rattle.k_evaluation_laws.proofs.Closed.{expressions_give_their_types, functions_begin_right, functions_keep_kinds, main_gives_an_int, objects_begin_right, runs_start_right, statements_keep_kinds}
 use Rattle.k_evaluation_laws.proofs.Held.{elements_are_held, variables_are_held}
 use Rattle.k_evaluation_laws.proofs.laws.values_are_of_their_kinds.Goals as goal
 
@@ -25,3 +25,6 @@ returns-clause-start c = runs_start_right
 
 pub returns-clause-entered : goal.returns-clause-entered
 returns-clause-entered c = functions_begin_right
+
+pub returns-clause-objects : goal.returns-clause-objects
+returns-clause-objects c = objects_begin_right
