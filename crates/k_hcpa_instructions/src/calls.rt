@@ -4,7 +4,6 @@ ghost use Rattle.k_hcpa_meaning.specs.Calls.{arguments_handed, cleared_back, giv
 ghost use Rattle.k_hcpa_meaning.specs.Locations.{operand_locations};
 ghost use Rattle.k_hcpa_meaning.specs.Timings.{begun, raised_all, settled};
 ghost use Rattle.k_hcpa_times.specs.Seen.{AreBelow, HasRegisters, ForRegister, Keeps, levels, made};
-ghost use Rattle.k_hcpa_instructions.specs.Kinds.{one_handed};
 
 use k_code::Arg;
 use k_hcpa_times::Timed;
@@ -22,45 +21,6 @@ pub struct Call<'a> {
     pub latency: u64,
 }
 
-/// The value of an operand is handed to the parameter of this register.
-fn hand_one<T: Timed, L: Ledger>(times: &mut T, first: u32, arg: Arg, to: u32, steps: &mut Steps<L>)
-    requires arg { AreBelow first (T.seen times.old).registers (arg ∷ []) }
-    requires to { to + 1 ≤ (T.seen times.old).registers }
-    requires room { T.room times.old (ForRegister to) }
-    ensures handed { T.seen times.new ≡ made (one_handed first arg to) (T.seen times.old) }
-    ensures kept { Keeps (T.room times.old) (T.room times.new) }
-    ensures least { steps.old ≤ steps.new }
-    ensures steps { steps.new ≤ steps.old + levels (T.seen times.old) }
-{
-    match arg {
-        Arg::Number(_) => times.clear_registers(to, 1),
-        Arg::Reg(register, broken) => times.hand(first + register, broken, to, steps),
-    }
-}
-
-/// The values of operands are handed to the parameters; the operation depends on operands without a parameter too.
-fn hand_all<T: Timed, L: Ledger>(times: &mut T, call: Call<'_>, steps: &mut Steps<L>)
-    requires args { AreBelow call.first (T.seen times.old).registers call.args.now }
-    requires to { call.to + call.params ≤ (T.seen times.old).registers }
-    requires few { call.to + call.params < 2 ^ 32 }
-    requires room { HasRegisters call.to call.params (T.room times.old) }
-    ensures handed { T.seen times.new ≡ made (arguments_handed call.entry.first call.entry.to call.entry.params call.entry.args.now) (T.seen times.old) }
-    ensures least { steps.old ≤ steps.new }
-    ensures steps { steps.new ≤ steps.old + length call.entry.args.now * levels (T.seen times.old) }
-{
-    let mut rest = call.args;
-    let mut handed = 0;
-    while handed < call.params {
-        let Some((arg, more)) = rest.split_first() else {
-            return;
-        };
-        hand_one(times, call.first, *arg, call.to + handed, steps);
-        rest = more;
-        handed += 1;
-    }
-    times.raise_all(call.first, rest, steps);
-}
-
 /// A call is made: its operation depends on the operands, whose values are handed to the parameters.
 pub fn call_times<T: Timed, L: Ledger>(times: &mut T, call: Call<'_>, steps: &mut Steps<L>)
     requires args { AreBelow call.first (T.seen times.old).registers call.args.now }
@@ -68,11 +28,12 @@ pub fn call_times<T: Timed, L: Ledger>(times: &mut T, call: Call<'_>, steps: &mu
     requires few { call.to + call.params < 2 ^ 32 }
     requires room { HasRegisters call.to call.params (T.room times.old) }
     ensures times { T.seen times.new ≡ made (λ t. settled call.entry.latency (arguments_handed call.entry.first call.entry.to call.entry.params call.entry.args.now (begun t))) (T.seen times.old) }
+    ensures kept { Keeps (T.room times.old) (T.room times.new) }
     ensures least { steps.old ≤ steps.new }
     ensures steps { steps.new ≤ steps.old + (1 + length call.entry.args.now) * levels (T.seen times.old) }
 {
     times.begin(steps);
-    hand_all(times, call, steps);
+    times.hand_all(call.first, call.to, call.params, call.args, steps);
     times.settle(call.latency);
 }
 

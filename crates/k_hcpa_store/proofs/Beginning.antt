@@ -1,5 +1,5 @@
 -- How a run begins: what the program's objects leave of the world, and the configuration in which main is called.
-use Rattle.std.proofs.Common.{◌≡◌, ℕ, zero, suc, ◌+◌, ◌*◌, ◌^◌, ◌<◌, ◌≤◌, List, [], ◌∷◌, ◌++◌, length, map, replicate, get_or, Option, Some, None, Ok, Err, Result, Bool, true, false, refl, sym, ◌∙◌, zero-add, ap, subst, arith}
+use Rattle.std.proofs.Common.{◌≡◌, ℕ, zero, suc, ◌+◌, ◌^◌, ◌<◌, ◌≤◌, List, [], ◌∷◌, ◌++◌, length, replicate, get_or, Option, Some, None, Ok, Err, Bool, true, false, refl, sym, ◌∙◌, zero-add, ap, subst, arith}
 use Rattle.std.specs.Prelude.{slice_get, if◌then◌else◌, nat_lt}
 use Rattle.std.proofs.lemmas.List.{length-replicate}
 use Rattle.std.proofs.lemmas.Option.{same_Some}
@@ -10,7 +10,7 @@ use Rattle.k_mem.specs.declared.start.Start.TheVariants.{Zero}
 use Rattle.k_mem.specs.Calls.{push_of}
 use Rattle.k_mem.specs.Memory.{Memory}
 use Rattle.k_num.specs.declared.initial.Initial.{Initial}
-use Rattle.k_world.specs.Changes.{with_elements, object_made, string_made, with_string}
+use Rattle.k_world.specs.Changes.{with_elements, with_string}
 use Rattle.k_world.specs.Worlds.{World, fresh}
 use Rattle.k_code.specs.declared.code.Code.{Code}
 use Rattle.k_code.specs.declared.code.CodeFunc.{CodeFunc}
@@ -138,6 +138,7 @@ begun_sound code f w valid short at =
       backs = tt;
       size = omega (arith, large);
       few = (valid.funcs code.main f at).greatest_size;
+      regions = (omega arith, tt);
     }
 
 pub starts_ok : (code : Code) (input : List ℕ) (budget : ℕ) (f : CodeFunc) (w : World) (s : Kept) → slice_get code.funcs code.main ≡ Some f

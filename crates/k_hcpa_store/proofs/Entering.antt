@@ -1,12 +1,11 @@
 -- How the step of a call goes, by what is told of its operation.
-use Rattle.std.proofs.Common.{◌≡◌, ℕ, zero, suc, ◌+◌, ◌<◌, ◌≤◌, List, [], ◌∷◌, ◌++◌, length, map, Option, Some, None, Ok, Err, refl, sym, ◌∙◌, ap, subst, arith}
+use Rattle.std.proofs.Common.{◌≡◌, ℕ, ◌+◌, List, [], ◌∷◌, ◌++◌, map, Option, Err, refl, sym, ◌∙◌, ap, subst}
 use Rattle.std.proofs.Math.Numerals.{add-one}
 use Rattle.std.proofs.lemmas.List.{append-nil, append_assoc}
 use Rattle.k_world.specs.declared.value.Held.{Held}
 use Rattle.k_num.specs.declared.place.Place.{Place}
 use Rattle.k_optab.specs.declared.class.Class.{Class}
 use Rattle.k_optab.specs.declared.class.Class.TheVariants as class
-use Rattle.k_ending.specs.declared.ending.End.{End}
 use Rattle.k_world.specs.declared.act.Act.TheVariants as does
 use Rattle.k_world.specs.declared.answer.Stop.{Stop}
 use Rattle.k_world.specs.declared.answer.Stop.TheVariants as stop

@@ -1,14 +1,13 @@
 -- How the step of a return goes, by what is told of its operation.
-use Rattle.std.proofs.Common.{◌≡◌, ◌≢◌, ℕ, zero, suc, ◌+◌, ◌-◌, ◌<◌, ◌≤◌, List, [], ◌∷◌, ◌++◌, length, map, take, replicate, Option, Some, None, Ok, Bool, true, false, nat_eq, refl, sym, ◌∙◌, ap, subst, arith}
+use Rattle.std.proofs.Common.{◌≡◌, ◌≢◌, ℕ, ◌+◌, ◌<◌, ◌≤◌, List, [], ◌∷◌, ◌++◌, length, map, take, replicate, Option, Some, None, Ok, Bool, true, false, nat_eq, refl, sym, ◌∙◌, ap, subst, arith}
 use Rattle.std.specs.Prelude.{⊤, if◌then◌else◌, not, ◌&&◌, Result, Err, MatchResult}
-use Rattle.std.proofs.lemmas.Bool.{eqb-true, eqb-false, ne_eqb}
+use Rattle.std.proofs.lemmas.Bool.{eqb-false, ne_eqb}
 use Rattle.std.proofs.lemmas.Option.{same_Some}
 use Rattle.std.proofs.lemmas.List.{append-nil, append_assoc, length-take-le}
 use Rattle.k_num.specs.declared.place.Place.{Place}
-use Rattle.k_optab.specs.declared.class.Class.{Class}
 use Rattle.k_optab.specs.declared.class.Class.TheVariants as class
 use Rattle.k_optab.specs.declared.event.Event.{Event}
-use Rattle.k_optab.specs.declared.event.Event.TheVariants.{Op, Exit}
+use Rattle.k_optab.specs.declared.event.Event.TheVariants.{Exit}
 use Rattle.k_ending.specs.declared.ending.End.{End}
 use Rattle.k_ending.specs.declared.ending.End.TheVariants.{Returned, Trapped, OutOfSteps}
 use Rattle.k_ending.specs.declared.ending.Trap.TheVariants.{Uninit}
@@ -18,7 +17,7 @@ use Rattle.k_world.specs.declared.value.Held.{Held}
 use Rattle.k_world.specs.declared.value.Read.{Read}
 use Rattle.k_world.specs.Acts.{hidden}
 use Rattle.k_world.specs.Answers.{Makes}
-use Rattle.k_world.specs.Operands.{is_set, are_set, sources}
+use Rattle.k_world.specs.Operands.{is_set, are_set}
 use Rattle.k_world.specs.Values.{exit_of}
 use Rattle.k_world.specs.Operations.{Ends, operation}
 use Rattle.k_world.specs.Worlds.{World}
@@ -27,17 +26,16 @@ use Rattle.k_code.specs.declared.instruction.Arg.{Arg}
 use Rattle.k_code.specs.declared.instruction.Do.{Do}
 use Rattle.k_code.specs.declared.instruction.Do.TheVariants as act
 use Rattle.k_code.specs.declared.instruction.Instr.{Instr}
-use Rattle.k_code.specs.Named.{operands, up_to_register}
-use Rattle.k_code.specs.Steps.{Configuration, Waiting, Run, Going, Over, operation_of, reads_of, by_operation, behind, alone, returned, handed_back, left_by, read_of, step}
+use Rattle.k_code.specs.Named.{operands}
+use Rattle.k_code.specs.Steps.{Configuration, Going, Over, operation_of, reads_of, by_operation, behind, alone, returned, handed_back, left_by, read_of, step}
 use Rattle.k_hcpa_meaning.specs.Behind.{world_behind, behind_all}
 use Rattle.k_hcpa_meaning.specs.Locations.{width}
-use Rattle.k_hcpa_store.specs.declared.call.Call.{Call}
 use Rattle.k_hcpa_store.specs.declared.call.Caller.{Caller}
-use Rattle.k_hcpa_store.specs.Calls.{move_fault, value_fault, Gives, LeavesBy, counted_out, dropped, resumed}
+use Rattle.k_hcpa_store.specs.Calls.{move_fault, value_fault, Gives, LeavesBy, dropped, resumed}
 use Rattle.k_hcpa_store.specs.Kept.{Kept, window, waiting_of, configuration_of}
-use Rattle.k_hcpa_store.specs.Leads.{IsNext, GoesOn, EndsHere, MayReturn, may_leave, Leaves, moved_events, return_events, event_told}
-use Rattle.k_hcpa_store.specs.Parts.{reads_in, IsWithin, with_set}
-use Rattle.k_hcpa_store.specs.Sound.{IsSound, AreLaid, AreThere, sizes}
+use Rattle.k_hcpa_store.specs.Leads.{IsNext, EndsHere, MayReturn, may_leave, Leaves, moved_events, return_events, event_told}
+use Rattle.k_hcpa_store.specs.Parts.{reads_in, IsWithin}
+use Rattle.k_hcpa_store.specs.Sound.{IsSound, AreLaid, AreThere, HaveFewRegions, sizes}
 use Rattle.k_hcpa_store.proofs.Longer.{operation_behind}
 use Rattle.k_hcpa_store.proofs.Moving.{sound_moved}
 use Rattle.k_hcpa_store.proofs.Operating.{calls_kept, set_within}
@@ -106,6 +104,9 @@ module _ (s : Kept) (sound : IsSound s) (w : Caller) (rest : List Caller) (same 
   there_before : AreThere s.code (w ∷ rest)
   there_before = subst (λ (ws : List Caller). AreThere s.code ws) same sound.backs
 
+  open_before : HaveFewRegions (w.call ∷ map (λ (x : Caller). x.call) rest)
+  open_before = subst (λ (ws : List Caller). HaveFewRegions (map (λ (x : Caller). x.call) ws)) same sound.regions.1
+
   length_registers : length (take s.call.first s.registers) ≡ s.call.first
   length_registers = length-take-le s.call.first s.registers (omega (arith, sound.laid.0))
 
@@ -130,6 +131,7 @@ module _ (s : Kept) (sound : IsSound s) (w : Caller) (rest : List Caller) (same 
         backs = there_before.1;
         size = omega (arith, size, counted);
         few = omega (arith, size, sound.few);
+        regions = open_before;
       }
 
   handed_steps : (slot : Option Held) (mw : World) (events : List Event) (taken : List ℕ)
@@ -194,7 +196,7 @@ module _ (s : Kept) (i : Instr) (sound : IsSound s) (next : IsNext s i) (value :
               (append_assoc events moves (replicate ((configuration_of s).frame.regions + 1) Exit))
               ∙ (λ j. Over (sym by.1.2 j) (behind_left (events ++ return_events (configuration_of s) i) taken (sym new_is j))),
         ),
-        subst IsSound (sym new_is) (sound_moved s s.pc s.call.regions new.world sound (moved_size value s slot new gives)),
+        subst IsSound (sym new_is) (sound_moved s s.pc new.world sound (moved_size value s slot new gives)),
       )
 
   -- how a return goes

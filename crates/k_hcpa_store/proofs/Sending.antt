@@ -1,7 +1,6 @@
 -- How the step of a call goes, by what is told of its operation.
-use Rattle.std.proofs.Common.{◌≡◌, ℕ, zero, suc, ◌+◌, ◌-◌, ◌<◌, ◌≤◌, List, [], ◌∷◌, ◌++◌, length, map, take, drop, reverse, get_or, Option, Some, None, Result, Ok, Err, Bool, true, false, nat_eq, refl, sym, ◌∙◌, ap, subst, arith}
-use Rattle.std.specs.Prelude.{slice_get, if◌then◌else◌, nat_lt, ◌||◌}
-use Rattle.std.proofs.Math.Numerals.{add-one}
+use Rattle.std.proofs.Common.{◌≡◌, ℕ, zero, suc, ◌+◌, ◌<◌, ◌≤◌, List, [], ◌∷◌, ◌++◌, length, take, reverse, get_or, Option, Some, None, Result, Ok, Err, Bool, true, false, refl, sym, ◌∙◌, ap, subst, arith}
+use Rattle.std.specs.Prelude.{slice_get, if◌then◌else◌, nat_lt}
 use Rattle.std.proofs.Math.Seq.{take-append_seam, take-length, drop-length}
 use Rattle.std.proofs.lemmas.Bool.{ltb-true, ltb-false, le-ltb, or_parts}
 use Rattle.std.proofs.lemmas.List.{append_assoc, length-append, get_or_append_left, get_or_at, get_or-append-add, get_or_past}
@@ -11,7 +10,6 @@ use Rattle.k_optab.specs.declared.class.Class.{Class}
 use Rattle.k_optab.specs.declared.class.Class.TheVariants as class
 use Rattle.k_optab.specs.declared.event.Event.{Event}
 use Rattle.k_optab.specs.declared.event.Event.TheVariants.{Op, Enter}
-use Rattle.k_optab.specs.declared.event.Src.{Src}
 use Rattle.k_ending.specs.declared.ending.End.{End}
 use Rattle.k_ending.specs.declared.ending.End.TheVariants.{Trapped}
 use Rattle.k_ending.specs.declared.ending.Trap.TheVariants.{StackOverflow}
@@ -26,7 +24,7 @@ use Rattle.k_world.specs.Acts.{hidden, effect}
 use Rattle.k_world.specs.Answers.{Makes}
 use Rattle.k_world.specs.Limits.{call_limit, node_limit}
 use Rattle.k_world.specs.Operands.{sources, values_of}
-use Rattle.k_world.specs.Operations.{Made, Gives, Ends, operation, counted, event_of}
+use Rattle.k_world.specs.Operations.{Made, Gives, counted, event_of}
 use Rattle.k_world.specs.Worlds.{World, with_events}
 use Rattle.k_world.proofs.Effects.{effect_frame}
 use Rattle.k_world.proofs.Sound.{operation_cases}
@@ -36,7 +34,7 @@ use Rattle.k_code.specs.declared.instruction.Do.{Do}
 use Rattle.k_code.specs.declared.instruction.Do.TheVariants as act
 use Rattle.k_code.specs.declared.instruction.Instr.{Instr}
 use Rattle.k_code.specs.Named.{operands, register_set, up_to_register}
-use Rattle.k_code.specs.Steps.{Configuration, Waiting, Run, Going, Over, operation_of, reads_of, by_operation, behind, called, overflows, entered, parameters, size_of, step}
+use Rattle.k_code.specs.Steps.{Configuration, Waiting, Going, Over, operation_of, reads_of, by_operation, behind, called, overflows, entered, parameters, size_of, step}
 use Rattle.k_hcpa_meaning.specs.Behind.{world_behind, behind_all}
 use Rattle.k_hcpa_store.specs.declared.answer.Calling.{Calling}
 use Rattle.k_hcpa_store.specs.declared.answer.Calling.TheVariants as calling
@@ -149,6 +147,7 @@ sound_called s f func to slots w sound at there same few =
       backs = (there, sound.backs);
       size = omega (arith, same, large, sound.size);
       few = limit;
+      regions = (omega arith, sound.regions);
     }
 
 module _ (s : Kept) (i : Instr) (sound : IsSound s) (next : IsNext s i) (func : ℕ) (args : List Arg) (to : Option ℕ) (f : CodeFunc)
@@ -217,7 +216,7 @@ module _ (s : Kept) (i : Instr) (sound : IsSound s) (next : IsNext s i) (func : 
               else entered f func (slots_of (reads_in s args)) (record { frame = (configuration_of s).frame; back = s.pc + 1; to = to } ∷ (configuration_of s).waiting) w) o.many
               ∙ ap (λ (e : End). Over e w) (sym o.ends),
         ),
-        subst IsSound (sym o.is) (sound_moved s s.pc s.call.regions new.world sound size.1),
+        subst IsSound (sym o.is) (sound_moved s s.pc new.world sound size.1),
       )
 
   entered_told : (new : Kept) → IsEntered i.place f func args to s new → GoesOn s (call_event i (configuration_of s) ∷ Enter f.region ∷ []) new × IsSound new

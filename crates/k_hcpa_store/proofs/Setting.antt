@@ -1,12 +1,12 @@
 -- A configuration in which a register of the newest call is set.
-use Rattle.std.proofs.Common.{◌≡◌, ◌≢◌, ℕ, ◌+◌, ◌<◌, ◌≤◌, List, [], ◌∷◌, length, take, Option, Some, None, Bool, true, false, nat_eq, get_or, set, refl, sym, ◌∙◌, ap, arith, subst}
-use Rattle.std.specs.Prelude.{if◌then◌else◌, slice_index_or, slice_set}
+use Rattle.std.proofs.Common.{◌≡◌, ◌≢◌, ℕ, ◌+◌, ◌<◌, List, length, take, Option, Some, None, Bool, true, false, nat_eq, get_or, set, refl, ◌∙◌, ap, arith}
+use Rattle.std.specs.Prelude.{if◌then◌else◌, slice_set}
 use Rattle.std.proofs.Math.ListN.{length-set}
 use Rattle.std.proofs.lemmas.Bool.{eqb-true, eqb-false}
 use Rattle.std.proofs.lemmas.List.{get_or-set_same, get_or-set_other, take-set-le}
 use Rattle.k_world.specs.declared.value.Held.{Held}
 use Rattle.k_world.specs.Worlds.{World}
-use Rattle.k_code.specs.Steps.{Frame, Configuration, with_slot, with_register}
+use Rattle.k_code.specs.Steps.{with_slot, with_register}
 use Rattle.k_hcpa_store.specs.declared.call.Call.{Call}
 use Rattle.k_hcpa_store.specs.Kept.{Kept, window, frame_of, waiting_of, configuration_of}
 use Rattle.k_hcpa_store.specs.Parts.{with_set, IsWithin}

@@ -1,8 +1,7 @@
 -- For contracts between crates: nobody has to believe it.
 -- How a run begins: the objects of a program are made.
-use Rattle.std.specs.Prelude.{ℕ, ◌≡◌, List, [], length, replicate, Option, Some, None, Result, Ok, Err, ⊤}
+use Rattle.std.specs.Prelude.{◌≡◌, List, [], length, replicate, Option, Some, None, Result, Ok, Err, ⊤}
 use Rattle.k_num.specs.declared.place.Place.{Place}
-use Rattle.k_ending.specs.declared.ending.End.{End}
 use Rattle.k_ending.specs.declared.ending.End.TheVariants.{Trapped}
 use Rattle.k_ending.specs.declared.ending.Trap.TheVariants.{MemoryLimit}
 use Rattle.k_world.specs.declared.answer.Stop.{Stop}

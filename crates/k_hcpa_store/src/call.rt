@@ -10,7 +10,7 @@ pub struct Call {
     /// The place of the first control source that it saves.
     pub saved: usize,
     /// How many regions it has open beside its function's.
-    pub regions: u32,
+    pub regions: u64,
     /// How many objects were live before it.
     pub base: u64,
 }

@@ -1,19 +1,20 @@
 //! The store: each instruction of flat code by its exact step.
-ghost use Rattle.std.specs.Prelude.{◌≡◌, ℕ, ◌+◌, ◌^◌, ◌≤◌, [], length, List, Option, Some, slice_get, true};
+ghost use Rattle.std.specs.Prelude.{◌≡◌, ℕ, ◌+◌, ◌^◌, ◌<◌, ◌≤◌, [], ◌∷◌, length, List, Option, IfSome, Some, slice_get, true};
 ghost use Rattle.k_optab.specs.declared.class.Class.{Class};
+ghost use Rattle.k_optab.specs.declared.event.Event.TheVariants.{Enter, Exit};
 ghost use Rattle.k_world.specs.declared.act.Act.{Act};
 ghost use Rattle.k_code.specs.declared.code.CodeFunc.{CodeFunc};
 ghost use Rattle.k_code.specs.declared.instruction.Arg.{Arg};
 ghost use Rattle.k_code.specs.declared.instruction.Do.TheVariants as act;
 ghost use Rattle.k_code.specs.Finds.{Finds};
 ghost use Rattle.k_code.specs.Valid.{IsValid};
-ghost use Rattle.k_hcpa_meaning.specs.Locations.{first_register as first_meant, frames_of, saved_in, waiting_frames, width};
+ghost use Rattle.k_hcpa_meaning.specs.Locations.{first_register as first_meant, frames_of, saved_in, waiting_frames, width, widths};
 ghost use Rattle.k_hcpa_store.specs.Kept.{configuration_of};
-ghost use Rattle.k_hcpa_store.specs.Leads.{Calls, GoesAlone, IsNext, Leaves, MayReturn, Operates, Starts, goes_alone, goes_by, may_leave, stored_element};
+ghost use Rattle.k_hcpa_store.specs.Leads.{Calls, GoesAlone, GoesOn, IsNext, Leaves, MayReturn, Operates, Starts, back_register as back_meant, goes_alone, goes_by, may_leave, source_read, stored_element};
 
 use crate::state::State;
 use crate::{Alone, Calling};
-use k_code::{Code, Instr};
+use k_code::{Arg, Code, Instr};
 use k_ending::End;
 use k_world::{Done, Stop};
 use std::alloc::Global;
@@ -53,6 +54,13 @@ impl<'a> Store<'a> {
         }
     }
 
+    /// The code that is run.
+    pub fn code(&self) -> &'a Code
+        ensures { result.now ≡ self.now.code }
+    {
+        self.state.code()
+    }
+
     /// The instruction that is next.
     pub fn instruction(&self) -> &'a Instr
         requires { Finds self.now.code (configuration_of self.now) }
@@ -69,13 +77,32 @@ impl<'a> Store<'a> {
         self.state.operate(instr)
     }
 
-    /// Does an instruction that makes no operation and is no return.
+    /// Does an instruction that makes no operation, is no return, and enters and leaves no region.
     pub fn alone(&mut self, instr: &'a Instr) -> Result<Alone, Stop>
         requires next { IsNext self.old instr.now }
         requires alone { goes_alone instr.now.act ≡ true }
         ensures { GoesAlone self.old instr.now.act result self.new }
     {
         self.state.alone(instr)
+    }
+
+    /// Enters a region, of which the instruction has the number.
+    pub fn enter(&mut self, instr: &'a Instr)
+        requires next { IsNext self.old instr.now }
+        requires enters { (region : ℕ) × (instr.now.act ≡ act.Enter region) }
+        requires few { (configuration_of self.old).frame.regions + 1 < 2 ^ 62 }
+        ensures { (region : ℕ) → instr.now.act ≡ act.Enter region → GoesOn self.old (Enter region ∷ []) self.new }
+    {
+        self.state.enter(instr);
+    }
+
+    /// Leaves the newest region that was entered.
+    pub fn exit(&mut self, instr: &'a Instr)
+        requires next { IsNext self.old instr.now }
+        requires exit { instr.now.act ≡ act.Exit }
+        ensures { GoesOn self.old (Exit ∷ []) self.new }
+    {
+        self.state.exit(instr);
     }
 
     /// Calls a function, by an operation.
@@ -91,6 +118,21 @@ impl<'a> Store<'a> {
         ensures { result ≡ stored_element (configuration_of self.now) instr.now.act }
     {
         self.state.element_to_store(instr)
+    }
+
+    /// The operation that gave what an operand of the newest call reads, if one did.
+    pub fn source(&self, arg: &Arg) -> Option<u64>
+        ensures { result ≡ source_read (configuration_of self.now) arg.now }
+    {
+        self.state.source(arg)
+    }
+
+    /// The current control source.
+    #[tactic(auto, unfolding(crate::specs::Kept::configuration_of))]
+    pub fn control(&self) -> Option<u64>
+        ensures { result ≡ (configuration_of self.now).world.control }
+    {
+        self.state.control()
     }
 
     /// Whether a return may be made; else how the run ends.
@@ -155,6 +197,22 @@ impl<'a> Store<'a> {
         ensures { result ≡ length (saved_in (frames_of (configuration_of self.now))) }
     {
         self.state.saved()
+    }
+
+    /// The number of the register that gets what the newest call returns, if one does, among those of all live calls.
+    pub fn back_register(&self) -> Option<u32>
+        ensures back { result ≡ back_meant self.now.code (configuration_of self.now).waiting }
+        ensures below { IfSome result (λ r. r < first_meant self.now.code (configuration_of self.now)) }
+    {
+        self.state.back_register()
+    }
+
+    /// The number of the first register behind the newest call's.
+    pub fn next_register(&self) -> u32
+        ensures next { result ≡ widths self.now.code (frames_of (configuration_of self.now)) }
+        ensures few { result ≤ 2 ^ 21 }
+    {
+        self.state.next_register()
     }
 
     /// The number of the newest call's first register.

@@ -1,5 +1,5 @@
 //! Levels that are closed.
-ghost use Rattle.std.specs.Prelude.{◌≡◌, ◌+◌, ◌<◌, ◌≤◌, [], ◌∷◌, ◌++◌, length, reverse, take, vec_len, IfOk, OnOk, OnErr};
+ghost use Rattle.std.specs.Prelude.{◌≡◌, ◌+◌, ◌<◌, ◌≤◌, [], ◌∷◌, ◌++◌, length, reverse, take, vec_len, vec_capacity, IfOk, OnOk, OnErr};
 ghost use Rattle.k_dict.specs.Entries.{AreInterned};
 ghost use Rattle.k_dict.specs.Interning.{Interns};
 ghost use Rattle.k_hcpa_meaning.specs.Summing.{summary_of};
@@ -141,6 +141,7 @@ pub fn close_levels(
     requires paths { length paths.now ≤ vec_len levels.old }
     ensures ok { OnOk result (record { levels = reverse levels.new.items; dict = dict.new } ≡ closed_each work (reverse paths.now) (record { levels = reverse levels.old.items; dict = dict.old })) }
     ensures err { OnErr result ((levels.new.items ≡ levels.old.items) × (dict.new ≡ dict.old)) }
+    ensures room { vec_capacity levels.new ≡ vec_capacity levels.old }
 {
     let stay = levels.len() - paths.len();
     match dict {

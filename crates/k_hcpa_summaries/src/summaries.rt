@@ -1,5 +1,5 @@
-//! The summaries of a run.
-ghost use Rattle.std.specs.Prelude.{◌≡◌, ◌+◌, ◌-◌, ◌^◌, ◌<◌, length, OnOk, OnErr};
+//! The summaries of a run. There is room for all levels from the start, so that to enter an instance can't fail.
+ghost use Rattle.std.specs.Prelude.{◌≡◌, ◌+◌, ◌-◌, ◌^◌, ◌<◌, length, IfOk, OnOk, OnErr};
 ghost use Rattle.k_hcpa_meaning.specs.Summing.{nothing_entered, operation_made, region_entered, region_left, regions_left};
 ghost use Rattle.k_hcpa_summaries.specs.Outermost.{before_at};
 
@@ -9,6 +9,9 @@ use k_dict::Dict;
 use k_num::NoMemory;
 use std::alloc::Global;
 use std::marker::Model;
+
+/// So many levels may be open at once, as in a shadow.
+const LEVEL_LIMIT: usize = 32;
 
 /// The summaries of a run so far: the open instances that have a level, how many are open, the work, and the dictionary of the closed ones, where it is
 /// within its limits.
@@ -24,7 +27,7 @@ pub struct Summaries {
 }
 
 impl Model for Summaries {
-    ghost use Rattle.std.specs.Prelude.{reverse};
+    ghost use Rattle.std.specs.Prelude.{◌≤◌, reverse, vec_capacity};
     ghost use Rattle.k_hcpa_meaning.specs.Summing.{Summing};
     ghost use Rattle.k_hcpa_summaries.specs.Whole.{IsWhole, summing_of};
 
@@ -32,25 +35,26 @@ impl Model for Summaries {
 
     ghost view = { λ s. summing_of s.levels.items s.opened s.entered s.work s.dict };
 
-    ghost invariant = { λ s. IsWhole (summing_of s.levels.items s.opened s.entered s.work s.dict) };
+    ghost invariant = { λ s. IsWhole (summing_of s.levels.items s.opened s.entered s.work s.dict) × (32 ≤ vec_capacity s.levels) };
 }
 
 impl Summaries {
     ghost use Rattle.std.specs.Prelude.{◌≤◌, reverse};
     ghost use Rattle.k_hcpa_summaries.specs.Closing.{left_open};
 
-    /// No instance was entered. It takes no memory until one is.
-    pub fn new(alloc: Global) -> Summaries
-        ensures { result ≡ nothing_entered }
+    /// No instance was entered. Room is made for the 32 levels that may be open at once.
+    pub fn new(alloc: Global) -> Result<Summaries, NoMemory>
+        ensures { IfOk result (λ s. s ≡ nothing_entered) }
     {
-        Summaries {
+        let levels = Vec::with_capacity(alloc, LEVEL_LIMIT)?;
+        Ok(Summaries {
             alloc,
-            levels: Vec::new(alloc),
+            levels,
             opened: 0,
             entered: 0,
             work: 0,
             dict: Some(Dict::new(alloc)),
-        }
+        })
     }
 
     /// How many levels are open.
@@ -62,7 +66,8 @@ impl Summaries {
 
     /// How many instances are open.
     pub fn opened(&self) -> u64
-        ensures { result ≡ self.now.opened }
+        ensures opened { result ≡ self.now.opened }
+        ensures few { result ≤ self.now.entered }
     {
         self.opened
     }
@@ -84,19 +89,17 @@ impl Summaries {
 
     /// Enters an instance of a region, which has a level where fewer than `depth` are open.
     #[tactic(auto, unfolding(k_hcpa_meaning::specs::Summing::region_entered))]
-    pub fn enter(&mut self, depth: u32, region: u32) -> Result<(), NoMemory>
+    pub fn enter(&mut self, depth: u32, region: u32)
         requires few { self.old.entered < 2 ^ 62 }
-        ensures ok { OnOk result (self.new ≡ region_entered depth region self.old) }
-        ensures err { OnErr result (self.new ≡ self.old) }
+        requires shallow { self.old.opened < depth → length self.old.levels < 32 }
+        ensures { self.new ≡ region_entered depth region self.old }
     {
         if self.opened < depth as u64 {
-            self.levels.reserve(1)?;
             self.levels
                 .push_reserved(Level::new(self.alloc, region, self.work));
         }
         self.opened += 1;
         self.entered += 1;
-        Ok(())
     }
 
     /// Counts an operation.

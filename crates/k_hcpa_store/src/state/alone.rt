@@ -1,4 +1,4 @@
-//! Instructions that make no operation, but for returns.
+//! Instructions that make no operation, but for returns and for those that enter or leave a region.
 ghost use Rattle.std.specs.Prelude.{◌≡◌, ℕ, ◌+◌, ◌-◌, ◌<◌, ◌^◌, [], ◌∷◌, ◌++◌, length, slice_get, slice_index_or, option_map, None, Some, Ok, true};
 ghost use Rattle.k_mem.specs.declared.start.Start.TheVariants.{Unset};
 ghost use Rattle.k_world.specs.Changes.{object_made, objects_kept};
@@ -17,7 +17,7 @@ use k_num::{Initial, Place};
 use k_world::{Held, Stop, Value};
 
 impl<'a> State<'a> {
-    /// Does what an instruction does that makes no operation and is no return.
+    /// Does what an instruction does that makes no operation, is no return, and enters and leaves no region.
     pub fn alone(&mut self, instr: &Instr) -> Result<Alone, Stop>
         requires sound { IsSound self.old }
         requires next { IsNext self.old instr.now }
@@ -28,11 +28,6 @@ impl<'a> State<'a> {
         match &instr.act {
             Do::Jump { to } => {
                 self.go(*to as usize);
-                Ok(Alone::Went)
-            }
-            Do::Enter { .. } => self.enter_region(next),
-            Do::Exit => {
-                self.exit_region(next);
                 Ok(Alone::Went)
             }
             Do::FallOff => Err(Stop::Ended(End::Trapped(Trap::FallOff, instr.place))),
@@ -83,28 +78,6 @@ impl<'a> State<'a> {
         ensures { self.new ≡ record self.old { pc = pc } }
     {
         self.pc = pc;
-    }
-
-    /// A region of the newest call is open more. Regions without a number of 32 bits are answered as want of memory.
-    fn enter_region(&mut self, next: usize) -> Result<Alone, Stop>
-        ensures { Comes (record self.old { pc = next; call = record self.old.call { regions = self.old.call.regions + 1 } }) self.old result self.new }
-    {
-        match self.call.regions.checked_add(1) {
-            Some(regions) => {
-                self.call.regions = regions;
-                self.pc = next;
-                Ok(Alone::Went)
-            }
-            None => Err(Stop::Memory),
-        }
-    }
-
-    /// The newest region of the newest call is open no more.
-    fn exit_region(&mut self, next: usize)
-        ensures { self.new ≡ record self.old { pc = next; call = record self.old.call { regions = self.old.call.regions - 1 } } }
-    {
-        self.call.regions = self.call.regions.saturating_sub(1);
-        self.pc = next;
     }
 
     /// The control source is saved.

@@ -1,13 +1,26 @@
 //! What a store tells of its configuration.
-ghost use Rattle.std.specs.Prelude.{◌≡◌, ◌+◌, ◌*◌, ◌^◌, ◌<◌, ◌≤◌, [], length, slice_get, Some};
+ghost use Rattle.std.specs.Prelude.{◌≡◌, ℕ, ◌+◌, ◌^◌, ◌<◌, ◌≤◌, [], length, slice_get, option_map, IfSome, Some};
 ghost use Rattle.k_num.specs.Top.{top};
+ghost use Rattle.k_hcpa_meaning.specs.Locations.{first_register as first_meant, frames_of, widths};
+ghost use Rattle.k_hcpa_store.specs.Kept.{configuration_of};
+ghost use Rattle.k_hcpa_store.specs.Leads.{back_register as back_meant, source_read};
+ghost use Rattle.k_world.specs.Operands.{source_in as source_meant};
 ghost use Rattle.k_hcpa_store.specs.Sound.{IsSound};
 
 use super::State;
 use crate::call::Caller;
-use k_code::Instr;
+use crate::registers::read;
+use k_code::{Arg, Code, Instr};
+use k_world::Read;
 
 impl<'a> State<'a> {
+    /// The code that is run.
+    pub fn code(&self) -> &'a Code
+        ensures { result.now ≡ self.now.code }
+    {
+        self.code
+    }
+
     /// The instruction that is next.
     pub fn instruction(&self) -> &'a Instr
         requires { self.now.pc < length self.now.code.instrs }
@@ -24,21 +37,51 @@ impl<'a> State<'a> {
         self.call.first
     }
 
+    /// The number of the first register behind the newest call's.
+    pub fn next_register(&self) -> u32
+        requires { IsSound self.now }
+        ensures next { result ≡ widths self.now.code (frames_of (configuration_of self.now)) }
+        ensures few { result ≤ 2 ^ 21 }
+    {
+        self.registers.len() as u32
+    }
+
+    /// The number of the register that gets what the newest call returns.
+    pub fn back_register(&self) -> Option<u32>
+        requires { IsSound self.now }
+        ensures back { result ≡ back_meant self.now.code (configuration_of self.now).waiting }
+        ensures below { IfSome result (λ r. r < first_meant self.now.code (configuration_of self.now)) }
+    {
+        match self.newest_caller() {
+            Some(caller) => back_in(caller),
+            None => None,
+        }
+    }
+
+    /// The operation that gave what an operand reads, if one did.
+    #[tactic(auto, unfolding(crate::specs::Kept::configuration_of))]
+    pub fn source(&self, arg: &Arg) -> Option<u64>
+        requires { self.now.call.first ≤ length self.now.registers }
+        ensures { result ≡ source_read (configuration_of self.now) arg.now }
+    {
+        source_in(&read(&self.registers, self.call.first, arg))
+    }
+
+    /// The current control source.
+    pub fn control(&self) -> Option<u64>
+        ensures { result ≡ self.now.world.control }
+    {
+        self.world.control()
+    }
+
     /// The call that waits for the newest one.
-    pub fn newest_caller(&self) -> Option<Caller>
+    fn newest_caller(&self) -> Option<Caller>
         ensures { result ≡ top self.now.waiting }
     {
         match self.waiting.last() {
             Some(caller) => Some(*caller),
             None => None,
         }
-    }
-
-    /// How many regions a return leaves.
-    pub fn regions(&self) -> u64
-        ensures { result ≡ self.now.call.regions + 1 }
-    {
-        u64::from(self.call.regions) + 1
     }
 
     /// How many control sources the older calls have saved.
@@ -74,5 +117,26 @@ impl<'a> State<'a> {
         ensures { self.new ≡ record self.old { world = record self.old.world { output = [] } } }
     {
         self.world.drop_written();
+    }
+}
+
+/// The operation that gave what was read.
+fn source_in(read: &Read) -> Option<u64>
+    ensures { result ≡ source_meant read.now.slot }
+{
+    match read.slot {
+        Some(held) => held.source,
+        None => None,
+    }
+}
+
+/// The number of the register of a call that waits to which goes what is returned.
+fn back_in(caller: Caller) -> Option<u32>
+    requires { (r : ℕ) → caller.to ≡ Some r → caller.call.first + r < 2 ^ 32 }
+    ensures { result ≡ option_map (λ r. caller.call.first + r) caller.to }
+{
+    match caller.to {
+        Some(to) => Some(caller.call.first as u32 + to),
+        None => None,
     }
 }

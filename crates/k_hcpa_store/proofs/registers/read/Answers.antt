@@ -1,4 +1,3 @@
-use Rattle.std.proofs.Common.{sym}
 use Rattle.k_hcpa_store.specs.Kept.{window}
 use Rattle.k_hcpa_store.proofs.registers.read.Goals as goal
 

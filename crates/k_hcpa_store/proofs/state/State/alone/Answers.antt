@@ -1,18 +1,17 @@
 -- Each instruction goes as its lemma says.
-use Rattle.std.proofs.Common.{◌≡◌, ℕ, ◌+◌, ◌-◌, ◌++◌, [], ◌∷◌, List, Option, Some, None, length, sym, ◌∙◌, ap, subst, arith}
+use Rattle.std.proofs.Common.{◌+◌, ◌-◌, ◌++◌, [], ◌∷◌, List, Some, None, length, ◌∙◌, ap, subst, arith}
 use Rattle.std.specs.Prelude.{slice_get, option_map}
 use Rattle.k_num.specs.declared.initial.Initial.{Initial}
 use Rattle.k_mem.specs.declared.start.Start.TheVariants.{Unset}
 use Rattle.k_world.specs.Changes.{object_made, objects_kept}
 use Rattle.k_world.specs.Values.{pointer_to}
-use Rattle.k_world.specs.Worlds.{World}
 use Rattle.k_code.specs.declared.instruction.Do.{Do}
 use Rattle.k_code.specs.Named.{register_set}
 use Rattle.k_code.specs.Steps.{number_of}
 use Rattle.k_hcpa_store.specs.Kept.{Kept}
 use Rattle.k_hcpa_store.specs.Parts.{Comes, Fills, IsWithin, Opens, named_object, set_and_on}
 use Rattle.k_hcpa_store.proofs.Operating.{within, pc_within}
-use Rattle.k_hcpa_store.proofs.Moving.{saved_keep, saved_back, saved_restore, jumped, region_entered, region_left, fallen_off, addressed, object_opened, objects_closed, object_filled_on, forgotten, saved_on, kept_on, taken_back, restored_on}
+use Rattle.k_hcpa_store.proofs.Moving.{saved_keep, saved_back, saved_restore, jumped, fallen_off, addressed, object_opened, objects_closed, object_filled_on, forgotten, saved_on, kept_on, taken_back, restored_on}
 use Rattle.k_hcpa_store.proofs.state.State.alone.Goals as goal
 
 pub next-next-requires : goal.next-next-requires
@@ -37,18 +36,6 @@ newest_saved-source-requires c = omega (arith, saved_restore c.args.self.now c.a
 
 pub returns-in-Jump : goal.returns-in-Jump
 returns-in-Jump c = jumped c.args.self.now c.args.instr.now c.requires.sound c.requires.next c.in-Jump.to c.in-Jump.is c.go.new.self c.go.ensures
-
-pub returns-in-Enter : goal.returns-in-Enter
-returns-in-Enter c =
-    let s : Kept = c.args.self.now in
-    region_entered c.args.self.now c.args.instr.now c.requires.sound c.requires.next _ c.in-Enter.is c.enter_region.result c.enter_region.new.self
-    (subst (λ n. Comes (record s { pc = n; call = record s.call { regions = s.call.regions + 1 } }) s c.enter_region.result c.enter_region.new.self) c.next-next.ensures c.enter_region.ensures)
-
-pub returns-in-Exit : goal.returns-in-Exit
-returns-in-Exit c =
-    let s : Kept = c.args.self.now in
-    region_left c.args.self.now c.args.instr.now c.requires.sound c.requires.next c.in-Exit.is c.exit_region.new.self
-    (c.exit_region.ensures ∙ ap (λ n. record s { pc = n; call = record s.call { regions = s.call.regions - 1 } }) c.next-next.ensures)
 
 pub returns-in-FallOff : goal.returns-in-FallOff
 returns-in-FallOff c = fallen_off c.args.self.now c.args.instr.now c.requires.sound c.requires.next c.in-FallOff.is

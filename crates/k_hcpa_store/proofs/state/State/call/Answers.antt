@@ -1,5 +1,5 @@
 use Rattle.std.proofs.Common.{sym}
-use Rattle.k_hcpa_store.proofs.Operating.{pc_within, first_within}
+use Rattle.k_hcpa_store.proofs.Operating.{pc_within}
 use Rattle.k_hcpa_store.proofs.Sending.{calls_told}
 use Rattle.k_hcpa_store.proofs.state.State.call.Goals as goal
 

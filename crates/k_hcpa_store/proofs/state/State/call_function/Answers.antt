@@ -1,13 +1,12 @@
-use Rattle.std.proofs.Common.{◌≡◌, ◌+◌, ◌∷◌, [], ◌++◌, List, Option, ℕ, length, reverse, vec_len, map, refl, sym, ◌∙◌, ap, Ok, subst, rules, arith}
+use Rattle.std.proofs.Common.{◌≡◌, ◌+◌, ◌∷◌, [], ◌++◌, List, Option, length, reverse, vec_len, sym, ◌∙◌, ap, Ok, subst, rules}
 use Rattle.std.proofs.lemmas.List.{reverse-append}
 use Rattle.k_world.specs.declared.act.Act.TheVariants as does
 use Rattle.k_world.specs.Answers.{Makes}
 use Rattle.k_world.specs.declared.value.Held.{Held}
 use Rattle.k_world.specs.declared.value.Read.{Read}
-use Rattle.k_code.specs.Steps.{parameters, read_of}
+use Rattle.k_code.specs.Steps.{parameters}
 use Rattle.k_hcpa_store.specs.declared.call.Caller.{Caller}
 use Rattle.k_hcpa_store.specs.Calls.{held_up_to, slots_of}
-use Rattle.k_hcpa_store.specs.Kept.{Kept, window}
 use Rattle.k_hcpa_store.proofs.Entering.{call_refused, call_entered, reads_told}
 use Rattle.k_hcpa_store.proofs.state.State.call_function.Goals as goal
 

@@ -1,5 +1,4 @@
 use Rattle.std.proofs.Common.{sym, ◌∙◌, ap}
-use Rattle.k_code.specs.declared.instruction.Do.TheVariants as act
 use Rattle.k_code.specs.Named.{operands}
 use Rattle.k_hcpa_store.specs.Kept.{configuration_of}
 use Rattle.k_hcpa_store.specs.Leads.{stored_element}

@@ -1,4 +1,3 @@
-use Rattle.std.proofs.Common.{Option}
 use Rattle.k_hcpa_store.proofs.Leaving.{leaves_told, may_none}
 use Rattle.k_hcpa_store.proofs.state.State.leave_by.Goals as goal
 

@@ -1,4 +1,3 @@
-use Rattle.std.proofs.Common.{sym}
 use Rattle.k_world.specs.Answers.{act_of}
 use Rattle.k_hcpa_store.specs.Parts.{listed}
 use Rattle.k_hcpa_store.proofs.Operating.{within, pc_within, first_within, operates_ok, sound_ok, operates_err, sound_err}

@@ -1,4 +1,4 @@
-use Rattle.std.proofs.Common.{◌≡◌, None, Option, subst, sym, ◌∙◌, ap}
+use Rattle.std.proofs.Common.{◌≡◌, None, Option, subst}
 use Rattle.k_code.specs.declared.instruction.Arg.{Arg}
 use Rattle.k_code.specs.Steps.{read_of}
 use Rattle.k_hcpa_store.specs.Kept.{window}

@@ -1,4 +1,4 @@
-use Rattle.std.proofs.Common.{◌≡◌, ◌<◌, ◌^◌, List, Some, Ok, Err, length, subst, sym, ◌∙◌, rules, arith}
+use Rattle.std.proofs.Common.{◌≡◌, ◌<◌, ◌^◌, List, Some, Ok, Err, length, subst, sym, rules}
 use Rattle.std.specs.Prelude.{slice_get}
 use Rattle.k_world.specs.Worlds.{World}
 use Rattle.k_code.specs.declared.code.CodeFunc.{CodeFunc}

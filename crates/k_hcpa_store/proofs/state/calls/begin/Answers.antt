@@ -1,5 +1,4 @@
-use Rattle.std.proofs.Common.{◌≡◌, ◌+◌, ◌++◌, ◌∷◌, [], List, Option, sym, ◌∙◌, ap, arith}
-use Rattle.k_world.specs.declared.value.Held.{Held}
+use Rattle.std.proofs.Common.{arith}
 use Rattle.k_code.specs.Steps.{parameters}
 use Rattle.k_hcpa_store.specs.Calls.{slots_of}
 use Rattle.k_hcpa_store.proofs.Entering.{none_more, one_more}

@@ -1,5 +1,5 @@
 use Rattle.std.proofs.Common.{sym, subst, ◌<◌, length}
-use Rattle.k_hcpa_store.specs.Kept.{Kept, configuration_of}
+use Rattle.k_hcpa_store.specs.Kept.{Kept}
 use Rattle.k_hcpa_store.proofs.Telling.{found, is_next}
 use Rattle.k_hcpa_store.proofs.store.Store.instruction.Goals as goal
 

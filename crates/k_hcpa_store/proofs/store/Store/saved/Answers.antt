@@ -1,4 +1,4 @@
-use Rattle.std.proofs.Common.{◌≡◌, ◌∙◌, length, ap, subst}
+use Rattle.std.proofs.Common.{◌∙◌, length, ap, subst}
 use Rattle.k_hcpa_store.specs.Kept.{Kept}
 use Rattle.k_hcpa_store.specs.Sound.{IsSound}
 use Rattle.k_hcpa_store.proofs.Telling.{saved_is}

@@ -1,0 +1,13 @@
+pub mod Concluding
+pub mod Counting
+pub mod Cut
+pub mod Empty
+pub mod Filling
+pub mod Growing
+pub mod Held
+pub mod Moving
+pub mod Now
+pub mod Returned
+pub mod Steps
+pub mod Telling
+pub mod Underway

@@ -1,0 +1,5 @@
+pub mod Holding
+pub mod Machines
+pub mod Outflows
+pub mod Profiles
+pub mod Underway

@@ -1,0 +1,10 @@
+pub mod Beginning
+pub mod Bounds
+pub mod Calling
+pub mod Here
+pub mod Levels
+pub mod Reading
+pub mod Returning
+pub mod Rooms
+pub mod Silence
+pub mod Turns

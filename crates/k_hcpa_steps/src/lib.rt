@@ -1,0 +1,16 @@
+//! One instruction of flat code over the parts of a machine: its values, the times of all locations, and the summaries of instances.
+#![tactic(auto)]
+
+mod calls;
+mod instances;
+mod instructions;
+mod operation;
+mod parts;
+mod returns;
+mod silent;
+mod start;
+mod step;
+mod turn;
+
+pub use parts::Parts;
+pub use turn::Turn;
