@@ -1,0 +1,10 @@
+pub mod Answer
+pub mod Behind
+pub mod Carrying
+pub mod Events
+pub mod Lasting
+pub mod Lists
+pub mod Order
+pub mod Putting
+pub mod Telling
+pub mod Turning

@@ -1,0 +1,3 @@
+pub mod Carried
+pub mod Gathered
+pub mod Laws
