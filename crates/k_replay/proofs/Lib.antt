@@ -1,0 +1,11 @@
+mod Noted
+mod Renewed
+mod Firing
+mod Chains
+mod Outputs
+mod Keeping
+mod Going
+mod Ordering
+mod Stays
+mod Advancing
+mod Reading

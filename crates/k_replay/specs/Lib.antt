@@ -1,0 +1,9 @@
+pub mod Plays
+pub mod Calls
+pub mod Orders
+pub mod Sound
+pub mod Kept
+pub mod Ready
+pub mod Blocks
+pub mod Rounds
+pub mod Progress

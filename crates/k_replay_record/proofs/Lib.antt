@@ -1,0 +1,4 @@
+pub mod Lists
+mod Operators
+pub mod Recording
+pub mod Serially

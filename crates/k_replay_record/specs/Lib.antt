@@ -1,0 +1,4 @@
+pub mod Acts
+pub mod Serial
+pub mod Records
+pub mod Recorded

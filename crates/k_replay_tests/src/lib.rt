@@ -1,0 +1,6 @@
+//! Records of runs, and workers that fire their operations. There is nothing here but tests: in a crate of their own they prove no other
+//! crate a second time.
+#![tactic(auto)]
+
+#[cfg(test)]
+mod tests;
