@@ -1,4 +1,4 @@
--- For contracts between crates: nobody has to believe it.
+-- Believed with the theorem on the top call.
 -- The parts of a profile as JSON (RFC 8259): numbers as numbers, a fraction as its two parts. Names of functions are names of C, so that nothing in a text
 -- has to be escaped.
 use Rattle.std.specs.Prelude.{ℕ, Bool, if◌then◌else◌, List, ◌++◌, codes}

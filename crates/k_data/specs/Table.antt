@@ -1,4 +1,4 @@
--- For contracts between crates: nobody has to believe it.
+-- Believed with the theorem on the top call.
 -- The rows of a profile as CSV (RFC 4180): a line of names, and a line for each row, each ended by CR and LF. Names of functions are names of C, so that
 -- no field has to be quoted.
 use Rattle.std.specs.Prelude.{ℕ, List, ◌++◌, slice_get, codes}

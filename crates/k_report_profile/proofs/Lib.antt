@@ -5,4 +5,5 @@ pub mod OneRun
 pub mod Recorded
 pub mod Reported
 pub mod Rules
+pub mod Summed
 pub mod Within

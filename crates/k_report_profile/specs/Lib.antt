@@ -1,3 +1,4 @@
 pub mod Laws
 pub mod Report
 pub mod RunReport
+pub mod Summed

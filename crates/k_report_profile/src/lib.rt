@@ -6,4 +6,4 @@ mod report;
 mod run;
 
 pub use report::report_of;
-pub use run::{Profiled, run_report};
+pub use run::{Profiled, run_report, summary_report};

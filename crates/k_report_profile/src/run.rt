@@ -7,10 +7,11 @@ ghost use Rattle.k_graph.specs.Listings.{node_of};
 ghost use Rattle.k_report.specs.Report.{large_text};
 ghost use Rattle.k_dict_saved.specs.Profile.{IsSaved};
 ghost use Rattle.k_report_profile.specs.Report.{IsReport};
-ghost use Rattle.k_report_profile.specs.RunReport.{IsRunReport, IsWhole};
+ghost use Rattle.k_report_profile.specs.RunReport.{IsRunReport, IsWhole, Ran};
+ghost use Rattle.k_report_profile.specs.Summed.{IsSummed};
 
 use crate::report::report_of;
-use k_dict::{DictFault, gather};
+use k_dict::{Dict, DictFault, gather};
 use k_dict_saved::Saved;
 use k_graph::{Instance, instances};
 use k_num::{NoMemory, Seq};
@@ -113,5 +114,33 @@ pub fn run_report(
         }
         Err(DictFault::Full(_)) => without_profile(alloc, exit, ops),
         Err(DictFault::Memory) => Err(NoMemory),
+    }
+}
+
+/// The profile and the report of a run from which main returned, by what main returned, how many operations were made, the regions, and the
+/// dictionary of the tree, if it is within its limits. The report has the lines of the dictionary where they are asked for.
+pub fn summary_report(
+    alloc: Global,
+    exit: i32,
+    ops: u64,
+    regions: Seq<Region>,
+    dict: Option<Dict>,
+    with_dict: bool,
+) -> Result<Profiled, NoMemory>
+    requires { (ran : Ran) × IsSummed exit ops regions dict ran }
+    ensures report { IfOk result (λ profiled. (ran : Ran) → IsSummed exit ops regions dict ran → IsRunReport ran with_dict profiled.saved profiled.report.items) }
+    ensures saved { IfOk result (λ profiled. ForSome profiled.saved IsSaved) }
+{
+    match dict {
+        Some(dict) => {
+            let saved = Saved {
+                exit,
+                ops,
+                regions,
+                dict,
+            };
+            with_profile(alloc, saved, with_dict)
+        }
+        None => without_profile(alloc, exit, ops),
     }
 }

@@ -4,8 +4,9 @@ ghost use Rattle.k_words.specs.About.{asked_for};
 ghost use Rattle.k_words.specs.Within.{IsJobWithin, IsRunWithin};
 ghost use Rattle.k_words.specs.declared.job.Job.TheVariants as job;
 ghost use Rattle.k_top_answers.specs.Answers.{done};
-ghost use Rattle.k_top_lemmas.specs.Parts.{GivesText};
-ghost use Rattle.k_top_lemmas.specs.Phases.{FindsAnswer, FindsJob};
+ghost use Rattle.k_top_lemmas.specs.Parts.{GivesText, IsFresh};
+ghost use Rattle.k_top_lemmas.specs.Phases.{FindsJob};
+ghost use Rattle.k_top_lemmas.specs.Streams.{StreamsAnswer, StreamsJob};
 
 use crate::checked::check_answer;
 use crate::demo::demo_answer;
@@ -13,8 +14,9 @@ use crate::graph::graph_answer;
 use crate::reported::run_answer;
 use crate::running::make_ready;
 use crate::shown::show_answer;
-use k_edge::{Files, Source};
+use k_edge::{Files, Sink, Source};
 use k_num::{NoMemory, Text};
+use k_shadow::Shadow;
 use k_top_answers::{Answer, Failure};
 use k_words::{Asked, Job, asked_for, help, version, words};
 use std::alloc::Global;
@@ -34,25 +36,30 @@ fn text_answer(alloc: Global, text: &str) -> Result<Answer, Failure>
     Ok(answer)
 }
 
-/// The answer of `run` with its options.
-fn run_job<F: Files, S: Source>(
+/// The rest of the answer of `run` with its options, whose output is put while the program runs.
+fn run_job<F: Files, S: Source, K: Sink, R: Shadow, P: Shadow>(
     alloc: Global,
     files: &mut F,
     input: &mut S,
+    out: &mut K,
     file: Text,
     steps: u64,
     depth: u32,
     latency: Option<Text>,
     dict: bool,
     save: Option<Text>,
+    regs: R,
+    pages: P,
 ) -> Result<Answer, Failure>
-    requires { IsRunWithin 1000000000 steps depth }
-    ensures { FindsJob result (job.Run file steps depth latency dict save)
-        (record { files = F.seen files.old; input = S.seen input.old }) (record { files = F.seen files.new; input = S.seen input.new }) }
+    requires within { IsRunWithin 1000000000 steps depth }
+    requires registers { IsFresh 2097152 (R.content regs) }
+    requires pages { IsFresh 4194304 (P.content pages) }
+    ensures { StreamsJob result (job.Run file steps depth latency dict save)
+        (record { files = F.seen files.old; input = S.seen input.old }) (record { files = F.seen files.new; input = S.seen input.new })
+        (K.seen out.old) (K.seen out.new) }
 {
     let ready = make_ready(alloc, files, input, file, latency, steps)?;
-    let answer = run_answer(alloc, &ready, depth, dict, save)?;
-    Ok(answer)
+    run_answer(alloc, &ready, depth, dict, save, out, regs, pages)
 }
 
 /// The answer of `graph` with its options.
@@ -74,16 +81,22 @@ fn graph_job<F: Files, S: Source>(
     Ok(answer)
 }
 
-/// The answer to what is asked for.
-fn job_answer<F: Files, S: Source>(
+/// The rest of the answer to what is asked for. Only a program that `run` runs puts any of it.
+fn job_answer<F: Files, S: Source, K: Sink, R: Shadow, P: Shadow>(
     alloc: Global,
     job: Job,
     files: &mut F,
     input: &mut S,
+    out: &mut K,
+    regs: R,
+    pages: P,
 ) -> Result<Answer, Failure>
-    requires { IsJobWithin job }
-    ensures { FindsJob result job
-        (record { files = F.seen files.old; input = S.seen input.old }) (record { files = F.seen files.new; input = S.seen input.new }) }
+    requires within { IsJobWithin job }
+    requires registers { IsFresh 2097152 (R.content regs) }
+    requires pages { IsFresh 4194304 (P.content pages) }
+    ensures { StreamsJob result job
+        (record { files = F.seen files.old; input = S.seen input.old }) (record { files = F.seen files.new; input = S.seen input.new })
+        (K.seen out.old) (K.seen out.new) }
 {
     match job {
         Job::Run {
@@ -93,47 +106,81 @@ fn job_answer<F: Files, S: Source>(
             latency,
             dict,
             save,
-        } => run_job(alloc, files, input, file, steps, depth, latency, dict, save),
+        } => run_job(
+            alloc, files, input, out, file, steps, depth, latency, dict, save, regs, pages,
+        ),
         Job::Graph {
             file,
             steps,
             depth,
             latency,
-        } => graph_job(alloc, files, input, file, steps, depth, latency),
-        Job::Show { file, dict } => show_answer(alloc, files, file, dict),
-        Job::Check { file } => check_answer(alloc, files, file),
-        Job::Demo { number, loops } => demo_answer(alloc, number, loops),
+        } => {
+            drop(regs);
+            drop(pages);
+            graph_job(alloc, files, input, file, steps, depth, latency)
+        }
+        Job::Show { file, form } => {
+            drop(regs);
+            drop(pages);
+            show_answer(alloc, files, file, form)
+        }
+        Job::Check { file } => {
+            drop(regs);
+            drop(pages);
+            check_answer(alloc, files, file)
+        }
+        Job::Demo { number, loops } => demo_answer(alloc, number, loops, regs, pages),
     }
 }
 
-/// The answer to words that ask for no text on the program itself.
-fn words_answer<F: Files, S: Source>(
+/// The rest of the answer to words that ask for no text on the program itself.
+fn words_answer<F: Files, S: Source, K: Sink, R: Shadow, P: Shadow>(
     alloc: Global,
     list: &[String],
     files: &mut F,
     input: &mut S,
+    out: &mut K,
+    regs: R,
+    pages: P,
 ) -> Result<Answer, Failure>
-    requires { asked_for (map string_bytes list.now) ≡ None }
-    ensures { FindsAnswer result (map string_bytes list.now)
-        (record { files = F.seen files.old; input = S.seen input.old }) (record { files = F.seen files.new; input = S.seen input.new }) }
+    requires none { asked_for (map string_bytes list.now) ≡ None }
+    requires registers { IsFresh 2097152 (R.content regs) }
+    requires pages { IsFresh 4194304 (P.content pages) }
+    ensures { StreamsAnswer result (map string_bytes list.now)
+        (record { files = F.seen files.old; input = S.seen input.old }) (record { files = F.seen files.new; input = S.seen input.new })
+        (K.seen out.old) (K.seen out.new) }
 {
     let job = words(alloc, list)?;
-    job_answer(alloc, job, files, input)
+    job_answer(alloc, job, files, input, out, regs, pages)
 }
 
-/// The answer to the words. Nothing is put or saved yet.
-pub(crate) fn answer<F: Files, S: Source>(
+/// The rest of the answer to the words, of which nothing is saved yet, and nothing put but the output of a program that `run` runs.
+pub(crate) fn answer<F: Files, S: Source, K: Sink, R: Shadow, P: Shadow>(
     alloc: Global,
     list: &[String],
     files: &mut F,
     input: &mut S,
+    out: &mut K,
+    regs: R,
+    pages: P,
 ) -> Result<Answer, Failure>
-    ensures { FindsAnswer result (map string_bytes list.now)
-        (record { files = F.seen files.old; input = S.seen input.old }) (record { files = F.seen files.new; input = S.seen input.new }) }
+    requires registers { IsFresh 2097152 (R.content regs) }
+    requires pages { IsFresh 4194304 (P.content pages) }
+    ensures { StreamsAnswer result (map string_bytes list.now)
+        (record { files = F.seen files.old; input = S.seen input.old }) (record { files = F.seen files.new; input = S.seen input.new })
+        (K.seen out.old) (K.seen out.new) }
 {
     match asked_for(list) {
-        Some(Asked::Help) => text_answer(alloc, help()),
-        Some(Asked::Version) => text_answer(alloc, version()),
-        None => words_answer(alloc, list, files, input),
+        Some(Asked::Help) => {
+            drop(regs);
+            drop(pages);
+            text_answer(alloc, help())
+        }
+        Some(Asked::Version) => {
+            drop(regs);
+            drop(pages);
+            text_answer(alloc, version())
+        }
+        None => words_answer(alloc, list, files, input, out, regs, pages),
     }
 }

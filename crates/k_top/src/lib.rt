@@ -7,6 +7,8 @@ mod demo;
 mod graph;
 mod input;
 mod loading;
+mod machine;
+mod nowhere;
 mod output;
 mod program;
 mod reported;

@@ -19,7 +19,7 @@ pub(crate) fn head(
     alloc: Global,
     number: u64,
     loops: u32,
-    bytes: usize,
+    bytes: u64,
     exit: i32,
     ops: u64,
 ) -> Result<String, NoMemory>

@@ -1,13 +1,15 @@
 //! The top call.
-ghost use Rattle.std.specs.Prelude.{◌≡◌, map, string_bytes};
+ghost use Rattle.std.specs.Prelude.{◌≡◌, ◌≤◌, map, string_bytes};
+ghost use Rattle.k_shadow.specs.Content.{empty};
 ghost use Rattle.k_top_answers.specs.Clauses.{Keeps};
-ghost use Rattle.k_top_lemmas.specs.Parts.{EndsAs, PutsLine, Tells};
-ghost use Rattle.k_top_lemmas.specs.Phases.{Performs};
+ghost use Rattle.k_top_lemmas.specs.Parts.{EndsAs, IsFresh, PutsLine, Tells};
+ghost use Rattle.k_top_lemmas.specs.Streams.{Performs};
 
 use crate::asked::answer;
 use crate::output::deliver;
 use k_edge::{Files, PutFault, Sink, Source};
 use k_num::NoMemory;
+use k_shadow::Shadow;
 use k_top_answers::{Answer, Failure};
 use std::alloc::Global;
 
@@ -16,38 +18,51 @@ use std::alloc::Global;
 /// words are no command, 5 where there is no such file, 6 where a read failed, 7 where a write failed, also where the run would end in a
 /// trap, 8 where no memory was found, 9 where the input is too long, 10 where the table of latencies is refused, 11 where the saved profile
 /// is, 12 where a file is too long. What is asked for goes to `out`; a line that says why, on every status but 0, goes to `err`.
-pub fn kremlin<F: Files, S: Source, K: Sink, E: Sink>(
+///
+/// The shadows keep the times of registers and of elements of a program that `run` and `demo` run; no other command touches them.
+pub fn kremlin<F: Files, S: Source, K: Sink, E: Sink, R: Shadow, P: Shadow>(
     alloc: Global,
     words: &[String],
     files: &mut F,
     input: &mut S,
     out: &mut K,
     err: &mut E,
+    regs: R,
+    pages: P,
 ) -> u8
+    // The shadows have no level yet, and room for the registers and the elements of every program.
+    requires registers { R.content regs ≡ empty (R.content regs).limit }
+    requires register_limit { 2097152 ≤ (R.content regs).limit }
+    requires pages { P.content pages ≡ empty (P.content pages).limit }
+    requires page_limit { 4194304 ≤ (P.content pages).limit }
     // The outside holds something, and at most one thing went wrong there, such that each clause of `Keeps` is so.
     ensures { Keeps (map string_bytes words.now) result
         (record { files = F.seen files.old; input = S.seen input.old; out = K.seen out.old; err = E.seen err.old })
         (record { files = F.seen files.new; input = S.seen input.new; out = K.seen out.new; err = E.seen err.new }) }
 {
-    let done = perform(alloc, words, files, input, out);
+    let done = perform(alloc, words, files, input, out, regs, pages);
     let status = tell(alloc, &done, err);
     drop(done);
     status
 }
 
-/// Finds the answer to the words and delivers it.
-fn perform<F: Files, S: Source, K: Sink>(
+/// Finds the answer to the words, of which the output of a program is put while it runs, and delivers the rest.
+fn perform<F: Files, S: Source, K: Sink, R: Shadow, P: Shadow>(
     alloc: Global,
     words: &[String],
     files: &mut F,
     input: &mut S,
     out: &mut K,
+    regs: R,
+    pages: P,
 ) -> Result<(), Failure>
+    requires registers { IsFresh 2097152 (R.content regs) }
+    requires pages { IsFresh 4194304 (P.content pages) }
     ensures { Performs result (map string_bytes words.now)
         (record { files = F.seen files.old; input = S.seen input.old }) (record { files = F.seen files.new; input = S.seen input.new })
         (K.seen out.old) (K.seen out.new) }
 {
-    let answer = answer(alloc, words, files, input)?;
+    let answer = answer(alloc, words, files, input, out, regs, pages)?;
     let delivered = deliver(alloc, &answer, files, out);
     end_of(answer, delivered)
 }

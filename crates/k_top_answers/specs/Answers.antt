@@ -11,6 +11,7 @@ use Rattle.k_graph.specs.Listings.{IsListing}
 use Rattle.k_graph.specs.declared.tree.Instance.{Instance}
 use Rattle.k_dict_saved.specs.declared.fault.SavedFault.TheVariants.{NotSaved}
 use Rattle.k_report_profile.specs.Report.{IsReport}
+use Rattle.k_data_profile.specs.Shown.{IsDocument, IsTable}
 use Rattle.k_report_profile.specs.RunReport.{IsRunReport, Ran}
 use Rattle.k_regions.specs.Regions.{regions_of}
 use Rattle.k_report.specs.Graph.{IsGraphText}
@@ -24,6 +25,8 @@ use Rattle.k_words.specs.declared.about.Asked.{Asked}
 use Rattle.k_words.specs.declared.about.Asked.TheVariants.{Help, Version}
 use Rattle.k_words.specs.declared.job.Job.{Job}
 use Rattle.k_words.specs.declared.job.Job.TheVariants as job
+use Rattle.k_words.specs.declared.job.Form.{Form}
+use Rattle.k_words.specs.declared.job.Form.TheVariants as shown
 use Rattle.k_words.specs.declared.usage.Usage.{Usage}
 use Rattle.k_words.specs.declared.usage.Usage.TheVariants as usage
 use Rattle.k_types_meaning.specs.declared.tree.unit.TUnit.{TUnit}
@@ -82,10 +85,16 @@ pub record IsListed (depth : ℕ) (answer : Answer) (r : Running) : Type 0 where
   pub is_text : IsGraphText (listing_of (run_of r)) tree text
   pub is : answer ≡ ended text r.steps (run_of r).end
 
--- SHOW: the report of the profile that the bytes spell
-abbrev pub AnswersProfile : Bool → Answer → List ℕ → Result Saved ℕ → Type 0
-AnswersProfile dict answer bytes (Ok profile) = Reads bytes (Ok profile) × ((text : List ℕ) × IsReport profile dict text × (answer ≡ done text))
-AnswersProfile dict answer bytes (Err place) = Reads bytes (Err (NotSaved place)) × (answer ≡ refusal (why.Saved place))
+-- how a profile is shown: by its report, by a document, or by the table of its rows
+abbrev pub IsShown : Form → Saved → List ℕ → Type 0
+IsShown (shown.Report dict) profile text = IsReport profile dict text
+IsShown (shown.Json dict) profile text = IsDocument profile dict text
+IsShown shown.Csv profile text = IsTable profile text
+
+-- SHOW: the profile that the bytes spell, as it is to be shown
+abbrev pub AnswersProfile : Form → Answer → List ℕ → Result Saved ℕ → Type 0
+AnswersProfile form answer bytes (Ok profile) = Reads bytes (Ok profile) × ((text : List ℕ) × IsShown form profile text × (answer ≡ done text))
+AnswersProfile form answer bytes (Err place) = Reads bytes (Err (NotSaved place)) × (answer ≡ refusal (why.Saved place))
 
 -- CHECK: nothing of a source that is accepted, and of one that is refused what is told of that
 abbrev pub AnswersChecked : List ℕ → Answer → List ℕ → Type 0
@@ -108,8 +117,8 @@ AnswersJob outside answer (job.Run file steps depth latency dict save) =
     AnswersRunning (λ failure. answer ≡ refusal failure) outside file latency steps (λ r. AnswersRun depth dict save answer r (run_of r).end)
 AnswersJob outside answer (job.Graph file steps depth latency) =
     AnswersRunning (λ failure. answer ≡ refusal failure) outside file latency steps (IsListed depth answer)
-AnswersJob outside answer (job.Show file dict) =
-    AnswersFile (λ failure. answer ≡ refusal failure) outside profile_limit file (λ bytes. (read : Result Saved ℕ) × AnswersProfile dict answer bytes read)
+AnswersJob outside answer (job.Show file form) =
+    AnswersFile (λ failure. answer ≡ refusal failure) outside profile_limit file (λ bytes. (read : Result Saved ℕ) × AnswersProfile form answer bytes read)
 AnswersJob outside answer (job.Check file) = AnswersFile (λ failure. answer ≡ refusal failure) outside file_limit file (AnswersChecked file answer)
 AnswersJob outside answer (job.Demo number loops) =
     AnswersSource (λ failure. answer ≡ refusal failure) (λ typed. AnswersMade number loops answer (made_running typed) (run_of (made_running typed)).end)
@@ -139,7 +148,7 @@ FilesCall outside file latency = AnswersProgram (λ failure. ⊥) outside file l
 abbrev pub JobCalls : Outside → Job → Type 0
 JobCalls outside (job.Run file steps depth latency dict save) = FilesCall outside file latency
 JobCalls outside (job.Graph file steps depth latency) = FilesCall outside file latency
-JobCalls outside (job.Show file dict) = ⊥
+JobCalls outside (job.Show file form) = ⊥
 JobCalls outside (job.Check file) = ⊥
 JobCalls outside (job.Demo number loops) = ⊥
 
@@ -151,7 +160,7 @@ CallsForInput list outside = (asked : Job) × words.IsAnswer list (Ok asked) × 
 abbrev pub JobLoads : Job → Type 0
 JobLoads (job.Run file steps depth latency dict save) = Unit {0}
 JobLoads (job.Graph file steps depth latency) = Unit {0}
-JobLoads (job.Show file dict) = Unit {0}
+JobLoads (job.Show file form) = Unit {0}
 JobLoads (job.Check file) = Unit {0}
 JobLoads (job.Demo number loops) = ⊥
 

@@ -1,5 +1,5 @@
--- A profile has a report, and so has a run from which main returned, where trees have rows and contexts, and contexts have plans.
-use Rattle.std.proofs.Common.{◌≡◌, ℕ, ◌-◌, inl, inr, List, length, Option, Some, None, refl}
+-- A profile has a text of each form, and a report has a run from which main returned, where trees have rows and contexts, and contexts have plans.
+use Rattle.std.proofs.Common.{◌≡◌, ℕ, ◌-◌, inl, inr, Bool, List, length, Option, Some, None, refl}
 use Rattle.std.proofs.lemmas.Bool.{cases_lt}
 use Rattle.k_dict.specs.Dictionary.{IsDictionary, refusal}
 use Rattle.k_dict.specs.Entries.{tree_at}
@@ -15,6 +15,12 @@ use Rattle.k_selfpar.specs.declared.context.Context.{Context}
 use Rattle.k_selfpar.specs.declared.row.Row.{Row}
 use Rattle.k_plan.specs.declared.advice.Advice.{Advice}
 use Rattle.k_report.specs.Report.{large_text, report_text}
+use Rattle.k_data.specs.Document.{profile_json}
+use Rattle.k_data.specs.Table.{rows_csv}
+use Rattle.k_data_profile.specs.Shown.{IsDocument, IsTable, listed}
+use Rattle.k_words.specs.declared.job.Form.{Form}
+use Rattle.k_words.specs.declared.job.Form.TheVariants as shown
+use Rattle.k_top_answers.specs.Answers.{IsShown}
 use Rattle.k_report_profile.specs.Report.{IsPlanned, asked, nodes_of_profile}
 use Rattle.k_report_profile.specs.RunReport.{IsProfileOf, IsRunReport, large, ops_of}
 use Rattle.k_report_profile.proofs.Named.{named_tree}
@@ -31,18 +37,49 @@ module _ (rows_exist : RowsExist) (contexts_exist : ContextsExist) (plans_exist 
     | inr few ↦ (let advice = plans_exist contexts (saved_plan saved is contexts are few) in (Some advice.0, (few, advice.1)))
   ]
 
-  pub profile_reports_exist : ProfileReportsExist
-  profile_reports_exist saved with_dict is =
+  -- what the texts of a profile are made of
+  record HasParts (saved : Saved) : Type 0 where
+    rows : List Row
+    contexts : List Context
+    plan : Option Advice
+    are_rows : AreRows (nodes_of_profile saved) rows
+    are_contexts : AreContexts saved.regions (nodes_of_profile saved) contexts
+    planned : IsPlanned contexts plan
+
+  parts_exist : (saved : Saved) → IsSaved saved → HasParts saved
+  parts_exist saved is =
       let last : ℕ = length saved.dict - 1 in
       let root : Tree = tree_at saved.dict last in
       let rows : (list : List Row) × AreRows (nodes_of_profile saved) list = rows_exist root in
       let contexts : (list : List Context) × AreContexts saved.regions (nodes_of_profile saved) list =
       contexts_exist saved.regions root
       (named_tree (length saved.regions) saved.dict is.profile.interned.earlier is.in_list last (root_is saved is)) in
-      let plan = planned saved is contexts.0 contexts.1 in (
-        report_text saved.regions saved.exit saved.ops rows.0 (asked with_dict saved.dict) contexts.0 plan.0,
-        record { rows = rows.0; contexts = contexts.0; plan = plan.0; are_rows = rows.1; are_contexts = contexts.1; planned = plan.1; is = refl },
+      let plan = planned saved is contexts.0 contexts.1 in
+      record { rows = rows.0; contexts = contexts.0; plan = plan.0; are_rows = rows.1; are_contexts = contexts.1; planned = plan.1 }
+
+  pub profile_reports_exist : ProfileReportsExist
+  profile_reports_exist saved with_dict is =
+      let p : HasParts saved = parts_exist saved is in (
+        report_text saved.regions saved.exit saved.ops p.rows (asked with_dict saved.dict) p.contexts p.plan,
+        record { rows = p.rows; contexts = p.contexts; plan = p.plan; are_rows = p.are_rows; are_contexts = p.are_contexts; planned = p.planned; is = refl },
       )
+
+  profile_documents_exist : (saved : Saved) (with_dict : Bool) → IsSaved saved → (text : List ℕ) × IsDocument saved with_dict text
+  profile_documents_exist saved with_dict is =
+      let p : HasParts saved = parts_exist saved is in (
+        profile_json saved.regions saved.exit saved.ops p.rows (asked with_dict saved.dict) (listed p.contexts p.plan) p.plan,
+        record { rows = p.rows; contexts = p.contexts; plan = p.plan; are_rows = p.are_rows; are_contexts = p.are_contexts; planned = p.planned; is = refl },
+      )
+
+  profile_tables_exist : (saved : Saved) → IsSaved saved → (text : List ℕ) × IsTable saved text
+  profile_tables_exist saved is =
+      let p : HasParts saved = parts_exist saved is in (rows_csv saved.regions p.rows, record { rows = p.rows; are_rows = p.are_rows; is = refl })
+
+  -- a profile can be shown in each form
+  pub profile_is_shown : (form : Form) (saved : Saved) → IsSaved saved → (text : List ℕ) × IsShown form saved text
+  profile_is_shown (shown.Report dict) saved is = profile_reports_exist saved dict is
+  profile_is_shown (shown.Json dict) saved is = profile_documents_exist saved dict is
+  profile_is_shown shown.Csv saved is = profile_tables_exist saved is
 
   pub read_reports_exist : ReadReportsExist
   read_reports_exist bytes saved with_dict reads = profile_reports_exist saved with_dict reads.0

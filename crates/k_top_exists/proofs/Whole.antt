@@ -19,6 +19,7 @@ use Rattle.k_words.specs.Within.{IsJobWithin}
 use Rattle.k_words.specs.Words as words
 use Rattle.k_words.specs.declared.about.Asked.{Asked}
 use Rattle.k_words.specs.declared.about.Asked.TheVariants.{Help, Version}
+use Rattle.k_words.specs.declared.job.Form.{Form}
 use Rattle.k_words.specs.declared.job.Job.{Job}
 use Rattle.k_words.specs.declared.job.Job.TheVariants as job
 use Rattle.k_words.specs.declared.usage.Usage.{Usage}
@@ -26,7 +27,7 @@ use Rattle.k_words.specs.declared.usage.Usage.TheVariants as usage
 use Rattle.k_words.proofs.Within.{jobs_are_within}
 use Rattle.k_top_answers.specs.declared.failure.Failure.TheVariants as why
 use Rattle.k_evaluation.specs.Runs.{listing_of}
-use Rattle.k_top_answers.specs.Answers.{AnswersAsked, AnswersChecked, AnswersJob, AnswersMade, AnswersProfile, AnswersRun, AnswersWords, IsAnswer, IsListed, checked, done, ended, made_running, ran_of, refusal, saved_file}
+use Rattle.k_top_answers.specs.Answers.{AnswersAsked, AnswersChecked, AnswersJob, AnswersMade, AnswersProfile, AnswersRun, AnswersWords, IsAnswer, IsListed, IsShown, checked, done, ended, made_running, ran_of, refusal, saved_file}
 use Rattle.k_top_answers.specs.Checks.{told}
 use Rattle.k_top_answers.specs.Steps.{Outside, Running, file_limit, profile_limit, run_of}
 use Rattle.k_top_answers.specs.Texts.{AreProfileLines, demo_line, plan_line, run_lines, tree_lines, with_report}
@@ -42,7 +43,7 @@ use Rattle.k_top_exists.proofs.GraphTexts.{graph_text_exists}
 use Rattle.k_top_exists.proofs.Listings.{listing_exists, tree_exists}
 use Rattle.k_top_exists.proofs.ReportParts.{contexts_exist, plans_exist}
 use Rattle.k_top_exists.proofs.RowsOfTrees.{rows_exist}
-use Rattle.k_top_exists.proofs.RunReports.{read_reports_exist, run_reports_exist}
+use Rattle.k_top_exists.proofs.RunReports.{profile_is_shown, run_reports_exist}
 use Rattle.k_top_exists.proofs.SavedFiles.{saved_file_is_answered}
 use Rattle.k_top_exists.proofs.Words.{words_are_answered}
 
@@ -89,9 +90,11 @@ listed depth r sound =
     (ended text.0 r.steps (run_of r).end, record { tree = tree.0; text = text.0; is_tree = tree.1; is_text = text.1; is = refl })
 
 -- SHOW
-by_profile : (dict : Bool) (bytes : List ℕ) → SpellsProfileOrIsWrong bytes → Answered (λ a. (read : Result Saved ℕ) × AnswersProfile dict a bytes read)
-by_profile dict bytes (inl (saved, is)) = let text = read_reports_exist rows_exist contexts_exist plans_exist bytes saved dict is in (done text.0, (Ok saved, (is, (text.0, text.1, refl))))
-by_profile dict bytes (inr (place, is)) = (refusal (why.Saved place), (Err place, (is, refl)))
+by_profile : (form : Form) (bytes : List ℕ) → SpellsProfileOrIsWrong bytes → Answered (λ a. (read : Result Saved ℕ) × AnswersProfile form a bytes read)
+by_profile form bytes (inl (saved, is)) =
+    let text : (text : List ℕ) × IsShown form saved text = profile_is_shown rows_exist contexts_exist plans_exist form saved is.0 in
+    (done text.0, (Ok saved, (is, (text.0, text.1, refl))))
+by_profile form bytes (inr (place, is)) = (refusal (why.Saved place), (Err place, (is, refl)))
 
 -- CHECK
 checked_answers : (file bytes : List ℕ) → Answered (λ a. AnswersChecked file a bytes)
@@ -119,9 +122,9 @@ job_answers outside (job.Run file steps depth latency dict save) within =
 job_answers outside (job.Graph file steps depth latency) within =
     let most : steps ≤ 200000 = within.steps.at_most in
     running_answers outside steps (omega (arith, most)) (λ a r. IsListed depth a r) (listed depth) file latency
-job_answers outside (job.Show file dict) within =
-    found_answers profile_limit file (λ a bytes. (read : Result Saved ℕ) × AnswersProfile dict a bytes read)
-    (λ bytes fits. by_profile dict bytes (saved_file_is_answered bytes)) (outside.files file)
+job_answers outside (job.Show file form) within =
+    found_answers profile_limit file (λ a bytes. (read : Result Saved ℕ) × AnswersProfile form a bytes read)
+    (λ bytes fits. by_profile form bytes (saved_file_is_answered bytes)) (outside.files file)
 job_answers outside (job.Check file) within = found_answers file_limit file (AnswersChecked file) (λ bytes fits. checked_answers file bytes) (outside.files file)
 job_answers outside (job.Demo number loops) within =
     source_answers refusal (λ a t. AnswersMade number loops a (made_running t) (run_of (made_running t)).end)

@@ -1,12 +1,12 @@
 -- What `show` tells.
-use Rattle.std.proofs.Common.{ℕ, ℤ, ◌+◌, ◌-◌, ◌≡◌, Bool, refl, sym, subst, arith, ◌∙◌, ap, List, length, Option, None, Result, Ok, Err}
+use Rattle.std.proofs.Common.{ℕ, ◌+◌, ◌-◌, ◌≡◌, refl, sym, subst, arith, ◌∙◌, ap, List, length, Option, None, Result, Ok, Err}
 use Rattle.k_edge.specs.SinkWords.{Grows}
-use Rattle.k_optab.specs.declared.node.Node.{Node}
 use Rattle.k_optab.specs.declared.region.Region.{Region}
 use Rattle.k_dict.specs.Dictionary.{IsDictionaryOf}
 use Rattle.k_dict.specs.Entries.{expansion, tree_at}
 use Rattle.k_dict.specs.Laws.{AreAlike}
-use Rattle.k_dict.specs.declared.entry.Entry.{Entry}
+use Rattle.k_dict.specs.Trees.{Tree}
+use Rattle.k_dict.proofs.Forests.{SameShape-refl}
 use Rattle.k_dict_saved.specs.Files.{IsFile}
 use Rattle.k_dict_saved.specs.FileText.{file_text}
 use Rattle.k_dict_saved.specs.Profile.{IsMigrated, IsOld, IsSaved, Reads}
@@ -19,14 +19,20 @@ use Rattle.k_dict_saved.specs.declared.saved.Old.{Old}
 use Rattle.k_dict_saved.specs.declared.saved.Saved.{Saved}
 use Rattle.k_dict_saved.proofs.Profiles.{migration_expands, read_migrated, read_of_write, two_saved}
 use Rattle.k_selfpar.specs.Contexts.{AreContexts}
+use Rattle.k_selfpar.specs.declared.context.Context.{Context}
 use Rattle.k_selfpar.proofs.Siblings.{contexts_forget_order, rows_forget_order}
 use Rattle.k_report.specs.Report.{report_text}
-use Rattle.k_report_profile.specs.Report.{IsReport, IsReportOf, asked, nodes_of_profile}
+use Rattle.k_report_profile.specs.Report.{asked, nodes_of_profile}
+use Rattle.k_data.specs.Document.{profile_json}
+use Rattle.k_data.specs.Table.{rows_csv}
+use Rattle.k_data_profile.specs.Shown.{listed}
+use Rattle.k_words.specs.declared.job.Form.{Form}
+use Rattle.k_words.specs.declared.job.Form.TheVariants as shown
 use Rattle.k_words.specs.declared.job.Job.{Job}
 use Rattle.k_words.specs.declared.job.Job.TheVariants as job
 use Rattle.k_top_answers.specs.declared.answer.Answer.{Answer}
 use Rattle.k_top_answers.specs.declared.failure.Failure.{Failure}
-use Rattle.k_top_answers.specs.Answers.{AnswersJob, AnswersProfile, done, refusal}
+use Rattle.k_top_answers.specs.Answers.{AnswersJob, AnswersProfile, IsShown, done, refusal}
 use Rattle.k_top_answers.specs.Clauses.{IsGiven, TellsEnd}
 use Rattle.k_top_answers.specs.Failures.{status_of}
 use Rattle.k_top_answers.specs.Steps.{AnswersFound, profile_limit}
@@ -34,19 +40,53 @@ use Rattle.k_top_headline.specs.OtherCommands.{AreShown, ShowIsTold, Shows, tree
 use Rattle.k_top_headline.proofs.Given.{job_given}
 use Rattle.k_top_headline.proofs.Ready.{found_answered, held_outside}
 
--- a report of instances is one of the same instances in another order of siblings
-report_forgets_order : (one_regions other_regions : List Region) (one_exit other_exit : ℤ) (one_ops other_ops : ℕ) (one_nodes other_nodes : List Node) (dict : Option (List Entry))
-    (text : List ℕ) → one_regions ≡ other_regions → one_exit ≡ other_exit → one_ops ≡ other_ops → AreAlike one_nodes other_nodes
-    → IsReportOf one_regions one_exit one_ops one_nodes dict text → IsReportOf other_regions other_exit other_ops other_nodes dict text
-report_forgets_order one_regions other_regions one_exit other_exit one_ops other_ops one_nodes other_nodes dict text regions exit ops alike is = record {
-  rows = is.rows;
-  contexts = is.contexts;
-  plan = is.plan;
-  are_rows = rows_forget_order one_nodes other_nodes is.rows alike is.are_rows;
-  are_contexts = subst (λ (r : List Region). AreContexts r other_nodes is.contexts) regions
-      (contexts_forget_order one_regions one_nodes other_nodes is.contexts alike is.are_contexts);
-  planned = is.planned;
-  is = is.is ∙ (λ i. report_text (regions i) (exit i) (ops i) is.rows dict is.contexts is.plan);
+-- the profile has the run, the regions and the tree of the file, up to the order of siblings, and its entries are those that are shown of the file
+record IsOf (file : File) (profile : Saved) : Type 0 where
+  exit : profile.exit ≡ file.exit
+  ops : profile.ops ≡ file.ops
+  regions : profile.regions ≡ file.regions
+  alike : AreAlike (nodes_of_profile profile) (tree_of_file file)
+  entries : AreShown file profile.dict file.format
+
+-- the contexts of a profile are those of the file
+contexts_of : (file : File) (profile : Saved) → IsOf file profile → (contexts : List Context) → AreContexts profile.regions (nodes_of_profile profile) contexts
+    → AreContexts file.regions (tree_of_file file) contexts
+contexts_of file profile is contexts are =
+    subst (λ (r : List Region). AreContexts r (tree_of_file file) contexts) is.regions
+    (contexts_forget_order profile.regions (nodes_of_profile profile) (tree_of_file file) contexts is.alike are)
+
+-- the text of a profile in a form is that of the file
+shows : (form : Form) (file : File) (profile : Saved) (text : List ℕ) → IsOf file profile → IsShown form profile text → Shows file form text
+shows (shown.Report dict) file profile text is r = record {
+  entries = profile.dict;
+  shown = is.entries;
+  report = record {
+    rows = r.rows;
+    contexts = r.contexts;
+    plan = r.plan;
+    are_rows = rows_forget_order (nodes_of_profile profile) (tree_of_file file) r.rows is.alike r.are_rows;
+    are_contexts = contexts_of file profile is r.contexts r.are_contexts;
+    planned = r.planned;
+    is = r.is ∙ (λ i. report_text (is.regions i) (is.exit i) (is.ops i) r.rows (asked dict profile.dict) r.contexts r.plan);
+  };
+}
+shows (shown.Json dict) file profile text is r = record {
+  entries = profile.dict;
+  shown = is.entries;
+  document = record {
+    rows = r.rows;
+    contexts = r.contexts;
+    plan = r.plan;
+    are_rows = rows_forget_order (nodes_of_profile profile) (tree_of_file file) r.rows is.alike r.are_rows;
+    are_contexts = contexts_of file profile is r.contexts r.are_contexts;
+    planned = r.planned;
+    is = r.is ∙ (λ i. profile_json (is.regions i) (is.exit i) (is.ops i) r.rows (asked dict profile.dict) (listed r.contexts r.plan) r.plan);
+  };
+}
+shows shown.Csv file profile text is r = record {
+  rows = r.rows;
+  are_rows = rows_forget_order (nodes_of_profile profile) (tree_of_file file) r.rows is.alike r.are_rows;
+  is = r.is ∙ (λ i. rows_csv (is.regions i) r.rows);
 }
 
 module _ (file : File) (rules : IsFile file) where
@@ -77,64 +117,63 @@ module _ (file : File) (rules : IsFile file) where
   not_refused Two two place reads =
       read_of_write saved (Err (NotSaved place)) (is_saved two) (subst (λ (bytes : List ℕ). Reads bytes (Err (NotSaved place))) (ap file_text (same_saved two)) reads)
 
-  module _ (dict : Bool) (profile : Saved) (text : List ℕ) (reads : Reads (file_text file) (Ok profile)) (report : IsReport profile dict text) where
-    -- the report of what a file of format 1 becomes is that of its own tree
-    of_old : file.format ≡ One → IsMigrated old profile → Shows file dict text
+  module _ (profile : Saved) (reads : Reads (file_text file) (Ok profile)) where
+    -- what a file of format 1 becomes has the same tree up to the order of siblings
+    of_old : file.format ≡ One → IsMigrated old profile → IsOf file profile
     of_old one migrated =
         let expands = migration_expands old profile migrated in
         let last : length file.entries ≡ migrated.root + 1 = migrated.last in
         let count : length profile.dict ≡ expands.0 + 1 = expands.1 in
         let there : migrated.root ≡ length file.entries - 1 = omega arith in
         let here : expands.0 ≡ length profile.dict - 1 = omega arith in
-        let alike : AreAlike (nodes_of_profile profile) (tree_of_file file) =
-        subst (λ (n : ℕ). AreAlike (expansion profile.dict n) (tree_of_file file)) here
-        (subst (λ (n : ℕ). AreAlike (expansion profile.dict expands.0) (expansion file.entries n)) there expands.2) in
         let P : Format → Type 0 = AreShown file profile.dict in
         record {
-          entries = profile.dict;
-          shown = subst P (sym one) (
+          exit = migrated.exit;
+          ops = migrated.ops;
+          regions = migrated.regions;
+          alike = subst (λ (n : ℕ). AreAlike (expansion profile.dict n) (tree_of_file file)) here
+              (subst (λ (n : ℕ). AreAlike (expansion profile.dict expands.0) (expansion file.entries n)) there expands.2);
+          entries = subst P (sym one) (
             tree_at file.entries (length file.entries - 1),
             refl,
             subst (λ (n : ℕ). IsDictionaryOf (tree_at file.entries n) profile.dict) there migrated.dict,
           );
-          report = report_forgets_order profile.regions file.regions profile.exit file.exit profile.ops file.ops (nodes_of_profile profile) (tree_of_file file)
-              (asked dict profile.dict) text migrated.regions migrated.exit migrated.ops alike report;
         }
 
-    -- that of a profile of format 2 is its own
-    of_saved : file.format ≡ Two → profile ≡ saved → Shows file dict text
+    -- the profile of a file of format 2 has its own tree
+    of_saved : file.format ≡ Two → saved ≡ profile → IsOf file profile
     of_saved two same =
+        let root : Tree = tree_at file.entries (length file.entries - 1) in
         let P : Format → Type 0 = AreShown file file.entries in
-        record {
-          entries = file.entries;
-          shown = subst P (sym two) refl;
-          report = subst (λ (s : Saved). IsReport s dict text) same report;
-        }
+        subst (λ (s : Saved). IsOf file s) same
+        (record { exit = refl; ops = refl; regions = refl; alike = (root, root, refl, refl, SameShape-refl root); entries = subst P (sym two) refl })
 
-    shows : (format : Format) → file.format ≡ format → Shows file dict text
-    shows One one =
+    is_of : (format : Format) → file.format ≡ format → IsOf file profile
+    is_of One one =
         of_old one (read_migrated old (Ok profile) (is_old one) (subst (λ (bytes : List ℕ). Reads bytes (Ok profile)) (ap file_text (same_old one)) reads))
-    shows Two two =
-        of_saved two (read_of_write saved (Ok profile) (is_saved two) (subst (λ (bytes : List ℕ). Reads bytes (Ok profile)) (ap file_text (same_saved two)) reads))
+    is_of Two two =
+        of_saved two
+        (sym (read_of_write saved (Ok profile) (is_saved two) (subst (λ (bytes : List ℕ). Reads bytes (Ok profile)) (ap file_text (same_saved two)) reads)))
 
--- the answer is the report of the file
-shown : (file : File) → IsFile file → (dict : Bool) (answer : Answer) (read : Result Saved ℕ) → AnswersProfile dict answer (file_text file) read
-    → (text : List ℕ) × Shows file dict text × (answer ≡ done text)
-shown file rules dict answer (Ok profile) (reads, (text, report, made)) = (text, shows file rules dict profile text reads report file.format refl, made)
-shown file rules dict answer (Err place) (reads, made) = absurd (not_refused file rules file.format refl place reads)
+-- the answer is the file in its form
+answer_shown : (file : File) → IsFile file → (form : Form) (answer : Answer) (read : Result Saved ℕ) → AnswersProfile form answer (file_text file) read
+    → (text : List ℕ) × Shows file form text × (answer ≡ done text)
+answer_shown file rules form answer (Ok profile) (reads, (text, is, made)) =
+    (text, shows form file profile text (is_of file rules profile reads file.format refl) is, made)
+answer_shown file rules form answer (Err place) (reads, made) = absurd (not_refused file rules file.format refl place reads)
 
 -- SHOW
 pub show_is_told : ShowIsTold
-show_is_told words status old new name file dict keeps is holds =
-    let j : Job = job.Show name dict in
+show_is_told words status old new name file form keeps is holds =
+    let j : Job = job.Show name form in
     let given : IsGiven (λ (answer : Answer). AnswersJob keeps.outside answer j) status old new = job_given words j status old new keeps is in
     let F : Failure → Type 0 = λ failure. given.answer ≡ refusal failure in
-    let next : List ℕ → Type 0 = λ bytes. (read : Result Saved ℕ) × AnswersProfile dict given.answer bytes read in
+    let next : List ℕ → Type 0 = λ bytes. (read : Result Saved ℕ) × AnswersProfile form given.answer bytes read in
     let read : next (file_text file) =
     found_answered F profile_limit name next (file_text file) holds.few
     (subst (λ (content : Option (List ℕ)). AnswersFound F profile_limit name next content)
     (held_outside old.files.held keeps.outside.files name (file_text file) keeps.fits.files holds.held) given.is_answer) in
-    let report = shown file holds.rules dict given.answer read.0 read.1 in
+    let report = answer_shown file holds.rules form given.answer read.0 read.1 in
     let failure : given.answer.failure ≡ None = ap (λ (a : Answer). a.failure) report.2 in
     let out : given.answer.out ≡ report.0 = ap (λ (a : Answer). a.out) report.2 in
     record {

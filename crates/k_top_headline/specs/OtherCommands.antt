@@ -19,8 +19,11 @@ use Rattle.k_dict_saved.specs.declared.format.Format.{Format}
 use Rattle.k_dict_saved.specs.declared.format.Format.TheVariants.{One, Two}
 use Rattle.k_report.specs.Graph.{IsGraphText}
 use Rattle.k_report_profile.specs.Report.{IsReportOf, asked}
+use Rattle.k_data_profile.specs.Shown.{IsDocumentOf, IsTableOf}
 use Rattle.k_types_meaning.specs.declared.tree.unit.TUnit.{TUnit}
 use Rattle.k_words.specs.Setting.{standard_depth}
+use Rattle.k_words.specs.declared.job.Form.{Form}
+use Rattle.k_words.specs.declared.job.Form.TheVariants as shown
 use Rattle.k_words.specs.declared.job.Job.TheVariants as job
 use Rattle.k_top_answers.specs.Answers.{made_running, ran_of}
 use Rattle.k_top_answers.specs.declared.failure.Failure.{Failure}
@@ -64,26 +67,38 @@ AreShown file entries Two = entries ≡ file.entries
 AreShown file entries One = IsDictionary (tree_of_file file) entries
 
 -- THE REPORT of a saved profile: that of its own tree, whose rows, contexts and plan the text tells, with its run and its regions
-pub record Shows (file : File) (dict : Bool) (text : List ℕ) : Type 0 where
+pub record ShowsReport (file : File) (dict : Bool) (text : List ℕ) : Type 0 where
   pub entries : List Entry
   pub shown : AreShown file entries file.format
   pub report : IsReportOf file.regions file.exit file.ops (tree_of_file file) (asked dict entries) text
 
+-- THE DOCUMENT of a saved profile: that of its own tree, likewise
+pub record ShowsDocument (file : File) (dict : Bool) (text : List ℕ) : Type 0 where
+  pub entries : List Entry
+  pub shown : AreShown file entries file.format
+  pub document : IsDocumentOf file.regions file.exit file.ops (tree_of_file file) (asked dict entries) text
+
+-- a saved profile in each form; the table is that of the rows of its own tree
+abbrev pub Shows : File → Form → List ℕ → Type 0
+Shows file (shown.Report dict) text = ShowsReport file dict text
+Shows file (shown.Json dict) text = ShowsDocument file dict text
+Shows file shown.Csv text = IsTableOf file.regions (tree_of_file file) text
+
 -- SHOW, the conclusions
-pub record ShowTells (file : File) (dict : Bool) (status : ℕ) (old new : World) : Type 0 where
-  -- out has grown by the report of the profile
+pub record ShowTells (file : File) (form : Form) (status : ℕ) (old new : World) : Type 0 where
+  -- out has grown by the profile in this form
   pub text : List ℕ
-  pub shows : Shows file dict text
+  pub shows : Shows file form text
   pub grows : Grows old.out.written text new.out.written
   -- the status is 0, and nothing was told on err
   pub status_is : status ≡ 0
   pub told : new.err ≡ old.err
 
--- SHOW. The words ask to show a file, and it is a saved profile
+-- SHOW. The words ask to show a file in a form, and it is a saved profile
 abbrev pub ShowIsTold : Type 0
-ShowIsTold = (words : List (List ℕ)) (status : ℕ) (old new : World) (name : List ℕ) (file : File) (dict : Bool)
-    → Keeps words status old new → WentWell words (job.Show name dict) status old new → HoldsProfile old name file
-    → ShowTells file dict status old new
+ShowIsTold = (words : List (List ℕ)) (status : ℕ) (old new : World) (name : List ℕ) (file : File) (form : Form)
+    → Keeps words status old new → WentWell words (job.Show name form) status old new → HoldsProfile old name file
+    → ShowTells file form status old new
 
 -- the files tell that one of this name has these bytes, which are no more than a source may have
 pub record HoldsSource (old : World) (file bytes : List ℕ) : Type 0 where

@@ -12,7 +12,7 @@ pub fn graph_is_told()
     ensures { GraphIsTold }
 {}
 
-/// `show` of a saved profile, of either format, writes the report of that file's own tree.
+/// `show` of a saved profile, of either format, writes the report of that file's own tree, or its document or table.
 pub fn show_is_told()
     ensures { ShowIsTold }
 {}

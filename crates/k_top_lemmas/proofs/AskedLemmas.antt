@@ -1,12 +1,10 @@
 -- What finding the answer to the words comes to.
 use Rattle.std.proofs.Common.{ℕ, ◌≡◌, ◌≢◌, Bool, true, false, ◌||◌, MatchBool, if◌then◌else◌, nat_eq, is_some, codes, ap, refl, sym, subst, ◌∙◌, List, [], ◌∷◌, Option, Some, None, Result, Ok, Err, inl, inr}
-use Rattle.std.specs.Prelude.{⊤}
 use Rattle.std.proofs.lemmas.Slice.Eq.{slice_eq-Decides}
 use Rattle.std.specs.Cmp.{unsigned_Decides}
 use Rattle.std.specs.Cmp.Lexicographic.{pointwise}
-use Rattle.k_edge.specs.FilesWords.{FilesState, after}
+use Rattle.k_edge.specs.FilesWords.{after}
 use Rattle.k_edge.specs.declared.request.Request.{Request}
-use Rattle.k_edge.specs.SinkWords.{SinkState}
 use Rattle.k_ending.specs.declared.ending.End.{End}
 use Rattle.k_ending.specs.declared.ending.End.TheVariants as end
 use Rattle.k_types_calls.specs.Getchar.{calls_getchar}
@@ -27,8 +25,8 @@ use Rattle.k_top_lemmas.specs.declared.running.Ready.{Ready}
 use Rattle.k_top_answers.specs.Answers.{AnswersAsked, AnswersJob, AnswersRun, AnswersWords, CallsForFiles, CallsForInput, IsAnswer, IsListed, JobCalls, JobLoads, done, refusal}
 use Rattle.k_top_answers.specs.Failures.{failure_of_usage}
 use Rattle.k_top_answers.specs.Requests.{AreToLoad, loads_of}
-use Rattle.k_top_lemmas.specs.Parts.{Delivers, EndsAs, GivesText, running_of}
-use Rattle.k_top_lemmas.specs.Phases.{Around, FailsBefore, FindsAnswer, FindsJob, InputDone, IsEnd, IsView, MakesDemo, MakesReady, Performs, View, no_view}
+use Rattle.k_top_lemmas.specs.Parts.{GivesText, running_of}
+use Rattle.k_top_lemmas.specs.Phases.{Around, FailsBefore, FindsAnswer, FindsJob, InputDone, IsEnd, IsView, MakesDemo, MakesReady, View, no_view}
 use Rattle.k_top_answers.specs.Steps.{AnswersInput, AnswersRead, AnswersRunning, Outside, Running, run_of}
 use Rattle.k_top_lemmas.proofs.ReadyLemmas.{not_seen, refusal_maps, told_once}
 use Rattle.k_top_lemmas.proofs.Requesting.{after_none, front_same}
@@ -111,10 +109,6 @@ module _ (file : List ℕ) (latency : Option (List ℕ)) (steps depth : ℕ) (ol
     ),
   )
 
-  pub run_short : (dict : Bool) (save : Option (List ℕ)) (r : Ready) → MakesReady (Ok r) file latency steps old new
-      → FindsJob (Err why.NoMemory) (job.Run file steps depth latency dict save) old new
-  run_short dict save r (view, is_view, (same, input, runs)) = (view, is_view, (behind_input _ _ _ view old new tt same input, tt))
-
   -- GRAPH
   graph_ends : (answer : Answer) (r : Running) → IsListed depth answer r → IsEnd answer
   graph_ends answer r is = record {
@@ -189,11 +183,11 @@ module _ (list : List (List ℕ)) (asked : Job) (none : asked_for list ≡ None)
   calls_for : (outside : Outside) → CallsForInput list outside → JobCalls outside asked
   calls_for outside (other, is, calls) = subst (λ j. JobCalls outside j) (same_job other is) calls
 
-  input_for : (view : View) → InputDone (λ outside. JobCalls outside asked) view old.input new.input → InputDone (CallsForInput list) view old.input new.input
+  pub input_for : (view : View) → InputDone (λ outside. JobCalls outside asked) view old.input new.input → InputDone (CallsForInput list) view old.input new.input
   input_for view (inl (same, calls_not)) = inl (same, λ outside shows calls. calls_not outside shows (calls_for outside calls))
   input_for view (inr (bytes, is, calls, reads)) = inr (bytes, is, (λ outside shows. (asked, is_words, calls outside shows)), reads)
 
-  named_for : (loads : List Request) → loads ≡ loads_of asked → AreToLoad list loads
+  pub named_for : (loads : List Request) → loads ≡ loads_of asked → AreToLoad list loads
   named_for loads is = inl (asked, is_words, is)
 
   before_for : (failure : Failure) (view : View)
@@ -311,9 +305,3 @@ text_told list x text asked answers (Ok answer) is old new same =
     (answers answer is) old new same
 text_told list x text asked answers (Err failure) is old new same =
     subst (λ (f : Failure). FindsAnswer (Err f) list old new) (sym is) (short_of_memory list old new same)
-
--- AN ANSWER that was found, and then delivered
-pub found_delivered : (words : List (List ℕ)) (answer : Answer) (delivered result : Result ⊤ Failure) (old mid : Around) (files : FilesState) (out out' : SinkState)
-    → FindsAnswer (Ok answer) words old mid → Delivers delivered answer mid.files files out out' → EndsAs result delivered answer
-    → Performs result words old (record { files = files; input = mid.input }) out out'
-found_delivered words answer delivered result old mid files out out' found delivers ends = inr (answer, delivered, mid.files, found, delivers, ends)

@@ -26,7 +26,9 @@ use Rattle.k_top_lemmas.specs.Phases.{Around, InputDone, IsEnd, IsView, Shows, V
 use Rattle.k_top_answers.specs.Steps.{Outside, input_limit}
 use Rattle.k_top_lemmas.proofs.ReadyLemmas.{told_once}
 use Rattle.k_top_lemmas.proofs.Requesting.{after_twice, front_same}
+use Rattle.k_top_lemmas.specs.Streams.{IsCounted}
 use Rattle.k_top_lemmas.proofs.Growing.{grows_in_part}
+use Rattle.k_top_lemmas.proofs.Putting.{counted}
 use Rattle.k_top_lemmas.proofs.Showing.{fits, outside_of, shows}
 
 -- what is known of files and input
@@ -143,6 +145,90 @@ told_8 status is old new part = record {
 held_same : (saved : Option SavedFile) (old new : FilesState) → saved ≡ None → HoldsAfter saved old new → new.held ≡ old.held
 held_same saved old new none holds = subst (λ s. HoldsAfter s old new) none holds
 
+-- what is told of want of memory has status 8
+eight_told : (status : ℕ) (old new : SinkState) → Tells (Err why.NoMemory) status old new → (status ≡ 8) × GrowsInPart old.written (failure_line why.NoMemory) new.written
+eight_told status old new (inl (eight, told)) = (eight, told.part)
+eight_told status old new (inr (eight, part)) = (eight, part)
+
+-- A PUT WAS GIVEN UP: what was put is a prefix of each answer's bytes
+module _ (words : List (List ℕ)) (old new : World) (view : View) (is_view : IsView view (around old))
+    (input : InputDone (CallsForInput words) view old.input new.input) (all : List Request) (named : AreToLoad words all) (same : new.files ≡ after all old.files) where
+  reads_same : new.input.faults ≡ old.input.faults
+  reads_same = input_faultless (CallsForInput words) view old.input new.input input
+
+  -- it failed
+  put_failed : (status : ℕ) → ((other : Answer) → IsAnswer words (outside_of old view) other → PutsAll (Err putting.Failed) other.out old.out new.out)
+      → Rose old.out.faults new.out.faults → Tells (Err why.WriteFault) status old.err new.err → Keeps words status old new
+  put_failed status puts rose tells = record {
+    outside = outside_of old view;
+    cause = put_fault;
+    fits = fits old view;
+    blames = record { rose = (rose, alone); blamed = by_line tells };
+    asked = λ other is. (puts other is).0;
+    answered = seven_or_eight tells;
+    part = λ other is. (puts other is).1;
+    files = inr (ap (λ (f : FilesState). f.held) same);
+    requests = record { loads = all; named = named; made = all; asked = ap (λ (f : FilesState). f.requests) same; far = refl };
+    input = input_done words old new view is_view status (not_nine tells) input;
+    told = told_fault tells;
+  }
+    where
+      alone : faults_of new ≡ record { files = old.files.counts; reads = old.input.faults; puts = new.out.faults }
+      alone = λ i. record { files = (same i).counts; reads = reads_same i; puts = new.out.faults }
+
+      by_line : Tells (Err why.WriteFault) status old.err new.err → (status ≡ 7) ⊎ (status ≡ 8)
+      by_line (inl (seven, told)) = inl seven
+      by_line (inr (eight, part)) = inr eight
+
+      seven_or_eight : Tells (Err why.WriteFault) status old.err new.err
+          → (status ≡ 6) ⊎ (status ≡ 7) ⊎ (status ≡ 8) ⊎ IsGiven (IsAnswer words (outside_of old view)) status old new
+      seven_or_eight (inl (seven, told)) = inr (inl seven)
+      seven_or_eight (inr (eight, part)) = inr (inr (inl eight))
+
+      not_nine : Tells (Err why.WriteFault) status old.err new.err → status ≢ 9
+      not_nine (inl (seven, told)) nine = omega (arith, seven, nine)
+      not_nine (inr (eight, part)) nine = omega (arith, eight, nine)
+
+      told_fault : Tells (Err why.WriteFault) status old.err new.err → TellsFault status old.err new.err
+      told_fault (inl (seven, told)) = record {
+        read_fault = λ six. absurd (omega (arith, seven, six));
+        write_fault = λ is. told;
+        no_memory = λ eight. absurd (omega (arith, seven, eight));
+      }
+      told_fault (inr (eight, part)) = told_8 status eight old.err new.err part
+
+  -- no memory was found for it
+  put_short : (status : ℕ) → ((other : Answer) → IsAnswer words (outside_of old view) other → PutsAll (Err putting.Memory) other.out old.out new.out)
+      → new.out.faults ≡ old.out.faults → (status ≡ 8) × GrowsInPart old.err.written (failure_line why.NoMemory) new.err.written → Keeps words status old new
+  put_short status puts calm (eight, part) = record {
+    outside = outside_of old view;
+    cause = nothing;
+    fits = fits old view;
+    blames = record {
+      rose = no_fault old new (ap (λ (f : FilesState). f.counts) same) reads_same calm;
+      blamed = subst (λ s. is_blame s ≡ false) (sym eight) refl;
+    };
+    asked = tt;
+    answered = inr (inr (inl eight));
+    part = λ other is. (puts other is).0;
+    files = inr (ap (λ (f : FilesState). f.held) same);
+    requests = record {
+      loads = all;
+      named = named;
+      made = all;
+      asked = ap (λ (f : FilesState). f.requests) same;
+      far = λ other is. ((saves_of other.saved, refl), λ not_8. absurd (not_8 eight));
+    };
+    input = input_done words old new view is_view status (λ nine. omega (arith, eight, nine)) input;
+    told = told_8 status eight old.err new.err part;
+  }
+
+  pub cut_off : (status : ℕ) (fault : PutFault) → IsCounted fault old.out new.out
+      → ((other : Answer) → IsAnswer words (outside_of old view) other → PutsAll (Err fault) other.out old.out new.out)
+      → Tells (Err (failure_of_put fault)) status old.err new.err → Keeps words status old new
+  cut_off status putting.Failed rose puts tells = put_failed status puts rose tells
+  cut_off status putting.Memory calm puts tells = put_short status puts calm (eight_told status old.err new.err tells)
+
 -- AN ANSWER WAS FOUND
 module _ (words : List (List ℕ)) (old new : World) (view : View) (is_view : IsView view (around old)) (answer : Answer)
     (is_answer : IsAnswer words (outside_of old view) answer)
@@ -219,50 +305,6 @@ module _ (words : List (List ℕ)) (old new : World) (view : View) (is_view : Is
       told = told_8 status short.eight old.err new.err short.told;
     }
 
-  -- A PUT FAILED
-  put_failed : (status : ℕ) → answer.out ≢ [] → GrowsInPart old.out.written answer.out new.out.written → Rose old.out.faults new.out.faults
-      → new.files ≡ after all old.files → Tells (Err why.WriteFault) status old.err new.err → Keeps words status old new
-  put_failed status some grows rose same tells = record {
-    outside = outside_of old view;
-    cause = put_fault;
-    fits = fits old view;
-    blames = record { rose = (rose, alone); blamed = by_line tells };
-    asked = λ other is. subst (λ (a : Answer). a.out ≢ []) (unique other is) some;
-    answered = seven_or_eight tells;
-    part = λ other is. subst (λ (a : Answer). GrowsInPart old.out.written a.out new.out.written) (unique other is) grows;
-    files = inr (ap (λ (f : FilesState). f.held) same);
-    requests = record { loads = all; named = named; made = all; asked = ap (λ (f : FilesState). f.requests) same; far = refl };
-    input = input_done words old new view is_view status (not_nine tells) input;
-    told = told_fault tells;
-  }
-    where
-      reads : new.input.faults ≡ old.input.faults
-      reads = input_faultless (CallsForInput words) view old.input new.input input
-
-      alone : faults_of new ≡ record { files = old.files.counts; reads = old.input.faults; puts = new.out.faults }
-      alone = λ i. record { files = (same i).counts; reads = reads i; puts = new.out.faults }
-
-      by_line : Tells (Err why.WriteFault) status old.err new.err → (status ≡ 7) ⊎ (status ≡ 8)
-      by_line (inl (seven, told)) = inl seven
-      by_line (inr (eight, part)) = inr eight
-
-      seven_or_eight : Tells (Err why.WriteFault) status old.err new.err
-          → (status ≡ 6) ⊎ (status ≡ 7) ⊎ (status ≡ 8) ⊎ IsGiven (IsAnswer words (outside_of old view)) status old new
-      seven_or_eight (inl (seven, told)) = inr (inl seven)
-      seven_or_eight (inr (eight, part)) = inr (inr (inl eight))
-
-      not_nine : Tells (Err why.WriteFault) status old.err new.err → status ≢ 9
-      not_nine (inl (seven, told)) nine = omega (arith, seven, nine)
-      not_nine (inr (eight, part)) nine = omega (arith, eight, nine)
-
-      told_fault : Tells (Err why.WriteFault) status old.err new.err → TellsFault status old.err new.err
-      told_fault (inl (seven, told)) = record {
-        read_fault = λ six. absurd (omega (arith, seven, six));
-        write_fault = λ is. told;
-        no_memory = λ eight. absurd (omega (arith, seven, eight));
-      }
-      told_fault (inr (eight, part)) = told_8 status eight old.err new.err part
-
   -- a count that stands in the files alone
   saved_alone : (counts : Counts) → new.files.counts ≡ counts → new.out.faults ≡ old.out.faults
       → faults_of new ≡ record { files = counts; reads = old.input.faults; puts = old.out.faults }
@@ -316,7 +358,7 @@ module _ (words : List (List ℕ)) (old new : World) (view : View) (is_view : Is
       }
       told_fault (inr (eight, part)) = told_8 status eight old.err new.err part
 
-  -- NO MEMORY was found for a put or for the save
+  -- NO MEMORY was found for the save
   delivery_short : (status : ℕ) → GrowsInPart old.out.written answer.out new.out.written → new.out.faults ≡ old.out.faults
       → (made : List Request) → IsFront made whole → new.files ≡ after made old.files → status ≡ 8 → GrowsInPart old.err.written (failure_line why.NoMemory) new.err.written → Keeps words status old new
   delivery_short status grows puts made front same eight part = record {
@@ -342,28 +384,23 @@ module _ (words : List (List ℕ)) (old new : World) (view : View) (is_view : Is
     told = told_8 status eight old.err new.err part;
   }
 
-  -- what is told of want of memory has status 8
-  eight_told : (status : ℕ) → Tells (Err why.NoMemory) status old.err new.err → (status ≡ 8) × GrowsInPart old.err.written (failure_line why.NoMemory) new.err.written
-  eight_told status (inl (eight, told)) = (eight, told.part)
-  eight_told status (inr (eight, part)) = (eight, part)
-
   by_put : (status : ℕ) (fault : PutFault) → PutsAll (Err fault) answer.out old.out new.out → new.files ≡ after all old.files
       → Tells (Err (failure_of_put fault)) status old.err new.err → Keeps words status old new
-  by_put status putting.Failed (some, grows, rose) same tells = put_failed status some grows rose same tells
-  by_put status putting.Memory (grows, puts) same tells =
-      let (eight, part) = eight_told status tells in delivery_short status grows puts all (saves_of answer.saved, refl) same eight part
+  by_put status fault puts same tells =
+      cut_off words old new view is_view input all named same status fault (counted answer.out old.out new.out fault puts)
+      (λ other is. subst (λ (a : Answer). PutsAll (Err fault) a.out old.out new.out) (unique other is) puts) tells
 
   by_save : (status : ℕ) (file : SavedFile) (fault : SaveFault) → answer.saved ≡ Some file → Grows old.out.written answer.out new.out.written
       → new.out.faults ≡ old.out.faults → Saves (Err fault) file.name file.bytes (after all old.files) new.files
       → Tells (Err (failure_of_save fault)) status old.err new.err → Keeps words status old new
   by_save status file saving.Failed saved grows puts saves tells = save_failed status file saved grows puts saves tells
   by_save status file saving.Memory saved grows puts (inl same) tells =
-      let (eight, part) = eight_told status tells in
+      let (eight, part) = eight_told status old.err new.err tells in
       let saves : after (Save file.name ∷ []) (after all old.files) ≡ after whole old.files =
       after_twice all (Save file.name ∷ []) old.files ∙ ap (λ (s : Option SavedFile). after (all ++ saves_of s) old.files) (sym saved) in
       delivery_short status (grows_in_part old.out.written answer.out new.out.written grows) puts whole (front_same whole whole refl) (same ∙ saves) eight part
   by_save status file saving.Memory saved grows puts (inr same) tells =
-      let (eight, part) = eight_told status tells in
+      let (eight, part) = eight_told status old.err new.err tells in
       delivery_short status (grows_in_part old.out.written answer.out new.out.written grows) puts all (saves_of answer.saved, refl) same eight part
 
   by_file : (status : ℕ) (saved : Option SavedFile) (failure : Failure) → answer.saved ≡ saved → Grows old.out.written answer.out new.out.written

@@ -1,5 +1,5 @@
 -- What the answer of `demo` comes to.
-use Rattle.std.proofs.Common.{ℕ, ◌≡◌, List, [], ap, sym, subst, Ok, Err, inl, inr}
+use Rattle.std.proofs.Common.{ℕ, ℤ, ◌≡◌, ◌∙◌, List, [], ap, sym, subst, Ok, Err, inl, inr}
 use Rattle.k_optab.specs.Latencies.{standard_latencies}
 use Rattle.k_ending.specs.declared.ending.End.{End}
 use Rattle.k_ending.specs.declared.ending.End.TheVariants as end
@@ -9,10 +9,13 @@ use Rattle.k_words.specs.Setting.{standard_steps}
 use Rattle.k_top_answers.specs.declared.answer.Answer.{Answer}
 use Rattle.k_top_answers.specs.declared.failure.Failure.{Failure}
 use Rattle.k_top_lemmas.specs.declared.program.Program.{Program}
-use Rattle.k_top_answers.specs.Answers.{AnswersMade, made_running, refusal}
-use Rattle.k_top_lemmas.specs.Parts.{AcceptsSource, running_of}
+use Rattle.k_top_answers.specs.Answers.{AnswersMade, done, ended, made_running, ran_of, refusal}
+use Rattle.k_top_answers.specs.Texts.{IsSummary}
+use Rattle.k_top_lemmas.specs.Parts.{AcceptsSource, IsProfileOfRun, running_of}
 use Rattle.k_top_lemmas.specs.Phases.{IsEnd, MakesDemo}
 use Rattle.k_top_answers.specs.Steps.{AnswersSource, Running, run_of}
+use Rattle.k_hcpa.specs.declared.profile.Profile.{Profile}
+use Rattle.k_top_lemmas.proofs.Machine.{IsBroken}
 use Rattle.k_top_lemmas.proofs.ProgramLemmas.{refuses}
 use Rattle.k_top_lemmas.proofs.Statuses.{done_low, ended_low}
 use Rattle.k_top_lemmas.proofs.StepLemmas.{source_maps, source_quiet}
@@ -34,6 +37,19 @@ made_ends number loops answer r end.OutOfSteps is = record {
   low = ended_low r.steps end.OutOfSteps answer.failure (ap (λ (a : Answer). a.failure) is);
   saves = inr (ap (λ (a : Answer). a.saved) is);
 }
+
+-- DEMO, behind a run of this profile
+module _ (number loops : ℕ) (r : Running) (first : List ℕ) (p : Profile) (is : IsProfileOfRun r 24 first p) where
+  pub returned_made : (exit : ℤ) → p.end ≡ end.Returned exit → (text : List ℕ) → IsSummary number loops p.written (ran_of r exit 24) text → (answer : Answer) → answer ≡ done text
+      → AnswersMade number loops answer r (run_of r).end
+  returned_made exit same text summed answer told =
+      subst (λ (e : End). AnswersMade number loops answer r e) (sym same ∙ is.end)
+      (text, subst (λ (n : ℕ). IsSummary number loops n (ran_of r exit 24) text) is.written summed, told)
+
+  pub ended_made : (how : End) → p.end ≡ how → IsBroken how → (answer : Answer) → answer ≡ ended [] r.steps how → AnswersMade number loops answer r (run_of r).end
+  ended_made (end.Returned exit) same broken answer told = absurd broken
+  ended_made (end.Trapped trap place) same broken answer told = subst (λ (e : End). AnswersMade number loops answer r e) (sym same ∙ is.end) told
+  ended_made end.OutOfSteps same broken answer told = subst (λ (e : End). AnswersMade number loops answer r e) (sym same ∙ is.end) told
 
 -- THE PROGRAM is accepted
 pub made : (number loops : ℕ) (answer : Answer) (p : Program) (source : List ℕ) → source ≡ made_text.program number loops → AcceptsSource (Ok p) source

@@ -9,6 +9,7 @@ use Rattle.k_dict_saved.specs.declared.fault.SavedFault.{SavedFault}
 use Rattle.k_dict_saved.specs.declared.fault.SavedFault.TheVariants as saved
 use Rattle.k_dict_saved.specs.Profile.{Reads}
 use Rattle.k_dict_saved.specs.declared.saved.Saved.{Saved}
+use Rattle.k_words.specs.declared.job.Form.{Form}
 use Rattle.k_words.specs.declared.job.Job.{Job}
 use Rattle.k_words.specs.declared.job.Job.TheVariants as job
 use Rattle.k_top_answers.specs.declared.answer.Answer.{Answer}
@@ -97,34 +98,34 @@ module _ (file : List ℕ) (limit : ℕ) (asked : Job) (next : Answer → List �
     )
 
 -- SHOW
-module _ (file : List ℕ) (dict : Bool) (old new : Around) (same_input : new.input ≡ old.input) where
+module _ (file : List ℕ) (form : Form) (old new : Around) (same_input : new.input ≡ old.input) where
   abbrev of_profile : Answer → List ℕ → Type 0
-  of_profile answer bytes = (read : Result Saved ℕ) × AnswersProfile dict answer bytes read
+  of_profile answer bytes = (read : Result Saved ℕ) × AnswersProfile form answer bytes read
 
   -- bytes that spell no profile
   show_refused : (bytes : List ℕ) → Has old.files.held file (Some bytes) → length bytes ≤ profile_limit → new.files ≡ after (Load file ∷ []) old.files → (fault : SavedFault)
-      → Reads bytes (Err fault) → FindsJob (Err (failure_of_saved fault)) (job.Show file dict) old new
+      → Reads bytes (Err fault) → FindsJob (Err (failure_of_saved fault)) (job.Show file form) old new
   show_refused bytes has fits same (saved.NotSaved place) is = (
     of_files (one_seen file (Some bytes)),
     record { files = (has, tt, tt); input = not_seen old.input.left },
     (
       inl (tt, (Load file ∷ [], refl, (Load file ∷ [], refl, same)), same_input),
-      with_bytes file profile_limit (job.Show file dict) of_profile tt refl (λ outside calls. calls) (λ outside answer holds. holds) old new same_input bytes has fits same
+      with_bytes file profile_limit (job.Show file form) of_profile tt refl (λ outside calls. calls) (λ outside answer holds. holds) old new same_input bytes has fits same
           (refusal (why.Saved place)) (Err place, (is, refl)),
     ),
   )
   show_refused bytes has fits same saved.Memory is =
-      file_short file profile_limit (job.Show file dict) of_profile tt refl (λ outside calls. calls) (λ outside answer holds. holds) old new same_input bytes has fits same
+      file_short file profile_limit (job.Show file form) of_profile tt refl (λ outside calls. calls) (λ outside answer holds. holds) old new same_input bytes has fits same
 
-  pub show_found : (result : Result Answer Failure) → ShowsFile result file dict old.files new.files → FindsJob result (job.Show file dict) old new
+  pub show_found : (result : Result Answer Failure) → ShowsFile result file form old.files new.files → FindsJob result (job.Show file form) old new
   show_found (Ok answer) (bytes, (has, fits, same), (profile, (reads, (text, report, is)))) =
-      file_told file profile_limit (job.Show file dict) of_profile tt refl (λ outside calls. calls) (λ outside answer holds. holds) old new same_input bytes.items has fits same answer
+      file_told file profile_limit (job.Show file form) of_profile tt refl (λ outside calls. calls) (λ outside answer holds. holds) old new same_input bytes.items has fits same answer
       (record { low = done_low answer.failure (ap (λ (a : Answer). a.failure) is); saves = inl (ap (λ (a : Answer). a.failure) is) })
       (Ok profile, (reads, (text, report, is)))
   show_found (Err failure) (inl (bytes, (has, fits, same), (fault, is, reads))) =
-      subst (λ f. FindsJob (Err f) (job.Show file dict) old new) (sym is) (show_refused bytes.items has fits same fault reads)
+      subst (λ f. FindsJob (Err f) (job.Show file form) old new) (sym is) (show_refused bytes.items has fits same fault reads)
   show_found (Err failure) (inr unloaded) =
-      file_unloaded file profile_limit (job.Show file dict) of_profile tt refl (λ outside calls. calls) (λ outside answer holds. holds) old new same_input failure unloaded
+      file_unloaded file profile_limit (job.Show file form) of_profile tt refl (λ outside calls. calls) (λ outside answer holds. holds) old new same_input failure unloaded
 
 -- a refusal that is told has status 3, and saves nothing
 refused_ends : (text : List ℕ) (failure : Failure) (answer : Answer) → status_of (Some failure) ≤ 3 → answer ≡ checked text failure → IsEnd answer

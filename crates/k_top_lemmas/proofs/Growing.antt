@@ -21,19 +21,19 @@ grows_no_part None bytes = (0, omega arith, refl)
 grows_no_part (Some written) bytes = (0, omega arith, ap (λ b. Some b) (sym (append-nil written)))
 
 -- growing twice is growing by both
-grows_twice : (old mid end : Option (List ℕ)) (piece others : List ℕ) → Grows old piece mid → Grows mid others end → Grows old (piece ++ others) end
+pub grows_twice : (old mid end : Option (List ℕ)) (piece others : List ℕ) → Grows old piece mid → Grows mid others end → Grows old (piece ++ others) end
 grows_twice None mid end piece others g h = subst (λ m. Grows m others end) g h
 grows_twice (Some written) mid end piece others g h =
     let k : Grows (Some (written ++ piece)) others end = subst (λ m. Grows m others end) g h in
     k ∙ ap (λ bytes. Some bytes) (append_assoc written piece others)
 
 -- what grows by a prefix of the first piece grows by a prefix of both
-part_of_first : (old end : Option (List ℕ)) (piece others : List ℕ) → GrowsInPart old piece end → GrowsInPart old (piece ++ others) end
+pub part_of_first : (old end : Option (List ℕ)) (piece others : List ℕ) → GrowsInPart old piece end → GrowsInPart old (piece ++ others) end
 part_of_first old end piece others (n, le, g) =
     let long : length (piece ++ others) ≡ length piece + length others = length-append piece others in
     (n, omega (arith, long), subst (λ t. Grows old t end) (sym (take-append-le n piece others le)) g)
 
-part_of_second : (old mid end : Option (List ℕ)) (piece others : List ℕ) → Grows old piece mid → GrowsInPart mid others end → GrowsInPart old (piece ++ others) end
+pub part_of_second : (old mid end : Option (List ℕ)) (piece others : List ℕ) → Grows old piece mid → GrowsInPart mid others end → GrowsInPart old (piece ++ others) end
 part_of_second old mid end piece others g (n, le, h) =
     let long : length (piece ++ others) ≡ length piece + length others = length-append piece others in (
       length piece + n,

@@ -16,14 +16,16 @@ use Rattle.k_top_answers.specs.Clauses.{AsksFiles, Cause, HasRun, IsAnswered, Go
 use Rattle.k_top_answers.specs.Failures.{failure_line, failure_status, status_of}
 use Rattle.k_top_answers.specs.Requests.{AreToLoad, EndsAt, IsFront, saves_of}
 use Rattle.k_top_lemmas.specs.Parts.{Delivers, IfRefusal, Tells}
-use Rattle.k_top_lemmas.specs.Phases.{Around, Everywhere, FailsBefore, FilesAfter, InputAfter, IsQuiet, IsView, LoadsAll, LoadsStop, Performs, Stops, View}
+use Rattle.k_top_lemmas.specs.Phases.{Around, Everywhere, FailsBefore, FilesAfter, InputAfter, IsQuiet, IsView, LoadsAll, LoadsStop, Stops, View}
+use Rattle.k_top_lemmas.specs.Streams.{Performs, behind}
 use Rattle.k_top_answers.specs.Steps.{Outside, input_limit}
 use Rattle.k_top_answers.specs.Laws.{AnswersAreUnique}
 use Rattle.k_top_lemmas.proofs.ReadyLemmas.{refusal_maps}
 use Rattle.k_top_lemmas.proofs.Requesting.{after_none, front_longer, front_same, loads_exist}
 use Rattle.k_top_lemmas.proofs.Growing.{grows_no_part, grows_nothing}
 use Rattle.k_top_lemmas.proofs.Showing.{fits, outside_of, shows}
-use Rattle.k_top_lemmas.proofs.Delivering.{around, found, no_fault, told_8}
+use Rattle.k_top_lemmas.proofs.Delivering.{around, cut_off, found, no_fault, told_8}
+use Rattle.k_top_lemmas.proofs.Streaming.{delivered_behind, ends_behind}
 
 -- NO ANSWER WAS FOUND
 module _ (words : List (List ℕ)) (old new : World) (view : View) (is_view : IsView view (around old)) (same_out : new.out ≡ old.out)
@@ -457,11 +459,17 @@ held_before failure loads named calls view old new (inr (inr (silent, none, same
 -- WHAT THE CALL COMES TO meets the theorem
 pub keeps : AnswersAreUnique → (words : List (List ℕ)) (status : ℕ) (done : Result ⊤ Failure) (old new : World)
     → Performs done words (around old) (around new) old.out new.out → Tells done status old.err new.err → Keeps words status old new
-keeps unique words status done old new (inl (failure, is, (view, is_view, (before, refusal)), same_out)) tells =
+keeps unique words status done old new (inl (failure, is, inl ((view, is_view, (before, refusal)), same_out))) tells =
     not_found words old new view is_view same_out (unique words (outside_of old view))
     (held_before failure (CallsForFiles words) (AreToLoad words) (CallsForInput words) view (around old) (around new) before)
     status failure before refusal (subst (λ d. Tells d status old.err new.err) is tells)
-keeps unique words status done old new (inr (answer, delivered, mid, (view, is_view, ((all, named, same), input, is_end, is_answer)), delivers, ends)) tells =
+keeps unique words status done old new (inl (failure, is, inr (view, is_view, (fault, same_failure, counts, (all, named, same), input, puts)))) tells =
+    cut_off words old new view is_view input all named same status fault counts (puts (outside_of old view) (shows old view is_view))
+    (subst (λ f. Tells (Err f) status old.err new.err) same_failure (subst (λ d. Tells d status old.err new.err) is tells))
+keeps unique words status done old new
+    (inr (answer, delivered, mid, out_mid, (first, puts, (view, is_view, ((all, named, same), input, is_end, is_answer))), delivers, ends)) tells =
     let is = is_answer (outside_of old view) (shows old view is_view) in
-    found words old new view is_view answer is (λ other other_is. unique words (outside_of old view) answer other is other_is) is_end input
-    all named status done delivered (subst (λ (f : FilesState). Delivers delivered answer f new.files old.out new.out) same delivers) ends tells
+    found words old new view is_view (behind first answer) is (λ other other_is. unique words (outside_of old view) (behind first answer) other is other_is) is_end input
+    all named status done delivered
+    (subst (λ (f : FilesState). Delivers delivered (behind first answer) f new.files old.out new.out) same
+    (delivered_behind first answer delivered mid new.files old.out out_mid new.out puts delivers)) (ends_behind first answer done delivered ends) tells

@@ -10,6 +10,7 @@ mod Agreeing
 mod Showing
 pub mod ReadyLemmas
 pub mod RunLemmas
+pub mod Machine
 pub mod Reporting
 pub mod SummaryLemmas
 mod Statuses
@@ -21,5 +22,7 @@ pub mod FileLemmas
 mod Sounding
 mod OneSummary
 pub mod OneAnswer
+mod Putting
 mod Delivering
+pub mod Streaming
 pub mod Keeping

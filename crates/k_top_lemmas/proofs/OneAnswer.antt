@@ -7,8 +7,8 @@ use Rattle.k_dict_saved.specs.declared.fault.SavedFault.TheVariants.{NotSaved}
 use Rattle.k_dict_saved.specs.declared.format.Accepts.TheVariants.{Both}
 use Rattle.k_report_profile.proofs.Reported.{report_is_unique}
 use Rattle.k_dict_saved.proofs.Profiles.{one_migration, read_migrated, read_of_write}
-use Rattle.k_report_profile.specs.Report.{IsReport}
-use Rattle.k_dict_saved.specs.Profile.{Reads}
+use Rattle.k_data_profile.proofs.Texts.{document_is_unique, table_is_unique}
+use Rattle.k_dict_saved.specs.Profile.{IsSaved, Reads}
 use Rattle.k_dict_saved.specs.declared.saved.Saved.{Saved}
 use Rattle.k_words.proofs.OneAnswer.{answer_is_unique}
 use Rattle.k_words.proofs.Within.{jobs_are_within}
@@ -17,6 +17,8 @@ use Rattle.k_words.specs.Within.{IsJobWithin}
 use Rattle.k_words.specs.Words as words
 use Rattle.k_words.specs.declared.about.Asked.{Asked}
 use Rattle.k_words.specs.declared.about.Asked.TheVariants.{Help, Version}
+use Rattle.k_words.specs.declared.job.Form.{Form}
+use Rattle.k_words.specs.declared.job.Form.TheVariants as shown
 use Rattle.k_words.specs.declared.job.Job.{Job}
 use Rattle.k_words.specs.declared.job.Job.TheVariants as job
 use Rattle.k_words.specs.declared.usage.Usage.{Usage}
@@ -24,7 +26,7 @@ use Rattle.k_words.specs.declared.usage.Usage.TheVariants as usage
 use Rattle.k_top_answers.specs.declared.answer.Answer.{Answer}
 use Rattle.k_top_answers.specs.declared.failure.Failure.{Failure}
 use Rattle.k_top_answers.specs.declared.failure.Failure.TheVariants as why
-use Rattle.k_top_answers.specs.Answers.{AnswersAsked, AnswersChecked, AnswersJob, AnswersProfile, AnswersRun, AnswersWords, IsListed, checked, done, refusal}
+use Rattle.k_top_answers.specs.Answers.{AnswersAsked, AnswersChecked, AnswersJob, AnswersProfile, AnswersRun, AnswersWords, IsListed, IsShown, checked, done, refusal}
 use Rattle.k_top_answers.specs.Checks.{told}
 use Rattle.k_top_answers.specs.Laws.{AnswersAreUnique}
 use Rattle.k_top_answers.specs.Steps.{Outside, Running, file_limit, profile_limit, run_of}
@@ -60,19 +62,25 @@ not_refused bytes one place (is, inl spelled) b = read_of_write one (Err (NotSav
 not_refused bytes one place (is, inr (old, is_old, spelled, migrated)) b =
     read_migrated old (Err (NotSaved place)) is_old (subst (λ t. Reads t (Err (NotSaved place))) spelled b)
 
-one_profile : (dict : Bool) (one other : Answer) (bytes : List ℕ) (a b : Result Saved ℕ) → AnswersProfile dict one bytes a → AnswersProfile dict other bytes b → one ≡ other
-one_profile dict one other bytes (Ok p) (Ok q) (reads, (text, report, is)) (reads', (text', report', is')) =
+-- a profile has one text of each form
+one_text : (form : Form) (profile : Saved) (one other : List ℕ) → IsSaved profile → IsShown form profile one → IsShown form profile other → one ≡ other
+one_text (shown.Report dict) profile one other is a b = report_is_unique profile dict one other is a b
+one_text (shown.Json dict) profile one other is a b = document_is_unique profile dict one other is a b
+one_text shown.Csv profile one other is a b = table_is_unique profile one other is a b
+
+one_profile : (form : Form) (one other : Answer) (bytes : List ℕ) (a b : Result Saved ℕ) → AnswersProfile form one bytes a → AnswersProfile form other bytes b → one ≡ other
+one_profile form one other bytes (Ok p) (Ok q) (reads, (text, report, is)) (reads', (text', report', is')) =
     let same : q ≡ p = sym (spelled_same bytes p q reads reads') in
-    is ∙ ap done (report_is_unique p dict text text' reads.0 report (subst (λ s. IsReport s dict text') same report')) ∙ sym is'
-one_profile dict one other bytes (Ok p) (Err place) (reads, rest) (reads', is') = absurd (not_refused bytes p place reads reads')
-one_profile dict one other bytes (Err place) (Ok q) (reads, is) (reads', rest) = absurd (not_refused bytes q place reads' reads)
-one_profile dict one other bytes (Err place) (Err place') (reads, is) (reads', is') =
+    is ∙ ap done (one_text form p text text' reads.0 report (subst (λ s. IsShown form s text') same report')) ∙ sym is'
+one_profile form one other bytes (Ok p) (Err place) (reads, rest) (reads', is') = absurd (not_refused bytes p place reads reads')
+one_profile form one other bytes (Err place) (Ok q) (reads, is) (reads', rest) = absurd (not_refused bytes q place reads' reads)
+one_profile form one other bytes (Err place) (Err place') (reads, is) (reads', is') =
     is ∙ ap (λ n. refusal (why.Saved n)) (first_wrong_is_one Both bytes place place' reads reads') ∙ sym is'
 
-by_file : (dict : Bool) (one other : Answer) → Agree {A = List ℕ} (λ failure. one ≡ refusal failure) (λ failure. other ≡ refusal failure)
-    (λ bytes. (read : Result Saved ℕ) × AnswersProfile dict one bytes read) (λ bytes. (read : Result Saved ℕ) × AnswersProfile dict other bytes read) → one ≡ other
-by_file dict one other (inl (failure, a, b)) = a ∙ sym b
-by_file dict one other (inr (bytes, (x, a), (y, b))) = one_profile dict one other bytes x y a b
+by_file : (form : Form) (one other : Answer) → Agree {A = List ℕ} (λ failure. one ≡ refusal failure) (λ failure. other ≡ refusal failure)
+    (λ bytes. (read : Result Saved ℕ) × AnswersProfile form one bytes read) (λ bytes. (read : Result Saved ℕ) × AnswersProfile form other bytes read) → one ≡ other
+by_file form one other (inl (failure, a, b)) = a ∙ sym b
+by_file form one other (inr (bytes, (x, a), (y, b))) = one_profile form one other bytes x y a b
 
 -- CHECK
 both_same : {X : Type 0} (one other answer : Answer) (refused : Failure → Answer) → Agree {A = X} (λ failure. one ≡ refused failure) (λ failure. other ≡ refused failure)
@@ -102,8 +110,8 @@ one_job outside one other (job.Graph file steps depth latency) within a b =
     by_run one other (λ r. IsListed depth one r × IsSound r) (IsListed depth other) (λ r p q. one_listed depth one other r p.0 q)
     (running_agrees (λ failure. one ≡ refusal failure) (λ failure. other ≡ refusal failure) _ _ outside steps file latency
     (running_sound (λ failure. one ≡ refusal failure) (IsListed depth one) outside steps (omega (arith, most)) file latency a) b)
-one_job outside one other (job.Show file dict) within a b =
-    by_file dict one other (file_agrees (λ failure. one ≡ refusal failure) (λ failure. other ≡ refusal failure) _ _ outside profile_limit file a b)
+one_job outside one other (job.Show file form) within a b =
+    by_file form one other (file_agrees (λ failure. one ≡ refusal failure) (λ failure. other ≡ refusal failure) _ _ outside profile_limit file a b)
 one_job outside one other (job.Check file) within a b =
     by_check file one other
     (file_agrees (λ failure. one ≡ refusal failure) (λ failure. other ≡ refusal failure) (AnswersChecked file one) (AnswersChecked file other) outside file_limit file a b)

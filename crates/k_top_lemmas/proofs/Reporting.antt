@@ -1,30 +1,17 @@
--- What the report of a run is asked of, and what its summary says, in terms of the run.
-use Rattle.std.proofs.Common.{ℕ, ℤ, ◌≡◌, ◌∙◌, ◌-◌, ap, sym, subst, List, [], ◌∷◌, length, Some, slice_get}
-use Rattle.k_optab.specs.declared.event.Event.{Event}
+-- What the summary of a run says of the tree of its profile.
+use Rattle.std.proofs.Common.{ℕ, ◌≡◌, ◌∙◌, ◌-◌, ap, sym, subst, List, [], ◌∷◌, length, Some, slice_get}
 use Rattle.k_optab.specs.declared.node.Node.{Node}
-use Rattle.k_optab.specs.declared.region.Region.{Region}
 use Rattle.k_dict.specs.declared.entry.Entry.{Entry}
 use Rattle.k_dict.specs.Entries.{expansion}
 use Rattle.k_dict.specs.Trees.{Label, node_at}
 use Rattle.k_dict.proofs.EntryTrees.{tree_is}
-use Rattle.k_report_profile.specs.RunReport.{Ran}
 use Rattle.k_report_profile.proofs.Reported.{at_root}
-use Rattle.k_regions.specs.Regions.{regions_of}
 use Rattle.k_dict_saved.specs.declared.saved.Saved.{Saved}
 use Rattle.k_dict_saved.specs.Profile.{IsSaved}
 use Rattle.k_selfpar.specs.declared.row.Row.{Row}
 use Rattle.k_selfpar.specs.Rows.{AreRows}
-use Rattle.k_top_answers.specs.Answers.{ran_of}
 use Rattle.k_top_lemmas.specs.Parts.{IsTreeText}
-use Rattle.k_top_answers.specs.Steps.{Running, run_of}
 use Rattle.k_top_answers.specs.Texts.{tree_lines}
-
--- what is reported is the run, where its exit, its events and its regions are these
-pub same_ran : (r : Running) (shown exit : ℤ) (depth : ℕ) (events : List Event) (regions : List Region) → shown ≡ exit → events ≡ (run_of r).events
-    → regions ≡ regions_of r.typed
-    → ◌≡◌ {A = Ran} (record { exit = shown; events = events; regions = regions; depth = depth }) (ran_of r exit depth)
-same_ran r shown exit depth events regions same_exit same_events same_regions =
-    λ i. record { exit = same_exit i; events = same_events i; regions = same_regions i; depth = depth }
 
 -- the lines on the tree of a profile are those of its last entry
 pub tree_told : (saved : Saved) (n : ℕ) (root : Entry) (rows : List Row) (text : List ℕ) → IsSaved saved → n ≡ length saved.dict

@@ -53,11 +53,11 @@ pub record IsSound (r : Running) : Type 0 where
 pub sound : (r : Ready) (depth : ℕ) → IsFit r depth → IsSound (running_of r)
 sound r depth fit = record {
   unit = fit.program.unit;
-  typed = fit.program.typed;
-  faultless = fit.program.faultless;
-  few = fit.program.few;
+  typed = fit.program.accepted.typed;
+  faultless = fit.program.accepted.faultless;
+  few = fit.program.accepted.few;
   regions = fit.program.regions;
-  latencies = fit.program.latencies;
+  latencies = fit.program.accepted.latencies;
   steps = fit.steps;
 }
 

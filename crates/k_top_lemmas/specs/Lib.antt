@@ -1,2 +1,3 @@
 pub mod Parts
 pub mod Phases
+pub mod Streams

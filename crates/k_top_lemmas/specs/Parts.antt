@@ -1,8 +1,9 @@
 -- For contracts between crates: nobody has to believe it.
 -- What each part of the call comes to, and what it leaves. The theorem on `kremlin` speaks of none of this.
-use Rattle.std.specs.Prelude.{ℕ, ⊤, ◌≡◌, ◌≢◌, ◌≤◌, ◌⊎◌, Bool, true, false, nat_eq, List, [], ◌++◌, Option, Some, None, Result, Ok, Err, Vec}
+use Rattle.std.specs.Prelude.{ℕ, ⊤, ◌≡◌, ◌≢◌, ◌≤◌, ◌⊎◌, Bool, true, false, nat_eq, List, [], ◌++◌, length, Option, Some, None, Result, Ok, Err, Vec}
 use Rattle.std.specs.Cmp.Lexicographic.{pointwise}
 use Rattle.std.specs.declared.alloc.Global.{Global}
+use Rattle.k_optab.specs.Events.{operations}
 use Rattle.k_optab.specs.Latencies.{standard_latencies}
 use Rattle.k_optab.specs.TomlTable.{IsRefused, IsTold}
 use Rattle.k_optab.specs.declared.node.Node.{Node}
@@ -18,11 +19,17 @@ use Rattle.k_edge.specs.declared.reading.ReadAllFault.{ReadAllFault}
 use Rattle.k_edge.specs.declared.sink.PutFault.{PutFault}
 use Rattle.k_edge.specs.declared.sink.PutFault.TheVariants as put
 use Rattle.k_tree.specs.declared.tree.unit.Unit as source
-use Rattle.k_tree.specs.Count.{unit_count}
-use Rattle.k_types_meaning.specs.Bare.{IsTyped}
-use Rattle.k_types_meaning.specs.Units.{faults}
 use Rattle.k_marks_meaning.specs.Marking.{marks_of}
-use Rattle.k_evaluation.specs.Laws.{AreAtMost}
+use Rattle.k_evaluation.specs.States as evaluation
+use Rattle.k_lower_accepted.specs.Accepted.{IsAccepted}
+use Rattle.k_shadow.specs.Content.{Content, empty}
+use Rattle.k_dict.specs.declared.entry.Entry.{Entry}
+use Rattle.k_hcpa.specs.Profiles.{IsSummary}
+use Rattle.k_hcpa.specs.declared.profile.Profile.{Profile}
+use Rattle.k_hcpa.specs.declared.profile.RunFault.{RunFault}
+use Rattle.k_hcpa.specs.declared.profile.RunFault.TheVariants as run_fault
+use Rattle.k_hcpa.specs.declared.profile.Summary.{Summary}
+use Rattle.k_hcpa.specs.declared.profile.Summary.TheVariants as summary
 use Rattle.k_dict_saved.specs.Files.{AreRegions}
 use Rattle.k_dict_saved.specs.declared.fault.SavedFault.{SavedFault}
 use Rattle.k_regions.specs.Regions.{regions_of}
@@ -35,6 +42,7 @@ use Rattle.k_selfpar.specs.declared.row.Row.{Row}
 use Rattle.k_plan.specs.declared.advice.Advice.{Advice}
 use Rattle.k_report.specs.Report.{large_line}
 use Rattle.k_report_profile.specs.Report.{IsPlanned, nodes_of_profile}
+use Rattle.k_words.specs.declared.job.Form.{Form}
 use Rattle.k_top_answers.specs.declared.answer.Answer.{Answer}
 use Rattle.k_top_answers.specs.declared.answer.SavedFile.{SavedFile}
 use Rattle.k_top_answers.specs.declared.failure.Failure.{Failure}
@@ -44,7 +52,7 @@ use Rattle.k_top_lemmas.specs.declared.running.Ready.{Ready}
 use Rattle.k_top_answers.specs.Answers.{AnswersChecked, AnswersProfile, done}
 use Rattle.k_top_answers.specs.Clauses.{Told}
 use Rattle.k_top_answers.specs.Failures.{failure_line, failure_of_load, failure_of_put, failure_of_reading, failure_of_save, failure_of_saved, failure_of_table, failure_status}
-use Rattle.k_top_answers.specs.Steps.{AnswersSource, Running, file_limit, input_limit, profile_limit}
+use Rattle.k_top_answers.specs.Steps.{AnswersSource, Running, file_limit, input_limit, profile_limit, run_of}
 use Rattle.k_top_answers.specs.Texts.{plan_line, tree_lines}
 
 -- the failure refuses: it is no fault of the outside and no want of memory
@@ -87,15 +95,16 @@ abbrev pub is_name : Option (List ℕ) → List ℕ → Bool
 is_name None file = false
 is_name (Some name) file = pointwise nat_eq name file
 
--- a program of which laws of runs speak: an accepted source with its marks, whose regions can be saved, and latencies of at most 10,000
+-- a program, as runs and lowering have it
+abbrev pub program_of : Program → evaluation.Program
+program_of p = record { unit = p.typed; marks = p.marks; latencies = p.latencies }
+
+-- a program of which laws of runs and of lowering speak: that of an accepted source, with its marks, whose regions can be saved
 pub record CanRun (p : Program) : Type 0 where
   pub unit : source.Unit
-  pub typed : IsTyped unit p.typed
-  pub faultless : faults unit ≡ []
-  pub few : unit_count unit ≤ 262144
+  pub accepted : IsAccepted unit (program_of p)
   pub regions : AreRegions (regions_of p.typed)
   pub marks : p.marks ≡ marks_of p.typed
-  pub latencies : AreAtMost 10000 p.latencies
 
 -- what reading a source comes to: a program with these latencies, or why it is refused
 abbrev pub AcceptsSource : Result Program Failure → List ℕ → Type 0
@@ -124,25 +133,46 @@ running_of r = record { typed = r.program.typed; latencies = r.program.latencies
 -- a run of which a report and a listing can be made, with the instances below a depth
 pub record IsFit (r : Ready) (depth : ℕ) : Type 0 where
   pub program : CanRun r.program
+  pub least : 1 ≤ r.steps
   pub steps : r.steps ≤ 1000000000
   pub some : 1 ≤ depth
   pub tracked : depth ≤ 32
+
+-- a shadow has no live level yet, and room for this many locations
+pub record IsFresh (least : ℕ) (c : Content) : Type 0 where
+  pub is_empty : c ≡ empty c.limit
+  pub limit : least ≤ c.limit
+
+-- the dictionary that is told, if one is
+abbrev pub dict_of : Summary → Option (List Entry)
+dict_of summary.Missing = None
+dict_of summary.Large = None
+dict_of (summary.Whole entries) = Some entries
+
+-- this profile is that of a run, of whose output these bytes were put
+pub record IsProfileOfRun (r : Running) (depth : ℕ) (put : List ℕ) (p : Profile) : Type 0 where
+  pub end : p.end ≡ (run_of r).end
+  pub ops : p.ops ≡ length (operations (run_of r).events)
+  pub output : put ++ p.rest ≡ (run_of r).output
+  pub written : p.written ≡ length (run_of r).output
+  pub held : p.rest ≡ [] → put ≡ []
+  pub summary : IsSummary depth (run_of r).events p.end p.summary
 
 -- what making the answer comes to that is a text
 abbrev pub GivesText : Result Answer Failure → List ℕ → Type 0
 GivesText (Ok answer) text = answer ≡ done text
 GivesText (Err failure) text = failure ≡ why.NoMemory
 
--- what the report of a saved profile comes to
-abbrev pub ShowsProfile : Result Answer Failure → List ℕ → Bool → Type 0
-ShowsProfile (Ok answer) bytes dict = (profile : Saved) × AnswersProfile dict answer bytes (Ok profile)
-ShowsProfile (Err failure) bytes dict = (fault : SavedFault) × (failure ≡ failure_of_saved fault) × Reads bytes (Err fault)
+-- what showing a saved profile comes to
+abbrev pub ShowsProfile : Result Answer Failure → List ℕ → Form → Type 0
+ShowsProfile (Ok answer) bytes form = (profile : Saved) × AnswersProfile form answer bytes (Ok profile)
+ShowsProfile (Err failure) bytes form = (fault : SavedFault) × (failure ≡ failure_of_saved fault) × Reads bytes (Err fault)
 
--- what loading a saved profile and reporting it comes to
-abbrev pub ShowsFile : Result Answer Failure → List ℕ → Bool → FilesState → FilesState → Type 0
-ShowsFile (Ok answer) file dict old new = (bytes : Vec ℕ Global) × Loads (Ok bytes) file profile_limit old new × ShowsProfile (Ok answer) bytes.items dict
-ShowsFile (Err failure) file dict old new =
-    ((bytes : Vec ℕ Global) × Loads (Ok bytes) file profile_limit old new × ShowsProfile (Err failure) bytes.items dict)
+-- what loading a saved profile and showing it comes to
+abbrev pub ShowsFile : Result Answer Failure → List ℕ → Form → FilesState → FilesState → Type 0
+ShowsFile (Ok answer) file form old new = (bytes : Vec ℕ Global) × Loads (Ok bytes) file profile_limit old new × ShowsProfile (Ok answer) bytes.items form
+ShowsFile (Err failure) file form old new =
+    ((bytes : Vec ℕ Global) × Loads (Ok bytes) file profile_limit old new × ShowsProfile (Err failure) bytes.items form)
     ⊎ LoadsFile (Err failure) file profile_limit old new
 
 -- what checking a source comes to
@@ -187,6 +217,18 @@ abbrev pub PutsAll : Result ⊤ PutFault → List ℕ → SinkState → SinkStat
 PutsAll (Ok done) bytes old new = Grows old.written bytes new.written × (new.faults ≡ old.faults)
 PutsAll (Err put.Failed) bytes old new = (bytes ≢ []) × GrowsInPart old.written bytes new.written × Rose old.faults new.faults
 PutsAll (Err put.Memory) bytes old new = GrowsInPart old.written bytes new.written × (new.faults ≡ old.faults)
+
+-- a fault of a run is one of the puts of its output
+abbrev pub put_result : Result Profile RunFault → Result Profile PutFault
+put_result (Ok p) = Ok p
+put_result (Err run_fault.Write) = Err put.Failed
+put_result (Err run_fault.Memory) = Err put.Memory
+
+-- what running a program on the machine comes to, of whose instances those below a depth are tracked: its profile, of whose output some was put; or it
+-- was given up as it would be where its output is put
+abbrev pub RunsProgram : Running → ℕ → Result Profile PutFault → SinkState → SinkState → Type 0
+RunsProgram r depth (Ok p) old new = (bytes : List ℕ) × PutsAll (Ok tt) bytes old new × IsProfileOfRun r depth bytes p
+RunsProgram r depth (Err fault) old new = PutsAll (Err fault) (run_of r).output old new
 
 -- the file of an answer was saved, if it has one
 abbrev pub HasSaved : Option SavedFile → FilesState → FilesState → Type 0

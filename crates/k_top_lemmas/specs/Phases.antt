@@ -1,12 +1,11 @@
 -- For contracts between crates: nobody has to believe it.
 -- What was seen of the outside while the answer was found, and what holds wherever that is so. The theorem on `kremlin` speaks of none of this.
-use Rattle.std.specs.Prelude.{ℕ, ⊤, ◌≡◌, ◌≢◌, ◌+◌, ◌≤◌, ◌⊎◌, List, [], ◌∷◌, ◌++◌, Option, Some, None, Result, Ok, Err, Vec}
+use Rattle.std.specs.Prelude.{ℕ, ◌≡◌, ◌≢◌, ◌+◌, ◌≤◌, ◌⊎◌, List, [], ◌∷◌, ◌++◌, Option, Some, None, Result, Ok, Err, Vec}
 use Rattle.std.specs.declared.alloc.Global.{Global}
 use Rattle.k_edge.specs.Fault.{Rose}
 use Rattle.k_edge.specs.FilesWords.{FilesState, Has, after}
 use Rattle.k_edge.specs.declared.request.Request.{Request}
 use Rattle.k_edge.specs.ReadAll.{DrawsTooMany, DrawsWithin, ReadsAll}
-use Rattle.k_edge.specs.SinkWords.{SinkState}
 use Rattle.k_edge.specs.SourceWords.{SourceState}
 use Rattle.k_words.specs.declared.job.Job.{Job}
 use Rattle.k_words.specs.declared.job.Job.TheVariants as job
@@ -18,7 +17,7 @@ use Rattle.k_top_lemmas.specs.declared.running.Ready.{Ready}
 use Rattle.k_top_answers.specs.Answers.{AnswersJob, CallsForFiles, CallsForInput, FilesCall, IsAnswer, JobCalls, JobLoads, refusal}
 use Rattle.k_top_answers.specs.Clauses.{MayGive}
 use Rattle.k_top_answers.specs.Failures.{status_of}
-use Rattle.k_top_lemmas.specs.Parts.{Delivers, EndsAs, IfRefusal, running_of}
+use Rattle.k_top_lemmas.specs.Parts.{IfRefusal, running_of}
 use Rattle.k_top_answers.specs.Requests.{AreToLoad, EndsAt, IsFront, files_of, loads_of}
 use Rattle.k_top_answers.specs.Steps.{AnswersProgram, AnswersRunning, Outside, input_limit}
 
@@ -197,11 +196,3 @@ FindsAnswer result words old new =
 abbrev pub MakesDemo : Result Answer Failure → ℕ → ℕ → Type 0
 MakesDemo (Ok answer) number loops = IsEnd answer × ((outside : Outside) → AnswersJob outside answer (job.Demo number loops))
 MakesDemo (Err failure) number loops = IsQuiet failure × IfRefusal failure ((outside : Outside) → AnswersJob outside (refusal failure) (job.Demo number loops))
-
--- what the whole call comes to, but for err: the answer is found and delivered, or it is not found and nothing is put
-abbrev pub Performs : Result ⊤ Failure → List (List ℕ) → Around → Around → SinkState → SinkState → Type 0
-Performs result words old new out out' =
-    ((failure : Failure) × (result ≡ Err failure) × FindsAnswer (Err failure) words old new × (out' ≡ out))
-    ⊎ ((answer : Answer) × (delivered : Result ⊤ Failure) × (mid : FilesState)
-    × FindsAnswer (Ok answer) words old (record { files = mid; input = new.input })
-    × Delivers delivered answer mid new.files out out' × EndsAs result delivered answer)

@@ -10,6 +10,7 @@ mod saves;
 
 use k_edge::{Files, MemFiles, MemSink, MemSource, Sink, Source, SureFiles, SureSink, SureSource};
 use k_num::NoMemory;
+use k_shadow::LevelMaps;
 use k_top::kremlin;
 use std::alloc::Global;
 use std::process::Abort;
@@ -126,6 +127,8 @@ fn status_of<F: Files, S: Source, K: Sink>(
         &mut streams.input,
         &mut streams.out,
         &mut streams.err,
+        LevelMaps::new(alloc),
+        LevelMaps::new(alloc),
     ))
 }
 

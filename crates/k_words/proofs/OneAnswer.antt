@@ -11,7 +11,7 @@ use Rattle.k_words.specs.declared.option.Setting.{Setting}
 use Rattle.k_words.specs.declared.usage.Usage.{Usage}
 use Rattle.k_words.specs.declared.usage.Usage.TheVariants.{NoCommand, UnknownWord, BadNumber, Twice, NoFile, Memory}
 use Rattle.k_words.specs.Setting.{is_value, option_of}
-use Rattle.k_words.specs.Settings.{IsFirst, fault_if_there, given, has, option_fault, settings_fault}
+use Rattle.k_words.specs.Settings.{IsFirst, bars, fault_if_there, given, option_fault, settings_fault}
 use Rattle.k_words.specs.Words.{Answers, AreRight, IsAnswer, command_fault, command_of, demo_fault, demo_job, demo_loops, demo_number, fault_at, fault_behind, file_fault, graph_of, is_no_file, job_of, job_with, loops_fault, one_too_many, run_of, show_of}
 
 -- what is wrong with a word is no want of memory
@@ -89,7 +89,7 @@ fault_other (command ∷ arguments) (suc k) = behind_other (command_of command) 
 
 -- nothing is wrong behind the last word
 settings_past : (command : Command) (words : List (List ℕ)) (k : ℕ) → length words ≤ k → settings_fault command words k ≡ None
-settings_past command words k past = ap (λ word. fault_if_there command (has (given command (take k words))) word (k + 2)) (slice_get_past words k past)
+settings_past command words k past = ap (λ word. fault_if_there command (bars (given command (take k words))) word (k + 2)) (slice_get_past words k past)
 
 file_past : (command : Command) (arguments : List (List ℕ)) (k : ℕ) → length arguments < k → file_fault command arguments k ≡ None
 file_past command [] zero past = absurd (omega arith)

@@ -6,7 +6,7 @@ use Rattle.std.proofs.lemmas.Option.{slice_get-get_or, slice_get-map, slice_get_
 use Rattle.std.specs.Prelude.{nat_lt, slice_get}
 use Rattle.k_words.specs.declared.option.Command.{Command}
 use Rattle.k_words.specs.declared.usage.Usage.{Usage}
-use Rattle.k_words.specs.Settings.{Given, IsFirst, ReadsAll, TakesWord, count, given, has, seen_words, settings_fault, word_fault}
+use Rattle.k_words.specs.Settings.{Given, IsFirst, ReadsAll, TakesWord, bars, count, given, seen_words, settings_fault, word_fault}
 use Rattle.k_words.proofs.Given.{count-set, given-more}
 
 -- so many words were read, none of them is wrong, and this is what they give
@@ -44,11 +44,11 @@ below_or_past j k = elim (cases_Bool (nat_lt j k)) [
 
 module _ (command : Command) (words : List (List ℕ)) (k index : ℕ) (old : Given) (read : IsRead command words k index old) where
   -- the fault of a word is that of its place
-  fault-here : (word : List ℕ) → slice_get words k ≡ Some word → settings_fault command words k ≡ word_fault command (has old) word index
-  fault-here word is = rw (is, ← read.so_far) (ap (λ i. word_fault command (has old) word i) (omega (arith, read.at)))
+  fault-here : (word : List ℕ) → slice_get words k ≡ Some word → settings_fault command words k ≡ word_fault command (bars old) word index
+  fault-here word is = rw (is, ← read.so_far) (ap (λ i. word_fault command (bars old) word i) (omega (arith, read.at)))
 
   -- the first word that is wrong
-  pub first_wrong : (word : List ℕ) (fault : Usage) → slice_get words k ≡ Some word → word_fault command (has old) word index ≡ Some fault
+  pub first_wrong : (word : List ℕ) (fault : Usage) → slice_get words k ≡ Some word → word_fault command (bars old) word index ≡ Some fault
       → IsFirst (settings_fault command words) fault
   first_wrong word fault is wrong = record { at = k; wrong = fault-here word is ∙ wrong; before = read.right }
 

@@ -33,7 +33,7 @@ help_text = concat (
     codes "\n" ∷
     codes "kremlin run FILE [OPTION ..]    runs a C program and writes its output, its profile and a plan\n" ∷
     codes "kremlin graph FILE [OPTION ..]  lists the events of the run and a heaviest path for each region instance\n" ∷
-    codes "kremlin show FILE [--dict]      writes the report of a saved profile\n" ∷
+    codes "kremlin show FILE [OPTION ..]   writes a saved profile: its report, a JSON document, or its rows as CSV\n" ∷
     codes "kremlin check FILE              reads and checks a C program and does not run it; what is refused it shows in its line\n" ∷
     codes "kremlin demo NUMBER LOOPS       makes a program of LOOPS loops (1 to 2000) from NUMBER and sums up its run\n" ∷
     codes "kremlin --help, -h              writes this text\n" ∷
@@ -44,6 +44,8 @@ help_text = concat (
     codes "--latency=FILE  a table of latencies in TOML; run, graph; default the standard latencies\n" ∷
     codes "--dict          lists the dictionary of summaries; run, show; default no list\n" ∷
     codes "--save=FILE     saves the profile; run; default not saved\n" ∷
+    codes "--json          writes a JSON document, with the dictionary by --dict; show; default the report\n" ∷
+    codes "--csv           writes the rows as CSV, and takes neither --dict nor --json; show; default the report\n" ∷
     codes "\n" ∷
     codes "exit status:\n" ∷
     codes " 0  done\n" ∷

@@ -6,7 +6,7 @@ use Rattle.std.specs.Cmp.Lexicographic.{pointwise}
 use Rattle.k_words.specs.declared.option.Command.{Command}
 use Rattle.k_words.specs.declared.option.Command.TheVariants.{Run, Graph, Show, Check, Demo}
 use Rattle.k_words.specs.declared.option.Setting.{Setting}
-use Rattle.k_words.specs.declared.option.Setting.TheVariants.{Steps, Depth, Latency, Dict, Save}
+use Rattle.k_words.specs.declared.option.Setting.TheVariants.{Steps, Depth, Latency, Dict, Save, Json, Csv}
 use Rattle.k_words.specs.Number.{number_within}
 
 -- what follows a text at the front of a word
@@ -33,21 +33,33 @@ written_as word =
     else if is_some (after (codes "--depth=") word) then begun_with (codes "--depth=") Depth word
     else if is_some (after (codes "--latency=") word) then option_and_then (named Latency) (after (codes "--latency=") word)
     else if is_some (after (codes "--save=") word) then option_and_then (named Save) (after (codes "--save=") word)
-    else if pointwise nat_eq word (codes "--dict") then Some (Dict, []) else None
+    else if pointwise nat_eq word (codes "--dict") then Some (Dict, [])
+    else if pointwise nat_eq word (codes "--json") then Some (Json, [])
+    else if pointwise nat_eq word (codes "--csv") then Some (Csv, []) else None
 
 -- the options of each command
 abbrev pub is_taken : Command → Setting → Bool
-is_taken Run setting = true
+is_taken Run Steps = true
+is_taken Run Depth = true
+is_taken Run Latency = true
+is_taken Run Dict = true
+is_taken Run Save = true
+is_taken Run Json = false
+is_taken Run Csv = false
 is_taken Graph Steps = true
 is_taken Graph Depth = true
 is_taken Graph Latency = true
 is_taken Graph Dict = false
 is_taken Graph Save = false
+is_taken Graph Json = false
+is_taken Graph Csv = false
 is_taken Show Steps = false
 is_taken Show Depth = false
 is_taken Show Latency = false
 is_taken Show Dict = true
 is_taken Show Save = false
+is_taken Show Json = true
+is_taken Show Csv = true
 is_taken Check setting = false
 is_taken Demo setting = false
 
@@ -86,3 +98,5 @@ is_value command Depth value = is_some (number_within 1 most_depth value)
 is_value command Latency value = true
 is_value command Dict value = true
 is_value command Save value = true
+is_value command Json value = true
+is_value command Csv value = true

@@ -1,10 +1,10 @@
 -- Believed with the theorem on the top call.
 -- *Options of a command*: what the words behind its file give, and what is wrong with each of them.
-use Rattle.std.specs.Prelude.{ℕ, ◌+◌, ◌<◌, ◌≡◌, ◌==◌, Bool, true, false, if◌then◌else◌, List, [], ◌∷◌, take, map, slice_get, Option, Some, None, is_some, option_map, option_and_then, string_bytes, String}
+use Rattle.std.specs.Prelude.{ℕ, ◌+◌, ◌<◌, ◌≡◌, ◌==◌, ◌||◌, Bool, true, false, if◌then◌else◌, List, [], ◌∷◌, take, map, slice_get, Option, Some, None, is_some, option_map, option_and_then, string_bytes, String}
 use Rattle.std.specs.declared.alloc.Global.{Global}
 use Rattle.k_words.specs.declared.option.Command.{Command}
 use Rattle.k_words.specs.declared.option.Setting.{Setting}
-use Rattle.k_words.specs.declared.option.Setting.TheVariants.{Steps, Depth, Latency, Dict, Save}
+use Rattle.k_words.specs.declared.option.Setting.TheVariants.{Steps, Depth, Latency, Dict, Save, Json, Csv}
 use Rattle.k_words.specs.declared.settings.Settings.{Settings}
 use Rattle.k_words.specs.declared.usage.Usage.{Usage}
 use Rattle.k_words.specs.declared.usage.Usage.TheVariants.{UnknownWord, BadNumber, Twice}
@@ -18,10 +18,12 @@ pub record Given : Type 0 where
   pub latency : Option (List ℕ)
   pub dict : Bool
   pub save : Option (List ℕ)
+  pub json : Bool
+  pub csv : Bool
 
 -- the settings of the code as such
 abbrev pub seen : Settings → Given
-seen s = record { steps = s.steps; depth = s.depth; latency = option_map (λ file. file.now) s.latency; dict = s.dict; save = option_map (λ file. file.now) s.save }
+seen s = record { steps = s.steps; depth = s.depth; latency = option_map (λ file. file.now) s.latency; dict = s.dict; save = option_map (λ file. file.now) s.save; json = s.json; csv = s.csv }
 
 -- the words as lists of bytes
 abbrev pub seen_words : List (String Global) → List (List ℕ)
@@ -34,6 +36,8 @@ rank Depth = 1
 rank Latency = 2
 rank Dict = 3
 rank Save = 4
+rank Json = 5
+rank Csv = 6
 
 -- the value, where it is that of this option
 abbrev pub value_in : Setting → Option (Setting × List ℕ) → Option (List ℕ)
@@ -65,23 +69,27 @@ given command words = record {
   latency = first_of (text_in command Latency) words;
   dict = is_some (first_of (text_in command Dict) words);
   save = first_of (text_in command Save) words;
+  json = is_some (first_of (text_in command Json) words);
+  csv = is_some (first_of (text_in command Csv) words);
 }
 
--- the option was given
-abbrev pub has : Given → Setting → Bool
-has g Steps = is_some g.steps
-has g Depth = is_some g.depth
-has g Latency = is_some g.latency
-has g Dict = g.dict
-has g Save = is_some g.save
+-- an option was given that this one can't stand behind: this one itself, and of the two forms of `show` the other one; a table has no dictionary
+abbrev pub bars : Given → Setting → Bool
+bars g Steps = is_some g.steps
+bars g Depth = is_some g.depth
+bars g Latency = is_some g.latency
+bars g Dict = g.dict || g.csv
+bars g Save = is_some g.save
+bars g Json = g.json || g.csv
+bars g Csv = (g.csv || g.json) || g.dict
 
--- what is wrong with an option, where these were given before
+-- what is wrong with an option, where these are barred by those given before
 abbrev pub option_fault : Command → (Setting → Bool) → Option (Setting × List ℕ) → ℕ → Option Usage
 option_fault command before None index = Some (UnknownWord index)
 option_fault command before (Some o) index =
     if before o.0 then Some (Twice index) else if is_value command o.0 o.1 then None else Some (BadNumber index)
 
--- what is wrong with the word of this index, where these options were given before
+-- what is wrong with the word of this index, where these options are barred by those given before
 abbrev pub word_fault : Command → (Setting → Bool) → List ℕ → ℕ → Option Usage
 word_fault command before word index = option_fault command before (option_of command word) index
 
@@ -92,7 +100,7 @@ fault_if_there command before (Some word) index = word_fault command before word
 
 -- what is wrong with word k of those behind the file, which has index k + 2
 abbrev pub settings_fault : Command → List (List ℕ) → ℕ → Option Usage
-settings_fault command words k = fault_if_there command (has (given command (take k words))) (slice_get words k) (k + 2)
+settings_fault command words k = fault_if_there command (bars (given command (take k words))) (slice_get words k) (k + 2)
 
 -- the fault is that of the first wrong word
 pub record IsFirst (fault_at : ℕ → Option Usage) (fault : Usage) : Type 0 where
@@ -112,15 +120,17 @@ set command g Depth value = option_map (λ n. record g { depth = Some n }) (numb
 set command g Latency value = Some (record g { latency = Some value })
 set command g Dict value = Some (record g { dict = true })
 set command g Save value = Some (record g { save = Some value })
+set command g Json value = Some (record g { json = true })
+set command g Csv value = Some (record g { csv = true })
 
 -- a word that is right gives one option more
 pub record TakesWord (command : Command) (old : Given) (word : List ℕ) (index : ℕ) (new : Given) : Type 0 where
   pub setting : Setting
   pub value : List ℕ
   pub option : option_of command word ≡ Some (setting, value)
-  pub first : has old setting ≡ false
+  pub first : bars old setting ≡ false
   pub made : set command old setting value ≡ Some new
-  pub right : word_fault command (has old) word index ≡ None
+  pub right : word_fault command (bars old) word index ≡ None
 
 -- 1 where it holds
 abbrev pub one : Bool → ℕ
@@ -129,4 +139,5 @@ one false = 0
 
 -- how many options were given
 abbrev pub count : Given → ℕ
-count g = one (is_some g.steps) + one (is_some g.depth) + one (is_some g.latency) + one g.dict + one (is_some g.save)
+count g =
+    one (is_some g.steps) + one (is_some g.depth) + one (is_some g.latency) + one g.dict + one (is_some g.save) + one g.json + one g.csv

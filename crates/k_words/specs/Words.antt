@@ -5,6 +5,8 @@ use Rattle.std.specs.List.{starts_with}
 use Rattle.std.specs.Cmp.Lexicographic.{pointwise}
 use Rattle.k_words.specs.declared.job.Job.{Job}
 use Rattle.k_words.specs.declared.job.Job.TheVariants as job
+use Rattle.k_words.specs.declared.job.Form.{Form}
+use Rattle.k_words.specs.declared.job.Form.TheVariants as form
 use Rattle.k_words.specs.declared.option.Command.{Command}
 use Rattle.k_words.specs.declared.option.Command.TheVariants.{Run, Graph, Show, Check, Demo}
 use Rattle.k_words.specs.declared.usage.Usage.{Usage}
@@ -96,9 +98,13 @@ run_of file g = job.Run file (unwrap_or g.steps standard_steps) (unwrap_or g.dep
 abbrev pub graph_of : List ℕ → Given → Job
 graph_of file g = job.Graph file (unwrap_or g.steps 200000) (unwrap_or g.depth standard_depth) g.latency
 
+-- how `show` with these options shows a profile
+abbrev pub form_of : Given → Form
+form_of g = if g.csv then form.Csv else if g.json then form.Json g.dict else form.Report g.dict
+
 -- what `show` with this file and these options asks for
 abbrev pub show_of : List ℕ → Given → Job
-show_of file g = job.Show file g.dict
+show_of file g = job.Show file (form_of g)
 
 -- what `run` with these arguments asks for
 abbrev pub run_job : List (List ℕ) → Option Job

@@ -47,7 +47,7 @@ kremlin: which loops of a serial C program are worth making parallel
 
 kremlin run FILE [OPTION ..]    runs a C program and writes its output, its profile and a plan
 kremlin graph FILE [OPTION ..]  lists the events of the run and a heaviest path for each region instance
-kremlin show FILE [--dict]      writes the report of a saved profile
+kremlin show FILE [OPTION ..]   writes a saved profile: its report, a JSON document, or its rows as CSV
 kremlin check FILE              reads and checks a C program and does not run it; what is refused it shows in its line
 kremlin demo NUMBER LOOPS       makes a program of LOOPS loops (1 to 2000) from NUMBER and sums up its run
 kremlin --help, -h              writes this text
@@ -58,6 +58,8 @@ kremlin --version, -V           writes the product and its number
 --latency=FILE  a table of latencies in TOML; run, graph; default the standard latencies
 --dict          lists the dictionary of summaries; run, show; default no list
 --save=FILE     saves the profile; run; default not saved
+--json          writes a JSON document, with the dictionary by --dict; show; default the report
+--csv           writes the rows as CSV, and takes neither --dict nor --json; show; default the report
 
 exit status:
  0  done

@@ -1,7 +1,7 @@
 //! What the words of the command line ask for.
 ghost use Rattle.std.specs.Prelude.{◌≡◌, MatchResult, IfOk, option_map};
 ghost use Rattle.k_words.specs.Settings.{IsFirst, seen, seen_words};
-ghost use Rattle.k_words.specs.Words.{Answers, IsAnswer, ReadsFile, check_job, command_of, demo_fault, demo_job, file_fault, graph_job, is_no_file, run_job, show_job};
+ghost use Rattle.k_words.specs.Words.{Answers, IsAnswer, ReadsFile, check_job, command_of, demo_fault, demo_job, file_fault, graph_job, is_no_file, run_job, show_job, form_of};
 
 use crate::number::number_within;
 use crate::option::{Command, STANDARD_DEPTH, STANDARD_STEPS};
@@ -9,6 +9,17 @@ use crate::settings::{Settings, read_settings};
 use crate::usage::Usage;
 use k_num::{NoMemory, Text};
 use std::alloc::Global;
+
+/// How a saved profile is shown.
+#[derive(Clone, Copy, Debug, PartialEq, Eq)]
+pub enum Form {
+    /// By its report, in which the dictionary is listed where this is asked for.
+    Report { dict: bool },
+    /// By a JSON document, which has the dictionary where this is asked for.
+    Json { dict: bool },
+    /// By its rows as CSV.
+    Csv,
+}
 
 /// What is asked for.
 #[derive(Debug, PartialEq, Eq, Drop)]
@@ -30,10 +41,10 @@ pub enum Job {
         depth: u32,
         latency: Option<Text>,
     },
-    /// The report of a saved profile is written.
+    /// A saved profile is shown.
     Show {
         file: Text,
-        dict: bool,
+        form: Form,
     },
     /// A source is read and checked, and not run.
     Check {
@@ -117,6 +128,20 @@ fn graph_job(alloc: Global, arguments: &[String]) -> Result<Job, Usage>
     })
 }
 
+/// How `show` with these options shows a profile.
+fn form_of(settings: &Settings<'_>) -> Form
+    ensures { result ≡ form_of (seen settings.now) }
+{
+    let dict = settings.dict;
+    if settings.csv {
+        Form::Csv
+    } else if settings.json {
+        Form::Json { dict }
+    } else {
+        Form::Report { dict }
+    }
+}
+
 /// What `show` with these arguments asks for.
 fn show_job(alloc: Global, arguments: &[String]) -> Result<Job, Usage>
     ensures { Answers (file_fault Command.Show (seen_words arguments.now)) (show_job (seen_words arguments.now)) result }
@@ -127,7 +152,7 @@ fn show_job(alloc: Global, arguments: &[String]) -> Result<Job, Usage>
     };
     Ok(Job::Show {
         file: Text::copy_of(alloc, file)?,
-        dict: settings.dict,
+        form: form_of(&settings),
     })
 }
 

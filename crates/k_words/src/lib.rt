@@ -10,6 +10,6 @@ mod settings;
 mod usage;
 
 pub use about::{Asked, asked_for, help, version};
-pub use job::{Job, words};
+pub use job::{Form, Job, words};
 pub use option::{STANDARD_DEPTH, STANDARD_STEPS};
 pub use usage::Usage;

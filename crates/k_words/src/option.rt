@@ -25,6 +25,10 @@ pub enum Setting {
     Dict,
     /// The file that the profile is saved in.
     Save,
+    /// The profile is written as a JSON document.
+    Json,
+    /// The rows are written as CSV.
+    Csv,
 }
 
 /// Which option of a command a word is, and the value in it.
@@ -57,6 +61,12 @@ fn written_as(word: &str) -> Option<(Setting, &str)>
     if word == "--dict" {
         return Some((Setting::Dict, ""));
     }
+    if word == "--json" {
+        return Some((Setting::Json, ""));
+    }
+    if word == "--csv" {
+        return Some((Setting::Csv, ""));
+    }
     None
 }
 
@@ -84,9 +94,9 @@ fn is_taken(command: Command, setting: Setting) -> bool
     ensures { result ≡ is_taken command setting }
 {
     match command {
-        Command::Run => true,
+        Command::Run => !matches!(setting, Setting::Json | Setting::Csv),
         Command::Graph => matches!(setting, Setting::Steps | Setting::Depth | Setting::Latency),
-        Command::Show => matches!(setting, Setting::Dict),
+        Command::Show => matches!(setting, Setting::Dict | Setting::Json | Setting::Csv),
         Command::Check | Command::Demo => false,
     }
 }

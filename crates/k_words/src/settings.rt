@@ -1,6 +1,6 @@
 //! The options of a command, read from its words.
 ghost use Rattle.std.specs.Prelude.{◌≡◌, MatchResult, Some, option_map};
-ghost use Rattle.k_words.specs.Settings.{IsFirst, ReadsAll, TakesWord, has, seen, seen_words, set, settings_fault, word_fault};
+ghost use Rattle.k_words.specs.Settings.{IsFirst, ReadsAll, TakesWord, bars, seen, seen_words, set, settings_fault, word_fault};
 
 use crate::number::number_within;
 use crate::option::{Command, Setting, most_steps, option_of};
@@ -14,6 +14,8 @@ pub(crate) struct Settings<'a> {
     pub(crate) latency: Option<&'a str>,
     pub(crate) dict: bool,
     pub(crate) save: Option<&'a str>,
+    pub(crate) json: bool,
+    pub(crate) csv: bool,
 }
 
 /// The options of a command, from the words behind its file, of which the first has index 2.
@@ -26,6 +28,8 @@ pub(crate) fn read_settings(command: Command, words: &[String]) -> Result<Settin
         latency: None,
         dict: false,
         save: None,
+        json: false,
+        csv: false,
     };
     let mut index = 2;
     'words: for word in words {
@@ -45,12 +49,12 @@ fn with_word<'a>(
     word: &'a str,
     index: u32,
 ) -> Result<Settings<'a>, Usage>
-    ensures { MatchResult result (λ new. TakesWord command (seen settings.entry) word.now index (seen new)) (λ fault. word_fault command (has (seen settings.entry)) word.now index ≡ Some fault) }
+    ensures { MatchResult result (λ new. TakesWord command (seen settings.entry) word.now index (seen new)) (λ fault. word_fault command (bars (seen settings.entry)) word.now index ≡ Some fault) }
 {
     let Some((setting, value)) = option_of(command, word) else {
         return Err(Usage::UnknownWord(index));
     };
-    if has(&settings, setting) {
+    if bars(&settings, setting) {
         return Err(Usage::Twice(index));
     }
     match with(settings, command, setting, value) {
@@ -59,16 +63,19 @@ fn with_word<'a>(
     }
 }
 
-/// Whether an option was given.
-fn has(settings: &Settings<'_>, setting: Setting) -> bool
-    ensures { result ≡ has (seen settings.now) setting }
+/// Whether an option was given that another can't stand behind: the option itself, and of the two forms of `show` the other one; a table has no
+/// dictionary.
+fn bars(settings: &Settings<'_>, setting: Setting) -> bool
+    ensures { result ≡ bars (seen settings.now) setting }
 {
     match setting {
         Setting::Steps => settings.steps.is_some(),
         Setting::Depth => settings.depth.is_some(),
         Setting::Latency => settings.latency.is_some(),
-        Setting::Dict => settings.dict,
+        Setting::Dict => settings.dict || settings.csv,
         Setting::Save => settings.save.is_some(),
+        Setting::Json => settings.json || settings.csv,
+        Setting::Csv => settings.csv || settings.json || settings.dict,
     }
 }
 
@@ -106,6 +113,14 @@ fn with<'a>(
         }),
         Setting::Save => Some(Settings {
             save: Some(value),
+            ..settings
+        }),
+        Setting::Json => Some(Settings {
+            json: true,
+            ..settings
+        }),
+        Setting::Csv => Some(Settings {
+            csv: true,
             ..settings
         }),
     }

@@ -1,9 +1,11 @@
-//! The program: it gives the top call the words of the command line, the host's files and the standard streams,
-//! and ends with the status that is answered.
+//! The program: it gives the top call the words of the command line, the host's files, the standard streams and the shadows of registers
+//! and of elements, and ends with the status that is answered.
 #![tactic(auto)]
 
 use k_edge::{HostFiles, Sink, StdSink, StdSource};
 use k_num::NoMemory;
+use k_spage::ShadowPages;
+use k_sreg::ShadowRegs;
 use k_top::kremlin;
 use std::env;
 use std::io::ErrorKind;
@@ -32,6 +34,8 @@ fn answer(rt: &HostRuntime) -> Result<u8, NoMemory> {
         &mut input,
         &mut out,
         &mut err,
+        ShadowRegs::new(rt.alloc()),
+        ShadowPages::new(rt.alloc()),
     ))
 }
 

@@ -81,7 +81,7 @@ static CHECKED: [Row; 4] = [
 ];
 
 /// The list of the dictionary, and saved profiles.
-static PROFILES: [Row; 4] = [
+static PROFILES: [Row; 7] = [
     // odd sum with dictionary
     (
         "run a.c --dict",
@@ -107,6 +107,38 @@ static PROFILES: [Row; 4] = [
             "== kremlin ==\nexit 9\nops 47\nfunc main 1:5 n=1 work=35 path=4 sp=1/1\nloop main 1:30 n=1 work=35 path=4 sp=35/4\nbody main 1:47 n=6 work=15 path=15 sp=1/1\ndict 4\n0 region 2 work 2 path 2 runs\n1 region 2 work 3 path 3 runs\n2 region 1 work 35 path 4 runs 0*3 1*3\n3 region 0 work 35 path 4 runs 2*1\nplan loop main 1:30 at 0/1 doall saves 31\nplan total 31 of 35\n",
             "",
         ),
+    ),
+    // show of a profile as a document
+    (
+        "show p.txt --json",
+        &[(
+            "p.txt",
+            "kremlin 2\nexit 9\nops 47\nregions 3\nfunc main 1:5\nloop main 1:30\nbody main 1:47\nentries 4\n2 2 2\n2 3 3\n1 35 4 0*3 1*3\n0 35 4 2*1\nend\n",
+        )],
+        (
+            0,
+            "{\"exit\":9,\"ops\":47,\"regions\":[{\"kind\":\"func\",\"function\":\"main\",\"line\":1,\"column\":5},{\"kind\":\"loop\",\"function\":\"main\",\"line\":1,\"column\":30},{\"kind\":\"body\",\"function\":\"main\",\"line\":1,\"column\":47}],\"rows\":[{\"region\":0,\"instances\":1,\"work\":35,\"path\":4,\"sp\":{\"num\":1,\"den\":1}},{\"region\":1,\"instances\":1,\"work\":35,\"path\":4,\"sp\":{\"num\":35,\"den\":4}},{\"region\":2,\"instances\":6,\"work\":15,\"path\":15,\"sp\":{\"num\":1,\"den\":1}}],\"contexts\":[{\"parent\":0,\"region\":0,\"turns\":0,\"instances\":1,\"work\":35,\"path\":4,\"sp\":{\"num\":1,\"den\":1}},{\"parent\":0,\"region\":1,\"turns\":6,\"instances\":1,\"work\":35,\"path\":4,\"sp\":{\"num\":35,\"den\":4}},{\"parent\":1,\"region\":2,\"turns\":0,\"instances\":6,\"work\":15,\"path\":15,\"sp\":{\"num\":1,\"den\":1}}],\"plan\":{\"picks\":[{\"context\":1,\"doall\":true,\"saves\":31}],\"total\":31,\"work\":35}}\n",
+            "",
+        ),
+    ),
+    // show of a profile as a table
+    (
+        "show p.txt --csv",
+        &[(
+            "p.txt",
+            "kremlin 2\nexit 9\nops 47\nregions 3\nfunc main 1:5\nloop main 1:30\nbody main 1:47\nentries 4\n2 2 2\n2 3 3\n1 35 4 0*3 1*3\n0 35 4 2*1\nend\n",
+        )],
+        (
+            0,
+            "region,kind,function,line,column,instances,work,path,sp_num,sp_den\r\n0,func,main,1,5,1,35,4,1,1\r\n1,loop,main,1,30,1,35,4,35,4\r\n2,body,main,1,47,6,15,15,1,1\r\n",
+            "",
+        ),
+    ),
+    // a table has no dictionary
+    (
+        "show p.txt --csv --dict",
+        &[],
+        (4, "", "kremlin: usage: Twice at word 3\n"),
     ),
     // show of a profile of format 1
     (

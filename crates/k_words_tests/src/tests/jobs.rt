@@ -1,7 +1,7 @@
 //! Words, with the job or the fault that they are.
 
 use k_num::{NoMemory, Text};
-use k_words::{Job, Usage, words};
+use k_words::{Form, Job, Usage, words};
 use std::alloc::Global;
 use std::process::Abort;
 use std::test::Fail;
@@ -31,7 +31,7 @@ fn parts(fault: Usage) -> (&'static str, u32) {
 }
 
 /// Lines of words that are refused, each with its fault and the fault's index.
-static REFUSED: [(&str, &str, u32); 64] = [
+static REFUSED: [(&str, &str, u32); 75] = [
     ("", "NoCommand", 0),
     ("ruN", "UnknownWord", 0),
     ("--help", "UnknownWord", 0),
@@ -63,6 +63,11 @@ static REFUSED: [(&str, &str, u32); 64] = [
     ("show p.txt --depth=5", "UnknownWord", 2),
     ("show p.txt --latency=l", "UnknownWord", 2),
     ("show p.txt --save=q", "UnknownWord", 2),
+    ("show p.txt --json=1", "UnknownWord", 2),
+    ("show p.txt --CSV", "UnknownWord", 2),
+    ("run a.c --json", "UnknownWord", 2),
+    ("graph a.c --csv", "UnknownWord", 2),
+    ("check a.c --json", "UnknownWord", 2),
     ("check a.c --dict", "UnknownWord", 2),
     ("check a.c b.c", "UnknownWord", 2),
     ("checks a.c", "UnknownWord", 0),
@@ -86,6 +91,12 @@ static REFUSED: [(&str, &str, u32); 64] = [
     ("run a.c --steps=5 --depth=0 --steps=x", "BadNumber", 3),
     ("run a.c --dict --depth=0 --dict", "BadNumber", 3),
     ("run a.c --dict --dict --depth=0", "Twice", 3),
+    ("show p.txt --json --json", "Twice", 3),
+    ("show p.txt --csv --json", "Twice", 3),
+    ("show p.txt --json --dict --csv", "Twice", 4),
+    ("show p.txt --dict --csv", "Twice", 3),
+    ("show p.txt --csv --dict", "Twice", 3),
+    ("show p.txt --csv q --json", "UnknownWord", 3),
     (
         "run a.c --steps=1 --depth=1 --latency=l --dict --save=s x",
         "UnknownWord",
@@ -131,6 +142,24 @@ fn name_of(name: &Option<Text>) -> &str {
     }
 }
 
+/// The name of a form.
+fn form_name(form: &Form) -> &str {
+    match form {
+        Form::Report { .. } => "report",
+        Form::Json { .. } => "json",
+        Form::Csv => "csv",
+    }
+}
+
+/// Whether a form lists the dictionary.
+fn lists_dict(form: &Form) -> bool {
+    match form {
+        Form::Report { dict } => *dict,
+        Form::Json { dict } => *dict,
+        Form::Csv => false,
+    }
+}
+
 /// A job in a line: its file and names, its numbers, and whether the dictionary is listed.
 fn job_parts(job: &Job) -> ([&str; 4], [u64; 2], bool) {
     match job {
@@ -156,14 +185,18 @@ fn job_parts(job: &Job) -> ([&str; 4], [u64; 2], bool) {
             [*steps, u64::from(*depth)],
             false,
         ),
-        Job::Show { file, dict } => (["show", file.as_str(), "", ""], [0, 0], *dict),
+        Job::Show { file, form } => (
+            ["show", file.as_str(), form_name(form), ""],
+            [0, 0],
+            lists_dict(form),
+        ),
         Job::Check { file } => (["check", file.as_str(), "", ""], [0, 0], false),
         Job::Demo { number, loops } => (["demo", "", "", ""], [*number, u64::from(*loops)], false),
     }
 }
 
 /// Lines of words, each with its job's names, numbers and whether the dictionary is listed.
-static ACCEPTED: [(&str, [&str; 4], [u64; 2], bool); 17] = [
+static ACCEPTED: [(&str, [&str; 4], [u64; 2], bool); 21] = [
     ("run a.c", ["run", "a.c", "", ""], [100_000_000, 24], false),
     ("run -", ["run", "-", "", ""], [100_000_000, 24], false),
     ("run -x", ["run", "-x", "", ""], [100_000_000, 24], false),
@@ -211,8 +244,22 @@ static ACCEPTED: [(&str, [&str; 4], [u64; 2], bool); 17] = [
         [200_000, 3],
         false,
     ),
-    ("show p", ["show", "p", "", ""], [0, 0], false),
-    ("show p --dict", ["show", "p", "", ""], [0, 0], true),
+    ("show p", ["show", "p", "report", ""], [0, 0], false),
+    ("show p --dict", ["show", "p", "report", ""], [0, 0], true),
+    ("show p --json", ["show", "p", "json", ""], [0, 0], false),
+    (
+        "show p --json --dict",
+        ["show", "p", "json", ""],
+        [0, 0],
+        true,
+    ),
+    (
+        "show p --dict --json",
+        ["show", "p", "json", ""],
+        [0, 0],
+        true,
+    ),
+    ("show p --csv", ["show", "p", "csv", ""], [0, 0], false),
     ("check a.c", ["check", "a.c", "", ""], [0, 0], false),
     ("demo 0 1", ["demo", "", "", ""], [0, 1], false),
     (

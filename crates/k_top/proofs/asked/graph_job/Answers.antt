@@ -12,6 +12,7 @@ graph_answer-requires g c =
     let most = c.requires.steps.at_most in
     record {
       program = c.in_ok-ready.ensures.can_run;
+      least = subst (λ n. 1 ≤ n) (sym c.in_ok-ready.ensures.steps) c.requires.steps.at_least;
       steps = subst (λ n. n ≤ 1000000000) (sym c.in_ok-ready.ensures.steps) (omega (arith, most));
       some = c.requires.depth.at_least;
       tracked = c.requires.depth.at_most;

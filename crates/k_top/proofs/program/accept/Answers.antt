@@ -41,11 +41,17 @@ returns-clause-source c =
 pub returns-clause-can_run : goal.returns-clause-can_run
 returns-clause-can_run c = record {
   unit = c.in_ok-unit.unit;
-  typed = c.in_ok-typed.ensures.typed;
-  faultless = c.in_ok-typed.ensures.faultless;
-  few = c.in_ok-unit.ensures.tree.1;
+  accepted = record {
+    tokens = c.in_ok-tokens.tokens;
+    strings = c.in_ok-tokens.ensures.strings;
+    ranked = c.in_ok-unit.ensures.tree.0.ranked;
+    placed = c.in_ok-unit.ensures.tree.0.placed;
+    few = c.in_ok-unit.ensures.tree.1;
+    faultless = c.in_ok-typed.ensures.faultless;
+    typed = c.in_ok-typed.ensures.typed;
+    latencies = c.requires;
+  };
   regions = source_regions c.args.source.now c.in_ok-tokens.tokens c.in_ok-unit.unit c.in_ok-typed.typed c.in_ok-tokens.ensures.tokens
       c.in_ok-unit.ensures.tree c.in_ok-typed.ensures.faultless c.in_ok-typed.ensures.typed;
   marks = c.in_ok-marks.ensures;
-  latencies = c.requires;
 }

@@ -10,13 +10,13 @@ use Rattle.k_top.proofs.shown.profile_answer.Goals as goal
 pub returns-in_err-saved : goal.returns-in_err-saved
 returns-in_err-saved c =
     let same : c.from_residual.result ≡ Err (failure_of_saved c.in_err-saved.field-0.0) = first_of (search rules, grind arith, cc) in
-    subst (λ (r : Result Answer Failure). ShowsProfile r c.args.bytes.now c.args.dict) (sym same) (c.in_err-saved.field-0.0, refl, c.in_err-saved.ensures)
+    subst (λ (r : Result Answer Failure). ShowsProfile r c.args.bytes.now c.args.form) (sym same) (c.in_err-saved.field-0.0, refl, c.in_err-saved.ensures)
 
 -- the report found no memory
 pub returns-in_err-text : goal.returns-in_err-text
 returns-in_err-text c =
     let same : c.from_residual-in_err-text.result ≡ Err why.NoMemory = first_of (search rules, grind arith, cc) in
-    subst (λ (r : Result Answer Failure). ShowsProfile r c.args.bytes.now c.args.dict) (sym same) (Memory, refl, tt)
+    subst (λ (r : Result Answer Failure). ShowsProfile r c.args.bytes.now c.args.form) (sym same) (Memory, refl, tt)
 
 pub returns : goal.returns
 returns c = (c.in_ok-saved.saved, (c.in_ok-saved.ensures, (c.in_ok-text.text.items, c.in_ok-text.ensures, c.done.ensures)))

@@ -5,6 +5,12 @@ use Rattle.k_top_lemmas.proofs.Keeping.{keeps}
 use Rattle.k_top_lemmas.proofs.OneAnswer.{answers_are_unique}
 use Rattle.k_top.proofs.top.kremlin.Goals as goal
 
+pub perform-done-requires-clause-registers : goal.perform-done-requires-clause-registers
+perform-done-requires-clause-registers g c = record { is_empty = c.requires.registers; limit = c.requires.register_limit }
+
+pub perform-done-requires-clause-pages : goal.perform-done-requires-clause-pages
+perform-done-requires-clause-pages g c = record { is_empty = c.requires.pages; limit = c.requires.page_limit }
+
 pub returns : goal.returns
 returns g c =
     let old : World =

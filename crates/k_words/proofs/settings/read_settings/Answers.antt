@@ -1,6 +1,6 @@
 use Rattle.std.proofs.Common.{◌∙◌, ap, arith, string_bytes, subst, sym}
 use Rattle.std.proofs.lemmas.List.{length-map}
-use Rattle.k_words.specs.Settings.{TakesWord, has, seen, seen_words, word_fault}
+use Rattle.k_words.specs.Settings.{TakesWord, bars, seen, seen_words, word_fault}
 use Rattle.k_words.proofs.Reading.{first_wrong, read_all, read_more, seen_at}
 use Rattle.k_words.proofs.settings.read_settings.Goals as goal
 
@@ -9,7 +9,7 @@ returns-in-Err c =
     first_wrong c.args.command (seen_words c.args.words.now) c.words.word-index c.words.index (seen c.words.settings) c.words.invariant
     (string_bytes c.word-item.result) c.in-Err.fault
     (seen_at c.args.words.now c.words.word-index c.word-item.result c.words-test.true c.word-item.is)
-    (ap (λ word. word_fault c.args.command (has (seen c.words.settings)) word c.words.index) (sym c.as_str.ensures.value) ∙ c.in-Err.ensures)
+    (ap (λ word. word_fault c.args.command (bars (seen c.words.settings)) word c.words.index) (sym c.as_str.ensures.value) ∙ c.in-Err.ensures)
 
 pub words-preserved : goal.words-preserved
 words-preserved c =

@@ -1,0 +1,8 @@
+//! What holds of these texts: each function's contract is a law, and its body does nothing.
+ghost use Rattle.k_data_profile.specs.Laws.{DocumentIsUnique, TableIsUnique};
+
+/// A profile has one document and one table.
+pub fn one_text()
+    ensures document { DocumentIsUnique }
+    ensures table { TableIsUnique }
+{}

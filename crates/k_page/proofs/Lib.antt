@@ -1,0 +1,6 @@
+mod Adding
+mod Escaping
+mod Lines
+mod PageParts
+mod Pieces
+mod Reading

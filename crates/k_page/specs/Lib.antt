@@ -1,0 +1,14 @@
+pub mod Amounts
+pub mod Cells
+pub mod Escapes
+pub mod Facts
+pub mod Html
+pub mod Laws
+pub mod Lists
+pub mod Markup
+pub mod Page
+pub mod Picture
+pub mod Prose
+pub mod Reader
+pub mod Source
+pub mod Tiles
