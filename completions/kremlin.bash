@@ -49,7 +49,7 @@ _kremlin() {
         2:*) ;;
         *:run) options='--steps= --depth= --latency= --dict --save=' ;;
         *:graph) options='--steps= --depth= --latency=' ;;
-        *:show) options='--dict' ;;
+        *:show) options='--dict --json --csv' ;;
     esac
     [[ -z $options ]] || _kremlin_options "$typed" "$options" " ${words[*]:2:${#words[@]}-3}"
     # Where bash parts words at '=', it replaces only what stands behind the last one.
