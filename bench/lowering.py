@@ -222,7 +222,7 @@ class Code:
                 self.files.append(values)
             elif line.startswith("main "):
                 self.main = int(words[1])
-            elif words:
+            elif words and words[0] != "source":
                 self.instrs.append(instruction(line.split(" ", 1)[1]))
 
 
