@@ -1,11 +1,13 @@
 -- What entering and leaving a level make of the entries of a control stack.
-use Rattle.std.proofs.Common.{◌≡◌, ℕ, ◌+◌, ◌-◌, ◌<◌, ◌≤◌, List, [], ◌∷◌, ◌++◌, length, take, set, get_or, map, Bool, refl, ap, sym, ◌∙◌, arith}
-use Rattle.std.proofs.lemmas.List.{ext_get_or, get_or-take, length-append, length-take-le, take-take, take_more_set}
+use Rattle.std.proofs.Common.{◌≡◌, ℕ, zero, suc, ◌+◌, ◌-◌, ◌<◌, ◌≤◌, List, [], ◌∷◌, ◌++◌, length, take, set, get_or, map, Bool, refl, ap, sym, ◌∙◌, arith}
+use Rattle.std.specs.Prelude.{slice_index}
+use Rattle.std.proofs.lemmas.List.{ext_get_or, get_or-take, length-append, length-take-le, take-append-le, take-take, take_more, take_more_set}
 use Rattle.k_shadow.specs.declared.row.Row.{Row}
 use Rattle.k_shadow.specs.Numbers.{Numbers, number_given, number_left, WereGiven}
-use Rattle.k_shadow.specs.Rows.{times_of, stack_in, WereStamped}
+use Rattle.k_shadow.specs.Rows.{blank_row, row_at, row_time, times_of, stack_in, WereStamped}
 use Rattle.k_shadow.specs.Stack.{Stack, level_entered, level_left, without_last}
-use Rattle.k_shadow.proofs.Rows.{times-entered, times-left, times-written}
+use Rattle.k_shadow.proofs.Places.{length-with_places}
+use Rattle.k_shadow.proofs.Rows.{row_at_stamp, time_from_row, times-entered, times-left, times-written}
 
 saved-entered : (rows : List Row) (live : List ℕ) (given : ℕ) → WereStamped given rows → map (λ row. times_of row (live ++ (given + 1) ∷ [])) rows ≡ map (λ times. times ++ 0 ∷ []) (map (λ row. times_of row live) rows)
 saved-entered [] live given h = refl
@@ -48,14 +50,6 @@ front_is times live current h same each =
     let inside : k < length live = omega (arith, all) in
     get_or-take (length live) times k 0 inside ∙ each k inside)
 
--- an entry that is saved now has the current times
-pub times_saved : (row : Row) (times live : List ℕ) (given : ℕ) → length live ≤ length times → row.stamp ≡ given → row.times ≡ times → WereGiven given live → times_of row live ≡ take (length live) times
-times_saved row times live given h stamp same were =
-    let all : length (take (length live) times) ≡ length live = length-take-le (length live) times h in
-    times-written row given (take (length live) times) live stamp (λ k lt.
-    let inside : k < length live = omega (arith, all) in
-    ap (λ ts. get_or ts k 0) same ∙ sym (get_or-take (length live) times k 0 inside)) were all
-
 -- an entry more is saved
 pub saved-more : (rows : List Row) (row : Row) (live times : List ℕ) → times_of row live ≡ times → map (λ r. times_of r live) (rows ++ row ∷ []) ≡ map (λ r. times_of r live) rows ++ times ∷ []
 saved-more [] row live times h = λ i. h i ∷ []
@@ -66,3 +60,69 @@ one_level_more live n h = omega (arith, length-append live (n ∷ []))
 
 pub one_level_fewer : (live : List ℕ) → length live ≤ 32 → length (take (length live - 1) live) ≤ 32
 one_level_fewer live h = omega (arith, length-take-le (length live - 1) live (omega arith))
+
+-- a free row more is blank, as what is read where there is none
+pub blank_behind : (rows : List Row) (count : ℕ) → row_at (rows ++ blank_row ∷ []) count ≡ row_at rows count
+blank_behind [] zero = refl
+blank_behind [] (suc n) = refl
+blank_behind (row ∷ rows) zero = refl
+blank_behind (row ∷ rows) (suc n) = blank_behind rows n
+
+-- a free row more leaves those before it
+pub front-more : (rows : List Row) (row : Row) (count : ℕ) → count ≤ length rows → take count (rows ++ row ∷ []) ≡ take count rows
+front-more rows row count h = take-append-le count rows (row ∷ []) h
+
+-- the saved entries and the next row
+pub saved-next : (rows : List Row) (live times : List ℕ) (count : ℕ) → count < length rows → times_of (row_at rows count) live ≡ times → map (λ r. times_of r live) (take (count + 1) rows) ≡ map (λ r. times_of r live) (take count rows) ++ times ∷ []
+saved-next rows live times count h same =
+    ap (λ rs. map (λ r. times_of r live) rs) (take_more rows count blank_row h)
+    ∙ saved-more (take count rows) (row_at rows count) live times same
+
+-- what is kept stays where a level is entered
+pub kept-entered : (rows : List Row) (at : ℕ) (current live : List ℕ) (given : ℕ) → length live < length current → WereStamped given rows → times_of (row_at rows at) live ≡ take (length live) current → times_of (row_at rows at) (live ++ (given + 1) ∷ []) ≡ take (length (live ++ (given + 1) ∷ [])) (set current (length live) 0)
+kept-entered rows at current live given h stamped same =
+    times-entered (row_at rows at) live given (row_at_stamp given rows stamped at)
+    ∙ ap (λ ts. ts ++ 0 ∷ []) same
+    ∙ sym (front-entered current live (given + 1) h)
+
+-- and where the innermost level is left
+pub kept-left : (rows : List Row) (at : ℕ) (current live : List ℕ) → length live ≤ length current → times_of (row_at rows at) live ≡ take (length live) current → times_of (row_at rows at) (take (length live - 1) live) ≡ take (length (take (length live - 1) live)) current
+kept-left rows at current live h same =
+    times-left (row_at rows at) live
+    ∙ ap without_last same
+    ∙ sym (front-left current live h)
+
+-- a row that is given the current times
+pub row_written : (row : Row) (live current : List ℕ) (given : ℕ) → length live ≤ length current → row.stamp ≡ given → ((k : ℕ) → k < length live → get_or row.times k 0 ≡ get_or (take (length live) current) k 0) → WereGiven given live → times_of row live ≡ take (length live) current
+row_written row live current given h stamp each were =
+    let all : length (take (length live) current) ≡ length live = length-take-le (length live) current h in
+    times-written row given (take (length live) current) live stamp (λ k lt. each k (omega (arith, all))) were all
+
+pub stamped-set : (given at : ℕ) (row : Row) (rows : List Row) → row.stamp ≤ given → WereStamped given rows → WereStamped given (set rows at row)
+stamped-set given at row [] le h = tt
+stamped-set given zero row (r ∷ rows) le h = (le, h.1)
+stamped-set given (suc n) row (r ∷ rows) le h = (h.0, stamped-set given n row rows le h.1)
+
+-- as many entries are saved as are counted
+pub saved_counted : (rows : List Row) (live : List ℕ) (count : ℕ) → count ≤ length rows → length (map (λ row. times_of row live) (take count rows)) ≡ count
+saved_counted rows live zero h = refl
+saved_counted [] live (suc n) h = absurd (omega arith)
+saved_counted (row ∷ rows) live (suc n) h = ap suc (saved_counted rows live n (omega arith))
+
+-- without the newest saved entry
+pub saved-dropped : (rows : List Row) (live : List ℕ) (count : ℕ) (saved : List (List ℕ)) → count ≤ length rows → map (λ row. times_of row live) (take count rows) ≡ saved → map (λ row. times_of row live) (take (count - 1) rows) ≡ take (length saved - 1) saved
+saved-dropped rows live count saved h same =
+    let fewer : count - 1 ≤ count = omega arith in
+    ap (λ rs. map (λ row. times_of row live) rs) (sym (take-take (count - 1) count rows fewer))
+    ∙ mapped (count - 1) (take count rows)
+    ∙ ap (λ n. take (n - 1) (map (λ row. times_of row live) (take count rows))) (sym (saved_counted rows live count h))
+    ∙ ap (λ xs. take (length xs - 1) xs) same
+  where
+    mapped : (n : ℕ) (rs : List Row) → map (λ row. times_of row live) (take n rs) ≡ take n (map (λ row. times_of row live) rs)
+    mapped zero rs = refl
+    mapped (suc n) [] = refl
+    mapped (suc n) (r ∷ rs) = λ i. times_of r live ∷ mapped n rs i
+
+-- a list whose front was filled with a row's times
+pub copied_back : (row : Row) (live new : List ℕ) → length live ≤ length new → ((k : ℕ) → k < length live → slice_index new k ≡ row_time row (slice_index live k) k) → times_of row live ≡ take (length live) new
+copied_back row live new h each = sym (front_is new live (times_of row live) h (length-with_places (row_time row) 0 live) (λ k lt. each k lt ∙ sym (time_from_row row live k lt)))

@@ -85,14 +85,6 @@ WereStamped-take given zero rows h = tt
 WereStamped-take given (suc k) [] h = tt
 WereStamped-take given (suc k) (row ∷ rows) h = (h.0, WereStamped-take given k rows h.1)
 
-pub WereStamped-front : (given : ℕ) (rows : List Row) (row : Row) → WereStamped given (rows ++ row ∷ []) → WereStamped given rows
-WereStamped-front given [] row h = tt
-WereStamped-front given (r ∷ rows) row h = (h.0, WereStamped-front given rows row h.1)
-
-pub WereStamped-last : (given : ℕ) (rows : List Row) (row : Row) → WereStamped given (rows ++ row ∷ []) → row.stamp ≤ given
-WereStamped-last given [] row h = h.0
-WereStamped-last given (r ∷ rows) row h = WereStamped-last given rows row h.1
-
 -- a row that was written before an instance began has no time at its level
 pub row_time_later : (row : Row) (n level : ℕ) → row.stamp < n → row_time row n level ≡ 0
 row_time_later row n level h = grind (arith, nat_tests)

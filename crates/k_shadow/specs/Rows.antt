@@ -2,7 +2,7 @@
 -- One stamp for each location: the last instance number that was given when the location was last written. Instances
 -- nest and a write goes to all live levels, so a level's time is live exactly where the level's instance began no
 -- later than that write.
-use Rattle.std.specs.Prelude.{ℕ, ◌+◌, ◌≤◌, nat_le, if◌then◌else◌, List, [], ◌∷◌, length, take, replicate, map, slice_index, slice_index_or, Bool}
+use Rattle.std.specs.Prelude.{◌≡◌, true, ℕ, ◌+◌, ◌≤◌, nat_le, if◌then◌else◌, List, [], ◌∷◌, length, take, replicate, map, slice_index, slice_index_or, Bool}
 use Rattle.k_shadow.specs.Content.{Content}
 use Rattle.k_shadow.specs.Numbers.{Numbers}
 use Rattle.k_shadow.specs.Stack.{Stack}
@@ -50,3 +50,7 @@ stack_in current saved numbers room = record {
   entries = numbers.given;
   room = room;
 }
+
+-- where it is kept, the row at that place has these times at each live level
+abbrev pub IsKept : Bool → List Row → ℕ → List ℕ → List ℕ → Type 0
+IsKept kept rows at live current = kept ≡ true → times_of (row_at rows at) live ≡ take (length live) current

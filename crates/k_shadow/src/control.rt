@@ -3,6 +3,7 @@ ghost use Rattle.std.specs.Prelude.{◌≡◌, ◌+◌, ◌-◌, ◌^◌, ◌<�
 ghost use Rattle.k_shadow.specs.Stack.{IsNew, level_entered, level_left};
 
 use crate::lists::{copy_times, copy_to};
+use crate::saved_rows::{add_row, copy_entry, write_entry};
 use crate::{Row, Steps, Times, Versions};
 use k_num::NoMemory;
 use std::alloc::Global;
@@ -12,25 +13,33 @@ use std::sync::ledger::Ledger;
 /// The current control entry and the saved ones, each seen as one time for each live level. A saved entry keeps its times
 /// under one stamp, so entering or leaving a level changes none. The current one has 0 at a level that was entered since,
 /// so it is read without a test: it is read at each operation, and a level is entered far less often.
+///
+/// A row that was taken back stays behind the saved ones, so an entry that is saved as it was taken back, as in each turn
+/// of a loop, is not written again.
 #[derive(Drop)]
 pub struct Control {
     /// At each live level.
     current: [u64; 32],
-    saved: Vec<Row>,
+    /// The saved entries, and free rows behind them.
+    rows: Vec<Row>,
+    /// How many entries are saved.
+    count: usize,
+    /// Whether the first free row has the current entry's times.
+    kept: bool,
     versions: Versions,
 }
 
 impl Model for Control {
-    ghost use Rattle.std.specs.Prelude.{◌≤◌, length, nat_lt, vec_len, vec_capacity};
+    ghost use Rattle.std.specs.Prelude.{◌≤◌, length, take, nat_lt, vec_len};
     ghost use Rattle.k_shadow.specs.Stack.{Stack};
     ghost use Rattle.k_shadow.specs.Numbers.{WereGiven};
-    ghost use Rattle.k_shadow.specs.Rows.{stack_in, WereStamped};
+    ghost use Rattle.k_shadow.specs.Rows.{stack_in, IsKept, WereStamped};
 
     ghost Value = { Stack };
 
-    ghost view = { λ c. stack_in c.current c.saved.items c.versions (nat_lt (vec_len c.saved) (vec_capacity c.saved)) };
+    ghost view = { λ c. stack_in c.current (take c.count c.rows.items) c.versions (nat_lt c.count (vec_len c.rows)) };
 
-    ghost invariant = { λ c. (length c.versions.live ≤ 32) × WereStamped c.versions.given c.saved.items × WereGiven c.versions.given c.versions.live };
+    ghost invariant = { λ c. (length c.versions.live ≤ 32) × WereStamped c.versions.given c.rows.items × WereGiven c.versions.given c.versions.live × (c.count ≤ vec_len c.rows) × IsKept c.kept c.rows.items c.count c.versions.live c.current };
 }
 
 impl Control {
@@ -40,7 +49,9 @@ impl Control {
     {
         Control {
             current: [0; 32],
-            saved: Vec::new(alloc),
+            rows: Vec::new(alloc),
+            count: 0,
+            kept: false,
             versions: Versions::new(),
         }
     }
@@ -67,12 +78,12 @@ impl Control {
     }
 
     /// Makes room for one `save`, which lasts until that `save`.
+    #[inline]
     pub fn reserve(&mut self) -> Result<(), NoMemory>
         ensures ok { OnOk result (self.new ≡ record self.old { room = true }) }
         ensures err { OnErr result (self.new ≡ self.old) }
     {
-        self.saved.reserve(1)?;
-        Ok(())
+        add_row(&mut self.rows, self.count)
     }
 
     /// Saves the current entry, which stays the current one.
@@ -83,11 +94,15 @@ impl Control {
         ensures current { self.new.current ≡ self.old.current }
         ensures entries { self.new.entries ≡ self.old.entries }
     {
-        let stamp = self.versions.last_given();
-        self.saved.push_reserved(Row {
-            stamp,
-            times: self.current,
-        });
+        write_entry(
+            &mut self.rows,
+            self.count,
+            self.kept,
+            &self.versions,
+            &self.current,
+        );
+        self.count += 1;
+        self.kept = false;
     }
 
     /// Makes these times the current entry.
@@ -105,6 +120,7 @@ impl Control {
         requires { length times.now ≡ length self.old.current }
         ensures current { self.new ≡ record self.old { current = times.now } }
     {
+        self.kept = false;
         copy_times(&mut self.current, times);
     }
 
@@ -117,7 +133,8 @@ impl Control {
         ensures entries { self.new.entries ≡ self.old.entries }
         ensures room { self.old.room ≡ true → self.new.room ≡ true }
     {
-        self.saved.pop();
+        self.count -= 1;
+        self.kept = false;
     }
 
     /// Makes the newest saved entry the current one, and drops it.
@@ -129,16 +146,21 @@ impl Control {
         ensures entries { self.new.entries ≡ self.old.entries }
         ensures room { self.old.room ≡ true → self.new.room ≡ true }
     {
-        if let Some(row) = self.saved.pop() {
-            row.copy_to(self.versions.live(), &mut self.current);
-        }
+        self.count -= 1;
+        copy_entry(
+            &self.rows,
+            self.count,
+            self.versions.live(),
+            &mut self.current,
+        );
+        self.kept = true;
     }
 
     /// How many entries are saved.
     pub fn saved(&self) -> usize
         ensures count { result ≡ length self.now.saved }
     {
-        self.saved.len()
+        self.count
     }
 
     /// The current entry's time at a level, in one step.

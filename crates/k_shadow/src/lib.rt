@@ -8,6 +8,7 @@ mod level_maps;
 mod lists;
 mod maps;
 mod row;
+mod saved_rows;
 mod shadow;
 mod steps;
 mod times;
