@@ -62,9 +62,7 @@ pub fn copy_times(to: &mut [u64; 32], from: &[u64])
     requires { length from.now ≤ 32 }
     ensures { (k : ℕ) → k < length from.now → slice_index to.new k ≡ slice_index from.now k }
 {
-    for (level, time) in from.iter().enumerate() {
-        to[level] = *time;
-    }
+    copy_behind(0, from, to);
 }
 
 /// Fills the list with the times of an operation that waits for these times alone: each, and the latency more, modulo
@@ -102,14 +100,23 @@ pub fn no_times() -> [u64; 32]
     [0; 32]
 }
 
-/// Copies the times of the levels from `first` on.
+/// Copies the times of the levels from `first` on, two at a time: where one is copied at a time, LLVM makes a call of C's
+/// memcpy of the loop, which takes longer than the few levels that are live.
 #[inline]
 pub fn copy_behind(first: usize, from: &[u64], to: &mut [u64])
-    requires { length to.old ≡ length from.now }
+    requires { length from.now ≤ length to.old }
     ensures before { (k : ℕ) → k < first → slice_index to.new k ≡ slice_index to.old k }
     ensures behind { (k : ℕ) → first ≤ k → k < length from.now → slice_index to.new k ≡ slice_index from.now k }
 {
-    for level in first..from.len() {
+    let mut level = first;
+    while level < from.len() && from.len() - level > 1 {
+        let time = from[level];
+        let inner = from[level + 1];
+        to[level] = time;
+        to[level + 1] = inner;
+        level += 2;
+    }
+    if level < from.len() {
         to[level] = from[level];
     }
 }
@@ -120,5 +127,5 @@ pub fn copy_to(to: &mut [u64], from: &[u64])
     requires { length to.old ≡ length from.now }
     ensures { to.new ≡ from.now }
 {
-    to.copy_from_slice(from);
+    copy_behind(0, from, to);
 }
