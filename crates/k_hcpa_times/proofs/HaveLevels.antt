@@ -94,3 +94,17 @@ registers_and_row {n} {t} {registers} {row} rs rows h = record {
   row = rows ∙ h.row;
   paths = h.paths;
 }
+
+-- as long lists stand in the places of the registers' and of the paths
+pub registers_and_paths : {t : Timing} {registers : List (ℕ → ℕ)} {paths : List ℕ} → length registers ≡ length t.registers → length paths ≡ length t.paths
+    → HasLevels (length t.paths) t → HasLevels (length paths) (record t { registers = registers; paths = paths })
+registers_and_paths {t} {registers} {paths} rs ps h = record {
+  registers = rs ∙ h.registers ∙ sym ps;
+  elements = h.elements ∙ sym ps;
+  control = h.control ∙ sym ps;
+  saved = λ n times found. h.saved n times found ∙ sym ps;
+  in_cell = h.in_cell ∙ sym ps;
+  out_cell = h.out_cell ∙ sym ps;
+  row = h.row ∙ sym ps;
+  paths = refl;
+}

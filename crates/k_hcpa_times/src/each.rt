@@ -3,7 +3,7 @@ ghost use Rattle.std.specs.Prelude.{◌≡◌, ◌+◌, ◌-◌, ◌<◌, [], �
 ghost use Rattle.k_shadow.specs.Content.{depth};
 ghost use Rattle.k_hcpa_meaning.specs.Timings.{later, after, without_last};
 
-use k_shadow::{Shadow, Steps, Times};
+use k_shadow::{Shadow, Steps, Times, advance};
 use std::sync::ledger::Ledger;
 
 /// A level more, with time 0.
@@ -88,12 +88,14 @@ pub fn raise_unless(broken: bool, times: &mut Times, by: &Times)
     }
 }
 
-/// Each time is so much later, modulo 2^64.
+/// Each time of a row is so much later, modulo 2^64, and each path at least that.
 #[inline]
-pub fn delay_times(times: &mut Times, latency: u64)
-    ensures { times.new ≡ after latency times.old }
+pub fn settle_times(row: &mut Times, latency: u64, paths: &mut Times)
+    requires { length paths.old ≡ length row.old }
+    ensures row { row.new ≡ after latency row.old }
+    ensures paths { paths.new ≡ later paths.old (after latency row.old) }
 {
-    delay_each(times.as_mut_slice(), latency);
+    advance(row.as_mut_slice(), latency, paths.as_mut_slice());
 }
 
 /// Tells each path, raised to the time of the row once that is so much later, modulo 2^64.

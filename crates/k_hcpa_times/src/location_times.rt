@@ -4,9 +4,10 @@ ghost use Rattle.k_shadow.specs.Content.{empty};
 ghost use Rattle.k_hcpa_meaning.specs.Timings.{HasLevels, no_levels};
 ghost use Rattle.k_hcpa_times.specs.Seen.{seen_of};
 
+use crate::at_once::{write_none, write_one, write_two};
 use crate::each::{
-    copy_times, count_reads, delay_times, enter_times, leave_times, paths_behind, raise_by,
-    raise_times, raise_unless, read_by,
+    copy_times, count_reads, enter_times, leave_times, paths_behind, raise_by, raise_times,
+    raise_unless, read_by, settle_times,
 };
 use crate::timed::Timed;
 use k_num::NoMemory;
@@ -138,8 +139,7 @@ impl<R: Shadow, P: Shadow> Timed for LocationTimes<R, P> {
     #[tactic(auto, using(crate::proofs::Lists::later_length))]
     #[inline]
     fn settle(&mut self, latency: u64) {
-        delay_times(&mut self.row, latency);
-        raise_times(&mut self.paths, &self.row);
+        settle_times(&mut self.row, latency, &mut self.paths);
     }
 
     #[tactic(auto, using(crate::proofs::Lists::later_length))]
@@ -151,6 +151,61 @@ impl<R: Shadow, P: Shadow> Timed for LocationTimes<R, P> {
     #[inline]
     fn give_register(&mut self, register: u32) {
         self.registers.write(register, &self.row);
+    }
+
+    #[tactic(auto, using(k_shadow::proofs::Laws::depth_written), unfolding(k_hcpa_meaning::specs::Timings::given_to))]
+    #[inline]
+    fn give_after_none<L: Ledger>(&mut self, latency: u64, to: u32, steps: &mut Steps<L>) {
+        write_none(
+            &mut self.registers,
+            &self.control,
+            latency,
+            to,
+            &mut self.paths,
+            steps,
+        );
+    }
+
+    #[tactic(auto, using(k_shadow::proofs::Laws::depth_written), unfolding(k_hcpa_meaning::specs::Timings::given_to, k_hcpa_meaning::specs::Timings::times_at))]
+    #[inline]
+    fn give_after_one<L: Ledger>(
+        &mut self,
+        from: u32,
+        latency: u64,
+        to: u32,
+        steps: &mut Steps<L>,
+    ) {
+        write_one(
+            &mut self.registers,
+            &self.control,
+            from,
+            latency,
+            to,
+            &mut self.paths,
+            steps,
+        );
+    }
+
+    #[tactic(auto, using(k_shadow::proofs::Laws::depth_written), unfolding(k_hcpa_meaning::specs::Timings::given_to, k_hcpa_meaning::specs::Timings::times_at))]
+    #[inline]
+    fn give_after_two<L: Ledger>(
+        &mut self,
+        left: u32,
+        right: u32,
+        latency: u64,
+        to: u32,
+        steps: &mut Steps<L>,
+    ) {
+        write_two(
+            &mut self.registers,
+            &self.control,
+            left,
+            right,
+            latency,
+            to,
+            &mut self.paths,
+            steps,
+        );
     }
 
     #[tactic(auto, using(k_shadow::proofs::Laws::depth_written), unfolding(k_hcpa_meaning::specs::Timings::given_to))]

@@ -3,6 +3,7 @@ ghost use Rattle.std.specs.Prelude.{◌≡◌, ℕ, ◌+◌, ◌*◌, ◌-◌, �
 ghost use Rattle.k_hcpa_meaning.specs.Timings.{Register, Element, InCell, OutCell, Control, begun, raised, raised_all, settled, operated, given_to, registers_cleared, elements_cleared, control_saved, control_restored, control_kept, control_back, saved_kept, left, left_below, all_left_below};
 ghost use Rattle.k_hcpa_meaning.specs.Locations.{operand_locations};
 ghost use Rattle.k_hcpa_meaning.specs.Calls.{handed, arguments_handed};
+ghost use Rattle.k_hcpa_times.specs.AtOnce.{at_once};
 ghost use Rattle.k_hcpa_times.specs.Seen.{Seen, Room, ForRegister, ForElement, ForSaved, Keeps, HasRegisters, AreBelow, levels, made, level_entered, instance_entered};
 
 use k_code::Arg;
@@ -110,6 +111,40 @@ pub trait Timed: Drop {
         ensures given { seen self.new ≡ made (given_to (Register register)) (seen self.old) }
         ensures kept { Keeps (room self.old) (room self.new) };
 
+    /// An operation is made at once that depends on the control source alone, and a register holds what it gave.
+    fn give_after_none<L: Ledger>(&mut self, latency: u64, to: u32, steps: &mut Steps<L>)
+        requires below { to < (seen self.old).registers }
+        requires room { room self.old (ForRegister to) }
+        ensures given { seen self.new ≡ made (at_once (λ t. given_to (Register to) (operated [] latency t))) (seen self.old) }
+        ensures kept { Keeps (room self.old) (room self.new) }
+        ensures steps { steps.new ≡ steps.old + levels (seen self.old) };
+
+    /// An operation is made at once that depends on one register, and a register holds what it gave.
+    fn give_after_one<L: Ledger>(&mut self, from: u32, latency: u64, to: u32, steps: &mut Steps<L>)
+        requires from { from < (seen self.old).registers }
+        requires below { to < (seen self.old).registers }
+        requires room { room self.old (ForRegister to) }
+        ensures given { seen self.new ≡ made (at_once (λ t. given_to (Register to) (operated (Register from ∷ []) latency t))) (seen self.old) }
+        ensures kept { Keeps (room self.old) (room self.new) }
+        ensures steps { steps.new ≡ steps.old + 2 * levels (seen self.old) };
+
+    /// An operation is made at once that depends on two registers, and a register holds what it gave.
+    fn give_after_two<L: Ledger>(
+        &mut self,
+        left: u32,
+        right: u32,
+        latency: u64,
+        to: u32,
+        steps: &mut Steps<L>,
+    )
+        requires left { left < (seen self.old).registers }
+        requires right { right < (seen self.old).registers }
+        requires below { to < (seen self.old).registers }
+        requires room { room self.old (ForRegister to) }
+        ensures given { seen self.new ≡ made (at_once (λ t. given_to (Register to) (operated (Register left ∷ Register right ∷ []) latency t))) (seen self.old) }
+        ensures kept { Keeps (room self.old) (room self.new) }
+        ensures steps { steps.new ≡ steps.old + 3 * levels (seen self.old) };
+
     /// An element holds what the operation gave.
     fn give_element(&mut self, element: u32)
         requires below { element < (seen self.old).elements }
@@ -183,45 +218,6 @@ pub trait Timed: Drop {
         ensures restored { seen self.new ≡ made control_restored (seen self.old) }
         ensures registers { (r : ℕ) → room self.old (ForRegister r) → room self.new (ForRegister r) }
         ensures elements { (e : ℕ) → room self.old (ForElement e) → room self.new (ForElement e) };
-
-    /// An operation without an operand is made.
-    #[inline]
-    fn operate_none<L: Ledger>(&mut self, latency: u64, steps: &mut Steps<L>)
-        ensures operated { seen self.new ≡ made (operated [] latency) (seen self.old) }
-        ensures kept { Keeps (room self.old) (room self.new) }
-        ensures steps { steps.new ≡ steps.old + levels (seen self.old) }
-    {
-        self.begin(steps);
-        self.settle(latency);
-    }
-
-    /// An operation is made that depends on one register.
-    #[inline]
-    fn operate_one<L: Ledger>(&mut self, register: u32, latency: u64, steps: &mut Steps<L>)
-        requires { register < (seen self.old).registers }
-        ensures operated { seen self.new ≡ made (operated (Register register ∷ []) latency) (seen self.old) }
-        ensures kept { Keeps (room self.old) (room self.new) }
-        ensures steps { steps.new ≡ steps.old + 2 * levels (seen self.old) }
-    {
-        self.begin(steps);
-        self.raise_register(register, steps);
-        self.settle(latency);
-    }
-
-    /// An operation is made that depends on two registers.
-    #[inline]
-    fn operate_two<L: Ledger>(&mut self, left: u32, right: u32, latency: u64, steps: &mut Steps<L>)
-        requires left { left < (seen self.old).registers }
-        requires right { right < (seen self.old).registers }
-        ensures operated { seen self.new ≡ made (operated (Register left ∷ Register right ∷ []) latency) (seen self.old) }
-        ensures kept { Keeps (room self.old) (room self.new) }
-        ensures steps { steps.new ≡ steps.old + 3 * levels (seen self.old) }
-    {
-        self.begin(steps);
-        self.raise_register(left, steps);
-        self.raise_register(right, steps);
-        self.settle(latency);
-    }
 
     /// The operation depends on what the register of an operand holds, which is numbered from `first` on, unless that dependence is broken.
     #[inline]

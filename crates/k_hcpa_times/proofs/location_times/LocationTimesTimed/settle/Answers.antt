@@ -6,4 +6,4 @@ use Rattle.k_hcpa_times.proofs.location_times.LocationTimesTimed.settle.Goals as
 
 pub invariant_of-self-clause-levels : goal.invariant_of-self-clause-levels
 invariant_of-self-clause-levels g c =
-    row_and_paths (ap (λ xs. length xs) c.delay_times.ensures ∙ length-map c.args.self.now.row _) (ap (λ xs. length xs) c.raise_times.ensures ∙ later_length _ _) c.args.self.now.levels
+    row_and_paths (ap (λ xs. length xs) c.settle_times.ensures.row ∙ length-map c.args.self.now.row _) (ap (λ xs. length xs) c.settle_times.ensures.paths ∙ later_length _ _) c.args.self.now.levels

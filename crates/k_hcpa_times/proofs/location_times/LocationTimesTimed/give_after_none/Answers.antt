@@ -1,0 +1,14 @@
+use Rattle.std.proofs.Common.{◌∙◌, ap, length, sym}
+use Rattle.k_shadow.proofs.Laws.{depth_written}
+use Rattle.k_hcpa_times.proofs.HaveLevels.{registers_and_paths}
+use Rattle.k_hcpa_times.proofs.Lists.{later_length}
+use Rattle.k_hcpa_times.proofs.location_times.LocationTimesTimed.give_after_none.Goals as goal
+
+pub invariant_of-self-clause-levels : goal.invariant_of-self-clause-levels
+invariant_of-self-clause-levels g c =
+    let s = c.args.self.now in
+    registers_and_paths (ap (λ x. length x.levels) c.write_none.ensures.written ∙ depth_written c.args.to _ (g.R.Shadow.content s.registers))
+    (ap (λ xs. length xs) c.write_none.ensures.paths ∙ later_length _ _) s.levels
+
+pub invariant_of-self-clause-handed_levels : goal.invariant_of-self-clause-handed_levels
+invariant_of-self-clause-handed_levels g c = c.args.self.now.handed_levels ∙ sym (ap (λ xs. length xs) c.write_none.ensures.paths ∙ later_length _ _)
