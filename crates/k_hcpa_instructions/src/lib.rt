@@ -5,6 +5,7 @@
 mod calls;
 mod operands;
 mod operation;
+mod plain;
 
 pub use calls::{Call, begin_return, call_times, clear_back, give_back};
 pub use operation::operation_times;

@@ -1,5 +1,5 @@
 //! On what an operation depends beside the control source, and where what it gives is held.
-ghost use Rattle.std.specs.Prelude.{◌≡◌, ℕ, ◌+◌, ◌*◌, ◌^◌, ◌<◌, IfSome, length};
+ghost use Rattle.std.specs.Prelude.{◌≡◌, ℕ, ◌+◌, ◌*◌, ◌^◌, ◌<◌, [], ◌∷◌, IfSome, length};
 ghost use Rattle.k_code.specs.Named.{operands, returned};
 ghost use Rattle.k_code.specs.Steps.{operation_of};
 ghost use Rattle.k_hcpa_meaning.specs.Locations.{operand_locations, element_location, register_location};
@@ -11,6 +11,17 @@ use k_code::{Arg, Do};
 use k_hcpa_times::Timed;
 use k_shadow::Steps;
 use std::sync::ledger::Ledger;
+
+/// The operation depends on two operands, but for those whose dependence is broken.
+fn raise_two<T: Timed, L: Ledger>(times: &mut T, first: u32, a: Arg, b: Arg, steps: &mut Steps<L>)
+    requires { AreBelow first (T.seen times.old).registers (a ∷ b ∷ []) }
+    ensures raised { T.seen times.new ≡ made (raised_all (operand_locations first (a ∷ b ∷ []))) (T.seen times.old) }
+    ensures kept { Keeps (T.room times.old) (T.room times.new) }
+    ensures steps { steps.new ≡ steps.old + length (operand_locations first (a ∷ b ∷ [])) * levels (T.seen times.old) }
+{
+    times.raise_arg(first, a, steps);
+    times.raise_arg(first, b, steps);
+}
 
 /// The operation depends on the registers that its instruction names, but for those whose dependence is broken.
 #[tactic(auto, unfolding(k_code::specs::Named::operands))]
@@ -26,17 +37,17 @@ pub(crate) fn raise_operands<T: Timed, L: Ledger>(
     ensures steps { steps.new ≡ steps.old + length (operand_locations first (operands act.now)) * levels (T.seen times.old) }
 {
     match act {
-        Do::Binary { a, b, .. } => times.raise_all(first, &[*a, *b], steps),
-        Do::Unary { a, .. } => times.raise_all(first, &[*a], steps),
-        Do::Convert { a, .. } => times.raise_all(first, &[*a], steps),
-        Do::Move { a, .. } => times.raise_all(first, &[*a], steps),
-        Do::Offset { at, by, .. } => times.raise_all(first, &[*at, *by], steps),
-        Do::PtrCompare { a, b, .. } => times.raise_all(first, &[*a, *b], steps),
-        Do::PtrDistance { a, b, .. } => times.raise_all(first, &[*a, *b], steps),
-        Do::Load { at, .. } => times.raise_all(first, &[*at], steps),
-        Do::Store { at, a, .. } => times.raise_all(first, &[*at, *a], steps),
+        Do::Binary { a, b, .. } => raise_two(times, first, *a, *b, steps),
+        Do::Unary { a, .. } => times.raise_arg(first, *a, steps),
+        Do::Convert { a, .. } => times.raise_arg(first, *a, steps),
+        Do::Move { a, .. } => times.raise_arg(first, *a, steps),
+        Do::Offset { at, by, .. } => raise_two(times, first, *at, *by, steps),
+        Do::PtrCompare { a, b, .. } => raise_two(times, first, *a, *b, steps),
+        Do::PtrDistance { a, b, .. } => raise_two(times, first, *a, *b, steps),
+        Do::Load { at, .. } => times.raise_arg(first, *at, steps),
+        Do::Store { at, a, .. } => raise_two(times, first, *at, *a, steps),
         Do::Output { args, .. } => times.raise_all(first, args.as_slice(), steps),
-        Do::Test { a, .. } => times.raise_all(first, &[*a], steps),
+        Do::Test { a, .. } => times.raise_arg(first, *a, steps),
         Do::Call { args, .. } => times.raise_all(first, args.as_slice(), steps),
         Do::Return { value } => raise_returned(times, first, *value, steps),
         _ => {}

@@ -3,6 +3,7 @@ pub mod Bounds
 pub mod Calling
 pub mod Here
 pub mod Levels
+pub mod OtherRow
 pub mod Reading
 pub mod Returning
 pub mod Rooms

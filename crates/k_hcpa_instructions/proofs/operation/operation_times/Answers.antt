@@ -1,37 +1,63 @@
-use Rattle.std.proofs.Common.{◌≡◌, ◌+◌, ◌*◌, List, length, sym, ap, ◌∙◌, length-append}
-use Rattle.k_code.specs.Named.{operands, register_set}
-use Rattle.k_code.specs.Steps.{operation_of}
-use Rattle.k_hcpa_meaning.specs.Locations.{operand_locations, register_location}
-use Rattle.k_hcpa_meaning.specs.Timings.{Location}
-use Rattle.k_hcpa_times.specs.Seen.{Room, Seen, levels}
-use Rattle.k_hcpa_instructions.specs.Kinds.{effects_of, hidden_of}
-use Rattle.k_hcpa_instructions.proofs.Behind.{levels_raised, room_front, room_kept, steps_taken}
+use Rattle.std.proofs.Common.{Bool, ℕ, ◌+◌, ◌*◌, ◌<◌, ◌∙◌, List, [], ◌∷◌, Option, IfSome, ap, length, subst, sym}
+use Rattle.k_code.specs.declared.instruction.Arg.{Arg}
+use Rattle.k_hcpa_meaning.specs.Timings.{Location, Timing, given_to_all, operated}
+use Rattle.k_hcpa_times.specs.Seen.{AreBelow, levels, made}
+use Rattle.k_hcpa_instructions.specs.Kinds.{HaveRoom, depends_by, held_by}
+use Rattle.k_hcpa_instructions.specs.AtOnce.{made_so}
+use Rattle.k_hcpa_instructions.proofs.AtOnce.{plain_depends, plain_held, plain_made}
 use Rattle.k_hcpa_instructions.proofs.operation.operation_times.Goals as goal
 
-pub give_effect-requires-clause-room : goal.give_effect-requires-clause-room
-give_effect-requires-clause-room g c =
-    let r0 : Room → Type 0 = g.T.Timed.room c.args.times.now in
-    let r1 : Room → Type 0 = g.T.Timed.room c.begin.new.self in
-    let r2 : Room → Type 0 = g.T.Timed.room c.raise_operands.new.times in
-    let r3 : Room → Type 0 = g.T.Timed.room c.raise_hidden.new.times in
-    let r4 : Room → Type 0 = g.T.Timed.room c.settle.new.self in
-    let some : List Location = effects_of (operation_of c.args.instr.now.act) c.args.element in
-    let more : List Location = register_location c.args.first (register_set c.args.instr.now.act) in
-    room_kept r3 r4 some c.settle.ensures.kept
-    (room_kept r2 r3 some c.raise_hidden.ensures.kept
-    (room_kept r1 r2 some c.raise_operands.ensures.kept (room_kept r0 r1 some c.begin.ensures.kept (room_front r0 some more c.requires.room))))
+pub operate_one-requires-clause-arg : goal.operate_one-requires-clause-arg
+operate_one-requires-clause-arg g c =
+    subst (λ (args : List Arg). AreBelow c.args.first (g.T.Timed.seen c.args.times.now).registers args) c.in-One.ensures.1 c.requires.operands
 
-pub returns-clause-steps : goal.returns-clause-steps
-returns-clause-steps g c =
-    let s0 : Seen = g.T.Timed.seen c.args.times.now in
-    let s1 : Seen = g.T.Timed.seen c.begin.new.self in
-    let s2 : Seen = g.T.Timed.seen c.raise_operands.new.times in
-    let some : List Location = operand_locations c.args.first (operands c.args.instr.now.act) in
-    let more : List Location = hidden_of (operation_of c.args.instr.now.act) c.args.element in
-    let one : levels s1 ≡ levels s0 = ap levels c.begin.ensures.begun in
-    let two : levels s2 ≡ levels s1 = ap levels c.raise_operands.ensures.raised ∙ levels_raised some s1 in
-    c.raise_hidden.ensures.steps
-    ∙ ap (λ n. c.raise_operands.new.steps + length more * n) (two ∙ one)
-    ∙ ap (λ n. n + length more * levels s0) (c.raise_operands.ensures.steps ∙ ap (λ n. c.begin.new.steps + length some * n) one ∙ ap (λ n. n + length some * levels s0) c.begin.ensures.steps)
-    ∙ steps_taken c.args.steps.now (levels s0) (length some) (length more)
-    ∙ ap (λ n. c.args.steps.now + (1 + n) * levels s0) (sym (length-append some more))
+pub operate_one-requires-clause-below : goal.operate_one-requires-clause-below
+operate_one-requires-clause-below g c =
+    subst (λ (o : Option ℕ). IfSome o (λ r. c.args.first + r < (g.T.Timed.seen c.args.times.now).registers)) (c.requires.sets ∙ c.in-One.ensures.2) c.requires.below
+
+pub operate_one-requires-clause-room : goal.operate_one-requires-clause-room
+operate_one-requires-clause-room g c =
+    (subst (λ (held : List Location). HaveRoom (g.T.Timed.room c.args.times.now) held)
+    (plain_held c.args.first c.args.instr.now.act c.args.element c.in-One.r c.in-One.ensures.0 c.in-One.ensures.2) c.requires.room).0
+
+pub operate_two-requires-clause-args : goal.operate_two-requires-clause-args
+operate_two-requires-clause-args g c =
+    subst (λ (args : List Arg). AreBelow c.args.first (g.T.Timed.seen c.args.times.now).registers args) c.in-Two.ensures.1 c.requires.operands
+
+pub operate_two-requires-clause-below : goal.operate_two-requires-clause-below
+operate_two-requires-clause-below g c =
+    subst (λ (o : Option ℕ). IfSome o (λ r. c.args.first + r < (g.T.Timed.seen c.args.times.now).registers)) (c.requires.sets ∙ c.in-Two.ensures.2) c.requires.below
+
+pub operate_two-requires-clause-room : goal.operate_two-requires-clause-room
+operate_two-requires-clause-room g c =
+    (subst (λ (held : List Location). HaveRoom (g.T.Timed.room c.args.times.now) held)
+    (plain_held c.args.first c.args.instr.now.act c.args.element c.in-Two.r c.in-Two.ensures.0 c.in-Two.ensures.2) c.requires.room).0
+
+pub returns-in-One-clause-times : goal.returns-in-One-clause-times
+returns-in-One-clause-times g c =
+    c.operate_one.ensures.given
+    ∙ plain_made c.args.first c.args.instr.now c.args.element (c.in-One.a.now ∷ []) c.in-One.r (g.T.Timed.seen c.args.times.now) c.in-One.ensures.0 c.in-One.ensures.1 c.in-One.ensures.2
+
+pub returns-in-Two-clause-times : goal.returns-in-Two-clause-times
+returns-in-Two-clause-times g c =
+    c.operate_two.ensures.given
+    ∙ plain_made c.args.first c.args.instr.now c.args.element (c.in-Two.a.now ∷ c.in-Two.b.now ∷ []) c.in-Two.r (g.T.Timed.seen c.args.times.now) c.in-Two.ensures.0 c.in-Two.ensures.1
+    c.in-Two.ensures.2
+
+pub returns-in-Other-clause-times : goal.returns-in-Other-clause-times
+returns-in-Other-clause-times g c =
+    let i = c.args.instr.now in
+    let change : Timing → Timing = λ t. given_to_all (held_by c.args.first i.act c.args.element) (operated (depends_by c.args.first i.act c.args.element) i.latency t) in
+    c.operate_by_parts.ensures.times ∙ ap (λ (once : Bool). made (made_so once change) (g.T.Timed.seen c.args.times.now)) (sym c.in-Other.ensures)
+
+pub returns-in-One-clause-steps : goal.returns-in-One-clause-steps
+returns-in-One-clause-steps g c =
+    c.operate_one.ensures.steps
+    ∙ ap (λ (on : List Location). c.args.steps.now + (1 + length on) * levels (g.T.Timed.seen c.args.times.now))
+    (sym (plain_depends c.args.first c.args.instr.now.act c.args.element (c.in-One.a.now ∷ []) c.in-One.ensures.0 c.in-One.ensures.1))
+
+pub returns-in-Two-clause-steps : goal.returns-in-Two-clause-steps
+returns-in-Two-clause-steps g c =
+    c.operate_two.ensures.steps
+    ∙ ap (λ (on : List Location). c.args.steps.now + (1 + length on) * levels (g.T.Timed.seen c.args.times.now))
+    (sym (plain_depends c.args.first c.args.instr.now.act c.args.element (c.in-Two.a.now ∷ c.in-Two.b.now ∷ []) c.in-Two.ensures.0 c.in-Two.ensures.1))

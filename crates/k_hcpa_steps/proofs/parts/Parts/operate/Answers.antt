@@ -4,8 +4,8 @@ use Rattle.k_ending.specs.declared.ending.End.{End}
 use Rattle.k_world.specs.declared.answer.Stop.{Stop}
 use Rattle.k_hcpa_store.specs.Kept.{configuration_of}
 use Rattle.k_hcpa_store.specs.Leads.{EndsHere, Operates}
-use Rattle.k_hcpa_instructions.specs.Kinds.{depends_by, held_by}
-use Rattle.k_hcpa_meaning.specs.Timings.{Timing, given_to_all, operated}
+use Rattle.k_hcpa_instructions.specs.Kinds.{depends_by}
+use Rattle.k_hcpa_instructions.specs.AtOnce.{operated_by}
 use Rattle.k_code.specs.Named.{operands}
 use Rattle.k_hcpa_steps.specs.Keeping.{Keeping, StopsAt, keeping}
 use Rattle.k_hcpa_steps.proofs.Here.{each_if, element_below, goes_by_operation, operands_are_below, operation_kind, operation_stands, set_below, stored_below, stops, unchanged, work_fits}
@@ -113,10 +113,9 @@ returns-in-Ok-clause-goes g c s count taken set deep at =
     let first = c.first_register-first.result in
     let element = c.in-Ok.done.element in
     let i = c.args.instr.now in
-    let change : Timing → Timing = λ t. given_to_all (held_by first i.act element) (operated (depends_by first i.act element) i.latency t) in
     operation_stands s count taken old c.args.instr.now set at c.requires.next o goes c.first_register-first.result c.in-Ok.done.element
     c.first_register-first.ensures.first known.1 new _ known.0
-    (c.operation_times.ensures.times ∙ ap (λ (seen : Seen). made_of change seen) c.reserve_result.ensures.same) c.count.ensures
+    (c.operation_times.ensures.times ∙ ap (λ (seen : Seen). made_of (operated_by first i element) seen) c.reserve_result.ensures.same) c.count.ensures
 
 pub returns-in-Err-Memory-clause-goes : goal.returns-in-Err-Memory-clause-goes
 returns-in-Err-Memory-clause-goes g c s count taken set deep at =
