@@ -10,4 +10,5 @@ mod state;
 mod store;
 
 pub use answer::{Alone, Calling};
+pub use operands::act_in;
 pub use store::Store;

@@ -1,5 +1,5 @@
 //! The store: each instruction of flat code by its exact step.
-ghost use Rattle.std.specs.Prelude.{◌≡◌, ℕ, ◌+◌, ◌^◌, ◌<◌, ◌≤◌, [], ◌∷◌, length, List, Option, IfSome, Some, slice_get, true};
+ghost use Rattle.std.specs.Prelude.{◌≡◌, ℕ, ◌+◌, ◌^◌, ◌<◌, ◌≤◌, [], ◌∷◌, length, List, Option, IfSome, OnOk, Some, slice_get, true};
 ghost use Rattle.k_optab.specs.declared.class.Class.{Class};
 ghost use Rattle.k_optab.specs.declared.event.Event.TheVariants.{Enter, Exit};
 ghost use Rattle.k_world.specs.declared.act.Act.{Act};
@@ -7,16 +7,18 @@ ghost use Rattle.k_code.specs.declared.code.CodeFunc.{CodeFunc};
 ghost use Rattle.k_code.specs.declared.instruction.Arg.{Arg};
 ghost use Rattle.k_code.specs.declared.instruction.Do.TheVariants as act;
 ghost use Rattle.k_code.specs.Finds.{Finds};
+ghost use Rattle.k_code.specs.Steps.{reads_of};
 ghost use Rattle.k_code.specs.Valid.{IsValid};
 ghost use Rattle.k_hcpa_meaning.specs.Locations.{first_register as first_meant, frames_of, saved_in, waiting_frames, width, widths};
 ghost use Rattle.k_hcpa_store.specs.Kept.{configuration_of};
-ghost use Rattle.k_hcpa_store.specs.Leads.{Calls, GoesAlone, GoesOn, IsNext, Leaves, MayReturn, Operates, Starts, back_register as back_meant, goes_alone, goes_by, may_leave, source_read, stored_element};
+ghost use Rattle.k_hcpa_store.specs.Leads.{Calls, GoesAlone, GoesOn, IsNext, Leaves, MakesBy, MayReturn, Operates, Starts, back_register as back_meant, goes_alone, goes_by, may_leave, source_read, stored_element};
 
 use crate::state::State;
 use crate::{Alone, Calling};
 use k_code::{Arg, Code, Instr};
 use k_ending::End;
-use k_world::{Done, Stop};
+use k_num::NoMemory;
+use k_world::{Done, Read, Stop};
 use std::alloc::Global;
 use std::marker::Model;
 
@@ -77,6 +79,15 @@ impl<'a> Store<'a> {
         self.state.operate(instr)
     }
 
+    /// The same, where what is told of the operation itself is needed too: the value that it gives.
+    pub fn make(&mut self, instr: &'a Instr) -> Result<Done, Stop>
+        requires { IsNext self.old instr.now }
+        ensures operates { (o : Class × Act) → goes_by instr.now.act ≡ Some o → Operates self.old instr.now o result self.new }
+        ensures made { (o : Class × Act) → goes_by instr.now.act ≡ Some o → MakesBy self.old instr.now o result self.new }
+    {
+        self.state.operate(instr)
+    }
+
     /// Does an instruction that makes no operation, is no return, and enters and leaves no region.
     pub fn alone(&mut self, instr: &'a Instr) -> Result<Alone, Stop>
         requires next { IsNext self.old instr.now }
@@ -118,6 +129,13 @@ impl<'a> Store<'a> {
         ensures { result ≡ stored_element (configuration_of self.now) instr.now.act }
     {
         self.state.element_to_store(instr)
+    }
+
+    /// What the operands of an instruction of the newest call read, in a list that is kept for them.
+    pub fn read_operands(&self, reads: &mut Vec<Read>, instr: &Instr) -> Result<(), NoMemory>
+        ensures { OnOk result (reads.new.items ≡ reads_of (configuration_of self.now) instr.now.act) }
+    {
+        self.state.read_operands(reads, instr)
     }
 
     /// The operation that gave what an operand of the newest call reads, if one did.

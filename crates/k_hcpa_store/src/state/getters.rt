@@ -1,16 +1,20 @@
 //! What a store tells of its configuration.
-ghost use Rattle.std.specs.Prelude.{◌≡◌, ℕ, ◌+◌, ◌^◌, ◌<◌, ◌≤◌, [], length, slice_get, option_map, IfSome, Some};
+ghost use Rattle.std.specs.Prelude.{◌≡◌, ℕ, ◌+◌, ◌^◌, ◌<◌, ◌≤◌, [], length, slice_get, option_map, IfSome, OnOk, Some};
 ghost use Rattle.k_num.specs.Top.{top};
 ghost use Rattle.k_hcpa_meaning.specs.Locations.{first_register as first_meant, frames_of, widths};
+ghost use Rattle.k_code.specs.Steps.{reads_of};
 ghost use Rattle.k_hcpa_store.specs.Kept.{configuration_of};
 ghost use Rattle.k_hcpa_store.specs.Leads.{back_register as back_meant, source_read};
 ghost use Rattle.k_world.specs.Operands.{source_in as source_meant};
+ghost use Rattle.k_hcpa_store.specs.Parts.{reads_in};
 ghost use Rattle.k_hcpa_store.specs.Sound.{IsSound};
 
 use super::State;
 use crate::call::Caller;
-use crate::registers::read;
+use crate::operands::{Operands, operands_in};
+use crate::registers::{read, read_all};
 use k_code::{Arg, Code, Instr};
+use k_num::NoMemory;
 use k_world::Read;
 
 impl<'a> State<'a> {
@@ -56,6 +60,28 @@ impl<'a> State<'a> {
             Some(caller) => back_in(caller),
             None => None,
         }
+    }
+
+    /// What the operands of an instruction read, in a list that is kept for them.
+    #[tactic(auto, unfolding(crate::specs::Kept::configuration_of))]
+    pub fn read_operands(&self, reads: &mut Vec<Read>, instr: &Instr) -> Result<(), NoMemory>
+        requires { self.now.call.first ≤ length self.now.registers }
+        ensures { OnOk result (reads.new.items ≡ reads_of (configuration_of self.now) instr.now.act) }
+    {
+        match operands_in(&instr.act) {
+            Operands::Nothing => self.read_list(reads, &[]),
+            Operands::One(a) => self.read_list(reads, &[*a]),
+            Operands::Two(a, b) => self.read_list(reads, &[*a, *b]),
+            Operands::All(args) => self.read_list(reads, args),
+        }
+    }
+
+    /// What operands read, in a list that is kept for them.
+    fn read_list(&self, reads: &mut Vec<Read>, args: &[Arg]) -> Result<(), NoMemory>
+        requires { self.now.call.first ≤ length self.now.registers }
+        ensures { OnOk result (reads.new.items ≡ reads_in self.now args.now) }
+    {
+        read_all(reads, &self.registers, self.call.first, args)
     }
 
     /// The operation that gave what an operand reads, if one did.

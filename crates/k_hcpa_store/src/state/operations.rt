@@ -7,7 +7,7 @@ ghost use Rattle.k_world.specs.Acts.{touched};
 ghost use Rattle.k_world.specs.Answers.{Makes, act_of};
 ghost use Rattle.k_world.specs.Operands.{values_of};
 ghost use Rattle.k_code.specs.Named.{register_set};
-ghost use Rattle.k_hcpa_store.specs.Leads.{IsNext, Operates, goes_by, stored_element};
+ghost use Rattle.k_hcpa_store.specs.Leads.{IsNext, MakesBy, Operates, goes_by, stored_element};
 ghost use Rattle.k_hcpa_store.specs.Kept.{configuration_of};
 ghost use Rattle.k_world.specs.declared.act.Act.TheVariants.{Store};
 ghost use Rattle.k_hcpa_store.specs.Parts.{IsWithin, follows as follows_meant, given, listed, reads_in};
@@ -26,6 +26,7 @@ impl<'a> State<'a> {
         requires sound { IsSound self.old }
         requires next { IsNext self.old instr.now }
         ensures operates { (o : Class × Act) → goes_by instr.now.act ≡ Some o → Operates self.old instr.now o result self.new }
+        ensures made { (o : Class × Act) → goes_by instr.now.act ≡ Some o → MakesBy self.old instr.now o result self.new }
         ensures sound { IsSound self.new }
     {
         let Some(act) = act_in(&instr.act) else {
