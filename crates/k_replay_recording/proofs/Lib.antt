@@ -1,1 +1,1 @@
-mod Sourced
+pub mod Sourced

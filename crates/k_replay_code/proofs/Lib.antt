@@ -1,0 +1,5 @@
+pub mod Adding
+pub mod Made
+pub mod Making
+pub mod Leaving
+pub mod Going

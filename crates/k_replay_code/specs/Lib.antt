@@ -1,0 +1,4 @@
+pub mod Performed
+pub mod Recorded
+pub mod Steps
+pub mod Running
