@@ -1,0 +1,4 @@
+pub mod Occurrences
+pub mod Actions
+pub mod Declarations
+pub mod Texts
