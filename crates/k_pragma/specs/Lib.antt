@@ -1,0 +1,4 @@
+pub mod Conditions
+pub mod Clauses
+pub mod Marked
+pub mod Insertions

@@ -1,0 +1,69 @@
+-- For contracts between crates: nobody has to believe it.
+-- Which loops may be marked, and with which lines.
+use Rattle.std.specs.Prelude.{ℕ, ◌+◌, ◌*◌, nat_eq, Bool, false, ◌&&◌, if◌then◌else◌, List, [], ◌∷◌, ◌++◌, length, slice_get, Option, Some, None}
+use Rattle.std.specs.List.{flat_map, list_any}
+use Rattle.k_tree.specs.declared.tokens.Token.{Token}
+use Rattle.k_types_meaning.specs.declared.tree.unit.TFunc.{TFunc}
+use Rattle.k_types_meaning.specs.declared.tree.unit.TVariable.{TVariable}
+use Rattle.k_carry_pairs.specs.declared.pairs.LoopPairs.{LoopPairs}
+use Rattle.k_pragma_texts.specs.declared.occurrence.LoopText.{LoopText}
+use Rattle.k_pragma_texts.specs.declared.occurrence.Occurrence.{Occurrence}
+use Rattle.k_pragma_texts.specs.declared.occurrence.Setter.{Setter}
+use Rattle.k_pragma_texts.specs.Texts.{function_held}
+use Rattle.k_pragma.specs.declared.pragmas.Pragma.{Pragma}
+use Rattle.k_pragma.specs.Clauses.{pragma_text}
+use Rattle.k_pragma.specs.Conditions.{shares_nothing}
+
+-- the pairs of a loop were looked for, and there are none
+abbrev pub is_without_pairs : ℕ → LoopPairs → Bool
+is_without_pairs region l = nat_eq l.region region && nat_eq (length l.pairs) 0
+
+-- THE THIRD CONDITION: the loop of this region is among the loops that were looked at, with no pairs
+abbrev pub carries_nothing : List LoopPairs → ℕ → Bool
+carries_nothing loops region = list_any (is_without_pairs region) loops
+
+-- the first condition and the third: the loops that are picked and carry nothing, by their regions
+abbrev pub candidates : List LoopPairs → List ℕ → List ℕ
+candidates loops [] = []
+candidates loops (region ∷ picked) = (if carries_nothing loops region then region ∷ [] else []) ++ candidates loops picked
+
+-- the region of the loop of this number in the function of this number: each function and, behind it, each of its loops is followed by what is in it
+abbrev pub region_of_loop : ℕ → ℕ → ℕ
+region_of_loop function loop = function + 1 + 2 * loop
+
+-- THE SECOND CONDITION: the loop of this number is counted
+abbrev pub is_there_and_so : Option Bool → Bool
+is_there_and_so None = false
+is_there_and_so (Some b) = b
+
+abbrev pub is_counted : List Bool → ℕ → Bool
+is_counted counted loop = is_there_and_so (slice_get counted loop)
+
+-- a region is among these
+abbrev pub is_among : List ℕ → ℕ → Bool
+is_among among region = list_any (λ r. nat_eq r region) among
+
+-- the loop of a region in a function with these variables meets all conditions but that the source spells `for`
+abbrev pub is_ready : List ℕ → List Bool → ℕ → List TVariable → List Occurrence → List Setter → LoopText → Bool
+is_ready among counted region vs occurs setters l = is_among among region && (is_counted counted l.number && shares_nothing occurs setters l vs)
+
+-- the line of a loop of the function of this number, where it does
+abbrev pub pragma_by : List ℕ → List Bool → List Token → ℕ → List TVariable → List Occurrence → List Setter → LoopText → List Pragma
+pragma_by among counted tokens number vs occurs setters l =
+    if is_ready among counted (region_of_loop number l.number) vs occurs setters l
+    then record { region = region_of_loop number l.number; text = pragma_text tokens occurs l vs } ∷ []
+    else []
+
+-- the lines of these loops in a text
+abbrev pub pragmas_of_text : List ℕ → List Bool → List Token → ℕ → List TVariable → List Occurrence → List Setter → List LoopText → List Pragma
+pragmas_of_text among counted tokens number vs occurs setters loops = flat_map (pragma_by among counted tokens number vs occurs setters) loops
+
+-- the lines of the loops of the function of this number
+abbrev pub pragmas_of : List ℕ → List Bool → List Token → ℕ → TFunc → List Pragma
+pragmas_of among counted tokens number f =
+    pragmas_of_text among counted tokens number f.variables (function_held f).occurs (function_held f).setters (function_held f).loops
+
+-- the lines of the loops of functions, the first of which has this number
+abbrev pub pragmas_in : List ℕ → List Bool → List Token → ℕ → List TFunc → List Pragma
+pragmas_in among counted tokens number [] = []
+pragmas_in among counted tokens number (f ∷ fs) = pragmas_of among counted tokens number f ++ pragmas_in among counted tokens (number + 1) fs
