@@ -18,7 +18,7 @@ cmp-less n m less = ap (λ b. cond b Less (cond (int_lt m n) Greater Equal)) les
 cmp-more : (n m : ℤ) → int_lt n m ≡ false → int_lt m n ≡ true → int_cmp n m ≡ Greater
 cmp-more n m unless more = ap (λ b. cond b Less (cond (int_lt m n) Greater Equal)) unless ∙ ap (λ b. cond b Greater Equal) more
 
-cmp-same : (n m : ℤ) → int_lt n m ≡ false → int_lt m n ≡ false → int_cmp n m ≡ Equal
+pub cmp-same : (n m : ℤ) → int_lt n m ≡ false → int_lt m n ≡ false → int_cmp n m ≡ Equal
 cmp-same n m one other = ap (λ b. cond b Less (cond (int_lt m n) Greater Equal)) one ∙ ap (λ b. cond b Greater Equal) other
 
 -- the test for a value

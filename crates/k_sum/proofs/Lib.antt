@@ -4,3 +4,4 @@ pub mod Joins
 pub mod Bounds
 pub mod Meaning
 pub mod Programs
+pub mod Endings

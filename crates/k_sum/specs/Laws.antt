@@ -1,10 +1,12 @@
 -- Believed with a public law.
 -- What holds of sums: the statements of the laws.
-use Rattle.std.specs.Prelude.{◌-◌, ◌≡◌, length}
+use Rattle.std.specs.Prelude.{ℕ, ℤ, List, ◌+◌, if◌then◌else◌, [], ◌∷◌, ◌-◌, ◌≡◌, length}
 use Rattle.k_dict.specs.Entries.{AreApart, AreRuns, NameEarlier, laid, tree_at, trees_of}
 use Rattle.k_dict.specs.Trees.{Alike, Forest, alone, bare, grown}
 use Rattle.k_dict_saved.specs.Profile.{IsSaved}
 use Rattle.k_dict_saved.specs.declared.saved.Saved.{Saved}
+use Rattle.std.specs.Ordering.{int_eq}
+use Rattle.k_sum.specs.declared.exits.Exit.{Exit}
 use Rattle.k_sum.specs.Sums.{both, sum_of}
 use Rattle.k_sum.specs.declared.sum.Sum.{Sum}
 
@@ -41,3 +43,12 @@ OrderIsFree = (one other : Sum) → TellsOfRuns one → TellsOfRuns other → Al
 abbrev pub GroupingIsFree : Type 0
 GroupingIsFree = (one two three : Sum) → TellsOfRuns one → TellsOfRuns two → TellsOfRuns three
     → Alike (forest_of (both (both one two) three)) (forest_of (both one (both two three)))
+
+-- how many of these runs ended with a value
+abbrev pub ended_with : ℤ → List Exit → ℕ
+ended_with value [] = 0
+ended_with value (x ∷ exits) = (if int_eq x.value value then x.runs else 0) + ended_with value exits
+
+-- as many runs of two sums together ended with a value as of both
+abbrev pub ExitsAddUp : Type 0
+ExitsAddUp = (one other : Sum) (value : ℤ) → ended_with value (both one other).exits ≡ ended_with value one.exits + ended_with value other.exits

@@ -1,5 +1,5 @@
 //! What holds of sums: each function's contract is a law, and its body does nothing.
-ghost use Rattle.k_sum.specs.Laws.{BothTellOfAll, GroupingIsFree, OneTellsOfItsRun, OrderIsFree};
+ghost use Rattle.k_sum.specs.Laws.{BothTellOfAll, ExitsAddUp, GroupingIsFree, OneTellsOfItsRun, OrderIsFree};
 
 /// The sum of a profile tells of its run, whose tree is that of the profile.
 pub fn run_of_one()
@@ -11,4 +11,9 @@ pub fn runs_of_both()
     ensures all { BothTellOfAll }
     ensures order { OrderIsFree }
     ensures grouping { GroupingIsFree }
+{}
+
+/// As many runs of two sums together ended with a value as of both.
+pub fn exits_of_both()
+    ensures { ExitsAddUp }
 {}
