@@ -8,6 +8,7 @@ ghost use Rattle.k_top_lemmas.specs.Parts.{GivesText, IsFresh};
 ghost use Rattle.k_top_lemmas.specs.Phases.{FindsJob};
 ghost use Rattle.k_top_lemmas.specs.Streams.{StreamsAnswer, StreamsJob};
 
+use crate::carried::carried_answer;
 use crate::checked::check_answer;
 use crate::demo::demo_answer;
 use crate::graph::graph_answer;
@@ -81,6 +82,25 @@ fn graph_job<F: Files, S: Source>(
     Ok(answer)
 }
 
+/// The answer of `carried` with its options.
+fn carried_job<F: Files, S: Source>(
+    alloc: Global,
+    files: &mut F,
+    input: &mut S,
+    file: Text,
+    steps: u64,
+    depth: u32,
+    latency: Option<Text>,
+) -> Result<Answer, Failure>
+    requires { IsRunWithin 1000000000 steps depth }
+    ensures { FindsJob result (job.Carried file steps depth latency)
+        (record { files = F.seen files.old; input = S.seen input.old }) (record { files = F.seen files.new; input = S.seen input.new }) }
+{
+    let ready = make_ready(alloc, files, input, file, latency, steps)?;
+    let answer = carried_answer(alloc, &ready, depth)?;
+    Ok(answer)
+}
+
 /// The rest of the answer to what is asked for. Only a program that `run` runs puts any of it.
 fn job_answer<F: Files, S: Source, K: Sink, R: Shadow, P: Shadow>(
     alloc: Global,
@@ -118,6 +138,16 @@ fn job_answer<F: Files, S: Source, K: Sink, R: Shadow, P: Shadow>(
             drop(regs);
             drop(pages);
             graph_job(alloc, files, input, file, steps, depth, latency)
+        }
+        Job::Carried {
+            file,
+            steps,
+            depth,
+            latency,
+        } => {
+            drop(regs);
+            drop(pages);
+            carried_job(alloc, files, input, file, steps, depth, latency)
         }
         Job::Show { file, form } => {
             drop(regs);

@@ -2,6 +2,7 @@
 #![tactic(auto)]
 
 mod asked;
+mod carried;
 mod checked;
 mod demo;
 mod graph;

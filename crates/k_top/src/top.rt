@@ -13,8 +13,8 @@ use k_shadow::Shadow;
 use k_top_answers::{Answer, Failure};
 use std::alloc::Global;
 
-/// Does what the words ask for, and answers the exit status: 0 where that was done, and for `run`, `graph` and `demo` the program's
-/// main returned; 1 where the run trapped, 2 where it would make more operations than it may, 3 where the source is refused, 4 where the
+/// Does what the words ask for, and answers the exit status: 0 where that was done, and for `run`, `graph`, `carried` and `demo` the
+/// program's main returned; 1 where the run trapped, 2 where it would make more operations than it may, 3 where the source is refused, 4 where the
 /// words are no command, 5 where there is no such file, 6 where a read failed, 7 where a write failed, also where the run would end in a
 /// trap, 8 where no memory was found, 9 where the input is too long, 10 where the table of latencies is refused, 11 where the saved profile
 /// is, 12 where a file is too long. What is asked for goes to `out`; a line that says why, on every status but 0, goes to `err`.

@@ -14,6 +14,9 @@ use Rattle.k_report_profile.specs.Report.{IsReport}
 use Rattle.k_data_profile.specs.Shown.{IsDocument, IsTable}
 use Rattle.k_report_profile.specs.RunReport.{IsRunReport, Ran}
 use Rattle.k_regions.specs.Regions.{regions_of}
+use Rattle.k_carry_pairs.specs.Carried.{AreCarried}
+use Rattle.k_carry_pairs.specs.declared.pairs.LoopPairs.{LoopPairs}
+use Rattle.k_carry_text.specs.Lines.{carried_text}
 use Rattle.k_report.specs.Graph.{IsGraphText}
 use Rattle.k_dict_saved.specs.Profile.{Reads}
 use Rattle.k_dict_saved.specs.SavedText.{saved_text}
@@ -85,6 +88,17 @@ pub record IsListed (depth : ℕ) (answer : Answer) (r : Running) : Type 0 where
   pub is_text : IsGraphText (listing_of (run_of r)) tree text
   pub is : answer ≡ ended text r.steps (run_of r).end
 
+-- CARRIED, where main returned: what the loops of the run carry from turn to turn
+pub record ToldCarried (r : Running) (depth : ℕ) (answer : Answer) : Type 0 where
+  pub loops : List LoopPairs
+  pub are_carried : AreCarried (regions_of r.typed) depth (run_of r).events loops
+  pub is : answer ≡ done (carried_text (regions_of r.typed) loops)
+
+-- CARRIED, by how the run ended: where main did not return, nothing
+abbrev pub AnswersCarried : ℕ → Answer → Running → End → Type 0
+AnswersCarried depth answer r (Returned exit) = ToldCarried r depth answer
+AnswersCarried depth answer r end = answer ≡ ended [] r.steps end
+
 -- how a profile is shown: by its report, by a document, or by the table of its rows
 abbrev pub IsShown : Form → Saved → List ℕ → Type 0
 IsShown (shown.Report dict) profile text = IsReport profile dict text
@@ -117,6 +131,8 @@ AnswersJob outside answer (job.Run file steps depth latency dict save) =
     AnswersRunning (λ failure. answer ≡ refusal failure) outside file latency steps (λ r. AnswersRun depth dict save answer r (run_of r).end)
 AnswersJob outside answer (job.Graph file steps depth latency) =
     AnswersRunning (λ failure. answer ≡ refusal failure) outside file latency steps (IsListed depth answer)
+AnswersJob outside answer (job.Carried file steps depth latency) =
+    AnswersRunning (λ failure. answer ≡ refusal failure) outside file latency steps (λ r. AnswersCarried depth answer r (run_of r).end)
 AnswersJob outside answer (job.Show file form) =
     AnswersFile (λ failure. answer ≡ refusal failure) outside profile_limit file (λ bytes. (read : Result Saved ℕ) × AnswersProfile form answer bytes read)
 AnswersJob outside answer (job.Check file) = AnswersFile (λ failure. answer ≡ refusal failure) outside file_limit file (AnswersChecked file answer)
@@ -148,6 +164,7 @@ FilesCall outside file latency = AnswersProgram (λ failure. ⊥) outside file l
 abbrev pub JobCalls : Outside → Job → Type 0
 JobCalls outside (job.Run file steps depth latency dict save) = FilesCall outside file latency
 JobCalls outside (job.Graph file steps depth latency) = FilesCall outside file latency
+JobCalls outside (job.Carried file steps depth latency) = FilesCall outside file latency
 JobCalls outside (job.Show file form) = ⊥
 JobCalls outside (job.Check file) = ⊥
 JobCalls outside (job.Demo number loops) = ⊥
@@ -160,6 +177,7 @@ CallsForInput list outside = (asked : Job) × words.IsAnswer list (Ok asked) × 
 abbrev pub JobLoads : Job → Type 0
 JobLoads (job.Run file steps depth latency dict save) = Unit {0}
 JobLoads (job.Graph file steps depth latency) = Unit {0}
+JobLoads (job.Carried file steps depth latency) = Unit {0}
 JobLoads (job.Show file form) = Unit {0}
 JobLoads (job.Check file) = Unit {0}
 JobLoads (job.Demo number loops) = ⊥

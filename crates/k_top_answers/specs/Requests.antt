@@ -26,6 +26,7 @@ files_of file latency = Load file ∷ table_of file latency
 abbrev pub loads_of : Job → List Request
 loads_of (job.Run file steps depth latency dict save) = files_of file latency
 loads_of (job.Graph file steps depth latency) = files_of file latency
+loads_of (job.Carried file steps depth latency) = files_of file latency
 loads_of (job.Show file form) = Load file ∷ []
 loads_of (job.Check file) = Load file ∷ []
 loads_of (job.Demo number loops) = []

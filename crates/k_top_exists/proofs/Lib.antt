@@ -1,4 +1,5 @@
 pub mod Answers
+pub mod CarriedLoops
 pub mod Deciding
 pub mod Dictionaries
 pub mod GraphTexts

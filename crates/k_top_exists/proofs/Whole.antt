@@ -12,6 +12,10 @@ use Rattle.k_graph.specs.declared.tree.Instance.{Instance}
 use Rattle.k_report.specs.Report.{large_line}
 use Rattle.k_report_profile.specs.RunReport.{IsRunReport, Ran, ops_of}
 use Rattle.k_report_profile.specs.RunReport as reports
+use Rattle.k_regions.specs.Regions.{regions_of}
+use Rattle.k_carry_pairs.specs.Carried.{AreCarried}
+use Rattle.k_carry_pairs.specs.declared.pairs.LoopPairs.{LoopPairs}
+use Rattle.k_carry_text.specs.Lines.{carried_text}
 use Rattle.k_report.specs.Graph.{IsGraphText}
 use Rattle.k_dict_saved.specs.declared.saved.Saved.{Saved}
 use Rattle.k_words.specs.About.{asked_for, help_text, version_text}
@@ -27,7 +31,7 @@ use Rattle.k_words.specs.declared.usage.Usage.TheVariants as usage
 use Rattle.k_words.proofs.Within.{jobs_are_within}
 use Rattle.k_top_answers.specs.declared.failure.Failure.TheVariants as why
 use Rattle.k_evaluation.specs.Runs.{listing_of}
-use Rattle.k_top_answers.specs.Answers.{AnswersAsked, AnswersChecked, AnswersJob, AnswersMade, AnswersProfile, AnswersRun, AnswersWords, IsAnswer, IsListed, IsShown, checked, done, ended, made_running, ran_of, refusal, saved_file}
+use Rattle.k_top_answers.specs.Answers.{AnswersAsked, AnswersCarried, AnswersChecked, AnswersJob, AnswersMade, AnswersProfile, AnswersRun, AnswersWords, IsAnswer, IsListed, IsShown, checked, done, ended, made_running, ran_of, refusal, saved_file}
 use Rattle.k_top_answers.specs.Checks.{told}
 use Rattle.k_top_answers.specs.Steps.{Outside, Running, file_limit, profile_limit, run_of}
 use Rattle.k_top_answers.specs.Texts.{AreProfileLines, demo_line, plan_line, run_lines, tree_lines, with_report}
@@ -38,6 +42,7 @@ use Rattle.k_top_lemmas.proofs.OneAnswer.{answers_are_unique}
 use Rattle.k_top_exists.specs.Files.{SpellsProfileOrIsWrong}
 use Rattle.k_top_exists.specs.Laws.{WordsHaveOneAnswer}
 use Rattle.k_top_exists.specs.Profiles.{RunReportsExist}
+use Rattle.k_top_exists.proofs.CarriedLoops.{carried_exist}
 use Rattle.k_top_exists.proofs.Answers.{Answered, found_answers, running_answers, source_answers}
 use Rattle.k_top_exists.proofs.GraphTexts.{graph_text_exists}
 use Rattle.k_top_exists.proofs.Listings.{listing_exists, tree_exists}
@@ -89,6 +94,14 @@ listed depth r sound =
     graph_text_exists (listing_of (run_of r)) tree.0 (run_sources r sound) (listing_within depth (run_of r).events tree.0 tree.1) in
     (ended text.0 r.steps (run_of r).end, record { tree = tree.0; text = text.0; is_tree = tree.1; is_text = text.1; is = refl })
 
+-- CARRIED
+carried_answers : (depth : ℕ) (r : Running) (how : End) → Answered (λ a. AnswersCarried depth a r how)
+carried_answers depth r (end.Returned exit) =
+    let found : (loops : List LoopPairs) × AreCarried (regions_of r.typed) depth (run_of r).events loops = carried_exist (regions_of r.typed) depth (run_of r).events in
+    (done (carried_text (regions_of r.typed) found.0), record { loops = found.0; are_carried = found.1; is = refl })
+carried_answers depth r (end.Trapped trap place) = (ended [] r.steps (end.Trapped trap place), refl)
+carried_answers depth r end.OutOfSteps = (ended [] r.steps end.OutOfSteps, refl)
+
 -- SHOW
 by_profile : (form : Form) (bytes : List ℕ) → SpellsProfileOrIsWrong bytes → Answered (λ a. (read : Result Saved ℕ) × AnswersProfile form a bytes read)
 by_profile form bytes (inl (saved, is)) =
@@ -122,6 +135,8 @@ job_answers outside (job.Run file steps depth latency dict save) within =
 job_answers outside (job.Graph file steps depth latency) within =
     let most : steps ≤ 200000 = within.steps.at_most in
     running_answers outside steps (omega (arith, most)) (λ a r. IsListed depth a r) (listed depth) file latency
+job_answers outside (job.Carried file steps depth latency) within =
+    running_answers outside steps within.steps.at_most (λ a r. AnswersCarried depth a r (run_of r).end) (λ r sound. carried_answers depth r (run_of r).end) file latency
 job_answers outside (job.Show file form) within =
     found_answers profile_limit file (λ a bytes. (read : Result Saved ℕ) × AnswersProfile form a bytes read)
     (λ bytes fits. by_profile form bytes (saved_file_is_answered bytes)) (outside.files file)

@@ -1,5 +1,6 @@
 pub mod Files
 pub mod Graphs
 pub mod Laws
+pub mod Loops
 pub mod Profiles
 pub mod Sources

@@ -2,6 +2,7 @@
 ghost use Rattle.k_top_exists.specs.Files.{FileIsAnswered, SavedFileIsAnswered, TableIsAnswered, WordsAreAnswered};
 ghost use Rattle.k_top_exists.specs.Graphs.{GraphTextsExist, HeaviestPathsExist, ListingsExist, TreesExist};
 ghost use Rattle.k_top_exists.specs.Laws.{WordsHaveOneAnswer};
+ghost use Rattle.k_top_exists.specs.Loops.{CarriedPairsExist};
 ghost use Rattle.k_top_exists.specs.Profiles.{DictionariesExist, ProfileReportsExist, ReadReportsExist, RowsExist, RunReportsExist};
 ghost use Rattle.k_top_exists.specs.Sources.{FaultlessSourcesAreTyped, ListsAreRead};
 
@@ -54,6 +55,11 @@ pub fn heaviest_paths_exist()
 /// Each run has a text of its graph.
 pub fn graph_texts_exist()
     ensures { GraphTextsExist }
+{}
+
+/// The loops of each run carry some pairs.
+pub fn carried_pairs()
+    ensures { CarriedPairsExist }
 {}
 
 /// Each tree of instances has a dictionary.

@@ -1,4 +1,4 @@
--- What `graph` and `demo` tell.
+-- What `graph`, `carried` and `demo` tell.
 use Rattle.std.proofs.Common.{ℕ, ◌≡◌, refl, sym, subst, ap, List, None}
 use Rattle.k_ending.specs.declared.ending.End.{End}
 use Rattle.k_ending.specs.declared.ending.End.TheVariants as end
@@ -7,11 +7,11 @@ use Rattle.k_types_meaning.specs.declared.tree.unit.TUnit.{TUnit}
 use Rattle.k_words.specs.declared.job.Job.{Job}
 use Rattle.k_words.specs.declared.job.Job.TheVariants as job
 use Rattle.k_top_answers.specs.declared.answer.Answer.{Answer}
-use Rattle.k_top_answers.specs.Answers.{AnswersJob, AnswersMade, IsListed, made_running, refusal}
+use Rattle.k_top_answers.specs.Answers.{AnswersCarried, AnswersJob, AnswersMade, IsListed, made_running, refusal}
 use Rattle.k_top_answers.specs.Clauses.{IsGiven}
 use Rattle.k_top_answers.specs.Failures.{failure_of_end}
 use Rattle.k_top_answers.specs.Steps.{Running, run_of}
-use Rattle.k_top_headline.specs.OtherCommands.{DemoIsTold, GraphIsTold, Sums}
+use Rattle.k_top_headline.specs.OtherCommands.{CarriedIsTold, DemoIsTold, GraphIsTold, Sums, WritesCarried}
 use Rattle.k_top_headline.proofs.Given.{job_given}
 use Rattle.k_top_headline.proofs.Ready.{run_answered, source_answered}
 use Rattle.k_top_headline.proofs.Runs.{told_of_run}
@@ -30,6 +30,34 @@ graph_is_told words status old new file r depth keeps is program =
       is_text = listed.is_text;
       tells = told_of_run (λ (answer : Answer). AnswersJob keeps.outside answer j) r listed.text status old new given
           (ap (λ (a : Answer). a.out) listed.is) (ap (λ (a : Answer). a.failure) listed.is);
+    }
+
+module _ (depth : ℕ) (answer : Answer) (r : Running) where
+  -- what the answer puts on out
+  carried_written : (how : End) → AnswersCarried depth answer r how → WritesCarried r depth answer.out how
+  carried_written (end.Returned exit) is = (is.loops, is.are_carried, ap (λ (a : Answer). a.out) is.is)
+  carried_written (end.Trapped trap place) is = ap (λ (a : Answer). a.out) is
+  carried_written end.OutOfSteps is = ap (λ (a : Answer). a.out) is
+
+  -- why it failed, if it did
+  carried_fails : (how : End) → AnswersCarried depth answer r how → answer.failure ≡ failure_of_end r.steps how
+  carried_fails (end.Returned exit) is = ap (λ (a : Answer). a.failure) is.is
+  carried_fails (end.Trapped trap place) is = ap (λ (a : Answer). a.failure) is
+  carried_fails end.OutOfSteps is = ap (λ (a : Answer). a.failure) is
+
+-- CARRIED
+pub carried_is_told : CarriedIsTold
+carried_is_told words status old new file r depth keeps is program =
+    let j : Job = job.Carried file r.steps depth None in
+    let given : IsGiven (λ (answer : Answer). AnswersJob keeps.outside answer j) status old new = job_given words j status old new keeps is in
+    let found : AnswersCarried depth given.answer r (run_of r).end =
+    run_answered keeps.outside old file r (λ failure. given.answer ≡ refusal failure) (λ (q : Running). AnswersCarried depth given.answer q (run_of q).end) keeps.fits program
+    given.is_answer in
+    record {
+      text = given.answer.out;
+      written = carried_written depth given.answer r (run_of r).end found;
+      tells = told_of_run (λ (answer : Answer). AnswersJob keeps.outside answer j) r given.answer.out status old new given refl
+          (carried_fails depth given.answer r (run_of r).end found);
     }
 
 module _ (number loops : ℕ) (answer : Answer) (r : Running) where

@@ -1,11 +1,15 @@
 -- Believed with a public law.
--- What `kremlin graph`, `show`, `check` and `demo` write, and with which status they end, where nothing goes wrong outside and memory suffices.
+-- What `kremlin graph`, `carried`, `show`, `check` and `demo` write, and with which status they end, where nothing goes wrong outside and memory suffices.
 use Rattle.std.specs.Prelude.{ℕ, ◌-◌, ◌≡◌, ◌≤◌, Bool, List, [], length, Option, Some, None}
 use Rattle.k_edge.specs.SinkWords.{Grows}
 use Rattle.k_optab.specs.declared.node.Node.{Node}
 use Rattle.k_ending.specs.declared.ending.End.{End}
 use Rattle.k_ending.specs.declared.ending.End.TheVariants.{Returned, Trapped, OutOfSteps}
 use Rattle.k_evaluation.specs.Runs.{listing_of}
+use Rattle.k_regions.specs.Regions.{regions_of}
+use Rattle.k_carry_pairs.specs.Carried.{AreCarried}
+use Rattle.k_carry_pairs.specs.declared.pairs.LoopPairs.{LoopPairs}
+use Rattle.k_carry_text.specs.Lines.{carried_text}
 use Rattle.k_gen.specs.Text.{program}
 use Rattle.k_graph.specs.Listings.{IsListing}
 use Rattle.k_graph.specs.declared.tree.Instance.{Instance}
@@ -50,6 +54,28 @@ abbrev pub GraphIsTold : Type 0
 GraphIsTold = (words : List (List ℕ)) (status : ℕ) (old new : World) (file : List ℕ) (r : Running) (depth : ℕ)
     → Keeps words status old new → WentWell words (job.Graph file r.steps depth None) status old new → HoldsProgram old file r
     → GraphTells r depth status old new
+
+-- what is written of the loops of a run, by how it ended: where main returned, each loop with a tracked instance, with the pairs of places between
+-- which it carries dependences; and else nothing
+abbrev pub WritesCarried : Running → ℕ → List ℕ → End → Type 0
+WritesCarried r depth text (Returned exit) =
+    (loops : List LoopPairs) × AreCarried (regions_of r.typed) depth (run_of r).events loops × (text ≡ carried_text (regions_of r.typed) loops)
+WritesCarried r depth text (Trapped trap place) = text ≡ []
+WritesCarried r depth text OutOfSteps = text ≡ []
+
+-- CARRIED, the conclusions
+pub record CarriedTells (r : Running) (depth status : ℕ) (old new : World) : Type 0 where
+  -- what the loops of the run carry from turn to turn
+  pub text : List ℕ
+  pub written : WritesCarried r depth text (run_of r).end
+  -- is what is told
+  pub tells : TellsOfRun r text status old new
+
+-- CARRIED. The words ask what the loops of a file carry, and name no table of latencies; and the file is an accepted program, with its input
+abbrev pub CarriedIsTold : Type 0
+CarriedIsTold = (words : List (List ℕ)) (status : ℕ) (old new : World) (file : List ℕ) (r : Running) (depth : ℕ)
+    → Keeps words status old new → WentWell words (job.Carried file r.steps depth None) status old new → HoldsProgram old file r
+    → CarriedTells r depth status old new
 
 -- the files tell that one of this name is a saved profile of either format, of at most 536,870,912 bytes
 pub record HoldsProfile (old : World) (name : List ℕ) (file : File) : Type 0 where

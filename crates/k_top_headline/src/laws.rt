@@ -1,6 +1,6 @@
 //! What each command writes: each function's contract is a law, and its body does nothing.
 ghost use Rattle.k_top_headline.specs.Headline.{RunIsTold};
-ghost use Rattle.k_top_headline.specs.OtherCommands.{AcceptedIsTold, DemoIsTold, GraphIsTold, RefusalIsTold, ShowIsTold};
+ghost use Rattle.k_top_headline.specs.OtherCommands.{AcceptedIsTold, CarriedIsTold, DemoIsTold, GraphIsTold, RefusalIsTold, ShowIsTold};
 
 /// `run` of an accepted source writes the program's output and, where main returned, the report of the tree of that run.
 pub fn run_is_told()
@@ -10,6 +10,11 @@ pub fn run_is_told()
 /// `graph` of an accepted source writes the listing of the run's events and of its instances.
 pub fn graph_is_told()
     ensures { GraphIsTold }
+{}
+
+/// `carried` of an accepted source writes, where main returned, the pairs of places between which each loop of the run carries dependences.
+pub fn carried_is_told()
+    ensures { CarriedIsTold }
 {}
 
 /// `show` of a saved profile, of either format, writes the report of that file's own tree, or its document or table.

@@ -22,7 +22,7 @@ use Rattle.k_top_answers.specs.declared.answer.Answer.{Answer}
 use Rattle.k_top_answers.specs.declared.failure.Failure.{Failure}
 use Rattle.k_top_answers.specs.declared.failure.Failure.TheVariants as why
 use Rattle.k_top_lemmas.specs.declared.running.Ready.{Ready}
-use Rattle.k_top_answers.specs.Answers.{AnswersAsked, AnswersJob, AnswersRun, AnswersWords, CallsForFiles, CallsForInput, IsAnswer, IsListed, JobCalls, JobLoads, done, refusal}
+use Rattle.k_top_answers.specs.Answers.{AnswersAsked, AnswersCarried, AnswersJob, AnswersRun, AnswersWords, CallsForFiles, CallsForInput, IsAnswer, IsListed, JobCalls, JobLoads, done, refusal}
 use Rattle.k_top_answers.specs.Failures.{failure_of_usage}
 use Rattle.k_top_answers.specs.Requests.{AreToLoad, loads_of}
 use Rattle.k_top_lemmas.specs.Parts.{GivesText, running_of}
@@ -145,6 +145,52 @@ module _ (file : List ℕ) (latency : Option (List ℕ)) (steps depth : ℕ) (ol
 
   pub graph_short : (r : Ready) → MakesReady (Ok r) file latency steps old new → FindsJob (Err why.NoMemory) (job.Graph file steps depth latency) old new
   graph_short r (view, is_view, (same, input, runs)) = (view, is_view, (behind_input _ _ _ view old new tt same input, tt))
+
+  -- CARRIED
+  carried_ends : (answer : Answer) (r : Running) (how : End) → AnswersCarried depth answer r how → IsEnd answer
+  carried_ends answer r (end.Returned exit) is = record {
+    low = done_low answer.failure (ap (λ (a : Answer). a.failure) is.is);
+    saves = inl (ap (λ (a : Answer). a.failure) is.is);
+  }
+  carried_ends answer r (end.Trapped trap place) is = record {
+    low = ended_low r.steps (end.Trapped trap place) answer.failure (ap (λ (a : Answer). a.failure) is);
+    saves = inr (ap (λ (a : Answer). a.saved) is);
+  }
+  carried_ends answer r end.OutOfSteps is = record {
+    low = ended_low r.steps end.OutOfSteps answer.failure (ap (λ (a : Answer). a.failure) is);
+    saves = inr (ap (λ (a : Answer). a.saved) is);
+  }
+
+  pub carried_found : (r : Ready) (answer : Answer) → MakesReady (Ok r) file latency steps old new
+      → AnswersCarried depth answer (running_of r) (run_of (running_of r)).end → FindsJob (Ok answer) (job.Carried file steps depth latency) old new
+  carried_found r answer (view, is_view, (same, input, runs)) is = (
+    view,
+    is_view,
+    (
+      (loads_of (job.Carried file steps depth latency), refl, same),
+      input,
+      carried_ends answer (running_of r) (run_of (running_of r)).end is,
+      λ outside shows.
+          running_maps (λ failure. ⊥) (λ failure. answer ≡ refusal failure) (λ failure e. absurd e) (λ q. q ≡ running_of r)
+          (λ q. AnswersCarried depth answer q (run_of q).end)
+          (λ q e. subst (λ (q : Running). AnswersCarried depth answer q (run_of q).end) (sym e) is) outside file latency steps (runs outside shows),
+    ),
+  )
+
+  pub carried_failed : (failure : Failure) → MakesReady (Err failure) file latency steps old new → FindsJob (Err failure) (job.Carried file steps depth latency) old new
+  carried_failed failure (view, is_view, (before, refuses)) = (
+    view,
+    is_view,
+    (
+      before,
+      refusal_maps _ _ failure (λ fails outside shows.
+          running_maps (λ other. other ≡ failure) (λ other. refusal failure ≡ refusal other) (λ other e. ap refusal (sym e)) (λ running. ⊥)
+          (λ q. AnswersCarried depth (refusal failure) q (run_of q).end) (λ q e. absurd e) outside file latency steps (fails outside shows)) refuses,
+    ),
+  )
+
+  pub carried_short : (r : Ready) → MakesReady (Ok r) file latency steps old new → FindsJob (Err why.NoMemory) (job.Carried file steps depth latency) old new
+  carried_short r (view, is_view, (same, input, runs)) = (view, is_view, (behind_input _ _ _ view old new tt same input, tt))
 
 -- nothing was seen
 nothing_seen : (old : Around) → IsView no_view old

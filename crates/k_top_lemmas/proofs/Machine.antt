@@ -1,5 +1,5 @@
 -- What running the lowered code of an accepted program comes to, in terms of the program's run.
-use Rattle.std.proofs.Common.{ℕ, ℤ, ◌≡◌, ap, sym, subst, ◌∙◌, List, ◌++◌, length, Option, Result, Ok, Err, FitsSigned, w32, to_z, of_z}
+use Rattle.std.proofs.Common.{ℕ, ℤ, ◌≡◌, ap, sym, subst, ◌∙◌, List, [], ◌++◌, length, Option, Result, Ok, Err, FitsSigned, w32, to_z, of_z}
 use Rattle.std.proofs.lemmas.Int.{to_z-of_z}
 use Rattle.k_edge.specs.SinkWords.{SinkState, GrowsInPart}
 use Rattle.k_edge.specs.declared.sink.PutFault.TheVariants as putting
@@ -17,6 +17,11 @@ use Rattle.k_evaluation.specs.States as evaluation
 use Rattle.k_code.specs.declared.code.Code.{Code}
 use Rattle.k_code.specs.Runs.{HasOutcome}
 use Rattle.k_code.proofs.Stepping.{one_outcome}
+use Rattle.k_carry.specs.Answer.{TellsOf}
+use Rattle.k_carry_pairs.specs.Carried.{AreCarried}
+use Rattle.k_carry_pairs.specs.declared.pairs.CarriedPairs.{CarriedPairs}
+use Rattle.k_carry_pairs.specs.declared.pairs.LoopPairs.{LoopPairs}
+use Rattle.k_carry_text.specs.Lines.{carried_text}
 use Rattle.k_hcpa.specs.Profiles.{HoldsLast, IsCut, IsProfile, IsSummary, RunsHeld}
 use Rattle.k_hcpa.specs.declared.profile.Profile.{Profile}
 use Rattle.k_hcpa.specs.declared.profile.RunFault.{RunFault}
@@ -31,9 +36,10 @@ use Rattle.k_tree.specs.declared.tree.unit.Unit as source
 use Rattle.k_lower_accepted.specs.Accepted.{IsAccepted}
 use Rattle.k_top_lemmas.specs.declared.program.Program.{Program}
 use Rattle.k_top_lemmas.specs.declared.running.Ready.{Ready}
-use Rattle.k_top_answers.specs.Answers.{ran_of}
+use Rattle.k_top_answers.specs.declared.answer.Answer.{Answer}
+use Rattle.k_top_answers.specs.Answers.{AnswersCarried, ToldCarried, done, ended, ran_of}
 use Rattle.k_top_answers.specs.Steps.{Running, run_of}
-use Rattle.k_top_lemmas.specs.Parts.{IsFit, IsProfileOfRun, RunsProgram, dict_of, program_of, put_result, running_of}
+use Rattle.k_top_lemmas.specs.Parts.{IsFit, IsProfileOfRun, RunsProgram, TellsOfLoops, dict_of, program_of, put_result, running_of}
 use Rattle.k_top_lemmas.proofs.Growing.{grows_no_part}
 use Rattle.k_top_lemmas.proofs.RunLemmas.{run_few, run_gives_int, run_whole, sound}
 
@@ -89,6 +95,17 @@ module _ (ready : Ready) (depth : ℕ) (fit : IsFit ready depth) (code : Code) w
     runs_program (Err run_fault.Write) old new (cut, some, rose) =
         ((λ none. some (its_output cut.events cut.output cut.end cut.outcome ∙ none)), cut_of old new cut, rose)
     runs_program (Err run_fault.Memory) old new (cut, calm) = (cut_of old new cut, calm)
+
+    -- and its loops carry what those of the code do
+    pub loops_told : code.regions ≡ regions_of ready.program.typed → (c : CarriedPairs) → TellsOf code ready.input ready.steps depth c → TellsOfLoops (running_of ready) depth c
+    loops_told regions c is =
+        let same = one_outcome code ready.input ready.steps is.events (run_of (running_of ready)).events is.output (run_of (running_of ready)).output
+        c.end (run_of (running_of ready)).end is.outcome (outcome runs) in
+        record {
+          end = same.2;
+          are_carried = subst (λ (rs : List Region). AreCarried rs depth (run_of (running_of ready)).events c.loops) regions
+              (subst (λ (es : List Event). AreCarried code.regions depth es c.loops) same.0 is.carried);
+        }
 
 -- no memory was found before the run
 pub not_run : (r : Running) (depth : ℕ) (old new : SinkState) → new ≡ old → RunsProgram r depth (Err putting.Memory) old new
@@ -147,3 +164,25 @@ abbrev pub IsBroken : End → Type 0
 IsBroken (Returned exit) = ⊥
 IsBroken (Trapped trap place) = Unit {0}
 IsBroken OutOfSteps = Unit {0}
+
+-- CARRIED, where main returned
+pub carried_returned : (r : Running) (depth : ℕ) (c : CarriedPairs) → TellsOfLoops r depth c → (exit : ℤ) → c.end ≡ Returned exit → (loops : List LoopPairs) → loops ≡ c.loops
+    → (answer : Answer) → answer ≡ done (carried_text (regions_of r.typed) loops) → AnswersCarried depth answer r (run_of r).end
+carried_returned r depth c is exit returned loops same answer told =
+    let so : ToldCarried r depth answer = record {
+      loops = c.loops;
+      are_carried = is.are_carried;
+      is = told ∙ ap (λ (ls : List LoopPairs). done (carried_text (regions_of r.typed) ls)) same;
+    } in
+    subst (λ (e : End). AnswersCarried depth answer r e) (sym (sym is.end ∙ returned)) so
+
+-- and where it did not
+carried_of_broken : (depth : ℕ) (answer : Answer) (r : Running) (how : End) → IsBroken how → answer ≡ ended [] r.steps how → AnswersCarried depth answer r how
+carried_of_broken depth answer r (Returned exit) broken told = absurd broken
+carried_of_broken depth answer r (Trapped trap place) broken told = told
+carried_of_broken depth answer r OutOfSteps broken told = told
+
+pub carried_broken : (r : Running) (depth : ℕ) (c : CarriedPairs) → TellsOfLoops r depth c → (how : End) → c.end ≡ how → IsBroken how
+    → (answer : Answer) → answer ≡ ended [] r.steps how → AnswersCarried depth answer r (run_of r).end
+carried_broken r depth c is how same broken answer told =
+    subst (λ (e : End). AnswersCarried depth answer r e) (sym (sym is.end ∙ same)) (carried_of_broken depth answer r how broken told)

@@ -2,6 +2,9 @@
 use Rattle.std.proofs.Common.{ℕ, ◌≡◌, ◌≤◌, Bool, ap, refl, sym, subst, ◌∙◌, List, [], Option, Some, None, Result, Ok, Err, arith, inl, inr}
 use Rattle.k_ending.specs.declared.ending.End.{End}
 use Rattle.k_ending.specs.declared.ending.End.TheVariants as end
+use Rattle.k_carry_pairs.proofs.Answer.{one_answer}
+use Rattle.k_carry_pairs.specs.declared.pairs.LoopPairs.{LoopPairs}
+use Rattle.k_carry_text.specs.Lines.{carried_text}
 use Rattle.k_dict_saved.proofs.Files.{first_wrong_is_one}
 use Rattle.k_dict_saved.specs.declared.fault.SavedFault.TheVariants.{NotSaved}
 use Rattle.k_dict_saved.specs.declared.format.Accepts.TheVariants.{Both}
@@ -10,6 +13,7 @@ use Rattle.k_dict_saved.proofs.Profiles.{one_migration, read_migrated, read_of_w
 use Rattle.k_data_profile.proofs.Texts.{document_is_unique, table_is_unique}
 use Rattle.k_dict_saved.specs.Profile.{IsSaved, Reads}
 use Rattle.k_dict_saved.specs.declared.saved.Saved.{Saved}
+use Rattle.k_regions.specs.Regions.{regions_of}
 use Rattle.k_words.proofs.OneAnswer.{answer_is_unique}
 use Rattle.k_words.proofs.Within.{jobs_are_within}
 use Rattle.k_words.specs.About.{asked_for}
@@ -26,7 +30,7 @@ use Rattle.k_words.specs.declared.usage.Usage.TheVariants as usage
 use Rattle.k_top_answers.specs.declared.answer.Answer.{Answer}
 use Rattle.k_top_answers.specs.declared.failure.Failure.{Failure}
 use Rattle.k_top_answers.specs.declared.failure.Failure.TheVariants as why
-use Rattle.k_top_answers.specs.Answers.{AnswersAsked, AnswersChecked, AnswersJob, AnswersProfile, AnswersRun, AnswersWords, IsListed, IsShown, checked, done, refusal}
+use Rattle.k_top_answers.specs.Answers.{AnswersAsked, AnswersCarried, AnswersChecked, AnswersJob, AnswersProfile, AnswersRun, AnswersWords, IsListed, IsShown, checked, done, refusal}
 use Rattle.k_top_answers.specs.Checks.{told}
 use Rattle.k_top_answers.specs.Laws.{AnswersAreUnique}
 use Rattle.k_top_answers.specs.Steps.{Outside, Running, file_limit, profile_limit, run_of}
@@ -50,6 +54,14 @@ by_run : (one other : Answer) (P Q : Running → Type 0) → ((r : Running) → 
     → Agree (λ failure. one ≡ refusal failure) (λ failure. other ≡ refusal failure) P Q → one ≡ other
 by_run one other P Q same (inl (failure, a, b)) = a ∙ sym b
 by_run one other P Q same (inr (r, a, b)) = same r a b
+
+-- CARRIED
+one_carried : (depth : ℕ) (one other : Answer) (r : Running) (how : End) → AnswersCarried depth one r how → AnswersCarried depth other r how → one ≡ other
+one_carried depth one other r (end.Returned exit) a b =
+    let same : a.loops ≡ b.loops = one_answer (regions_of r.typed) depth (run_of r).events a.loops b.loops a.are_carried b.are_carried in
+    a.is ∙ ap (λ (loops : List LoopPairs). done (carried_text (regions_of r.typed) loops)) same ∙ sym b.is
+one_carried depth one other r (end.Trapped trap place) a b = a ∙ sym b
+one_carried depth one other r end.OutOfSteps a b = a ∙ sym b
 
 -- SHOW
 spelled_same : (bytes : List ℕ) (one other : Saved) → Reads bytes (Ok one) → Reads bytes (Ok other) → one ≡ other
@@ -110,6 +122,10 @@ one_job outside one other (job.Graph file steps depth latency) within a b =
     by_run one other (λ r. IsListed depth one r × IsSound r) (IsListed depth other) (λ r p q. one_listed depth one other r p.0 q)
     (running_agrees (λ failure. one ≡ refusal failure) (λ failure. other ≡ refusal failure) _ _ outside steps file latency
     (running_sound (λ failure. one ≡ refusal failure) (IsListed depth one) outside steps (omega (arith, most)) file latency a) b)
+one_job outside one other (job.Carried file steps depth latency) within a b =
+    by_run one other (λ r. AnswersCarried depth one r (run_of r).end) (λ r. AnswersCarried depth other r (run_of r).end)
+    (λ r p q. one_carried depth one other r (run_of r).end p q)
+    (running_agrees (λ failure. one ≡ refusal failure) (λ failure. other ≡ refusal failure) _ _ outside steps file latency a b)
 one_job outside one other (job.Show file form) within a b =
     by_file form one other (file_agrees (λ failure. one ≡ refusal failure) (λ failure. other ≡ refusal failure) _ _ outside profile_limit file a b)
 one_job outside one other (job.Check file) within a b =

@@ -24,6 +24,8 @@ use Rattle.k_evaluation.specs.States as evaluation
 use Rattle.k_lower_accepted.specs.Accepted.{IsAccepted}
 use Rattle.k_shadow.specs.Content.{Content, empty}
 use Rattle.k_dict.specs.declared.entry.Entry.{Entry}
+use Rattle.k_carry_pairs.specs.Carried.{AreCarried}
+use Rattle.k_carry_pairs.specs.declared.pairs.CarriedPairs.{CarriedPairs}
 use Rattle.k_hcpa.specs.Profiles.{IsSummary}
 use Rattle.k_hcpa.specs.declared.profile.Profile.{Profile}
 use Rattle.k_hcpa.specs.declared.profile.RunFault.{RunFault}
@@ -157,6 +159,11 @@ pub record IsProfileOfRun (r : Running) (depth : ℕ) (put : List ℕ) (p : Prof
   pub written : p.written ≡ length (run_of r).output
   pub held : p.rest ≡ [] → put ≡ []
   pub summary : IsSummary depth (run_of r).events p.end p.summary
+
+-- this is told of a run: how it ended, and what its loops carry
+pub record TellsOfLoops (r : Running) (depth : ℕ) (c : CarriedPairs) : Type 0 where
+  pub end : c.end ≡ (run_of r).end
+  pub are_carried : AreCarried (regions_of r.typed) depth (run_of r).events c.loops
 
 -- what making the answer comes to that is a text
 abbrev pub GivesText : Result Answer Failure → List ℕ → Type 0

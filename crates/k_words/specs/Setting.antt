@@ -4,7 +4,7 @@ use Rattle.std.specs.Prelude.{ℕ, Bool, true, false, ◌==◌, nat_eq, if◌the
 use Rattle.std.specs.List.{starts_with}
 use Rattle.std.specs.Cmp.Lexicographic.{pointwise}
 use Rattle.k_words.specs.declared.option.Command.{Command}
-use Rattle.k_words.specs.declared.option.Command.TheVariants.{Run, Graph, Show, Check, Demo}
+use Rattle.k_words.specs.declared.option.Command.TheVariants.{Run, Graph, Carried, Show, Check, Demo}
 use Rattle.k_words.specs.declared.option.Setting.{Setting}
 use Rattle.k_words.specs.declared.option.Setting.TheVariants.{Steps, Depth, Latency, Dict, Save, Json, Csv}
 use Rattle.k_words.specs.Number.{number_within}
@@ -53,6 +53,13 @@ is_taken Graph Dict = false
 is_taken Graph Save = false
 is_taken Graph Json = false
 is_taken Graph Csv = false
+is_taken Carried Steps = true
+is_taken Carried Depth = true
+is_taken Carried Latency = true
+is_taken Carried Dict = false
+is_taken Carried Save = false
+is_taken Carried Json = false
+is_taken Carried Csv = false
 is_taken Show Steps = false
 is_taken Show Depth = false
 is_taken Show Latency = false
@@ -75,6 +82,7 @@ option_of command word = option_and_then (taken_by command) (written_as word)
 abbrev pub most_steps : Command → ℕ
 most_steps Run = 1000000000
 most_steps Graph = 200000
+most_steps Carried = 1000000000
 most_steps Show = 1000000000
 most_steps Check = 1000000000
 most_steps Demo = 1000000000
@@ -83,7 +91,7 @@ most_steps Demo = 1000000000
 abbrev pub most_depth : ℕ
 most_depth = 32
 
--- how many operations `run` makes at most where it is not told, and `demo`
+-- how many operations `run` and `carried` make at most where they are not told, and `demo`
 abbrev pub standard_steps : ℕ
 standard_steps = 100000000
 

@@ -1,7 +1,7 @@
 //! What the words of the command line ask for.
 ghost use Rattle.std.specs.Prelude.{◌≡◌, MatchResult, IfOk, option_map};
 ghost use Rattle.k_words.specs.Settings.{IsFirst, seen, seen_words};
-ghost use Rattle.k_words.specs.Words.{Answers, IsAnswer, ReadsFile, check_job, command_of, demo_fault, demo_job, file_fault, graph_job, is_no_file, run_job, show_job, form_of};
+ghost use Rattle.k_words.specs.Words.{Answers, IsAnswer, ReadsFile, carried_job, check_job, command_of, demo_fault, demo_job, file_fault, graph_job, is_no_file, run_job, show_job, form_of};
 
 use crate::number::number_within;
 use crate::option::{Command, STANDARD_DEPTH, STANDARD_STEPS};
@@ -41,6 +41,13 @@ pub enum Job {
         depth: u32,
         latency: Option<Text>,
     },
+    /// What the loops of a program's run carry from turn to turn is listed.
+    Carried {
+        file: Text,
+        steps: u64,
+        depth: u32,
+        latency: Option<Text>,
+    },
     /// A saved profile is shown.
     Show {
         file: Text,
@@ -67,6 +74,7 @@ pub fn words(alloc: Global, list: &[String]) -> Result<Job, Usage>
     match command_of(command.as_str()) {
         Some(Command::Run) => run_job(alloc, arguments),
         Some(Command::Graph) => graph_job(alloc, arguments),
+        Some(Command::Carried) => carried_job(alloc, arguments),
         Some(Command::Show) => show_job(alloc, arguments),
         Some(Command::Check) => check_job(alloc, arguments),
         Some(Command::Demo) => demo_job(arguments),
@@ -83,6 +91,8 @@ fn command_of(word: &str) -> Option<Command>
         Some(Command::Run)
     } else if word == "graph" {
         Some(Command::Graph)
+    } else if word == "carried" {
+        Some(Command::Carried)
     } else if word == "show" {
         Some(Command::Show)
     } else if word == "check" {
@@ -123,6 +133,22 @@ fn graph_job(alloc: Global, arguments: &[String]) -> Result<Job, Usage>
     Ok(Job::Graph {
         file: Text::copy_of(alloc, file)?,
         steps: settings.steps.unwrap_or(200_000),
+        depth: settings.depth.unwrap_or(STANDARD_DEPTH),
+        latency: copy_of_name(alloc, settings.latency)?,
+    })
+}
+
+/// What `carried` with these arguments asks for.
+fn carried_job(alloc: Global, arguments: &[String]) -> Result<Job, Usage>
+    ensures { Answers (file_fault Command.Carried (seen_words arguments.now)) (carried_job (seen_words arguments.now)) result }
+{
+    let (file, settings) = match file_and_settings(Command::Carried, arguments) {
+        Ok(read) => read,
+        Err(fault) => return Err(fault),
+    };
+    Ok(Job::Carried {
+        file: Text::copy_of(alloc, file)?,
+        steps: settings.steps.unwrap_or(STANDARD_STEPS),
         depth: settings.depth.unwrap_or(STANDARD_DEPTH),
         latency: copy_of_name(alloc, settings.latency)?,
     })

@@ -7,6 +7,7 @@ ghost use Rattle.k_words.specs.Setting.{after, is_taken, most_steps, named, opti
 pub enum Command {
     Run,
     Graph,
+    Carried,
     Show,
     Check,
     Demo,
@@ -95,13 +96,15 @@ fn is_taken(command: Command, setting: Setting) -> bool
 {
     match command {
         Command::Run => !matches!(setting, Setting::Json | Setting::Csv),
-        Command::Graph => matches!(setting, Setting::Steps | Setting::Depth | Setting::Latency),
+        Command::Graph | Command::Carried => {
+            matches!(setting, Setting::Steps | Setting::Depth | Setting::Latency)
+        }
         Command::Show => matches!(setting, Setting::Dict | Setting::Json | Setting::Csv),
         Command::Check | Command::Demo => false,
     }
 }
 
-/// How many operations `run` makes at most where it is not told, and `demo`.
+/// How many operations `run` and `carried` make at most where they are not told, and `demo`.
 pub const STANDARD_STEPS: u64 = 100_000_000;
 
 /// Instances of depths below this are tracked where a command is not told.

@@ -31,13 +31,14 @@ fn parts(fault: Usage) -> (&'static str, u32) {
 }
 
 /// Lines of words that are refused, each with its fault and the fault's index.
-static REFUSED: [(&str, &str, u32); 75] = [
+static REFUSED: [(&str, &str, u32); 81] = [
     ("", "NoCommand", 0),
     ("ruN", "UnknownWord", 0),
     ("--help", "UnknownWord", 0),
     ("-V", "UnknownWord", 0),
     ("run", "NoFile", 0),
     ("graph", "NoFile", 0),
+    ("carried", "NoFile", 0),
     ("show", "NoFile", 0),
     ("check", "NoFile", 0),
     ("demo", "NoFile", 0),
@@ -59,6 +60,9 @@ static REFUSED: [(&str, &str, u32); 75] = [
     ("graph a.c --dict", "UnknownWord", 2),
     ("graph a.c --save=x", "UnknownWord", 2),
     ("graph a.c --depth=3 --dict", "UnknownWord", 3),
+    ("carried a.c --dict", "UnknownWord", 2),
+    ("carried a.c --save=x", "UnknownWord", 2),
+    ("carry a.c", "UnknownWord", 0),
     ("show p.txt --steps=5", "UnknownWord", 2),
     ("show p.txt --depth=5", "UnknownWord", 2),
     ("show p.txt --latency=l", "UnknownWord", 2),
@@ -83,6 +87,7 @@ static REFUSED: [(&str, &str, u32); 75] = [
     ("run a.c --depth=33", "BadNumber", 2),
     ("run a.c --depth=4294967297", "BadNumber", 2),
     ("graph a.c --steps=200001", "BadNumber", 2),
+    ("carried a.c --steps=1000000001", "BadNumber", 2),
     ("run a.c --dict --dict", "Twice", 3),
     ("run a.c --steps=5 --steps=6", "Twice", 3),
     ("run a.c --steps=5 --depth=3 --steps=x", "Twice", 4),
@@ -91,6 +96,7 @@ static REFUSED: [(&str, &str, u32); 75] = [
     ("run a.c --steps=5 --depth=0 --steps=x", "BadNumber", 3),
     ("run a.c --dict --depth=0 --dict", "BadNumber", 3),
     ("run a.c --dict --dict --depth=0", "Twice", 3),
+    ("carried a.c --depth=2 --depth=2", "Twice", 3),
     ("show p.txt --json --json", "Twice", 3),
     ("show p.txt --csv --json", "Twice", 3),
     ("show p.txt --json --dict --csv", "Twice", 4),
@@ -185,6 +191,16 @@ fn job_parts(job: &Job) -> ([&str; 4], [u64; 2], bool) {
             [*steps, u64::from(*depth)],
             false,
         ),
+        Job::Carried {
+            file,
+            steps,
+            depth,
+            latency,
+        } => (
+            ["carried", file.as_str(), name_of(latency), ""],
+            [*steps, u64::from(*depth)],
+            false,
+        ),
         Job::Show { file, form } => (
             ["show", file.as_str(), form_name(form), ""],
             [0, 0],
@@ -196,7 +212,7 @@ fn job_parts(job: &Job) -> ([&str; 4], [u64; 2], bool) {
 }
 
 /// Lines of words, each with its job's names, numbers and whether the dictionary is listed.
-static ACCEPTED: [(&str, [&str; 4], [u64; 2], bool); 21] = [
+static ACCEPTED: [(&str, [&str; 4], [u64; 2], bool); 23] = [
     ("run a.c", ["run", "a.c", "", ""], [100_000_000, 24], false),
     ("run -", ["run", "-", "", ""], [100_000_000, 24], false),
     ("run -x", ["run", "-x", "", ""], [100_000_000, 24], false),
@@ -242,6 +258,18 @@ static ACCEPTED: [(&str, [&str; 4], [u64; 2], bool); 21] = [
         "graph a.c --depth=3 --latency=l --steps=200000",
         ["graph", "a.c", "l", ""],
         [200_000, 3],
+        false,
+    ),
+    (
+        "carried a.c",
+        ["carried", "a.c", "", ""],
+        [100_000_000, 24],
+        false,
+    ),
+    (
+        "carried a.c --latency=l --steps=1000000000 --depth=1",
+        ["carried", "a.c", "l", ""],
+        [1_000_000_000, 1],
         false,
     ),
     ("show p", ["show", "p", "report", ""], [0, 0], false),

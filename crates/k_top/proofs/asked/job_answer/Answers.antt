@@ -15,6 +15,9 @@ run_job-requires-clause-within g c = subst IsJobWithin c.in-Run.is c.requires.wi
 pub graph_job-requires : goal.graph_job-requires
 graph_job-requires g c = subst IsJobWithin c.in-Graph.is c.requires.within
 
+pub carried_job-requires : goal.carried_job-requires
+carried_job-requires g c = subst IsJobWithin c.in-Carried.is c.requires.within
+
 pub returns-in-Graph : goal.returns-in-Graph
 returns-in-Graph g c =
     let old : Around = record { files = g.F.Files.seen c.args.files.now; input = g.S.Source.seen c.args.input.now } in
@@ -22,6 +25,14 @@ returns-in-Graph g c =
     let out = g.K.Sink.seen c.args.out.now in
     subst (λ (j : Job). StreamsJob c.graph_job.result j old new out out) (sym c.in-Graph.is)
     (nothing_first c.graph_job.result (job.Graph c.in-Graph.file c.in-Graph.steps c.in-Graph.depth c.in-Graph.latency) old new out out refl c.graph_job.ensures)
+
+pub returns-in-Carried : goal.returns-in-Carried
+returns-in-Carried g c =
+    let old : Around = record { files = g.F.Files.seen c.args.files.now; input = g.S.Source.seen c.args.input.now } in
+    let new : Around = record { files = g.F.Files.seen c.carried_job.new.files; input = g.S.Source.seen c.carried_job.new.input } in
+    let out = g.K.Sink.seen c.args.out.now in
+    subst (λ (j : Job). StreamsJob c.carried_job.result j old new out out) (sym c.in-Carried.is)
+    (nothing_first c.carried_job.result (job.Carried c.in-Carried.file c.in-Carried.steps c.in-Carried.depth c.in-Carried.latency) old new out out refl c.carried_job.ensures)
 
 pub returns-in-Show : goal.returns-in-Show
 returns-in-Show g c =
