@@ -82,7 +82,7 @@ fn expect_asked(rt: &impl Abort, alloc: Global, rows: &[Row]) -> Result<(), Fail
 }
 
 /// Files are asked for once, the source first, and no other than those that are named.
-static FILES: [Row; 14] = [
+static FILES: [Row; 15] = [
     ("run a.c", RETURN_ZERO, NEVER, 0, "load a.c\nout 84\n"),
     (
         "run a.c --latency=l.toml",
@@ -99,6 +99,7 @@ static FILES: [Row; 14] = [
         0,
         "load a.c\nload l.toml\nout 128\n",
     ),
+    ("carried a.c", SUM, NEVER, 0, "load a.c\nout 14\n"),
     ("show p.txt", "", NEVER, 0, "load p.txt\nout 84\n"),
     ("demo 1 1", "", NEVER, 0, "out 84\n"),
     ("--version", "", NEVER, 0, "out 14\n"),

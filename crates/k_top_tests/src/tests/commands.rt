@@ -164,6 +164,66 @@ static PROFILES: [Row; 7] = [
     ),
 ];
 
+/// What loops carry.
+static CARRIED: [Row; 5] = [
+    // chain
+    (
+        "carried a.c",
+        &[(
+            "a.c",
+            "int a[64]; int main(void){int i; a[0]=0; for(i=1;i<64;i++) a[i]=a[i-1]+1; return a[63];}",
+        )],
+        (
+            0,
+            "== carried ==\nloop main 1:42 pairs 1\n1:64 -> 1:66\n",
+            "",
+        ),
+    ),
+    // sum loop
+    (
+        "carried a.c --depth=2",
+        &[(
+            "a.c",
+            "int main(void){int i,s; s=0; for(i=0;i<4;i++) s+=i; return s;}",
+        )],
+        (0, "== carried ==\nloop main 1:30 pairs 0\n", ""),
+    ),
+    // halving, with a table
+    (
+        "carried a.c --latency=l.toml",
+        &[
+            (
+                "a.c",
+                "int main(void){int x=16; while(x>1) x=x/2; return 0;}",
+            ),
+            ("l.toml", "div = 7"),
+        ],
+        (
+            0,
+            "== carried ==\nloop main 1:26 pairs 4\n1:26 -> 1:26\n1:26 -> 1:33\n1:38 -> 1:33\n1:38 -> 1:40\n",
+            "",
+        ),
+    ),
+    // up to a trap
+    (
+        "carried a.c",
+        &[(
+            "a.c",
+            "int main(void){int x=16; while(x>1) x=x/2; return x/0;}",
+        )],
+        (1, "", "kremlin: trap DivideByZero at 1:52\n"),
+    ),
+    // in few steps
+    (
+        "carried a.c --steps=9",
+        &[(
+            "a.c",
+            "int main(void){int x=16; while(x>1) x=x/2; return 0;}",
+        )],
+        (2, "", "kremlin: out of steps after 9\n"),
+    ),
+];
+
 /// A listing, and the run of a made program.
 static OTHERS: [Row; 2] = [
     // graph sum
@@ -192,6 +252,7 @@ static OTHERS: [Row; 2] = [
 fn commands(rt: HostRuntime) -> Result<(), Fail> {
     expect_rows(&rt, rt.alloc(), &TABLES)?;
     expect_rows(&rt, rt.alloc(), &CHECKED)?;
+    expect_rows(&rt, rt.alloc(), &CARRIED)?;
     expect_rows(&rt, rt.alloc(), &PROFILES)?;
     expect_rows(&rt, rt.alloc(), &OTHERS)
 }

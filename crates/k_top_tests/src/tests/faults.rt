@@ -28,7 +28,7 @@ fn expect_faults(rt: &impl Abort, alloc: Global, rows: &[Row]) -> Result<(), Fai
 }
 
 /// Loads that fail.
-static LOADS: [Row; 15] = [
+static LOADS: [Row; 16] = [
     (
         "run a.c",
         RETURN_ZERO,
@@ -37,6 +37,12 @@ static LOADS: [Row; 15] = [
     ),
     (
         "graph a.c",
+        RETURN_ZERO,
+        [&[0], &[], &[], &[]],
+        (6, "", READ_FAULT),
+    ),
+    (
+        "carried a.c",
         RETURN_ZERO,
         [&[0], &[], &[], &[]],
         (6, "", READ_FAULT),
