@@ -62,11 +62,7 @@ fn push_loop(text: &mut Vec<u8>, regions: &[Region], told: &LoopPairs) -> Result
 }
 
 /// The lines of loops.
-fn push_loops(
-    text: &mut Vec<u8>,
-    regions: &[Region],
-    loops: &[LoopPairs],
-) -> Result<(), NoMemory>
+fn push_loops(text: &mut Vec<u8>, regions: &[Region], loops: &[LoopPairs]) -> Result<(), NoMemory>
     ensures { OnOk result (text.new.items ≡ text.old.items ++ flat_map (loop_lines regions.now) loops.now) }
 {
     for told in loops {

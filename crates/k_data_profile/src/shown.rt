@@ -16,7 +16,7 @@ use k_selfpar::{Row, rows};
 use std::alloc::Global;
 
 /// The dictionary of a profile, where it is asked for.
-fn listed(saved: &Saved, with_dict: bool) -> Option<&Dict>
+pub(crate) fn listed(saved: &Saved, with_dict: bool) -> Option<&Dict>
     ensures { option_copied result ≡ asked with_dict saved.now.dict }
 {
     if with_dict { Some(&saved.dict) } else { None }

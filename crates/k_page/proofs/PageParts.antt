@@ -9,7 +9,6 @@ use Rattle.k_dict.specs.declared.entry.Entry.{Entry}
 use Rattle.k_dict.specs.declared.entry.Run.{Run}
 use Rattle.k_plan.specs.declared.advice.Advice.{Advice}
 use Rattle.k_plan.specs.declared.advice.Pick.{Pick}
-use Rattle.k_selfpar.specs.Contexts.{root_work}
 use Rattle.k_selfpar.specs.declared.context.Context.{Context}
 use Rattle.k_selfpar.specs.declared.row.Row.{Row}
 use Rattle.k_text.specs.Texts.{kind_text, place_text, run_text}
@@ -19,7 +18,7 @@ use Rattle.k_page.specs.Cells as cells
 use Rattle.k_page.specs.Escapes.{escaped}
 use Rattle.k_page.specs.Facts as facts
 use Rattle.k_page.specs.Html.{AreAttributes, IsHtml, IsText, beside, both, ended, inside, one, told}
-use Rattle.k_page.specs.Laws.{PageIsHtml}
+use Rattle.k_page.specs.Laws.{LargePageIsHtml, PageIsHtml}
 use Rattle.k_page.specs.Lists as lists
 use Rattle.k_page.specs.Markup.{bare, element, texted, valued, with_one}
 use Rattle.k_page.specs.Page as pages
@@ -53,6 +52,7 @@ words_text prose.Saving = text_of (words prose.Saving) refl
 words_text prose.Picture = text_of (words prose.Picture) refl
 words_text prose.OneRun = text_of (words prose.OneRun) refl
 words_text prose.NoPlan = text_of (words prose.NoPlan) refl
+words_text prose.Large = text_of (words prose.Large) refl
 words_text prose.Heading = text_of (words prose.Heading) refl
 words_text prose.Meaning = text_of (words prose.Meaning) refl
 words_text prose.RowsCaption = text_of (words prose.RowsCaption) refl
@@ -344,21 +344,31 @@ plan_fact_html : (whole : ℕ) (plan : Option Advice) → IsHtml (facts.plan_fac
 plan_fact_html whole None = told [] ended
 plan_fact_html whole (Some advice) = advice_fact_html whole advice
 
-number_facts_html : (exit : ℤ) (ops whole path : ℕ) → IsHtml (facts.number_facts exit ops whole path)
-unfolding facts.number_facts
-number_facts_html exit ops whole path =
-    four (facts.fact (codes "exit") (signed_decimal exit)) (facts.fact (codes "operations") (decimal ops)) (facts.fact (codes "work") (decimal whole))
-    (facts.fact (codes "path") (decimal path)) (fact_html (codes "exit") (signed_decimal exit) refl (signed_text exit))
-    (fact_html (codes "operations") (decimal ops) refl (number_text ops)) (fact_html (codes "work") (decimal whole) refl (number_text whole))
-    (fact_html (codes "path") (decimal path) refl (number_text path))
+run_facts_html : (exit : ℤ) (ops : ℕ) → IsHtml (facts.run_facts exit ops)
+unfolding facts.run_facts
+run_facts_html exit ops =
+    beside (facts.fact (codes "exit") (signed_decimal exit)) (facts.fact (codes "operations") (decimal ops))
+    (fact_html (codes "exit") (signed_decimal exit) refl (signed_text exit)) (fact_html (codes "operations") (decimal ops) refl (number_text ops))
 
-facts_html : (name : List ℕ) (exit : ℤ) (ops : ℕ) (contexts : List Context) (whole : ℕ) (plan : Option Advice) → IsHtml (facts.facts_table name exit ops contexts whole plan)
+work_facts_html : (whole path : ℕ) → IsHtml (facts.work_facts whole path)
+unfolding facts.work_facts
+work_facts_html whole path =
+    beside (facts.fact (codes "work") (decimal whole)) (facts.fact (codes "path") (decimal path))
+    (fact_html (codes "work") (decimal whole) refl (number_text whole)) (fact_html (codes "path") (decimal path) refl (number_text path))
+
+facts_html : (name : List ℕ) (exit : ℤ) (ops whole path : ℕ) (plan : Option Advice) → IsHtml (facts.facts_table name exit ops whole path plan)
 unfolding facts.facts_table
-facts_html name exit ops contexts whole plan =
-    let path : ℕ = facts.root_path contexts in
-    bare_html tag.Table (texted tag.Caption (codes "The run") ++ facts.file_fact name ++ facts.number_facts exit ops whole path ++ facts.plan_fact whole plan)
-    (four (texted tag.Caption (codes "The run")) (facts.file_fact name) (facts.number_facts exit ops whole path) (facts.plan_fact whole plan)
-    (texted_html tag.Caption (codes "The run") (text_of (codes "The run") refl)) (file_html name) (number_facts_html exit ops whole path) (plan_fact_html whole plan))
+facts_html name exit ops whole path plan =
+    bare_html tag.Table (texted tag.Caption (codes "The run") ++ facts.file_fact name ++ facts.run_facts exit ops ++ facts.work_facts whole path ++ facts.plan_fact whole plan)
+    (five (texted tag.Caption (codes "The run")) (facts.file_fact name) (facts.run_facts exit ops) (facts.work_facts whole path) (facts.plan_fact whole plan)
+    (texted_html tag.Caption (codes "The run") (text_of (codes "The run") refl)) (file_html name) (run_facts_html exit ops) (work_facts_html whole path) (plan_fact_html whole plan))
+
+large_facts_html : (name : List ℕ) (exit : ℤ) (ops : ℕ) → IsHtml (facts.large_facts name exit ops)
+unfolding facts.large_facts
+large_facts_html name exit ops =
+    bare_html tag.Table (texted tag.Caption (codes "The run") ++ facts.file_fact name ++ facts.run_facts exit ops)
+    (three (texted tag.Caption (codes "The run")) (facts.file_fact name) (facts.run_facts exit ops)
+    (texted_html tag.Caption (codes "The run") (text_of (codes "The run") refl)) (file_html name) (run_facts_html exit ops))
 
 -- THE PICTURE
 mark_is_text : (picked : Bool) → IsText (pictures.mark_word picked)
@@ -576,26 +586,24 @@ heading_html name =
     bare_html tag.Heading (words prose.Heading ++ escaped name)
     (told (words prose.Heading ++ escaped name) (text_beside (words prose.Heading) (escaped name) (words_text prose.Heading) (escaped_is_text name)))
 
-head_part_html : (name : List ℕ) (exit : ℤ) (ops : ℕ) (contexts : List Context) (plan : Option Advice) → IsHtml (pages.head_part name exit ops contexts plan)
+head_part_html : (name : List ℕ) (exit : ℤ) (ops whole path : ℕ) (plan : Option Advice) → IsHtml (pages.head_part name exit ops whole path plan)
 unfolding pages.head_part
-head_part_html name exit ops contexts plan =
-    three (pages.title name) (pages.heading name) (facts.facts_table name exit ops contexts (root_work contexts) plan) (page_title_html name) (heading_html name)
-    (facts_html name exit ops contexts (root_work contexts) plan)
+head_part_html name exit ops whole path plan =
+    three (pages.title name) (pages.heading name) (facts.facts_table name exit ops whole path plan) (page_title_html name) (heading_html name)
+    (facts_html name exit ops whole path plan)
 
-views_html : (regions : List Region) (contexts : List Context) (plan : Option Advice) → IsHtml (pages.views_part regions contexts plan)
+views_html : (regions : List Region) (whole : ℕ) (contexts : List Context) (plan : Option Advice) → IsHtml (pages.views_part regions whole contexts plan)
 unfolding pages.views_part
-views_html regions contexts plan =
-    let whole : ℕ = root_work contexts in
+views_html regions whole contexts plan =
     five (texted tag.Chapter (codes "Plan")) (lists.plan_part regions contexts whole plan) (texted tag.Chapter (codes "Picture")) pictures.legend
     (pictures.picture regions (pages.picks_of plan) whole (tiles contexts)) (texted_html tag.Chapter (codes "Plan") (text_of (codes "Plan") refl))
     (plan_html regions contexts whole plan) (texted_html tag.Chapter (codes "Picture") (text_of (codes "Picture") refl)) legend_html
     (picture_html regions (pages.picks_of plan) whole (tiles contexts))
 
-texts_html : (source : List ℕ) (regions : List Region) (rows : List Row) (dict : Option (List Entry)) (contexts : List Context) (plan : Option Advice)
-    → IsHtml (pages.texts_part source regions rows dict contexts plan)
+texts_html : (source : List ℕ) (regions : List Region) (whole : ℕ) (rows : List Row) (dict : Option (List Entry)) (contexts : List Context) (plan : Option Advice)
+    → IsHtml (pages.texts_part source regions whole rows dict contexts plan)
 unfolding pages.texts_part
-texts_html source regions rows dict contexts plan =
-    let whole : ℕ = root_work contexts in
+texts_html source regions whole rows dict contexts plan =
     five (texted tag.Chapter (codes "Source")) (sources.source_table regions contexts (pages.picks_of plan) whole rows source) (texted tag.Chapter (codes "Rows"))
     (lists.rows_table regions whole rows) (lists.dictionary_part regions dict) (texted_html tag.Chapter (codes "Source") (text_of (codes "Source") refl))
     (source_html regions contexts (pages.picks_of plan) whole rows source) (texted_html tag.Chapter (codes "Rows") (text_of (codes "Rows") refl))
@@ -613,14 +621,27 @@ meaning_html : IsHtml pages.meaning_part
 unfolding pages.meaning_part
 meaning_html = beside (texted tag.Chapter (words prose.Meaning)) pages.explanations (prose_html tag.Chapter prose.Meaning) explanations_html
 
-body_html : (name source : List ℕ) (exit : ℤ) (ops : ℕ) (regions : List Region) (rows : List Row) (dict : Option (List Entry)) (contexts : List Context) (plan : Option Advice)
-    → IsHtml (pages.body_part name source exit ops regions rows dict contexts plan)
+body_html : (name source : List ℕ) (exit : ℤ) (ops whole path : ℕ) (regions : List Region) (rows : List Row) (dict : Option (List Entry)) (contexts : List Context)
+    (plan : Option Advice) → IsHtml (pages.body_part name source exit ops whole path regions rows dict contexts plan)
 unfolding pages.body_part
-body_html name source exit ops regions rows dict contexts plan =
-    four (pages.head_part name exit ops contexts plan) (pages.views_part regions contexts plan) (pages.texts_part source regions rows dict contexts plan) pages.meaning_part
-    (head_part_html name exit ops contexts plan) (views_html regions contexts plan) (texts_html source regions rows dict contexts plan) meaning_html
+body_html name source exit ops whole path regions rows dict contexts plan =
+    four (pages.head_part name exit ops whole path plan) (pages.views_part regions whole contexts plan) (pages.texts_part source regions whole rows dict contexts plan)
+    pages.meaning_part (head_part_html name exit ops whole path plan) (views_html regions whole contexts plan)
+    (texts_html source regions whole rows dict contexts plan) meaning_html
 
 -- A PAGE is the opening, HTML, and the end
 pub page_is_html : PageIsHtml
-page_is_html name source exit ops regions rows dict contexts plan =
-    (pages.body_part name source exit ops regions rows dict contexts plan, body_html name source exit ops regions rows dict contexts plan, refl)
+page_is_html name source exit ops whole path regions rows dict contexts plan = (
+  pages.body_part name source exit ops whole path regions rows dict contexts plan,
+  body_html name source exit ops whole path regions rows dict contexts plan,
+  refl,
+)
+
+large_part_html : (name : List ℕ) (exit : ℤ) (ops : ℕ) → IsHtml (pages.large_part name exit ops)
+unfolding pages.large_part
+large_part_html name exit ops =
+    four (pages.title name) (pages.heading name) (facts.large_facts name exit ops) (texted tag.Paragraph (words prose.Large)) (page_title_html name)
+    (heading_html name) (large_facts_html name exit ops) (prose_html tag.Paragraph prose.Large)
+
+pub large_page_is_html : LargePageIsHtml
+large_page_is_html name exit ops = (pages.large_part name exit ops, large_part_html name exit ops, refl)

@@ -1,4 +1,4 @@
--- Believed with a public law.
+-- Believed with the theorem on the top call.
 -- Shares, ratios, and the shades that stand for ratios.
 use Rattle.std.specs.Prelude.{ℕ, ◌*◌, ◌/◌, ◌%◌, ◌==◌, nat_lt, if◌then◌else◌, List, ◌++◌, codes}
 use Rattle.std.specs.Fmt.{decimal}

@@ -1,4 +1,4 @@
--- Believed with a public law.
+-- Believed with the theorem on the top call.
 -- Names, places and the cells of tables.
 use Rattle.std.specs.Prelude.{ℕ, List, ◌++◌, codes}
 use Rattle.std.specs.Fmt.{decimal}

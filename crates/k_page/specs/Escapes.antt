@@ -1,4 +1,4 @@
--- Believed with a public law.
+-- Believed with the theorem on the top call.
 -- *Escaped text*: bytes as text of a page. What could be markup is written by its name, and what is no character by U+FFFD.
 use Rattle.std.specs.Prelude.{ℕ, ◌-◌, Bool, ◌&&◌, ◌||◌, not, nat_le, nat_lt, ◌==◌, if◌then◌else◌, List, [], ◌∷◌, ◌++◌, get_or, codes}
 

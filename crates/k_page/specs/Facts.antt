@@ -1,20 +1,14 @@
--- Believed with a public law.
+-- Believed with the theorem on the top call.
 -- The head of a page: the file, and what its run comes to as a whole.
-use Rattle.std.specs.Prelude.{ℕ, ℤ, List, [], ◌∷◌, ◌++◌, Option, Some, None, codes}
+use Rattle.std.specs.Prelude.{ℕ, ℤ, List, [], ◌++◌, Option, Some, None, codes}
 use Rattle.std.specs.Fmt.{decimal, signed_decimal}
 use Rattle.k_plan.specs.declared.advice.Advice.{Advice}
-use Rattle.k_selfpar.specs.declared.context.Context.{Context}
 use Rattle.k_page.specs.Amounts.{share}
 use Rattle.k_page.specs.Cells.{text_cell}
 use Rattle.k_page.specs.Escapes.{escaped}
 use Rattle.k_page.specs.Markup.{bare, texted, with_one}
 use Rattle.k_page.specs.declared.markup.Attribute.TheVariants as attribute
 use Rattle.k_page.specs.declared.markup.Tag.TheVariants as tag
-
--- the path of the root, the first context
-abbrev pub root_path : List Context → ℕ
-root_path [] = 0
-root_path (root ∷ contexts) = root.path
 
 -- the head of a line: what it is about
 unfoldable pub fact_head : List ℕ → List ℕ
@@ -49,13 +43,19 @@ abbrev pub plan_fact : ℕ → Option Advice → List ℕ
 plan_fact whole None = []
 plan_fact whole (Some advice) = advice_fact whole advice
 
--- what main returned, how many operations were made, and what they come to
-unfoldable pub number_facts : ℤ → ℕ → ℕ → ℕ → List ℕ
-number_facts exit ops whole path =
-    fact (codes "exit") (signed_decimal exit) ++ fact (codes "operations") (decimal ops) ++ fact (codes "work") (decimal whole)
-    ++ fact (codes "path") (decimal path)
+-- what main returned, and how many operations were made
+unfoldable pub run_facts : ℤ → ℕ → List ℕ
+run_facts exit ops = fact (codes "exit") (signed_decimal exit) ++ fact (codes "operations") (decimal ops)
+
+-- what the operations come to
+unfoldable pub work_facts : ℕ → ℕ → List ℕ
+work_facts whole path = fact (codes "work") (decimal whole) ++ fact (codes "path") (decimal path)
 
 -- THE HEAD
-unfoldable pub facts_table : List ℕ → ℤ → ℕ → List Context → ℕ → Option Advice → List ℕ
-facts_table name exit ops contexts whole plan =
-    bare tag.Table (texted tag.Caption (codes "The run") ++ file_fact name ++ number_facts exit ops whole (root_path contexts) ++ plan_fact whole plan)
+unfoldable pub facts_table : List ℕ → ℤ → ℕ → ℕ → ℕ → Option Advice → List ℕ
+facts_table name exit ops whole path plan =
+    bare tag.Table (texted tag.Caption (codes "The run") ++ file_fact name ++ run_facts exit ops ++ work_facts whole path ++ plan_fact whole plan)
+
+-- THE HEAD where there is no profile
+unfoldable pub large_facts : List ℕ → ℤ → ℕ → List ℕ
+large_facts name exit ops = bare tag.Table (texted tag.Caption (codes "The run") ++ file_fact name ++ run_facts exit ops)

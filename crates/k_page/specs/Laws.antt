@@ -8,7 +8,7 @@ use Rattle.k_selfpar.specs.declared.context.Context.{Context}
 use Rattle.k_selfpar.specs.declared.row.Row.{Row}
 use Rattle.k_page.specs.Escapes.{escaped}
 use Rattle.k_page.specs.Html.{IsHtml, IsText}
-use Rattle.k_page.specs.Page.{page_text}
+use Rattle.k_page.specs.Page.{large_page_text, page_text}
 use Rattle.k_page.specs.Prose.{closing, opening}
 use Rattle.k_page.specs.Reader.{Stays, in_text, in_value, read}
 
@@ -18,9 +18,13 @@ EscapedIsText = (bytes : List ℕ) → IsText (escaped bytes)
 
 -- whatever a page is made of, it is the opening, HTML of its own tags, and the end
 abbrev pub PageIsHtml : Type 0
-PageIsHtml = (name source : List ℕ) (exit : ℤ) (ops : ℕ) (regions : List Region) (rows : List Row) (dict : Option (List Entry)) (contexts : List Context)
-    (plan : Option Advice)
-    → (inner : List ℕ) × IsHtml inner × (page_text name source exit ops regions rows dict contexts plan ≡ opening ++ inner ++ closing)
+PageIsHtml = (name source : List ℕ) (exit : ℤ) (ops whole path : ℕ) (regions : List Region) (rows : List Row) (dict : Option (List Entry))
+    (contexts : List Context) (plan : Option Advice)
+    → (inner : List ℕ) × IsHtml inner × (page_text name source exit ops whole path regions rows dict contexts plan ≡ opening ++ inner ++ closing)
+
+-- and so is the page of a run without a profile
+abbrev pub LargePageIsHtml : Type 0
+LargePageIsHtml = (name : List ℕ) (exit : ℤ) (ops : ℕ) → (inner : List ℕ) × IsHtml inner × (large_page_text name exit ops ≡ opening ++ inner ++ closing)
 
 -- in a text, and in one that is a value, a reader meets nothing that begins or ends a tag or a value
 abbrev pub TextIsNoMarkup : Type 0

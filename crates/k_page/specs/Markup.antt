@@ -1,4 +1,4 @@
--- Believed with a public law.
+-- Believed with the theorem on the top call.
 -- *Elements* of a page: tags, attributes, and what stands between.
 use Rattle.std.specs.Prelude.{ℕ, List, [], ◌++◌, codes}
 use Rattle.k_page.specs.declared.markup.Attribute.{Attribute}

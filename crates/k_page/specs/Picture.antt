@@ -1,4 +1,4 @@
--- Believed with a public law.
+-- Believed with the theorem on the top call.
 -- The picture of the contexts: a box for each, under that of the context around it, as wide as its share of the work.
 use Rattle.std.specs.Prelude.{ℕ, ◌+◌, ◌-◌, ◌*◌, ◌==◌, Bool, if◌then◌else◌, List, [], ◌++◌, slice_get, codes}
 use Rattle.std.specs.List.{flat_map, list_any}

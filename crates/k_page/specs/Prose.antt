@@ -1,4 +1,4 @@
--- Believed with a public law.
+-- Believed with the theorem on the top call.
 -- *Prose*: what a page says in its own words, and how it begins and ends.
 use Rattle.std.specs.Prelude.{ℕ, List, [], ◌∷◌, ◌++◌, codes}
 use Rattle.std.specs.List.{concat}
@@ -13,6 +13,7 @@ words prose.Saving = codes "A loop of the plan saves its work less its work over
 words prose.Picture = codes "Each box is a function, loop or body as it was reached from main; it is as wide as its share of the work, and stands under the one that it was reached from. Its own work stands at its left, what was reached from it beside that. Boxes that are too narrow are left out."
 words prose.OneRun = codes "All numbers are of one run with one input: other runs may have other dependences. Look at a loop before you change it."
 words prose.NoPlan = codes "There are more than 65536 ways on which regions were reached, and so there are no plan and no picture."
+words prose.Large = codes "The profile is over the limits of its dictionary, which lists each shape of instances once; so there are no rows, no plan and no picture. A smaller --depth tracks fewer levels, and has fewer shapes."
 words prose.Heading = codes "Profile of "
 words prose.Meaning = codes "What the numbers mean"
 words prose.RowsCaption = codes "All functions, loops and bodies that were entered"
@@ -42,6 +43,7 @@ opening = concat (
     codes "th,td{padding:.1em .6em;text-align:right;vertical-align:top;border-bottom:1px solid #ddd}\n" ∷
     codes "th[scope=row],.w{text-align:left}\n" ∷
     codes "code{white-space:pre;font:13px/1.4 monospace}\n" ∷
+    codes "td p{margin:0}\n" ∷
     codes "meter{width:6em}\n" ∷
     codes "svg{max-width:100%;height:auto}\n" ∷
     codes "svg svg{max-width:none}\n" ∷

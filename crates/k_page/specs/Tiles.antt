@@ -1,4 +1,4 @@
--- Believed with a public law.
+-- Believed with the theorem on the top call.
 -- Where contexts stand in the picture: each begins behind the work that the contexts before it have themselves. So a context has its own work first, and behind
 -- it those in it, one beside the other.
 use Rattle.std.specs.Prelude.{ℕ, zero, suc, ◌+◌, ◌-◌, List, [], ◌∷◌, ◌++◌, length, drop, max, get_or, replicate, slice_get, Option, Some, None}

@@ -9,18 +9,7 @@ use crate::markup::{Attribute, Tag, finish, push_element, start, start_with};
 use itoa::Integer;
 use k_num::NoMemory;
 use k_plan::Advice;
-use k_selfpar::Context;
 use k_text::{push, push_named, push_number};
-
-/// The path of the root, the first of contexts; 0 where there is none.
-fn root_path(contexts: &[Context]) -> u64
-    ensures { result ≡ spec.root_path contexts.now }
-{
-    match contexts.first() {
-        None => 0,
-        Some(root) => root.path,
-    }
-}
 
 /// The head of a line: what it is about.
 #[tactic(auto, unfolding(crate::specs::Facts::fact_head))]
@@ -106,19 +95,20 @@ fn push_plan(text: &mut Vec<u8>, plan: Option<&Advice>, whole: u64) -> Result<()
     }
 }
 
-/// What main returned, how many operations were made, and what they come to.
-#[tactic(auto, unfolding(crate::specs::Facts::number_facts))]
-fn push_numbers(
-    text: &mut Vec<u8>,
-    exit: i32,
-    ops: u64,
-    whole: u64,
-    path: u64,
-) -> Result<(), NoMemory>
-    ensures { OnOk result (text.new.items ≡ text.old.items ++ spec.number_facts exit ops whole path) }
+/// What main returned, and how many operations were made.
+#[tactic(auto, unfolding(crate::specs::Facts::run_facts))]
+fn push_run(text: &mut Vec<u8>, exit: i32, ops: u64) -> Result<(), NoMemory>
+    ensures { OnOk result (text.new.items ≡ text.old.items ++ spec.run_facts exit ops) }
 {
     push_fact(text, "exit", exit)?;
-    push_fact(text, "operations", ops)?;
+    push_fact(text, "operations", ops)
+}
+
+/// What the operations come to.
+#[tactic(auto, unfolding(crate::specs::Facts::work_facts))]
+fn push_work(text: &mut Vec<u8>, whole: u64, path: u64) -> Result<(), NoMemory>
+    ensures { OnOk result (text.new.items ≡ text.old.items ++ spec.work_facts whole path) }
+{
     push_fact(text, "work", whole)?;
     push_fact(text, "path", path)
 }
@@ -130,16 +120,34 @@ pub(crate) fn push_facts(
     name: &str,
     exit: i32,
     ops: u64,
-    contexts: &[Context],
     whole: u64,
+    path: u64,
     plan: Option<&Advice>,
 ) -> Result<(), NoMemory>
-    ensures { OnOk result (text.new.items ≡ text.old.items ++ spec.facts_table name.now exit ops contexts.now whole (option_copied plan.entry)) }
+    ensures { OnOk result (text.new.items ≡ text.old.items ++ spec.facts_table name.now exit ops whole path (option_copied plan.entry)) }
 {
     start(text, Tag::Table)?;
     push_element(text, Tag::Caption, "The run")?;
     push_file(text, name)?;
-    push_numbers(text, exit, ops, whole, root_path(contexts))?;
+    push_run(text, exit, ops)?;
+    push_work(text, whole, path)?;
     push_plan(text, plan, whole)?;
+    finish(text, Tag::Table)
+}
+
+/// The head of a page as a table, where there is no profile.
+#[tactic(auto, unfolding(crate::specs::Facts::large_facts))]
+pub(crate) fn push_large_facts(
+    text: &mut Vec<u8>,
+    name: &str,
+    exit: i32,
+    ops: u64,
+) -> Result<(), NoMemory>
+    ensures { OnOk result (text.new.items ≡ text.old.items ++ spec.large_facts name.now exit ops) }
+{
+    start(text, Tag::Table)?;
+    push_element(text, Tag::Caption, "The run")?;
+    push_file(text, name)?;
+    push_run(text, exit, ops)?;
     finish(text, Tag::Table)
 }

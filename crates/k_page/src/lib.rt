@@ -17,4 +17,4 @@ mod whole;
 pub use markup::{Attribute, Tag};
 pub use prose::Prose;
 pub use tiles::Tile;
-pub use whole::page;
+pub use whole::{large_page, page};

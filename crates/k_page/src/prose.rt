@@ -16,6 +16,7 @@ pub enum Prose {
     Picture,
     OneRun,
     NoPlan,
+    Large,
     Heading,
     Meaning,
     RowsCaption,
@@ -60,6 +61,10 @@ Its own work stands at its left, what was reached from it beside that. Boxes tha
         Prose::NoPlan => {
             "There are more than 65536 ways on which regions were reached, and so there are no plan and no picture."
         }
+        Prose::Large => {
+            "The profile is over the limits of its dictionary, which lists each shape of instances once; so there are no rows, no plan and no picture. \
+A smaller --depth tracks fewer levels, and has fewer shapes."
+        }
         Prose::Heading => "Profile of ",
         Prose::Meaning => "What the numbers mean",
         Prose::RowsCaption => "All functions, loops and bodies that were entered",
@@ -102,6 +107,7 @@ caption{text-align:left;font-weight:bold;padding:.3em 0}
 th,td{padding:.1em .6em;text-align:right;vertical-align:top;border-bottom:1px solid #ddd}
 th[scope=row],.w{text-align:left}
 code{white-space:pre;font:13px/1.4 monospace}
+td p{margin:0}
 meter{width:6em}
 svg{max-width:100%;height:auto}
 svg svg{max-width:none}

@@ -3,7 +3,7 @@ ghost use Rattle.std.specs.Prelude.{◌≡◌, ◌++◌, IfOk, OnOk, option_copi
 ghost use Rattle.k_page.specs.Page as spec;
 
 use crate::escape::push_escaped;
-use crate::facts::push_facts;
+use crate::facts::{push_facts, push_large_facts};
 use crate::lists::{push_dictionary, push_plan, push_rows};
 use crate::markup::{Tag, finish, push_element, start};
 use crate::picture::{push_legend, push_picture};
@@ -14,7 +14,7 @@ use k_dict::Dict;
 use k_num::{NoMemory, Seq};
 use k_optab::Region;
 use k_plan::{Advice, Pick};
-use k_selfpar::{Context, ContextList, Row, root_work};
+use k_selfpar::{Context, ContextList, Row};
 use k_text::push;
 use std::alloc::Global;
 
@@ -56,14 +56,15 @@ fn push_head(
     name: &str,
     exit: i32,
     ops: u64,
-    contexts: &[Context],
+    whole: u64,
+    path: u64,
     plan: Option<&Advice>,
 ) -> Result<(), NoMemory>
-    ensures { OnOk result (text.new.items ≡ text.old.items ++ spec.head_part name.now exit ops contexts.now (option_copied plan.entry)) }
+    ensures { OnOk result (text.new.items ≡ text.old.items ++ spec.head_part name.now exit ops whole path (option_copied plan.entry)) }
 {
     push_title(text, name)?;
     push_heading(text, name)?;
-    push_facts(text, name, exit, ops, contexts, root_work(contexts), plan)
+    push_facts(text, name, exit, ops, whole, path, plan)
 }
 
 /// The plan and the picture.
@@ -72,13 +73,13 @@ fn push_views(
     alloc: Global,
     text: &mut Vec<u8>,
     regions: &[Region],
+    whole: u64,
     contexts: &[Context],
     plan: Option<&Advice>,
 ) -> Result<(), NoMemory>
-    ensures { OnOk result (text.new.items ≡ text.old.items ++ spec.views_part regions.now contexts.now (option_copied plan.entry)) }
+    ensures { OnOk result (text.new.items ≡ text.old.items ++ spec.views_part regions.now whole contexts.now (option_copied plan.entry)) }
 {
     let tiles = tiles_of(alloc, contexts)?;
-    let whole = root_work(contexts);
     push_element(text, Tag::Chapter, "Plan")?;
     push_plan(text, regions, contexts, whole, plan)?;
     push_element(text, Tag::Chapter, "Picture")?;
@@ -92,15 +93,15 @@ fn push_texts(
     text: &mut Vec<u8>,
     source: &[u8],
     regions: &[Region],
+    whole: u64,
     rows: &[Row],
     dict: Option<&Dict>,
     contexts: &[Context],
     plan: Option<&Advice>,
 ) -> Result<(), NoMemory>
     ensures { OnOk result (text.new.items ≡ text.old.items
-        ++ spec.texts_part source.now regions.now rows.now (option_copied dict.entry) contexts.now (option_copied plan.entry)) }
+        ++ spec.texts_part source.now regions.now whole rows.now (option_copied dict.entry) contexts.now (option_copied plan.entry)) }
 {
-    let whole = root_work(contexts);
     push_element(text, Tag::Chapter, "Source")?;
     push_source(text, regions, contexts, picks_of(plan), whole, rows, source)?;
     push_element(text, Tag::Chapter, "Rows")?;
@@ -138,6 +139,8 @@ fn push_body(
     source: &[u8],
     exit: i32,
     ops: u64,
+    whole: u64,
+    path: u64,
     regions: &[Region],
     rows: &[Row],
     dict: Option<&Dict>,
@@ -145,23 +148,25 @@ fn push_body(
     plan: Option<&Advice>,
 ) -> Result<(), NoMemory>
     ensures { OnOk result (text.new.items ≡ text.old.items
-        ++ spec.body_part name.now source.now exit ops regions.now rows.now (option_copied dict.entry) contexts.now (option_copied plan.entry)) }
+        ++ spec.body_part name.now source.now exit ops whole path regions.now rows.now (option_copied dict.entry) contexts.now (option_copied plan.entry)) }
 {
-    push_head(text, name, exit, ops, contexts, plan)?;
-    push_views(alloc, text, regions, contexts, plan)?;
-    push_texts(text, source, regions, rows, dict, contexts, plan)?;
+    push_head(text, name, exit, ops, whole, path, plan)?;
+    push_views(alloc, text, regions, whole, contexts, plan)?;
+    push_texts(text, source, regions, whole, rows, dict, contexts, plan)?;
     push_meaning(text)
 }
 
-/// A profile as one page of HTML that stands alone: no script, nothing that is loaded. `name` is that of the source's file, and the rest is what a
-/// report is made of; where there are too many contexts for a plan, `contexts` may be empty. Want of memory is answered too where a sum passes 2^64,
-/// which no profile brings about.
+/// A profile as one page of HTML that stands alone: no script, nothing that is loaded. `name` is that of the source's file, `work` and `path`
+/// are those of the run as a whole, and the rest is what a report is made of; where there are too many contexts for a plan, `contexts` may be empty. Want
+/// of memory is answered too where a sum passes 2^64, which no profile brings about.
 pub fn page(
     alloc: Global,
     name: &str,
     source: &[u8],
     exit: i32,
     ops: u64,
+    work: u64,
+    path: u64,
     regions: &Seq<Region>,
     rows: &Seq<Row>,
     dict: Option<&Dict>,
@@ -169,7 +174,7 @@ pub fn page(
     plan: Option<&Advice>,
 ) -> Result<Vec<u8>, NoMemory>
     ensures { IfOk result (λ text. text.items
-        ≡ spec.page_text name.now source.now exit ops regions.now rows.now (option_copied dict.entry) contexts.now (option_copied plan.entry)) }
+        ≡ spec.page_text name.now source.now exit ops work path regions.now rows.now (option_copied dict.entry) contexts.now (option_copied plan.entry)) }
 {
     let mut text = Vec::new(alloc);
     push_opening(&mut text)?;
@@ -180,12 +185,36 @@ pub fn page(
         source,
         exit,
         ops,
+        work,
+        path,
         regions.as_slice(),
         rows.as_slice(),
         dict,
         contexts.as_slice(),
         plan,
     )?;
+    push_closing(&mut text)?;
+    Ok(text)
+}
+
+/// What stands between the opening and the end where there is no profile.
+#[tactic(auto, unfolding(crate::specs::Page::large_part))]
+fn push_large(text: &mut Vec<u8>, name: &str, exit: i32, ops: u64) -> Result<(), NoMemory>
+    ensures { OnOk result (text.new.items ≡ text.old.items ++ spec.large_part name.now exit ops) }
+{
+    push_title(text, name)?;
+    push_heading(text, name)?;
+    push_large_facts(text, name, exit, ops)?;
+    push_prose(text, Tag::Paragraph, Prose::Large)
+}
+
+/// The page of a run whose profile is over the limits of its dictionary: what main returned, how many operations were made, and why there is no more.
+pub fn large_page(alloc: Global, name: &str, exit: i32, ops: u64) -> Result<Vec<u8>, NoMemory>
+    ensures { IfOk result (λ text. text.items ≡ spec.large_page_text name.now exit ops) }
+{
+    let mut text = Vec::new(alloc);
+    push_opening(&mut text)?;
+    push_large(&mut text, name, exit, ops)?;
     push_closing(&mut text)?;
     Ok(text)
 }

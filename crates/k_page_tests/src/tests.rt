@@ -2,7 +2,7 @@
 
 use k_num::{NoMemory, Place, Seq, Text};
 use k_optab::{Region, RegionKind};
-use k_page::page;
+use k_page::{large_page, page};
 use k_plan::{Advice, Pick};
 use k_selfpar::{Context, ContextList, Frac, Row};
 use std::alloc::Global;
@@ -25,7 +25,7 @@ fn page_of(alloc: Global, name: &str, source: &[u8]) -> Result<Vec<u8>, NoMemory
     let rows = Seq::new(alloc);
     let contexts = Seq::new(alloc);
     page(
-        alloc, name, source, 0, 0, &regions, &rows, None, &contexts, None,
+        alloc, name, source, 0, 0, 0, 0, &regions, &rows, None, &contexts, None,
     )
 }
 
@@ -139,6 +139,8 @@ fn small_page(alloc: Global) -> Result<Vec<u8>, NoMemory> {
         b"int main(void){}\n",
         9,
         47,
+        35,
+        4,
         &regions,
         &rows,
         None,
@@ -165,5 +167,54 @@ fn a_small_profile_has_its_pieces(rt: HostRuntime) -> Result<(), Fail> {
     for piece in &PIECES {
         assert!(rt; holds(found.as_slice(), piece.as_bytes()));
     }
+    Ok(())
+}
+
+/// The page of a profile of main, which has too many contexts for a plan.
+fn wide_page(alloc: Global) -> Result<Vec<u8>, NoMemory> {
+    let mut regions = Seq::new(alloc);
+    regions.push(region(alloc, RegionKind::Func, 5)?)?;
+    let mut rows = Seq::new(alloc);
+    rows.push(Row {
+        region: 0,
+        instances: 70_000,
+        work: 25,
+        path: 4,
+        sp: Frac::new(25, 4),
+    })?;
+    let contexts: ContextList = Seq::new(alloc);
+    page(
+        alloc, "a.c", b"", 0, 47, 100, 20, &regions, &rows, None, &contexts, None,
+    )
+}
+
+#[test]
+fn without_contexts_the_run_as_a_whole_is_told(rt: HostRuntime) -> Result<(), Fail> {
+    let found = wide_page(rt.alloc())?;
+    assert!(rt; holds(found.as_slice(), b"<th scope=\"row\">work</th><td>100</td>"));
+    assert!(rt; holds(found.as_slice(), b"<th scope=\"row\">path</th><td>20</td>"));
+    assert!(rt; holds(found.as_slice(), b"<td>25.0 %</td>"));
+    assert!(rt; holds(found.as_slice(), b"<p>There are more than 65536 ways"));
+    Ok(())
+}
+
+#[test]
+fn without_a_profile_a_page_says_why(rt: HostRuntime) -> Result<(), Fail> {
+    let found = large_page(rt.alloc(), "a<b.c", -1, 47)?;
+    assert!(rt; holds(found.as_slice(), b"<title>a&lt;b.c</title>"));
+    assert!(rt; holds(found.as_slice(), b"<th scope=\"row\">exit</th><td>-1</td>"));
+    assert!(rt;
+        holds(
+            found.as_slice(),
+            b"<th scope=\"row\">operations</th><td>47</td>"
+        )
+    );
+    assert!(rt;
+        holds(
+            found.as_slice(),
+            b"<p>The profile is over the limits of its dictionary"
+        )
+    );
+    assert!(rt; !holds(found.as_slice(), b"<svg"));
     Ok(())
 }

@@ -12,6 +12,7 @@ use crate::carried::carried_answer;
 use crate::checked::check_answer;
 use crate::demo::demo_answer;
 use crate::graph::graph_answer;
+use crate::paged::page_answer;
 use crate::reported::run_answer;
 use crate::running::make_ready;
 use crate::shown::show_answer;
@@ -101,6 +102,31 @@ fn carried_job<F: Files, S: Source>(
     Ok(answer)
 }
 
+/// The answer of `page` with its options.
+fn page_job<F: Files, S: Source, R: Shadow, P: Shadow>(
+    alloc: Global,
+    files: &mut F,
+    input: &mut S,
+    file: Text,
+    steps: u64,
+    depth: u32,
+    latency: Option<Text>,
+    dict: bool,
+    regs: R,
+    pages: P,
+) -> Result<Answer, Failure>
+    requires within { IsRunWithin 1000000000 steps depth }
+    requires registers { IsFresh 2097152 (R.content regs) }
+    requires pages { IsFresh 4194304 (P.content pages) }
+    ensures { FindsJob result (job.Page file steps depth latency dict)
+        (record { files = F.seen files.old; input = S.seen input.old }) (record { files = F.seen files.new; input = S.seen input.new }) }
+{
+    let name = Text::copy_of(alloc, file.as_str())?;
+    let ready = make_ready(alloc, files, input, file, latency, steps)?;
+    let answer = page_answer(alloc, name.as_str(), &ready, depth, dict, regs, pages)?;
+    Ok(answer)
+}
+
 /// The rest of the answer to what is asked for. Only a program that `run` runs puts any of it.
 fn job_answer<F: Files, S: Source, K: Sink, R: Shadow, P: Shadow>(
     alloc: Global,
@@ -149,6 +175,15 @@ fn job_answer<F: Files, S: Source, K: Sink, R: Shadow, P: Shadow>(
             drop(pages);
             carried_job(alloc, files, input, file, steps, depth, latency)
         }
+        Job::Page {
+            file,
+            steps,
+            depth,
+            latency,
+            dict,
+        } => page_job(
+            alloc, files, input, file, steps, depth, latency, dict, regs, pages,
+        ),
         Job::Show { file, form } => {
             drop(regs);
             drop(pages);

@@ -11,6 +11,7 @@ mod loading;
 mod machine;
 mod nowhere;
 mod output;
+mod paged;
 mod program;
 mod reported;
 mod running;

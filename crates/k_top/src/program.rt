@@ -8,7 +8,7 @@ use crate::loading::{FILE_LIMIT, latencies_of, load};
 use k_edge::Files;
 use k_lex::lex;
 use k_marks::mark;
-use k_num::Text;
+use k_num::{Seq, Text};
 use k_optab::Latencies;
 use k_parse::parse;
 use k_top_answers::Failure;
@@ -22,12 +22,15 @@ pub(crate) fn accept(alloc: Global, source: &[u8], latencies: Latencies) -> Resu
     ensures source { AcceptsSource result source.now }
     ensures can_run { IfOk result CanRun }
     ensures latencies { IfOk result (λ p. p.latencies ≡ latencies) }
+    ensures kept { IfOk result (λ p. p.source ≡ source.now) }
 {
     let tokens = lex(alloc, source)?;
     let unit = parse(alloc, &tokens)?;
     let typed = check(alloc, &unit)?;
     let marks = mark(alloc, &typed)?;
+    let kept = Seq::copy_of(alloc, source)?;
     Ok(Program {
+        source: kept,
         typed,
         marks,
         latencies,

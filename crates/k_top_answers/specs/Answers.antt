@@ -11,6 +11,7 @@ use Rattle.k_graph.specs.Listings.{IsListing}
 use Rattle.k_graph.specs.declared.tree.Instance.{Instance}
 use Rattle.k_dict_saved.specs.declared.fault.SavedFault.TheVariants.{NotSaved}
 use Rattle.k_report_profile.specs.Report.{IsReport}
+use Rattle.k_data_profile.specs.Pages.{IsRunPage}
 use Rattle.k_data_profile.specs.Shown.{IsDocument, IsTable}
 use Rattle.k_report_profile.specs.RunReport.{IsRunReport, Ran}
 use Rattle.k_regions.specs.Regions.{regions_of}
@@ -99,6 +100,16 @@ abbrev pub AnswersCarried : ℕ → Answer → Running → End → Type 0
 AnswersCarried depth answer r (Returned exit) = ToldCarried r depth answer
 AnswersCarried depth answer r end = answer ≡ ended [] r.steps end
 
+-- PAGE, by how the run of a source in a file of this name ended: the page of the run where main returned, and else nothing
+abbrev pub AnswersPage : List ℕ → List ℕ → ℕ → Bool → Answer → Running → End → Type 0
+AnswersPage file source depth dict answer r (Returned exit) = (text : List ℕ) × IsRunPage file source (ran_of r exit depth) dict text × (answer ≡ done text)
+AnswersPage file source depth dict answer r end = answer ≡ ended [] r.steps end
+
+-- PAGE of a run: the source beside it is what the file holds
+abbrev pub IsPaged : Outside → List ℕ → ℕ → Bool → Answer → Running → Type 0
+IsPaged outside file depth dict answer r =
+    (source : List ℕ) × (outside.files file ≡ Some source) × AnswersPage file source depth dict answer r (run_of r).end
+
 -- how a profile is shown: by its report, by a document, or by the table of its rows
 abbrev pub IsShown : Form → Saved → List ℕ → Type 0
 IsShown (shown.Report dict) profile text = IsReport profile dict text
@@ -133,6 +144,8 @@ AnswersJob outside answer (job.Graph file steps depth latency) =
     AnswersRunning (λ failure. answer ≡ refusal failure) outside file latency steps (IsListed depth answer)
 AnswersJob outside answer (job.Carried file steps depth latency) =
     AnswersRunning (λ failure. answer ≡ refusal failure) outside file latency steps (λ r. AnswersCarried depth answer r (run_of r).end)
+AnswersJob outside answer (job.Page file steps depth latency dict) =
+    AnswersRunning (λ failure. answer ≡ refusal failure) outside file latency steps (IsPaged outside file depth dict answer)
 AnswersJob outside answer (job.Show file form) =
     AnswersFile (λ failure. answer ≡ refusal failure) outside profile_limit file (λ bytes. (read : Result Saved ℕ) × AnswersProfile form answer bytes read)
 AnswersJob outside answer (job.Check file) = AnswersFile (λ failure. answer ≡ refusal failure) outside file_limit file (AnswersChecked file answer)
@@ -165,6 +178,7 @@ abbrev pub JobCalls : Outside → Job → Type 0
 JobCalls outside (job.Run file steps depth latency dict save) = FilesCall outside file latency
 JobCalls outside (job.Graph file steps depth latency) = FilesCall outside file latency
 JobCalls outside (job.Carried file steps depth latency) = FilesCall outside file latency
+JobCalls outside (job.Page file steps depth latency dict) = FilesCall outside file latency
 JobCalls outside (job.Show file form) = ⊥
 JobCalls outside (job.Check file) = ⊥
 JobCalls outside (job.Demo number loops) = ⊥
@@ -178,6 +192,7 @@ abbrev pub JobLoads : Job → Type 0
 JobLoads (job.Run file steps depth latency dict save) = Unit {0}
 JobLoads (job.Graph file steps depth latency) = Unit {0}
 JobLoads (job.Carried file steps depth latency) = Unit {0}
+JobLoads (job.Page file steps depth latency dict) = Unit {0}
 JobLoads (job.Show file form) = Unit {0}
 JobLoads (job.Check file) = Unit {0}
 JobLoads (job.Demo number loops) = ⊥

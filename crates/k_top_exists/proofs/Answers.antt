@@ -1,5 +1,5 @@
 -- Words have an answer, whatever the outside holds.
-use Rattle.std.proofs.Common.{ℕ, ◌≡◌, ◌≤◌, Bool, true, false, refl, List, [], ◌∷◌, length, Option, Some, None, Result, Ok, Err, inl, inr}
+use Rattle.std.proofs.Common.{ℕ, ◌≡◌, ◌≤◌, Bool, true, false, refl, sym, subst, List, [], ◌∷◌, length, Option, Some, None, Result, Ok, Err, inl, inr}
 use Rattle.std.specs.Prelude.{MatchBool}
 use Rattle.std.proofs.lemmas.Bool.{cases_lt}
 use Rattle.k_optab.specs.Latencies.{standard_latencies}
@@ -130,3 +130,16 @@ module _ (outside : Outside) (steps : ℕ) (limited : steps ≤ 1000000000)
   running_answers file latency =
       found_answers file_limit file (λ a bytes. AnswersLatency (refused_by a) outside latency (λ l. AnswersSource (refused_by a) (Input a l) bytes))
       (λ bytes fits. latency_answers (λ a l. AnswersSource (refused_by a) (Input a l) bytes) (by_source bytes) outside latency) (outside.files file)
+
+-- the file of a program is absent
+pub absent_answers : (outside : Outside) (steps : ℕ) (P : Answer → Running → Type 0) (file : List ℕ) (latency : Option (List ℕ)) → outside.files file ≡ None
+    → Answered (λ a. AnswersRunning (refused_by a) outside file latency steps (P a))
+absent_answers outside steps P file latency is =
+    let gone : Answer = refusal (why.Absent file) in (
+      gone,
+      at_content (λ bytes. AnswersLatency (refused_by gone) outside latency (λ l. AnswersSource (refused_by gone)
+          (λ typed. AnswersInput (refused_by gone) outside typed (λ input. P gone (record { typed = typed; latencies = l; input = input; steps = steps }))) bytes)),
+    )
+  where
+    at_content : (next : List ℕ → Type 0) → AnswersFound (refused_by (refusal (why.Absent file))) file_limit file next (outside.files file)
+    at_content next = subst (λ content. AnswersFound (refused_by (refusal (why.Absent file))) file_limit file next content) (sym is) refl

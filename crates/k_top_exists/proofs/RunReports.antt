@@ -1,6 +1,8 @@
 -- A profile has a text of each form, and a report has a run from which main returned, where trees have rows and contexts, and contexts have plans.
-use Rattle.std.proofs.Common.{◌≡◌, ℕ, ◌-◌, inl, inr, Bool, List, length, Option, Some, None, refl}
+use Rattle.std.proofs.Common.{◌≡◌, ◌≤◌, ℕ, ◌-◌, inl, inr, Bool, List, length, Option, Some, None, refl}
 use Rattle.std.proofs.lemmas.Bool.{cases_lt}
+use Rattle.k_optab.specs.declared.node.Node.{Node}
+use Rattle.k_optab.specs.Tree.{IsTree}
 use Rattle.k_dict.specs.Dictionary.{IsDictionary, refusal}
 use Rattle.k_dict.specs.Entries.{tree_at}
 use Rattle.k_dict.specs.Trees.{Tree}
@@ -15,14 +17,18 @@ use Rattle.k_selfpar.specs.declared.context.Context.{Context}
 use Rattle.k_selfpar.specs.declared.row.Row.{Row}
 use Rattle.k_plan.specs.declared.advice.Advice.{Advice}
 use Rattle.k_report.specs.Report.{large_text, report_text}
+use Rattle.k_page.specs.Page.{large_page_text, page_text}
 use Rattle.k_data.specs.Document.{profile_json}
 use Rattle.k_data.specs.Table.{rows_csv}
+use Rattle.k_data_profile.specs.Pages.{IsPage, IsRunPage, path_of, work_of}
+use Rattle.k_data_profile.specs.Pages as pages
 use Rattle.k_data_profile.specs.Shown.{IsDocument, IsTable, listed}
+use Rattle.k_data_profile.proofs.Pages.{run_paged}
 use Rattle.k_words.specs.declared.job.Form.{Form}
 use Rattle.k_words.specs.declared.job.Form.TheVariants as shown
 use Rattle.k_top_answers.specs.Answers.{IsShown}
 use Rattle.k_report_profile.specs.Report.{IsPlanned, asked, nodes_of_profile}
-use Rattle.k_report_profile.specs.RunReport.{IsProfileOf, IsRunReport, large, ops_of}
+use Rattle.k_report_profile.specs.RunReport.{IsProfileOf, IsRunReport, IsWhole, Ran, large, ops_of}
 use Rattle.k_report_profile.proofs.Named.{named_tree}
 use Rattle.k_report_profile.proofs.Recorded.{run_in_order, run_reported, run_saved}
 use Rattle.k_report_profile.proofs.Reported.{root_is, saved_plan}
@@ -101,4 +107,31 @@ module _ (rows_exist : RowsExist) (contexts_exist : ContextsExist) (plans_exist 
         None,
         large_text ran.exit (ops_of ran),
         large nodes tree (record { entries = dictionary.0; which = which; dict = dictionary.1; passed = passed }),
+      )
+
+  profile_pages_exist : (name source : List ℕ) (saved : Saved) (with_dict : Bool) → IsSaved saved → (text : List ℕ) × IsPage name source saved with_dict text
+  profile_pages_exist name source saved with_dict is =
+      let p : HasParts saved = parts_exist saved is in (
+        page_text name source saved.exit saved.ops (work_of (nodes_of_profile saved)) (path_of (nodes_of_profile saved)) saved.regions p.rows
+            (asked with_dict saved.dict) (listed p.contexts p.plan) p.plan,
+        record { rows = p.rows; contexts = p.contexts; plan = p.plan; are_rows = p.are_rows; are_contexts = p.are_contexts; planned = p.planned; is = refl },
+      )
+
+  -- a run has a page
+  pub run_pages_exist : (name source : List ℕ) (ran : Ran) (nodes : List Node) (with_dict : Bool) → IsWhole ran → IsTree ran.depth ran.events nodes
+      → length nodes ≤ 576460752303423488 → (text : List ℕ) × IsRunPage name source ran with_dict text
+  run_pages_exist name source ran nodes with_dict is_whole tree few = by (refusal 0 0 dictionary.0) refl
+    where
+      dictionary : (entries : List Entry) × IsDictionary nodes entries
+      dictionary = dictionary_exists nodes (run_in_order ran is_whole nodes tree)
+
+      by : (found : Option Which) → refusal 0 0 dictionary.0 ≡ found → (text : List ℕ) × IsRunPage name source ran with_dict text
+      by None within =
+          let saved : Saved = record { exit = ran.exit; ops = ops_of ran; regions = ran.regions; dict = dictionary.0 } in
+          let is : IsProfileOf ran nodes saved = record { exit = refl; ops = refl; regions = refl; dict = dictionary.1; within = within } in
+          let page = profile_pages_exist name source saved with_dict (run_saved ran is_whole nodes tree saved is few) in
+          (page.0, run_paged ran name source nodes saved with_dict page.0 tree is page.1)
+      by (Some which) passed = (
+        large_page_text name ran.exit (ops_of ran),
+        pages.large nodes tree (record { entries = dictionary.0; which = which; dict = dictionary.1; passed = passed }),
       )

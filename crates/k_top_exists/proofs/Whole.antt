@@ -17,6 +17,7 @@ use Rattle.k_carry_pairs.specs.Carried.{AreCarried}
 use Rattle.k_carry_pairs.specs.declared.pairs.LoopPairs.{LoopPairs}
 use Rattle.k_carry_text.specs.Lines.{carried_text}
 use Rattle.k_report.specs.Graph.{IsGraphText}
+use Rattle.k_data_profile.specs.Pages.{IsRunPage}
 use Rattle.k_dict_saved.specs.declared.saved.Saved.{Saved}
 use Rattle.k_words.specs.About.{asked_for, help_text, version_text}
 use Rattle.k_words.specs.Within.{IsJobWithin}
@@ -31,7 +32,7 @@ use Rattle.k_words.specs.declared.usage.Usage.TheVariants as usage
 use Rattle.k_words.proofs.Within.{jobs_are_within}
 use Rattle.k_top_answers.specs.declared.failure.Failure.TheVariants as why
 use Rattle.k_evaluation.specs.Runs.{listing_of}
-use Rattle.k_top_answers.specs.Answers.{AnswersAsked, AnswersCarried, AnswersChecked, AnswersJob, AnswersMade, AnswersProfile, AnswersRun, AnswersWords, IsAnswer, IsListed, IsShown, checked, done, ended, made_running, ran_of, refusal, saved_file}
+use Rattle.k_top_answers.specs.Answers.{AnswersAsked, AnswersCarried, AnswersChecked, AnswersJob, AnswersMade, AnswersPage, AnswersProfile, AnswersRun, AnswersWords, IsAnswer, IsListed, IsPaged, IsShown, checked, done, ended, made_running, ran_of, refusal, saved_file}
 use Rattle.k_top_answers.specs.Checks.{told}
 use Rattle.k_top_answers.specs.Steps.{Outside, Running, file_limit, profile_limit, run_of}
 use Rattle.k_top_answers.specs.Texts.{AreProfileLines, demo_line, plan_line, run_lines, tree_lines, with_report}
@@ -43,12 +44,12 @@ use Rattle.k_top_exists.specs.Files.{SpellsProfileOrIsWrong}
 use Rattle.k_top_exists.specs.Laws.{WordsHaveOneAnswer}
 use Rattle.k_top_exists.specs.Profiles.{RunReportsExist}
 use Rattle.k_top_exists.proofs.CarriedLoops.{carried_exist}
-use Rattle.k_top_exists.proofs.Answers.{Answered, found_answers, running_answers, source_answers}
+use Rattle.k_top_exists.proofs.Answers.{Answered, absent_answers, found_answers, running_answers, source_answers}
 use Rattle.k_top_exists.proofs.GraphTexts.{graph_text_exists}
 use Rattle.k_top_exists.proofs.Listings.{listing_exists, tree_exists}
 use Rattle.k_top_exists.proofs.ReportParts.{contexts_exist, plans_exist}
 use Rattle.k_top_exists.proofs.RowsOfTrees.{rows_exist}
-use Rattle.k_top_exists.proofs.RunReports.{profile_is_shown, run_reports_exist}
+use Rattle.k_top_exists.proofs.RunReports.{profile_is_shown, run_pages_exist, run_reports_exist}
 use Rattle.k_top_exists.proofs.SavedFiles.{saved_file_is_answered}
 use Rattle.k_top_exists.proofs.Words.{words_are_answered}
 
@@ -102,6 +103,31 @@ carried_answers depth r (end.Returned exit) =
 carried_answers depth r (end.Trapped trap place) = (ended [] r.steps (end.Trapped trap place), refl)
 carried_answers depth r end.OutOfSteps = (ended [] r.steps end.OutOfSteps, refl)
 
+-- PAGE
+page_answers : (file source : List ℕ) (depth : ℕ) (dict : Bool) (r : Running) → IsSound r → 1 ≤ depth → depth ≤ 32 → (how : End) → (run_of r).end ≡ how
+    → Answered (λ a. AnswersPage file source depth dict a r how)
+page_answers file source depth dict r sound some tracked (end.Returned exit) is =
+    let tree = tree_of r depth sound in
+    let page : (text : List ℕ) × IsRunPage file source (ran_of r exit depth) dict text =
+    run_pages_exist rows_exist contexts_exist plans_exist file source (ran_of r exit depth) tree.0 dict
+    (run_whole r sound exit depth is (run_gives_int r sound exit is) some tracked) tree.1 (run_few r depth tree.0 sound tree.1) in
+    (done page.0, (page.0, page.1, refl))
+page_answers file source depth dict r sound some tracked (end.Trapped trap place) is = (ended [] r.steps (end.Trapped trap place), refl)
+page_answers file source depth dict r sound some tracked end.OutOfSteps is = (ended [] r.steps end.OutOfSteps, refl)
+
+-- a run's page, beside the source that the file holds
+paged : (outside : Outside) (file : List ℕ) (depth : ℕ) (dict : Bool) → 1 ≤ depth → depth ≤ 32 → (source : List ℕ) → outside.files file ≡ Some source
+    → (r : Running) → IsSound r → Answered (λ a. IsPaged outside file depth dict a r)
+paged outside file depth dict some tracked source is r sound =
+    let page = page_answers file source depth dict r sound some tracked (run_of r).end refl in (page.0, (source, is, page.1))
+
+paged_answers : (outside : Outside) (file : List ℕ) (latency : Option (List ℕ)) (steps depth : ℕ) (dict : Bool) → steps ≤ 1000000000 → 1 ≤ depth → depth ≤ 32
+    → (content : Option (List ℕ)) → outside.files file ≡ content → Answered (λ a. AnswersJob outside a (job.Page file steps depth latency dict))
+paged_answers outside file latency steps depth dict limited some tracked None is =
+    absent_answers outside steps (λ a r. IsPaged outside file depth dict a r) file latency is
+paged_answers outside file latency steps depth dict limited some tracked (Some source) is =
+    running_answers outside steps limited (λ a r. IsPaged outside file depth dict a r) (paged outside file depth dict some tracked source is) file latency
+
 -- SHOW
 by_profile : (form : Form) (bytes : List ℕ) → SpellsProfileOrIsWrong bytes → Answered (λ a. (read : Result Saved ℕ) × AnswersProfile form a bytes read)
 by_profile form bytes (inl (saved, is)) =
@@ -137,6 +163,8 @@ job_answers outside (job.Graph file steps depth latency) within =
     running_answers outside steps (omega (arith, most)) (λ a r. IsListed depth a r) (listed depth) file latency
 job_answers outside (job.Carried file steps depth latency) within =
     running_answers outside steps within.steps.at_most (λ a r. AnswersCarried depth a r (run_of r).end) (λ r sound. carried_answers depth r (run_of r).end) file latency
+job_answers outside (job.Page file steps depth latency dict) within =
+    paged_answers outside file latency steps depth dict within.steps.at_most within.depth.at_least within.depth.at_most (outside.files file) refl
 job_answers outside (job.Show file form) within =
     found_answers profile_limit file (λ a bytes. (read : Result Saved ℕ) × AnswersProfile form a bytes read)
     (λ bytes fits. by_profile form bytes (saved_file_is_answered bytes)) (outside.files file)

@@ -1,8 +1,10 @@
 -- Believed with a public law.
--- What `kremlin graph`, `carried`, `show`, `check` and `demo` write, and with which status they end, where nothing goes wrong outside and memory suffices.
+-- What `kremlin graph`, `carried`, `page`, `show`, `check` and `demo` write, and with which status they end, where nothing goes wrong outside and memory
+-- suffices.
 use Rattle.std.specs.Prelude.{ℕ, ◌-◌, ◌≡◌, ◌≤◌, Bool, List, [], length, Option, Some, None}
 use Rattle.k_edge.specs.SinkWords.{Grows}
 use Rattle.k_optab.specs.declared.node.Node.{Node}
+use Rattle.k_optab.specs.Tree.{IsTree}
 use Rattle.k_ending.specs.declared.ending.End.{End}
 use Rattle.k_ending.specs.declared.ending.End.TheVariants.{Returned, Trapped, OutOfSteps}
 use Rattle.k_evaluation.specs.Runs.{listing_of}
@@ -13,7 +15,8 @@ use Rattle.k_carry_text.specs.Lines.{carried_text}
 use Rattle.k_gen.specs.Text.{program}
 use Rattle.k_graph.specs.Listings.{IsListing}
 use Rattle.k_graph.specs.declared.tree.Instance.{Instance}
-use Rattle.k_dict.specs.Dictionary.{IsDictionary}
+use Rattle.k_dict.specs.Dictionary.{IsDictionary, refusal}
+use Rattle.k_dict.specs.declared.dict.Which.{Which}
 use Rattle.k_dict.specs.Entries.{expansion}
 use Rattle.k_dict.specs.declared.entry.Entry.{Entry}
 use Rattle.k_dict_saved.specs.Files.{IsFile}
@@ -23,6 +26,9 @@ use Rattle.k_dict_saved.specs.declared.format.Format.{Format}
 use Rattle.k_dict_saved.specs.declared.format.Format.TheVariants.{One, Two}
 use Rattle.k_report.specs.Graph.{IsGraphText}
 use Rattle.k_report_profile.specs.Report.{IsReportOf, asked}
+use Rattle.k_report_profile.specs.RunReport.{Ran, ops_of}
+use Rattle.k_page.specs.Page.{large_page_text}
+use Rattle.k_data_profile.specs.Pages.{IsPageOf}
 use Rattle.k_data_profile.specs.Shown.{IsDocumentOf, IsTableOf}
 use Rattle.k_types_meaning.specs.declared.tree.unit.TUnit.{TUnit}
 use Rattle.k_words.specs.Setting.{standard_depth}
@@ -76,6 +82,42 @@ abbrev pub CarriedIsTold : Type 0
 CarriedIsTold = (words : List (List ℕ)) (status : ℕ) (old new : World) (file : List ℕ) (r : Running) (depth : ℕ)
     → Keeps words status old new → WentWell words (job.Carried file r.steps depth None) status old new → HoldsProgram old file r
     → CarriedTells r depth status old new
+
+-- the page, by which limit the dictionary passes, if it passes one: there the page says so. Else it is that of a tree: the page shows its rows, its contexts,
+-- the best plan of these, and the entries where they are asked for, beside the source
+abbrev pub PagesWithin : List ℕ → List ℕ → Ran → Bool → List Node → List Entry → List ℕ → Option Which → Type 0
+PagesWithin file source ran dict nodes entries text None = IsPageOf file source ran.regions ran.exit (ops_of ran) nodes (asked dict entries) text
+PagesWithin file source ran dict nodes entries text (Some which) = text ≡ large_page_text file ran.exit (ops_of ran)
+
+-- THE PAGE of the graph of a run
+pub record PagesGraph (file source : List ℕ) (ran : Ran) (dict : Bool) (text : List ℕ) : Type 0 where
+  -- the tree of the explicit dependence graph, and the dictionary of that tree
+  pub nodes : List Node
+  pub tree : IsTree ran.depth ran.events nodes
+  pub entries : List Entry
+  pub dictionary : IsDictionary nodes entries
+  -- the page of that tree, or the page that its dictionary is over its limits, exactly where it is
+  pub within : PagesWithin file source ran dict nodes entries text (refusal 0 0 entries)
+
+-- what is written, by how the run ended: the page where main returned, and else nothing
+abbrev pub Pages : List ℕ → List ℕ → Running → ℕ → Bool → List ℕ → End → Type 0
+Pages file source r depth dict text (Returned exit) = PagesGraph file source (ran_of r exit depth) dict text
+Pages file source r depth dict text (Trapped trap place) = text ≡ []
+Pages file source r depth dict text OutOfSteps = text ≡ []
+
+-- PAGE, the conclusions
+pub record PageTells (file source : List ℕ) (r : Running) (depth : ℕ) (dict : Bool) (status : ℕ) (old new : World) : Type 0 where
+  pub text : List ℕ
+  pub written : Pages file source r depth dict text (run_of r).end
+  -- is what is told
+  pub tells : TellsOfRun r text status old new
+
+-- PAGE. The words ask for the page of a file, and name no table of latencies; and the file is an accepted program, with its input. Its bytes are the source
+-- on the page
+abbrev pub PageIsTold : Type 0
+PageIsTold = (words : List (List ℕ)) (status : ℕ) (old new : World) (file : List ℕ) (r : Running) (depth : ℕ) (dict : Bool)
+    → Keeps words status old new → WentWell words (job.Page file r.steps depth None dict) status old new → (program : HoldsProgram old file r)
+    → PageTells file program.bytes r depth dict status old new
 
 -- the files tell that one of this name is a saved profile of either format, of at most 536,870,912 bytes
 pub record HoldsProfile (old : World) (name : List ℕ) (file : File) : Type 0 where

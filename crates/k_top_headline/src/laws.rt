@@ -1,6 +1,6 @@
 //! What each command writes: each function's contract is a law, and its body does nothing.
 ghost use Rattle.k_top_headline.specs.Headline.{RunIsTold};
-ghost use Rattle.k_top_headline.specs.OtherCommands.{AcceptedIsTold, CarriedIsTold, DemoIsTold, GraphIsTold, RefusalIsTold, ShowIsTold};
+ghost use Rattle.k_top_headline.specs.OtherCommands.{AcceptedIsTold, CarriedIsTold, DemoIsTold, GraphIsTold, PageIsTold, RefusalIsTold, ShowIsTold};
 
 /// `run` of an accepted source writes the program's output and, where main returned, the report of the tree of that run.
 pub fn run_is_told()
@@ -20,6 +20,11 @@ pub fn carried_is_told()
 /// `show` of a saved profile, of either format, writes the report of that file's own tree, or its document or table.
 pub fn show_is_told()
     ensures { ShowIsTold }
+{}
+
+/// `page` of an accepted source writes, where main returned, the page of the tree of that run, beside the source.
+pub fn page_is_told()
+    ensures { PageIsTold }
 {}
 
 /// `check` writes nothing of a source that is accepted, and of one that is refused its place, a sentence, and its line with a caret.

@@ -22,7 +22,7 @@ use Rattle.k_top_answers.specs.declared.answer.Answer.{Answer}
 use Rattle.k_top_answers.specs.declared.failure.Failure.{Failure}
 use Rattle.k_top_answers.specs.declared.failure.Failure.TheVariants as why
 use Rattle.k_top_lemmas.specs.declared.running.Ready.{Ready}
-use Rattle.k_top_answers.specs.Answers.{AnswersAsked, AnswersCarried, AnswersJob, AnswersRun, AnswersWords, CallsForFiles, CallsForInput, IsAnswer, IsListed, JobCalls, JobLoads, done, refusal}
+use Rattle.k_top_answers.specs.Answers.{AnswersAsked, AnswersCarried, AnswersJob, AnswersPage, AnswersRun, AnswersWords, CallsForFiles, CallsForInput, IsAnswer, IsListed, IsPaged, JobCalls, JobLoads, done, refusal}
 use Rattle.k_top_answers.specs.Failures.{failure_of_usage}
 use Rattle.k_top_answers.specs.Requests.{AreToLoad, loads_of}
 use Rattle.k_top_lemmas.specs.Parts.{GivesText, running_of}
@@ -82,7 +82,7 @@ module _ (file : List ℕ) (latency : Option (List ℕ)) (steps depth : ℕ) (ol
 
   pub run_found : (dict : Bool) (save : Option (List ℕ)) (r : Ready) (answer : Answer) → MakesReady (Ok r) file latency steps old new
       → AnswersRun depth dict save answer (running_of r) (run_of (running_of r)).end → FindsJob (Ok answer) (job.Run file steps depth latency dict save) old new
-  run_found dict save r answer (view, is_view, (same, input, runs)) is = (
+  run_found dict save r answer (view, is_view, (same, input, runs, holds)) is = (
     view,
     is_view,
     (
@@ -118,7 +118,7 @@ module _ (file : List ℕ) (latency : Option (List ℕ)) (steps depth : ℕ) (ol
 
   pub graph_found : (r : Ready) (answer : Answer) → MakesReady (Ok r) file latency steps old new → IsListed depth answer (running_of r)
       → FindsJob (Ok answer) (job.Graph file steps depth latency) old new
-  graph_found r answer (view, is_view, (same, input, runs)) is = (
+  graph_found r answer (view, is_view, (same, input, runs, holds)) is = (
     view,
     is_view,
     (
@@ -144,7 +144,59 @@ module _ (file : List ℕ) (latency : Option (List ℕ)) (steps depth : ℕ) (ol
   )
 
   pub graph_short : (r : Ready) → MakesReady (Ok r) file latency steps old new → FindsJob (Err why.NoMemory) (job.Graph file steps depth latency) old new
-  graph_short r (view, is_view, (same, input, runs)) = (view, is_view, (behind_input _ _ _ view old new tt same input, tt))
+  graph_short r (view, is_view, (same, input, runs, holds)) = (view, is_view, (behind_input _ _ _ view old new tt same input, tt))
+
+  -- PAGE
+  page_ends : (source : List ℕ) (dict : Bool) (answer : Answer) (r : Running) (how : End) → AnswersPage file source depth dict answer r how → IsEnd answer
+  page_ends source dict answer r (end.Returned exit) (text, is_page, is) = record {
+    low = done_low answer.failure (ap (λ (a : Answer). a.failure) is);
+    saves = inl (ap (λ (a : Answer). a.failure) is);
+  }
+  page_ends source dict answer r (end.Trapped trap place) is = record {
+    low = ended_low r.steps (end.Trapped trap place) answer.failure (ap (λ (a : Answer). a.failure) is);
+    saves = inr (ap (λ (a : Answer). a.saved) is);
+  }
+  page_ends source dict answer r end.OutOfSteps is = record {
+    low = ended_low r.steps end.OutOfSteps answer.failure (ap (λ (a : Answer). a.failure) is);
+    saves = inr (ap (λ (a : Answer). a.saved) is);
+  }
+
+  pub page_found : (dict : Bool) (r : Ready) (answer : Answer) → MakesReady (Ok r) file latency steps old new
+      → AnswersPage file r.program.source depth dict answer (running_of r) (run_of (running_of r)).end
+      → FindsJob (Ok answer) (job.Page file steps depth latency dict) old new
+  page_found dict r answer (view, is_view, (same, input, runs, holds)) is = (
+    view,
+    is_view,
+    (
+      (loads_of (job.Page file steps depth latency dict), refl, same),
+      input,
+      page_ends r.program.source dict answer (running_of r) (run_of (running_of r)).end is,
+      λ outside shows.
+          running_maps (λ failure. ⊥) (λ failure. answer ≡ refusal failure) (λ failure e. absurd e) (λ q. q ≡ running_of r) (IsPaged outside file depth dict answer)
+          (λ q e. (
+            r.program.source,
+            holds outside shows,
+            subst (λ (q : Running). AnswersPage file r.program.source depth dict answer q (run_of q).end) (sym e) is,
+          )) outside file latency steps (runs outside shows),
+    ),
+  )
+
+  pub page_failed : (dict : Bool) (failure : Failure) → MakesReady (Err failure) file latency steps old new
+      → FindsJob (Err failure) (job.Page file steps depth latency dict) old new
+  page_failed dict failure (view, is_view, (before, refuses)) = (
+    view,
+    is_view,
+    (
+      before,
+      refusal_maps _ _ failure (λ fails outside shows.
+          running_maps (λ other. other ≡ failure) (λ other. refusal failure ≡ refusal other) (λ other e. ap refusal (sym e)) (λ running. ⊥)
+          (IsPaged outside file depth dict (refusal failure)) (λ q e. absurd e) outside file latency steps (fails outside shows)) refuses,
+    ),
+  )
+
+  pub page_short : (dict : Bool) (r : Ready) → MakesReady (Ok r) file latency steps old new
+      → FindsJob (Err why.NoMemory) (job.Page file steps depth latency dict) old new
+  page_short dict r (view, is_view, (same, input, runs, holds)) = (view, is_view, (behind_input _ _ _ view old new tt same input, tt))
 
   -- CARRIED
   carried_ends : (answer : Answer) (r : Running) (how : End) → AnswersCarried depth answer r how → IsEnd answer
@@ -163,7 +215,7 @@ module _ (file : List ℕ) (latency : Option (List ℕ)) (steps depth : ℕ) (ol
 
   pub carried_found : (r : Ready) (answer : Answer) → MakesReady (Ok r) file latency steps old new
       → AnswersCarried depth answer (running_of r) (run_of (running_of r)).end → FindsJob (Ok answer) (job.Carried file steps depth latency) old new
-  carried_found r answer (view, is_view, (same, input, runs)) is = (
+  carried_found r answer (view, is_view, (same, input, runs, holds)) is = (
     view,
     is_view,
     (
@@ -190,11 +242,15 @@ module _ (file : List ℕ) (latency : Option (List ℕ)) (steps depth : ℕ) (ol
   )
 
   pub carried_short : (r : Ready) → MakesReady (Ok r) file latency steps old new → FindsJob (Err why.NoMemory) (job.Carried file steps depth latency) old new
-  carried_short r (view, is_view, (same, input, runs)) = (view, is_view, (behind_input _ _ _ view old new tt same input, tt))
+  carried_short r (view, is_view, (same, input, runs, holds)) = (view, is_view, (behind_input _ _ _ view old new tt same input, tt))
 
 -- nothing was seen
 nothing_seen : (old : Around) → IsView no_view old
 nothing_seen old = record { files = tt; input = not_seen old.input.left }
+
+-- no memory was found before anything was asked of the outside
+pub unasked : (asked : Job) (old : Around) → FindsJob (Err why.NoMemory) asked old old
+unasked asked old = (no_view, nothing_seen old, (inr (inr (tt, tt, refl)), tt))
 
 -- DEMO: it asks nothing of the outside
 pub demo_found : (result : Result Answer Failure) (number loops : ℕ) (old new : Around) → new ≡ old → MakesDemo result number loops

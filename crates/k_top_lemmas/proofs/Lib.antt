@@ -15,7 +15,9 @@ pub mod Reporting
 pub mod SummaryLemmas
 mod Statuses
 pub mod DemoLemmas
+pub mod PageLemmas
 mod OneListing
+mod OnePage
 mod OneReport
 pub mod AskedLemmas
 pub mod FileLemmas

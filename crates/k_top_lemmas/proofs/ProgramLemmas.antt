@@ -84,9 +84,9 @@ module _ (file : List ℕ) (latency : Option (List ℕ)) (source : List ℕ) (fi
   by_source : (latencies : List ℕ)
       → ((failed : Failure → Type 0) (next : List ℕ → Type 0) (outside : Outside) → Shows outside (of_files files) → next latencies
       → AnswersLatency failed outside latency next)
-      → new ≡ after (files_of file latency) old → (r : Result Program Failure) → ((p : Program) → r ≡ Ok p → p.latencies ≡ latencies) → AcceptsSource r source
-      → ReadsProgram r file latency old new
-  by_source latencies found same (Ok p) takes accepts = (
+      → new ≡ after (files_of file latency) old → (r : Result Program Failure) → ((p : Program) → r ≡ Ok p → p.latencies ≡ latencies)
+      → ((p : Program) → r ≡ Ok p → p.source ≡ source) → AcceptsSource r source → ReadsProgram r file latency old new
+  by_source latencies found same (Ok p) takes keeps accepts = (
     files,
     are_told,
     (
@@ -96,12 +96,13 @@ module _ (file : List ℕ) (latency : Option (List ℕ)) (source : List ℕ) (fi
           (found (λ failure. ⊥) _ outside shows
           (source_maps (λ failure. ⊥) (λ failure. ⊥) (λ (t : TUnit). t ≡ p.typed) (λ (t : TUnit). (latencies ≡ p.latencies) × (t ≡ p.typed))
           (λ failure e. e) (λ s is. (sym (takes p refl), is)) source accepts)),
+      λ outside shows. holds outside shows ∙ ap Some (sym (keeps p refl)),
     ),
   )
-  by_source latencies found same (Err failure) takes (inl is) =
+  by_source latencies found same (Err failure) takes keeps (inl is) =
       subst (λ f. ReadsProgram (Err f) file latency old new) (sym is)
       (files, are_told, ((files_of file latency, front_same (files_of file latency) (files_of file latency) refl, same), tt))
-  by_source latencies found same (Err failure) takes (inr answers) = (
+  by_source latencies found same (Err failure) takes keeps (inr answers) = (
     files,
     are_told,
     (
@@ -145,31 +146,31 @@ both_loaded name file is old mid new first second =
 module _ (file : List ℕ) (source : Vec ℕ Global) (old mid new : FilesState) (load_ok : Loads (Ok source) file file_limit old mid) where
   -- THE TABLE gives latencies
   named_read : (name : List ℕ) (latencies : List ℕ) (b : Bool) → pointwise nat_eq name file ≡ b → LoadsTable (Ok latencies) (Some name) source.items b mid new
-      → (r : Result Program Failure) → ((p : Program) → r ≡ Ok p → p.latencies ≡ latencies) → AcceptsSource r source.items
-      → ReadsProgram r file (Some name) old new
-  named_read name latencies true is (gives, same) r takes accepts =
+      → (r : Result Program Failure) → ((p : Program) → r ≡ Ok p → p.latencies ≡ latencies) → ((p : Program) → r ≡ Ok p → p.source ≡ source.items)
+      → AcceptsSource r source.items → ReadsProgram r file (Some name) old new
+  named_read name latencies true is (gives, same) r takes keeps accepts =
       by_source file (Some name) source.items load_ok.1 old new (one_seen file (Some source.items)) (load_ok.0, tt, tt) (λ outside shows. shows.files.0)
       latencies
       (λ failed next outside shows holds. loaded failed outside file_limit name (AnswersTable failed next) source.items
       (subst (λ n. outside.files n ≡ Some source.items) (sym (same_name name file is)) shows.files.0) load_ok.1
       (told failed next source.items latencies gives holds))
-      (all_loaded name file is old new (same ∙ load_ok.2)) r takes accepts
-  named_read name latencies false is (bytes, (has, fits, same), gives) r takes accepts =
+      (all_loaded name file is old new (same ∙ load_ok.2)) r takes keeps accepts
+  named_read name latencies false is (bytes, (has, fits, same), gives) r takes keeps accepts =
       by_source file (Some name) source.items load_ok.1 old new (two_seen name (Some bytes.items) file (Some source.items))
       (subst (λ (m : FilesState). Has m.held name (Some bytes.items)) load_ok.2 has, (other_name name file is, tt), (load_ok.0, tt, tt)) (λ outside shows. shows.files.1.0)
       latencies
       (λ failed next outside shows holds. loaded failed outside file_limit name (AnswersTable failed next) bytes.items shows.files.0 fits
       (told failed next bytes.items latencies gives holds))
-      (both_loaded name file is old mid new load_ok.2 same) r takes accepts
+      (both_loaded name file is old mid new load_ok.2 same) r takes keeps accepts
 
   -- THE PROGRAM of a source that was loaded and of latencies that were found
   pub program_read : (latency : Option (List ℕ)) (latencies : List ℕ) → LoadsTable (Ok latencies) latency source.items (is_name latency file) mid new
-      → (r : Result Program Failure) → ((p : Program) → r ≡ Ok p → p.latencies ≡ latencies) → AcceptsSource r source.items
-      → ReadsProgram r file latency old new
-  program_read None latencies (is, same) r takes accepts =
+      → (r : Result Program Failure) → ((p : Program) → r ≡ Ok p → p.latencies ≡ latencies) → ((p : Program) → r ≡ Ok p → p.source ≡ source.items)
+      → AcceptsSource r source.items → ReadsProgram r file latency old new
+  program_read None latencies (is, same) r takes keeps accepts =
       by_source file None source.items load_ok.1 old new (one_seen file (Some source.items)) (load_ok.0, tt, tt) (λ outside shows. shows.files.0)
-      latencies (λ failed next outside shows holds. subst next is holds) (same ∙ load_ok.2) r takes accepts
-  program_read (Some name) latencies loads r takes accepts = named_read name latencies (pointwise nat_eq name file) refl loads r takes accepts
+      latencies (λ failed next outside shows holds. subst next is holds) (same ∙ load_ok.2) r takes keeps accepts
+  program_read (Some name) latencies loads r takes keeps accepts = named_read name latencies (pointwise nat_eq name file) refl loads r takes keeps accepts
 
   -- a table of these bytes is refused by a fault that is no want of memory
   refused_by : (name : List ℕ) (bytes : List ℕ) (files : List Seen) → AreTold old.held files → length bytes ≤ file_limit

@@ -107,92 +107,94 @@ told_once old new bytes (draws, fits, end, faultless, ended) = omega (arith, end
 module _ (file : List ℕ) (latency : Option (List ℕ)) (steps : ℕ) (p : Program) (files : List Seen) (old new : Around) (told : AreTold old.files.held files)
     (same : new.files ≡ after (files_of file latency) old.files)
     (reads : Everywhere (of_files files) (λ outside. AnswersProgram (λ failure. ⊥) outside file latency (λ latencies typed. (latencies ≡ p.latencies) × (typed ≡ p.typed))))
-  where
-    -- what the input decides
-    with_input : (failed : Failure → Type 0) (next : Running → Type 0) (outside : Outside) → Shows outside (of_files files)
-        → AnswersInput failed outside p.typed (λ input. next (record { typed = p.typed; latencies = p.latencies; input = input; steps = steps }))
-        → AnswersRunning failed outside file latency steps next
-    with_input failed next outside shows holds =
-        program_maps (λ failure. ⊥) failed (λ latencies typed. (latencies ≡ p.latencies) × (typed ≡ p.typed))
-        (λ latencies typed. AnswersInput failed outside typed (λ input. next (record { typed = typed; latencies = latencies; input = input; steps = steps })))
-        (λ failure e. absurd e)
-        (λ latencies typed e.
-        subst (λ (t : TUnit). AnswersInput failed outside t (λ input. next (record { typed = t; latencies = latencies; input = input; steps = steps }))) (sym e.1)
-        (subst (λ l. AnswersInput failed outside p.typed (λ input. next (record { typed = p.typed; latencies = l; input = input; steps = steps }))) (sym e.0) holds))
-        outside latency file (reads outside shows)
+    (holds_source : Everywhere (of_files files) (λ outside. outside.files file ≡ Some p.source)) where
+  -- what the input decides
+  with_input : (failed : Failure → Type 0) (next : Running → Type 0) (outside : Outside) → Shows outside (of_files files)
+      → AnswersInput failed outside p.typed (λ input. next (record { typed = p.typed; latencies = p.latencies; input = input; steps = steps }))
+      → AnswersRunning failed outside file latency steps next
+  with_input failed next outside shows holds =
+      program_maps (λ failure. ⊥) failed (λ latencies typed. (latencies ≡ p.latencies) × (typed ≡ p.typed))
+      (λ latencies typed. AnswersInput failed outside typed (λ input. next (record { typed = typed; latencies = latencies; input = input; steps = steps })))
+      (λ failure e. absurd e)
+      (λ latencies typed e.
+      subst (λ (t : TUnit). AnswersInput failed outside t (λ input. next (record { typed = t; latencies = latencies; input = input; steps = steps }))) (sym e.1)
+      (subst (λ l. AnswersInput failed outside p.typed (λ input. next (record { typed = p.typed; latencies = l; input = input; steps = steps }))) (sym e.0) holds))
+      outside latency file (reads outside shows)
 
-    -- the input is read
-    by_test : (failed : Failure → Type 0) (next : List ℕ → Type 0) (outside : Outside) (b : Bool) → calls_getchar p.typed ≡ b
-        → MatchBool b (AnswersRead failed next outside.input) (next []) → AnswersInput failed outside p.typed next
-    by_test failed next outside b is holds = subst (λ c. MatchBool c (AnswersRead failed next outside.input) (next [])) (sym is) holds
+  -- the input is read
+  by_test : (failed : Failure → Type 0) (next : List ℕ → Type 0) (outside : Outside) (b : Bool) → calls_getchar p.typed ≡ b
+      → MatchBool b (AnswersRead failed next outside.input) (next []) → AnswersInput failed outside p.typed next
+  by_test failed next outside b is holds = subst (λ c. MatchBool c (AnswersRead failed next outside.input) (next [])) (sym is) holds
 
-    calls_input : (input : Option (List ℕ)) → calls_getchar p.typed ≡ true → Everywhere (record { files = files; input = input }) (λ outside. FilesCall outside file latency)
-    calls_input input is outside shows = calls file latency outside p (reads outside (files_shown outside files input shows)) is
+  calls_input : (input : Option (List ℕ)) → calls_getchar p.typed ≡ true → Everywhere (record { files = files; input = input }) (λ outside. FilesCall outside file latency)
+  calls_input input is outside shows = calls file latency outside p (reads outside (files_shown outside files input shows)) is
 
-    -- THE INPUT is not read
-    by_fault : calls_getchar p.typed ≡ true → (fault : ReadAllFault) → ReadsAll (Err fault) input_limit old.input new.input
-        → MakesReady (Err (failure_of_reading fault)) file latency steps old new
-    by_fault is reading.ReadFault (draws, rose, unended) =
-        (of_files files, record { files = told; input = not_seen old.input.left }, (inr (inl (calls_input None is, (files_of file latency, refl, same), (draws, rose, unended))), tt))
-    by_fault is reading.Memory (draws, faultless, unended) =
-        (of_files files, record { files = told; input = not_seen old.input.left }, (inr (inl (calls_input None is, (files_of file latency, refl, same), (draws, faultless, omega (arith, unended)))), tt))
-    by_fault is reading.TooLong (draws, faultless, unended) =
-        let many = too_many old.input new.input draws in (
-          record { files = files; input = Some many.0 },
-          record { files = told; input = many.1 },
-          (
-            inr (inl (calls_input (Some many.0) is, (files_of file latency, refl, same), (draws, faultless, unended))),
-            λ outside shows.
-                with_input (λ other. other ≡ why.InputLong) (λ running. ⊥) outside (files_shown outside files (Some many.0) shows)
-                (by_test (λ other. other ≡ why.InputLong) (λ input. ⊥) outside true is (inl (subst (λ bytes. input_limit < length bytes) shows.input many.2, refl))),
-          ),
-        )
+  -- THE INPUT is not read
+  by_fault : calls_getchar p.typed ≡ true → (fault : ReadAllFault) → ReadsAll (Err fault) input_limit old.input new.input
+      → MakesReady (Err (failure_of_reading fault)) file latency steps old new
+  by_fault is reading.ReadFault (draws, rose, unended) =
+      (of_files files, record { files = told; input = not_seen old.input.left }, (inr (inl (calls_input None is, (files_of file latency, refl, same), (draws, rose, unended))), tt))
+  by_fault is reading.Memory (draws, faultless, unended) =
+      (of_files files, record { files = told; input = not_seen old.input.left }, (inr (inl (calls_input None is, (files_of file latency, refl, same), (draws, faultless, omega (arith, unended)))), tt))
+  by_fault is reading.TooLong (draws, faultless, unended) =
+      let many = too_many old.input new.input draws in (
+        record { files = files; input = Some many.0 },
+        record { files = told; input = many.1 },
+        (
+          inr (inl (calls_input (Some many.0) is, (files_of file latency, refl, same), (draws, faultless, unended))),
+          λ outside shows.
+              with_input (λ other. other ≡ why.InputLong) (λ running. ⊥) outside (files_shown outside files (Some many.0) shows)
+              (by_test (λ other. other ≡ why.InputLong) (λ input. ⊥) outside true is (inl (subst (λ bytes. input_limit < length bytes) shows.input many.2, refl))),
+        ),
+      )
 
-    unread : (failure : Failure) (b : Bool) → calls_getchar p.typed ≡ b → ReadsWhere b (Err failure) old.input new.input
-        → MakesReady (Err failure) file latency steps old new
-    unread failure false is e = absurd e
-    unread failure true is (fault, same_failure, reads_all) =
-        subst (λ f. MakesReady (Err f) file latency steps old new) (sym same_failure) (by_fault is fault reads_all)
+  unread : (failure : Failure) (b : Bool) → calls_getchar p.typed ≡ b → ReadsWhere b (Err failure) old.input new.input
+      → MakesReady (Err failure) file latency steps old new
+  unread failure false is e = absurd e
+  unread failure true is (fault, same_failure, reads_all) =
+      subst (λ f. MakesReady (Err f) file latency steps old new) (sym same_failure) (by_fault is fault reads_all)
 
-    pub input_failed : (failure : Failure) → ReadsWhere (calls_getchar p.typed) (Err failure) old.input new.input → MakesReady (Err failure) file latency steps old new
-    input_failed failure reads_all = unread failure (calls_getchar p.typed) refl reads_all
+  pub input_failed : (failure : Failure) → ReadsWhere (calls_getchar p.typed) (Err failure) old.input new.input → MakesReady (Err failure) file latency steps old new
+  input_failed failure reads_all = unread failure (calls_getchar p.typed) refl reads_all
 
-    -- THE PROGRAM AND ITS INPUT are read
-    abbrev ready : Vec ℕ Global → Ready
-    ready bytes = record { program = p; input = bytes.items; steps = steps }
+  -- THE PROGRAM AND ITS INPUT are read
+  abbrev ready : Vec ℕ Global → Ready
+  ready bytes = record { program = p; input = bytes.items; steps = steps }
 
-    abbrev running_on : List ℕ → Running
-    running_on input = record { typed = p.typed; latencies = p.latencies; input = input; steps = steps }
+  abbrev running_on : List ℕ → Running
+  running_on input = record { typed = p.typed; latencies = p.latencies; input = input; steps = steps }
 
-    made : (bytes : Vec ℕ Global) (b : Bool) → calls_getchar p.typed ≡ b → ReadsWhere b (Ok bytes) old.input new.input
-        → MakesReady (Ok (ready bytes)) file latency steps old new
-    made bytes true is (draws, fits, end, faultless, ended) = (
-      record { files = files; input = Some bytes.items },
-      record { files = told; input = all_drawn old.input.left new.input.left bytes.items draws.left end },
-      (
-        same,
-        inr (bytes, refl, calls_input (Some bytes.items) is, (draws, fits, end, faultless, ended)),
-        λ outside shows.
-            with_input (λ failure. ⊥) (λ running. running ≡ running_of (ready bytes)) outside (files_shown outside files (Some bytes.items) shows)
-            (by_test (λ failure. ⊥) (λ input. running_on input ≡ running_of (ready bytes)) outside true is
-            (inr (
-              subst (λ input. length input ≤ input_limit) shows.input fits,
-              ap running_on (sym shows.input),
-            ))),
-      ),
-    )
-    made bytes false is (empty, same_input) = (
-      of_files files,
-      record { files = told; input = not_seen old.input.left },
-      (
-        same,
-        inl (same_input, λ outside shows. calls_not file latency outside p (reads outside shows) is),
-        λ outside shows.
-            with_input (λ failure. ⊥) (λ running. running ≡ running_of (ready bytes)) outside shows
-            (by_test (λ failure. ⊥) (λ input. running_on input ≡ running_of (ready bytes)) outside false is
-            (ap running_on (sym empty))),
-      ),
-    )
+  made : (bytes : Vec ℕ Global) (b : Bool) → calls_getchar p.typed ≡ b → ReadsWhere b (Ok bytes) old.input new.input
+      → MakesReady (Ok (ready bytes)) file latency steps old new
+  made bytes true is (draws, fits, end, faultless, ended) = (
+    record { files = files; input = Some bytes.items },
+    record { files = told; input = all_drawn old.input.left new.input.left bytes.items draws.left end },
+    (
+      same,
+      inr (bytes, refl, calls_input (Some bytes.items) is, (draws, fits, end, faultless, ended)),
+      λ outside shows.
+          with_input (λ failure. ⊥) (λ running. running ≡ running_of (ready bytes)) outside (files_shown outside files (Some bytes.items) shows)
+          (by_test (λ failure. ⊥) (λ input. running_on input ≡ running_of (ready bytes)) outside true is
+          (inr (
+            subst (λ input. length input ≤ input_limit) shows.input fits,
+            ap running_on (sym shows.input),
+          ))),
+      λ outside shows. holds_source outside (files_shown outside files (Some bytes.items) shows),
+    ),
+  )
+  made bytes false is (empty, same_input) = (
+    of_files files,
+    record { files = told; input = not_seen old.input.left },
+    (
+      same,
+      inl (same_input, λ outside shows. calls_not file latency outside p (reads outside shows) is),
+      λ outside shows.
+          with_input (λ failure. ⊥) (λ running. running ≡ running_of (ready bytes)) outside shows
+          (by_test (λ failure. ⊥) (λ input. running_on input ≡ running_of (ready bytes)) outside false is
+          (ap running_on (sym empty))),
+      holds_source,
+    ),
+  )
 
-    pub ready_made : (bytes : Vec ℕ Global) → ReadsWhere (calls_getchar p.typed) (Ok bytes) old.input new.input → MakesReady (Ok (ready bytes)) file latency steps old new
-    ready_made bytes reads_all = made bytes (calls_getchar p.typed) refl reads_all
+  pub ready_made : (bytes : Vec ℕ Global) → ReadsWhere (calls_getchar p.typed) (Ok bytes) old.input new.input → MakesReady (Ok (ready bytes)) file latency steps old new
+  ready_made bytes reads_all = made bytes (calls_getchar p.typed) refl reads_all

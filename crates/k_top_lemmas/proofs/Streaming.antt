@@ -177,7 +177,7 @@ module _ (file : List ℕ) (latency : Option (List ℕ)) (steps depth : ℕ) (di
   run_streamed (Ok answer) out out' (first, puts, is) =
       (first, puts, run_found file latency steps depth old new dict save ready (behind first answer) is_ready is)
   run_streamed (Err failure) out out' (fault, is, puts) =
-      let (view, is_view, (same, input, runs)) = is_ready in
+      let (view, is_view, (same, input, runs, holds)) = is_ready in
       inr (
         view,
         is_view,

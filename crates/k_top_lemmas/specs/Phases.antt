@@ -113,6 +113,7 @@ abbrev pub ProgramSeen : Result Program Failure → List Seen → List ℕ → O
 ProgramSeen (Ok p) files file latency old new =
     (new ≡ after (files_of file latency) old) × Everywhere (of_files files)
     (λ outside. AnswersProgram (λ failure. ⊥) outside file latency (λ latencies typed. (latencies ≡ p.latencies) × (typed ≡ p.typed)))
+    × Everywhere (of_files files) (λ outside. outside.files file ≡ Some p.source)
 ProgramSeen (Err failure) files file latency old new =
     LoadsStop failure (files_of file latency) old new × IfRefusal failure (Everywhere (of_files files)
     (λ outside. AnswersProgram (λ other. other ≡ failure) outside file latency (λ latencies typed. ⊥)))
@@ -160,6 +161,7 @@ abbrev pub ReadySeen : Result Ready Failure → View → List ℕ → Option (Li
 ReadySeen (Ok r) view file latency steps old new =
     (new.files ≡ after (files_of file latency) old.files) × InputDone (λ outside. FilesCall outside file latency) view old.input new.input
     × Everywhere view (λ outside. AnswersRunning (λ failure. ⊥) outside file latency steps (λ running. running ≡ running_of r))
+    × Everywhere view (λ outside. outside.files file ≡ Some r.program.source)
 ReadySeen (Err failure) view file latency steps old new =
     FailsBefore failure (Unit {0}) (λ loads. loads ≡ files_of file latency) (λ outside. FilesCall outside file latency) view old new
     × IfRefusal failure (Everywhere view (λ outside. AnswersRunning (λ other. other ≡ failure) outside file latency steps (λ running. ⊥)))

@@ -4,7 +4,7 @@ use Rattle.std.specs.Prelude.{ℕ, Bool, true, false, ◌==◌, nat_eq, if◌the
 use Rattle.std.specs.List.{starts_with}
 use Rattle.std.specs.Cmp.Lexicographic.{pointwise}
 use Rattle.k_words.specs.declared.option.Command.{Command}
-use Rattle.k_words.specs.declared.option.Command.TheVariants.{Run, Graph, Carried, Show, Check, Demo}
+use Rattle.k_words.specs.declared.option.Command.TheVariants.{Run, Graph, Carried, Page, Show, Check, Demo}
 use Rattle.k_words.specs.declared.option.Setting.{Setting}
 use Rattle.k_words.specs.declared.option.Setting.TheVariants.{Steps, Depth, Latency, Dict, Save, Json, Csv}
 use Rattle.k_words.specs.Number.{number_within}
@@ -60,6 +60,13 @@ is_taken Carried Dict = false
 is_taken Carried Save = false
 is_taken Carried Json = false
 is_taken Carried Csv = false
+is_taken Page Steps = true
+is_taken Page Depth = true
+is_taken Page Latency = true
+is_taken Page Dict = true
+is_taken Page Save = false
+is_taken Page Json = false
+is_taken Page Csv = false
 is_taken Show Steps = false
 is_taken Show Depth = false
 is_taken Show Latency = false
@@ -83,6 +90,7 @@ abbrev pub most_steps : Command → ℕ
 most_steps Run = 1000000000
 most_steps Graph = 200000
 most_steps Carried = 1000000000
+most_steps Page = 1000000000
 most_steps Show = 1000000000
 most_steps Check = 1000000000
 most_steps Demo = 1000000000
@@ -91,7 +99,7 @@ most_steps Demo = 1000000000
 abbrev pub most_depth : ℕ
 most_depth = 32
 
--- how many operations `run` and `carried` make at most where they are not told, and `demo`
+-- how many operations `run`, `carried` and `page` make at most where they are not told, and `demo`
 abbrev pub standard_steps : ℕ
 standard_steps = 100000000
 

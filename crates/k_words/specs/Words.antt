@@ -8,7 +8,7 @@ use Rattle.k_words.specs.declared.job.Job.TheVariants as job
 use Rattle.k_words.specs.declared.job.Form.{Form}
 use Rattle.k_words.specs.declared.job.Form.TheVariants as form
 use Rattle.k_words.specs.declared.option.Command.{Command}
-use Rattle.k_words.specs.declared.option.Command.TheVariants.{Run, Graph, Carried, Show, Check, Demo}
+use Rattle.k_words.specs.declared.option.Command.TheVariants.{Run, Graph, Carried, Page, Show, Check, Demo}
 use Rattle.k_words.specs.declared.usage.Usage.{Usage}
 use Rattle.k_words.specs.declared.usage.Usage.TheVariants.{NoCommand, UnknownWord, BadNumber, Twice, NoFile, Memory}
 use Rattle.k_words.specs.Number.{number_within}
@@ -62,7 +62,7 @@ is word text = pointwise nat_eq word text
 unfoldable pub command_of : List ℕ → Option Command
 command_of word =
     if is word (codes "run") then Some Run else if is word (codes "graph") then Some Graph
-    else if is word (codes "carried") then Some Carried
+    else if is word (codes "carried") then Some Carried else if is word (codes "page") then Some Page
     else if is word (codes "show") then Some Show else if is word (codes "check") then Some Check
     else if is word (codes "demo") then Some Demo else None
 
@@ -76,6 +76,7 @@ abbrev pub argument_fault : Command → List (List ℕ) → ℕ → Option Usage
 argument_fault Run words k = file_fault Run words k
 argument_fault Graph words k = file_fault Graph words k
 argument_fault Carried words k = file_fault Carried words k
+argument_fault Page words k = file_fault Page words k
 argument_fault Show words k = file_fault Show words k
 argument_fault Check words k = file_fault Check words k
 argument_fault Demo words k = demo_fault words k
@@ -104,6 +105,10 @@ graph_of file g = job.Graph file (unwrap_or g.steps 200000) (unwrap_or g.depth s
 abbrev pub carried_of : List ℕ → Given → Job
 carried_of file g = job.Carried file (unwrap_or g.steps standard_steps) (unwrap_or g.depth standard_depth) g.latency
 
+-- what `page` with this file and these options asks for
+abbrev pub page_of : List ℕ → Given → Job
+page_of file g = job.Page file (unwrap_or g.steps standard_steps) (unwrap_or g.depth standard_depth) g.latency g.dict
+
 -- how `show` with these options shows a profile
 abbrev pub form_of : Given → Form
 form_of g = if g.csv then form.Csv else if g.json then form.Json g.dict else form.Report g.dict
@@ -127,6 +132,11 @@ abbrev pub carried_job : List (List ℕ) → Option Job
 carried_job [] = None
 carried_job (file ∷ words) = Some (carried_of file (given Carried words))
 
+-- what `page` with these arguments asks for
+abbrev pub page_job : List (List ℕ) → Option Job
+page_job [] = None
+page_job (file ∷ words) = Some (page_of file (given Page words))
+
 -- what `show` with these arguments asks for
 abbrev pub show_job : List (List ℕ) → Option Job
 show_job [] = None
@@ -148,6 +158,7 @@ abbrev pub job_with : List (List ℕ) → Command → Option Job
 job_with words Run = run_job words
 job_with words Graph = graph_job words
 job_with words Carried = carried_job words
+job_with words Page = page_job words
 job_with words Show = show_job words
 job_with words Check = check_job words
 job_with words Demo = demo_job words

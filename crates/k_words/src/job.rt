@@ -1,7 +1,7 @@
 //! What the words of the command line ask for.
 ghost use Rattle.std.specs.Prelude.{◌≡◌, MatchResult, IfOk, option_map};
 ghost use Rattle.k_words.specs.Settings.{IsFirst, seen, seen_words};
-ghost use Rattle.k_words.specs.Words.{Answers, IsAnswer, ReadsFile, carried_job, check_job, command_of, demo_fault, demo_job, file_fault, graph_job, is_no_file, run_job, show_job, form_of};
+ghost use Rattle.k_words.specs.Words.{Answers, IsAnswer, ReadsFile, carried_job, check_job, command_of, demo_fault, demo_job, file_fault, graph_job, is_no_file, page_job, run_job, show_job, form_of};
 
 use crate::number::number_within;
 use crate::option::{Command, STANDARD_DEPTH, STANDARD_STEPS};
@@ -48,6 +48,14 @@ pub enum Job {
         depth: u32,
         latency: Option<Text>,
     },
+    /// A program is run as by `run`, and its profile is written as one page of HTML, with the dictionary where this is asked for.
+    Page {
+        file: Text,
+        steps: u64,
+        depth: u32,
+        latency: Option<Text>,
+        dict: bool,
+    },
     /// A saved profile is shown.
     Show {
         file: Text,
@@ -75,6 +83,7 @@ pub fn words(alloc: Global, list: &[String]) -> Result<Job, Usage>
         Some(Command::Run) => run_job(alloc, arguments),
         Some(Command::Graph) => graph_job(alloc, arguments),
         Some(Command::Carried) => carried_job(alloc, arguments),
+        Some(Command::Page) => page_job(alloc, arguments),
         Some(Command::Show) => show_job(alloc, arguments),
         Some(Command::Check) => check_job(alloc, arguments),
         Some(Command::Demo) => demo_job(arguments),
@@ -93,6 +102,8 @@ fn command_of(word: &str) -> Option<Command>
         Some(Command::Graph)
     } else if word == "carried" {
         Some(Command::Carried)
+    } else if word == "page" {
+        Some(Command::Page)
     } else if word == "show" {
         Some(Command::Show)
     } else if word == "check" {
@@ -151,6 +162,23 @@ fn carried_job(alloc: Global, arguments: &[String]) -> Result<Job, Usage>
         steps: settings.steps.unwrap_or(STANDARD_STEPS),
         depth: settings.depth.unwrap_or(STANDARD_DEPTH),
         latency: copy_of_name(alloc, settings.latency)?,
+    })
+}
+
+/// What `page` with these arguments asks for.
+fn page_job(alloc: Global, arguments: &[String]) -> Result<Job, Usage>
+    ensures { Answers (file_fault Command.Page (seen_words arguments.now)) (page_job (seen_words arguments.now)) result }
+{
+    let (file, settings) = match file_and_settings(Command::Page, arguments) {
+        Ok(read) => read,
+        Err(fault) => return Err(fault),
+    };
+    Ok(Job::Page {
+        file: Text::copy_of(alloc, file)?,
+        steps: settings.steps.unwrap_or(STANDARD_STEPS),
+        depth: settings.depth.unwrap_or(STANDARD_DEPTH),
+        latency: copy_of_name(alloc, settings.latency)?,
+        dict: settings.dict,
     })
 }
 

@@ -8,6 +8,7 @@ pub enum Command {
     Run,
     Graph,
     Carried,
+    Page,
     Show,
     Check,
     Demo,
@@ -99,12 +100,13 @@ fn is_taken(command: Command, setting: Setting) -> bool
         Command::Graph | Command::Carried => {
             matches!(setting, Setting::Steps | Setting::Depth | Setting::Latency)
         }
+        Command::Page => !matches!(setting, Setting::Save | Setting::Json | Setting::Csv),
         Command::Show => matches!(setting, Setting::Dict | Setting::Json | Setting::Csv),
         Command::Check | Command::Demo => false,
     }
 }
 
-/// How many operations `run` and `carried` make at most where they are not told, and `demo`.
+/// How many operations `run`, `carried` and `page` make at most where they are not told, and `demo`.
 pub const STANDARD_STEPS: u64 = 100_000_000;
 
 /// Instances of depths below this are tracked where a command is not told.

@@ -48,6 +48,36 @@ static TABLES: [Row; 3] = [
     ),
 ];
 
+/// Pages, where there are none.
+static PAGES: [Row; 5] = [
+    // a trap behind output
+    (
+        "page a.c",
+        &[("a.c", "int main(void){int x; putchar('a'); return x;}")],
+        (1, "", "kremlin: trap Uninit at 1:37\n"),
+    ),
+    // few steps
+    (
+        "page a.c --steps=5",
+        &[("a.c", "int main(void){for(;;);}")],
+        (2, "", "kremlin: out of steps after 5\n"),
+    ),
+    // refused
+    (
+        "page a.c",
+        &[("a.c", "int main(void){return x;}")],
+        (3, "", "kremlin: source refused: Unknown(x) at 1:23\n"),
+    ),
+    // absent
+    ("page b.c", &[], (5, "", "kremlin: no such file: b.c\n")),
+    // no table
+    (
+        "page a.c --latency=l.toml",
+        &[("a.c", "int main(void){return 0;}")],
+        (5, "", "kremlin: no such file: l.toml\n"),
+    ),
+];
+
 /// Sources that are checked.
 static CHECKED: [Row; 4] = [
     // accepted, though its run would trap, and though it reads its input
@@ -251,6 +281,7 @@ static OTHERS: [Row; 2] = [
 #[test]
 fn commands(rt: HostRuntime) -> Result<(), Fail> {
     expect_rows(&rt, rt.alloc(), &TABLES)?;
+    expect_rows(&rt, rt.alloc(), &PAGES)?;
     expect_rows(&rt, rt.alloc(), &CHECKED)?;
     expect_rows(&rt, rt.alloc(), &CARRIED)?;
     expect_rows(&rt, rt.alloc(), &PROFILES)?;

@@ -31,7 +31,7 @@ fn parts(fault: Usage) -> (&'static str, u32) {
 }
 
 /// Lines of words that are refused, each with its fault and the fault's index.
-static REFUSED: [(&str, &str, u32); 81] = [
+static REFUSED: [(&str, &str, u32); 88] = [
     ("", "NoCommand", 0),
     ("ruN", "UnknownWord", 0),
     ("--help", "UnknownWord", 0),
@@ -39,6 +39,7 @@ static REFUSED: [(&str, &str, u32); 81] = [
     ("run", "NoFile", 0),
     ("graph", "NoFile", 0),
     ("carried", "NoFile", 0),
+    ("page", "NoFile", 0),
     ("show", "NoFile", 0),
     ("check", "NoFile", 0),
     ("demo", "NoFile", 0),
@@ -60,9 +61,6 @@ static REFUSED: [(&str, &str, u32); 81] = [
     ("graph a.c --dict", "UnknownWord", 2),
     ("graph a.c --save=x", "UnknownWord", 2),
     ("graph a.c --depth=3 --dict", "UnknownWord", 3),
-    ("carried a.c --dict", "UnknownWord", 2),
-    ("carried a.c --save=x", "UnknownWord", 2),
-    ("carry a.c", "UnknownWord", 0),
     ("show p.txt --steps=5", "UnknownWord", 2),
     ("show p.txt --depth=5", "UnknownWord", 2),
     ("show p.txt --latency=l", "UnknownWord", 2),
@@ -71,6 +69,15 @@ static REFUSED: [(&str, &str, u32); 81] = [
     ("show p.txt --CSV", "UnknownWord", 2),
     ("run a.c --json", "UnknownWord", 2),
     ("graph a.c --csv", "UnknownWord", 2),
+    ("carried a.c --dict", "UnknownWord", 2),
+    ("carried a.c --save=x", "UnknownWord", 2),
+    ("carry a.c", "UnknownWord", 0),
+    ("carried a.c --steps=1000000001", "BadNumber", 2),
+    ("carried a.c --depth=2 --depth=2", "Twice", 3),
+    ("page a.c --save=x", "UnknownWord", 2),
+    ("page a.c --json", "UnknownWord", 2),
+    ("page a.c --csv", "UnknownWord", 2),
+    ("pages a.c", "UnknownWord", 0),
     ("check a.c --json", "UnknownWord", 2),
     ("check a.c --dict", "UnknownWord", 2),
     ("check a.c b.c", "UnknownWord", 2),
@@ -86,9 +93,10 @@ static REFUSED: [(&str, &str, u32); 81] = [
     ("run a.c --depth=0", "BadNumber", 2),
     ("run a.c --depth=33", "BadNumber", 2),
     ("run a.c --depth=4294967297", "BadNumber", 2),
+    ("page a.c --steps=1000000001", "BadNumber", 2),
     ("graph a.c --steps=200001", "BadNumber", 2),
-    ("carried a.c --steps=1000000001", "BadNumber", 2),
     ("run a.c --dict --dict", "Twice", 3),
+    ("page a.c --dict --dict", "Twice", 3),
     ("run a.c --steps=5 --steps=6", "Twice", 3),
     ("run a.c --steps=5 --depth=3 --steps=x", "Twice", 4),
     ("run a.c --latency=l --latency=m", "Twice", 3),
@@ -96,7 +104,6 @@ static REFUSED: [(&str, &str, u32); 81] = [
     ("run a.c --steps=5 --depth=0 --steps=x", "BadNumber", 3),
     ("run a.c --dict --depth=0 --dict", "BadNumber", 3),
     ("run a.c --dict --dict --depth=0", "Twice", 3),
-    ("carried a.c --depth=2 --depth=2", "Twice", 3),
     ("show p.txt --json --json", "Twice", 3),
     ("show p.txt --csv --json", "Twice", 3),
     ("show p.txt --json --dict --csv", "Twice", 4),
@@ -201,6 +208,17 @@ fn job_parts(job: &Job) -> ([&str; 4], [u64; 2], bool) {
             [*steps, u64::from(*depth)],
             false,
         ),
+        Job::Page {
+            file,
+            steps,
+            depth,
+            latency,
+            dict,
+        } => (
+            ["page", file.as_str(), name_of(latency), ""],
+            [*steps, u64::from(*depth)],
+            *dict,
+        ),
         Job::Show { file, form } => (
             ["show", file.as_str(), form_name(form), ""],
             [0, 0],
@@ -212,7 +230,7 @@ fn job_parts(job: &Job) -> ([&str; 4], [u64; 2], bool) {
 }
 
 /// Lines of words, each with its job's names, numbers and whether the dictionary is listed.
-static ACCEPTED: [(&str, [&str; 4], [u64; 2], bool); 23] = [
+static ACCEPTED: [(&str, [&str; 4], [u64; 2], bool); 25] = [
     ("run a.c", ["run", "a.c", "", ""], [100_000_000, 24], false),
     ("run -", ["run", "-", "", ""], [100_000_000, 24], false),
     ("run -x", ["run", "-x", "", ""], [100_000_000, 24], false),
@@ -271,6 +289,18 @@ static ACCEPTED: [(&str, [&str; 4], [u64; 2], bool); 23] = [
         ["carried", "a.c", "l", ""],
         [1_000_000_000, 1],
         false,
+    ),
+    (
+        "page a.c",
+        ["page", "a.c", "", ""],
+        [100_000_000, 24],
+        false,
+    ),
+    (
+        "page a.c --dict --latency=l --steps=1000000000 --depth=1",
+        ["page", "a.c", "l", ""],
+        [1_000_000_000, 1],
+        true,
     ),
     ("show p", ["show", "p", "report", ""], [0, 0], false),
     ("show p --dict", ["show", "p", "report", ""], [0, 0], true),

@@ -18,6 +18,9 @@ graph_job-requires g c = subst IsJobWithin c.in-Graph.is c.requires.within
 pub carried_job-requires : goal.carried_job-requires
 carried_job-requires g c = subst IsJobWithin c.in-Carried.is c.requires.within
 
+pub page_job-requires-clause-within : goal.page_job-requires-clause-within
+page_job-requires-clause-within g c = subst IsJobWithin c.in-Page.is c.requires.within
+
 pub returns-in-Graph : goal.returns-in-Graph
 returns-in-Graph g c =
     let old : Around = record { files = g.F.Files.seen c.args.files.now; input = g.S.Source.seen c.args.input.now } in
@@ -33,6 +36,14 @@ returns-in-Carried g c =
     let out = g.K.Sink.seen c.args.out.now in
     subst (λ (j : Job). StreamsJob c.carried_job.result j old new out out) (sym c.in-Carried.is)
     (nothing_first c.carried_job.result (job.Carried c.in-Carried.file c.in-Carried.steps c.in-Carried.depth c.in-Carried.latency) old new out out refl c.carried_job.ensures)
+
+pub returns-in-Page : goal.returns-in-Page
+returns-in-Page g c =
+    let old : Around = record { files = g.F.Files.seen c.args.files.now; input = g.S.Source.seen c.args.input.now } in
+    let new : Around = record { files = g.F.Files.seen c.page_job.new.files; input = g.S.Source.seen c.page_job.new.input } in
+    let out = g.K.Sink.seen c.args.out.now in
+    subst (λ (j : Job). StreamsJob c.page_job.result j old new out out) (sym c.in-Page.is)
+    (nothing_first c.page_job.result (job.Page c.in-Page.file c.in-Page.steps c.in-Page.depth c.in-Page.latency c.in-Page.dict) old new out out refl c.page_job.ensures)
 
 pub returns-in-Show : goal.returns-in-Show
 returns-in-Show g c =

@@ -33,6 +33,11 @@ returns-in_err-marks-clause-source c =
     let same : c.from_residual-in_err-marks.result ≡ Err why.NoMemory = first_of (search rules, grind arith, cc) in
     subst (λ (r : Result Program Failure). AcceptsSource r c.args.source.now) (sym same) (inl refl)
 
+pub returns-in_err-kept-clause-source : goal.returns-in_err-kept-clause-source
+returns-in_err-kept-clause-source c =
+    let same : c.from_residual-in_err-kept.result ≡ Err why.NoMemory = first_of (search rules, grind arith, cc) in
+    subst (λ (r : Result Program Failure). AcceptsSource r c.args.source.now) (sym same) (inl refl)
+
 pub returns-clause-source : goal.returns-clause-source
 returns-clause-source c =
     accepted (λ failure. ⊥) (λ (t : TUnit). t ≡ c.in_ok-typed.typed) c.args.source.now c.in_ok-tokens.tokens

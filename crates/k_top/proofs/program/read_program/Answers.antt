@@ -1,4 +1,5 @@
 use Rattle.std.proofs.Common.{ℕ, ◌≡◌, List, Result, Ok, Err, sym, subst, rules, arith}
+use Rattle.std.specs.Prelude.{IfOk}
 use Rattle.std.proofs.lemmas.Result.{IfOk-at_ok}
 use Rattle.k_top_answers.specs.declared.failure.Failure.{Failure}
 use Rattle.k_top_lemmas.specs.declared.program.Program.{Program}
@@ -35,4 +36,6 @@ returns-clause-program g c =
     program_read c.args.file c.in_ok-source.source (seen c.args.files.now) (seen c.load.new.files) (seen c.latencies_of.new.files) c.in_ok-source.ensures
     c.args.latency latencies loads c.accept.result
     (λ p e. IfOk-at_ok (λ (q : Program). q.latencies ≡ latencies) e c.accept.ensures.latencies)
+    (λ p e. IfOk-at_ok (λ (q : Program). q.source ≡ c.in_ok-source.source.items) e
+    (subst (λ (bytes : List ℕ). IfOk c.accept.result (λ (q : Program). q.source ≡ bytes)) c.as_slice-2.ensures.value c.accept.ensures.kept))
     (rw (← c.as_slice-2.ensures.value) c.accept.ensures.source)

@@ -20,7 +20,7 @@ returns-in_err-input-clause-ready g c =
     let read = c.in_ok-program.ensures.program in
     let same : c.from_residual-in_err-input.result ≡ Err c.in_err-input.field-0.0 = first_of (search rules, grind arith, cc) in
     subst (λ (r : Result Ready Failure). MakesReady r c.args.file c.args.latency c.args.steps old new) (sym same)
-    (input_failed c.args.file c.args.latency c.args.steps c.in_ok-program.program read.0 old new read.1 read.2.0 read.2.1 c.in_err-input.field-0.0 c.in_err-input.ensures)
+    (input_failed c.args.file c.args.latency c.args.steps c.in_ok-program.program read.0 old new read.1 read.2.0 read.2.1 read.2.2 c.in_err-input.field-0.0 c.in_err-input.ensures)
 
 pub returns-clause-ready : goal.returns-clause-ready
 returns-clause-ready g c =
@@ -29,4 +29,4 @@ returns-clause-ready g c =
     let read = c.in_ok-program.ensures.program in
     subst (λ (bytes : List ℕ). MakesReady (Ok (record { program = c.in_ok-program.program; input = bytes; steps = c.args.steps })) c.args.file c.args.latency c.args.steps old new)
     (sym c.from_vec.ensures)
-    (ready_made c.args.file c.args.latency c.args.steps c.in_ok-program.program read.0 old new read.1 read.2.0 read.2.1 c.in_ok-input.input c.in_ok-input.ensures)
+    (ready_made c.args.file c.args.latency c.args.steps c.in_ok-program.program read.0 old new read.1 read.2.0 read.2.1 read.2.2 c.in_ok-input.input c.in_ok-input.ensures)

@@ -1,0 +1,1 @@
+int main(void){int x; putchar('a'); return x;}
