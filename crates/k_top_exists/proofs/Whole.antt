@@ -96,10 +96,13 @@ listed depth r sound =
     (ended text.0 r.steps (run_of r).end, record { tree = tree.0; text = text.0; is_tree = tree.1; is_text = text.1; is = refl })
 
 -- CARRIED
+carried_told : (depth : ℕ) (r : Running) (exit : ℤ) → (loops : List LoopPairs) × AreCarried (regions_of r.typed) depth (run_of r).events loops
+    → Answered (λ a. AnswersCarried depth a r (end.Returned exit))
+carried_told depth r exit (loops, are_carried) =
+    (done (carried_text (regions_of r.typed) loops), record { loops = loops; are_carried = are_carried; is = refl })
+
 carried_answers : (depth : ℕ) (r : Running) (how : End) → Answered (λ a. AnswersCarried depth a r how)
-carried_answers depth r (end.Returned exit) =
-    let found : (loops : List LoopPairs) × AreCarried (regions_of r.typed) depth (run_of r).events loops = carried_exist (regions_of r.typed) depth (run_of r).events in
-    (done (carried_text (regions_of r.typed) found.0), record { loops = found.0; are_carried = found.1; is = refl })
+carried_answers depth r (end.Returned exit) = carried_told depth r exit (carried_exist (regions_of r.typed) depth (run_of r).events)
 carried_answers depth r (end.Trapped trap place) = (ended [] r.steps (end.Trapped trap place), refl)
 carried_answers depth r end.OutOfSteps = (ended [] r.steps end.OutOfSteps, refl)
 
