@@ -356,12 +356,16 @@ work_facts_html whole path =
     beside (facts.fact (codes "work") (decimal whole)) (facts.fact (codes "path") (decimal path))
     (fact_html (codes "work") (decimal whole) refl (number_text whole)) (fact_html (codes "path") (decimal path) refl (number_text path))
 
+number_facts_html : (exit : ℤ) (ops whole path : ℕ) → IsHtml (facts.number_facts exit ops whole path)
+unfolding facts.number_facts
+number_facts_html exit ops whole path = beside (facts.run_facts exit ops) (facts.work_facts whole path) (run_facts_html exit ops) (work_facts_html whole path)
+
 facts_html : (name : List ℕ) (exit : ℤ) (ops whole path : ℕ) (plan : Option Advice) → IsHtml (facts.facts_table name exit ops whole path plan)
 unfolding facts.facts_table
 facts_html name exit ops whole path plan =
-    bare_html tag.Table (texted tag.Caption (codes "The run") ++ facts.file_fact name ++ facts.run_facts exit ops ++ facts.work_facts whole path ++ facts.plan_fact whole plan)
-    (five (texted tag.Caption (codes "The run")) (facts.file_fact name) (facts.run_facts exit ops) (facts.work_facts whole path) (facts.plan_fact whole plan)
-    (texted_html tag.Caption (codes "The run") (text_of (codes "The run") refl)) (file_html name) (run_facts_html exit ops) (work_facts_html whole path) (plan_fact_html whole plan))
+    bare_html tag.Table (texted tag.Caption (codes "The run") ++ facts.file_fact name ++ facts.number_facts exit ops whole path ++ facts.plan_fact whole plan)
+    (four (texted tag.Caption (codes "The run")) (facts.file_fact name) (facts.number_facts exit ops whole path) (facts.plan_fact whole plan)
+    (texted_html tag.Caption (codes "The run") (text_of (codes "The run") refl)) (file_html name) (number_facts_html exit ops whole path) (plan_fact_html whole plan))
 
 large_facts_html : (name : List ℕ) (exit : ℤ) (ops : ℕ) → IsHtml (facts.large_facts name exit ops)
 unfolding facts.large_facts

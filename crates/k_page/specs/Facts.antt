@@ -51,10 +51,14 @@ run_facts exit ops = fact (codes "exit") (signed_decimal exit) ++ fact (codes "o
 unfoldable pub work_facts : ℕ → ℕ → List ℕ
 work_facts whole path = fact (codes "work") (decimal whole) ++ fact (codes "path") (decimal path)
 
+-- all these numbers
+unfoldable pub number_facts : ℤ → ℕ → ℕ → ℕ → List ℕ
+number_facts exit ops whole path = run_facts exit ops ++ work_facts whole path
+
 -- THE HEAD
 unfoldable pub facts_table : List ℕ → ℤ → ℕ → ℕ → ℕ → Option Advice → List ℕ
 facts_table name exit ops whole path plan =
-    bare tag.Table (texted tag.Caption (codes "The run") ++ file_fact name ++ run_facts exit ops ++ work_facts whole path ++ plan_fact whole plan)
+    bare tag.Table (texted tag.Caption (codes "The run") ++ file_fact name ++ number_facts exit ops whole path ++ plan_fact whole plan)
 
 -- THE HEAD where there is no profile
 unfoldable pub large_facts : List ℕ → ℤ → ℕ → List ℕ

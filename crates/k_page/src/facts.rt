@@ -113,6 +113,21 @@ fn push_work(text: &mut Vec<u8>, whole: u64, path: u64) -> Result<(), NoMemory>
     push_fact(text, "path", path)
 }
 
+/// All these numbers.
+#[tactic(auto, unfolding(crate::specs::Facts::number_facts))]
+fn push_numbers(
+    text: &mut Vec<u8>,
+    exit: i32,
+    ops: u64,
+    whole: u64,
+    path: u64,
+) -> Result<(), NoMemory>
+    ensures { OnOk result (text.new.items ≡ text.old.items ++ spec.number_facts exit ops whole path) }
+{
+    push_run(text, exit, ops)?;
+    push_work(text, whole, path)
+}
+
 /// The head of a page as a table.
 #[tactic(auto, unfolding(crate::specs::Facts::facts_table))]
 pub(crate) fn push_facts(
@@ -129,8 +144,7 @@ pub(crate) fn push_facts(
     start(text, Tag::Table)?;
     push_element(text, Tag::Caption, "The run")?;
     push_file(text, name)?;
-    push_run(text, exit, ops)?;
-    push_work(text, whole, path)?;
+    push_numbers(text, exit, ops, whole, path)?;
     push_plan(text, plan, whole)?;
     finish(text, Tag::Table)
 }
