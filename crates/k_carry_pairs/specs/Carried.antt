@@ -1,4 +1,4 @@
--- Believed with a public law.
+-- Believed with the theorem on the top call.
 -- *Carried pairs*: the dependences that the instances of loops carry from turn to turn.
 use Rattle.std.specs.Prelude.{ℕ, zero, suc, ◌≡◌, ◌+◌, ◌<◌, ◌⊎◌, ◌&&◌, ◌||◌, nat_eq, nat_lt, Bool, true, false, if◌then◌else◌, List, [], ◌∷◌, take, reverse, slice_get, Option, Some, None}
 use Rattle.k_num.specs.declared.place.Place.{Place}

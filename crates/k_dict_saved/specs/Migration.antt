@@ -1,4 +1,4 @@
--- For contracts between crates: nobody has to believe it.
+-- Believed with a public law.
 -- The entries of format 1 as those of a dictionary.
 use Rattle.std.specs.Prelude.{ℕ, ◌^◌, ◌<◌, ◌≡◌, List, [], ◌∷◌, Some, slice_get, slice_index_or}
 use Rattle.k_optab.specs.Tree.{EachWith}

@@ -1,4 +1,4 @@
--- Believed with a public law.
+-- Believed with the theorem on the top call.
 -- *Open instances*: an Enter whose matching Exit is not among the events is an open instance of a region.
 use Rattle.std.specs.Prelude.{ℕ, ◌+◌, ◌-◌, List, [], ◌∷◌, ◌++◌, Option, Some, None}
 use Rattle.k_optab.specs.declared.closed.Closed.{Closed}
