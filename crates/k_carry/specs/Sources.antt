@@ -44,6 +44,7 @@ pub record Setting : Type 0 where
   pub budget : ℕ
   pub depth : ℕ
 
+-- the setting that a program in memory stands for
 abbrev pub setting_of : Program → Setting
 setting_of p = record { code = p.code.now; input = p.input.now; budget = p.budget; depth = p.depth }
 
@@ -60,6 +61,7 @@ IsTold s (Some x) = IsPlaceOf s x.number x.place
 abbrev pub AllTold : Setting → List (Option Origin) → Type 0
 AllTold s items = (k : ℕ) (x : Option Origin) → slice_get items k ≡ Some x → IsTold s x
 
+-- each place that a row keeps is that of its operation
 abbrev pub RowTold : Setting → Row → Type 0
 RowTold s row = AllTold s row.items.items
 

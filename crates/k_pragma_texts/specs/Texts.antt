@@ -114,14 +114,17 @@ abbrev pub occurs_in_parts : List (Option Held) → List Occurrence
 occurs_in_parts [] = []
 occurs_in_parts (p ∷ rest) = occurs_there p ++ occurs_in_parts rest
 
+-- the assignments of a whole variable in the statements among the parts of a switch, in order
 abbrev pub setters_in_parts : List (Option Held) → List Setter
 setters_in_parts [] = []
 setters_in_parts (p ∷ rest) = setters_there p ++ setters_in_parts rest
 
+-- the loops in the statements among the parts of a switch, in order
 abbrev pub loops_in_parts : List (Option Held) → List LoopText
 loops_in_parts [] = []
 loops_in_parts (p ∷ rest) = loops_there p ++ loops_in_parts rest
 
+-- the number of the last node of the parts of a switch, or this one where no statement is among them
 abbrev pub last_in_parts : ℕ → List (Option Held) → ℕ
 last_in_parts n [] = n
 last_in_parts n (p ∷ rest) = last_in_parts (last_there n p) rest

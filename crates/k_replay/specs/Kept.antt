@@ -8,6 +8,7 @@ use Rattle.k_replay_record.specs.declared.record.Step.{Step}
 use Rattle.k_replay.specs.Plays.{Play, is_ready, left_in}
 use Rattle.k_replay.specs.Sound.{IsSound}
 
+-- what a core keeps of a play: the play, how many operations are not fired yet, of each whether it may be given, and which operations use its value
 pub record Kept : Type 0 where
   pub play : Play
   pub left : ℕ
@@ -43,6 +44,7 @@ pub record Renews (numbers : List ℕ) (f : ℕ → Bool) (before after : List B
   pub here : (k : ℕ) → Contains numbers k → slice_index_or after k false ≡ f k
   pub others : (k : ℕ) → ¬ Contains numbers k → slice_index_or after k false ≡ slice_index_or before k false
 
+-- what is kept is that of its play
 pub record IsKept (s : Kept) : Type 0 where
   pub sound : IsSound s.play
   pub left : s.left ≡ left_in s.play.values

@@ -29,6 +29,7 @@ unfoldable pub recorded_value : Act → Value → Datum
 recorded_value does.Call v = datum.Nothing
 recorded_value what v = datum_of v
 
+-- the value that a record has of an operation that was performed
 abbrev pub value_for : Performed → Datum
 value_for p = recorded_value p.what p.value
 

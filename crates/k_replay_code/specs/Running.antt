@@ -23,6 +23,7 @@ pub record Setting : Type 0 where
   pub input : List ℕ
   pub budget : ℕ
 
+-- the setting that a program in memory stands for
 abbrev pub setting_of : Program → Setting
 setting_of p = record { code = p.code.now; input = p.input.now; budget = p.budget }
 
