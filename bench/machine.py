@@ -73,8 +73,8 @@ def instructions(command):
     return int(told.partition("Collected :")[2].split()[0]), printed
 
 
-def profiled(kremlin, source, budget=WHOLE):
-    return [kremlin, "run", source, f"--steps={budget}"]
+def profiled(kremlin, source, budget=WHOLE, command="run"):
+    return [kremlin, command, source, f"--steps={budget}"]
 
 
 def parted(printed):
@@ -90,10 +90,10 @@ def for_an_operation(kremlin, smaller, greater):
     return (many - few) / (parted(more)[1] - parted(printed)[1])
 
 
-def memory_at(kremlin, source, budget):
+def memory_at(kremlin, source, budget, command="run"):
     """The largest memory of a run that is stopped after so many operations."""
-    _, told, _, memory = run(profiled(kremlin, source, budget), statuses=(0, 2))
-    return memory, "out of steps" in told
+    _, told, _, memory = run(profiled(kremlin, source, budget, command), statuses=(0, 2))
+    return f"{memory / 1e6:.0f} MB" + ("" if "out of steps" in told else " (whole)")
 
 
 def timed(kremlin, source, program):
@@ -117,10 +117,7 @@ def row(kremlin, name, folder):
     seconds, peer, made = timed(kremlin, size, built(size))
     if kremlin is None:
         return [name, f"{peer:.2f}"]
-    memories = []
-    for budget in BUDGETS:
-        memory, stopped = memory_at(kremlin, large, budget)
-        memories.append(f"{memory / 1e6:.0f} MB" + ("" if stopped else " (whole)"))
+    memories = [memory_at(kremlin, large, budget) for budget in BUDGETS]
     count = for_an_operation(kremlin, smaller, greater)
     ratio = f"{seconds / peer:.2f}"
     return [name, f"{made:,}", f"{seconds:.2f}", f"{peer:.2f}", ratio, f"{made / seconds / 1e6:.1f}", f"{count:.0f}", *memories]
@@ -133,4 +130,5 @@ def main(kremlin, folder, *names):
         print("|", " | ".join(cells), "|", flush=True)
 
 
-main(*sys.argv[1:])
+if __name__ == "__main__":
+    main(*sys.argv[1:])

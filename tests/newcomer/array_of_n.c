@@ -1,0 +1,13 @@
+#include <stdio.h>
+
+int main(void)
+{
+    const int n = 10;
+    int a[n];
+    int i;
+
+    for (i = 0; i < n; i++)
+        a[i] = n - i;
+    printf("%d\n", a[3]);
+    return 0;
+}

@@ -1,0 +1,12 @@
+#include <stdio.h>
+
+int main(void)
+{
+    int i;
+    int sum = 0;
+
+    for (i = 0; i < 100; i++)
+        sum += i;
+    printf("%d\n", sum);
+    return 0;
+}

@@ -1,0 +1,13 @@
+#include <stdio.h>
+#include <stdlib.h>
+
+int main(void)
+{
+    int i, n = 10;
+    int squares[10];
+
+    for (i = 0; i < n; i++)
+        squares[i] = i * i;
+    printf("%d\n", squares[n - 1]);
+    return 0;
+}

@@ -1,0 +1,12 @@
+#include <stdio.h>
+
+unsigned long factorial(int n)
+{
+    return n < 2 ? 1 : n * factorial(n - 1);
+}
+
+int main(void)
+{
+    printf("%lu\n", factorial(15));
+    return 0;
+}
