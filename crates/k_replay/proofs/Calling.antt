@@ -1,9 +1,9 @@
 -- Rounds are calls by workers, one behind the other.
 use Rattle.std.proofs.Common.{◌≡◌, ℕ, zero, suc, ◌%◌, inl, inr, List, [], ◌∷◌, ◌++◌, refl, ap, subst}
 use Rattle.k_gen.specs.Draw.{draw}
-use Rattle.k_replay.specs.Orders.{Call, Does, Leads}
+use Rattle.k_replay.specs.Orders.{Call, Leads}
 use Rattle.k_replay.specs.Plays.{Play, started}
-use Rattle.k_replay.specs.Rounds.{IsSchedule, Rounds, RoundsGiveTheSerialRun, Standing, Turn, Turns, begun, in_turn}
+use Rattle.k_replay.specs.Rounds.{Rounds, RoundsGiveTheSerialRun, Standing, Turn, Turns, begun, in_turn}
 use Rattle.k_replay.proofs.Ordering.{any_order_gives_the_serial_run}
 
 -- some calls lead from a play to another
