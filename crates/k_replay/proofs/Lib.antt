@@ -8,4 +8,5 @@ mod Going
 mod Ordering
 mod Stays
 mod Advancing
+pub mod Calling
 mod Reading

@@ -1,13 +1,12 @@
 -- The lists of the steps that each step is a source of.
-use Rattle.std.proofs.Common.{◌≡◌, ◌≢◌, ℕ, zero, suc, ◌+◌, ◌<◌, ◌≤◌, ◌⊎◌, inl, inr, List, [], ◌∷◌, ◌++◌, length, take, get_or, set, replicate, Some, Contains, refl, sym, ◌∙◌, ap, subst, arith}
+use Rattle.std.proofs.Common.{◌≡◌, ◌≢◌, ℕ, ◌+◌, ◌<◌, ◌≤◌, ◌⊎◌, inl, inr, List, [], ◌∷◌, ◌++◌, length, take, get_or, set, Some, Contains, refl, sym, ◌∙◌, ap, subst, arith}
 use Rattle.std.specs.Prelude.{slice_get}
 use Rattle.std.proofs.Math.ListN.{length-set}
 use Rattle.std.proofs.lemmas.List.{get_or-set_same, get_or-set_other, take_more, take_all, length-take-le}
-use Rattle.std.proofs.lemmas.Option.{none-some, get_or_from_slice_get, slice_get_read}
+use Rattle.std.proofs.lemmas.Option.{get_or_from_slice_get, slice_get_read}
 use Rattle.std.proofs.lemmas.List.Elements.{Contains-append_left, Contains-push, Contains-push_cases}
-use Rattle.k_replay_record.specs.declared.record.Datum.{Datum}
 use Rattle.k_replay_record.specs.declared.record.Operand.{Operand}
-use Rattle.k_replay_record.specs.declared.record.Operand.TheVariants.{Fixed, From}
+use Rattle.k_replay_record.specs.declared.record.Operand.TheVariants.{From}
 use Rattle.k_replay_record.specs.declared.record.Step.{Step}
 use Rattle.k_replay_record.specs.Records.{IsEarlier}
 use Rattle.k_replay.specs.Kept.{AreUsers, Names, NamesBelow, Notes}

@@ -1,5 +1,5 @@
 -- Flags of operations that can be given, once some are told anew.
-use Rattle.std.proofs.Common.{◌≡◌, ◌≢◌, ℕ, ◌+◌, ◌<◌, ◌≤◌, ◌⊎◌, inl, inr, List, [], ◌∷◌, ◌++◌, length, take, get_or, set, Option, Bool, false, Contains, refl, sym, ◌∙◌, ap, subst, arith}
+use Rattle.std.proofs.Common.{◌≡◌, ◌≢◌, ℕ, ◌+◌, ◌<◌, ◌≤◌, ◌⊎◌, inl, inr, List, [], ◌∷◌, ◌++◌, length, take, get_or, set, Option, Bool, false, Contains, sym, ◌∙◌, ap, subst, arith}
 use Rattle.std.proofs.Math.ListN.{length-set}
 use Rattle.std.proofs.lemmas.List.{get_or-set_same, get_or-set_other, take_more}
 use Rattle.std.proofs.lemmas.List.Elements.{Contains-append_left, Contains-push, Contains-push_cases}
@@ -10,7 +10,7 @@ use Rattle.k_replay_record.specs.declared.record.Datum.{Datum}
 use Rattle.k_replay_record.specs.declared.record.Step.{Step}
 use Rattle.k_replay.specs.Plays.{can_give, has_sources, is_fired, is_held}
 use Rattle.k_replay.specs.Kept.{Renews}
-use Rattle.k_replay_record.proofs.Lists.{same_or_not, contains_none}
+use Rattle.k_replay_record.proofs.Lists.{same_or_not}
 
 -- one more is
 renews_push : (numbers : List ℕ) (f : ℕ → Bool) (before flags : List Bool) (n : ℕ) → n < length flags

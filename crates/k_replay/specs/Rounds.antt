@@ -1,12 +1,14 @@
--- For contracts between crates: nobody has to believe it.
+-- Believed with a public law.
 -- *Rounds*: a schedule of workers. In each round every worker acts once, from one on that is drawn.
 use Rattle.std.specs.Prelude.{ℕ, zero, suc, ◌≡◌, ◌+◌, ◌-◌, ◌%◌, ◌<◌, ◌⊎◌, nat_lt, if◌then◌else◌, List, replicate, slice_index_or, slice_set, Some, None, Ok, Err}
 use Rattle.k_gen.specs.Draw.{draw}
+use Rattle.k_replay_record.specs.declared.record.Record.{Record}
+use Rattle.k_replay_record.specs.Records.{IsRecord}
 use Rattle.k_replay.specs.declared.answer.Deal.TheVariants.{Idle}
 use Rattle.k_replay.specs.declared.rounds.Schedule.{Schedule}
 use Rattle.k_replay.specs.declared.rounds.Tally.{Tally}
-use Rattle.k_replay.specs.Orders.{Call, Does, Fired, Took}
-use Rattle.k_replay.specs.Plays.{Play, held_by, left_in}
+use Rattle.k_replay.specs.Orders.{Call, Does, Fired, GivesSerialRun, Leads, Took}
+use Rattle.k_replay.specs.Plays.{Play, held_by, left_in, started}
 
 -- a play, and what each worker did so far
 pub record Standing : Type 0 where
@@ -78,3 +80,11 @@ begun workers p = record { play = p; tallies = replicate workers nothing_done }
 pub record IsSchedule (seed workers : ℕ) (before after : Play) (s : Schedule) : Type 0 where
   pub rounds : Rounds seed workers s.rounds (begun workers before) (record { play = after; tallies = s.tallies })
   pub none : left_in after.values ≡ 0
+
+-- a schedule is a list of calls, so it gives the serial run, as every such list does
+abbrev pub RoundsGiveTheSerialRun : Type 0
+RoundsGiveTheSerialRun =
+    (tape : Record) (seed workers : ℕ) (after : Play) (s : Schedule)
+    → IsRecord tape
+    → IsSchedule seed workers (started tape workers) after s
+    → (calls : List Call) × Leads calls (started tape workers) after × GivesSerialRun tape calls after

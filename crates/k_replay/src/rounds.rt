@@ -42,8 +42,7 @@ pub fn run_rounds(
     let mut state = seed % 2_147_483_648;
     let mut rounds = 0;
     while core.left() > 0 {
-        state = next(state);
-        round(core, &mut tallies, workers, first(state, workers))?;
+        state = next_round(core, &mut tallies, workers, state)?;
         rounds = one_more(rounds)?;
     }
     Ok(Schedule {
@@ -79,6 +78,30 @@ fn one_more(number: u64) -> Result<u64, NoMemory>
         Some(more) => Ok(more),
         None => Err(NoMemory),
     }
+}
+
+/// A round behind this number of the row of draws: it begins with the worker that the next one tells, which is answered.
+fn next_round(
+    core: &mut Core<'_>,
+    tallies: &mut Vec<Tally>,
+    workers: u32,
+    state: u64,
+) -> Result<u64, NoMemory>
+    requires state { state < 2 ^ 31 }
+    requires workers { workers ≡ length core.old.held }
+    requires some { 1 ≤ workers }
+    requires few { workers ≤ 16 }
+    requires tallies { length tallies.old.items ≡ workers }
+    ensures next { IfOk result (λ drawn. drawn ≡ next_of state) }
+    ensures below { IfOk result (λ drawn. drawn < 2 ^ 31) }
+    ensures turns { OnOk result (Turns workers ((next_of state / 65536) % workers) workers (record { play = core.old; tallies = tallies.old.items }) (record { play = core.new; tallies = tallies.new.items })) }
+    ensures moves { OnOk result (MovesAll workers core.old core.new) }
+    ensures workers { OnOk result (length core.new.held ≡ workers) }
+    ensures tallies { OnOk result (length tallies.new.items ≡ workers) }
+{
+    let drawn = next(state);
+    round(core, tallies, workers, first(drawn, workers))?;
+    Ok(drawn)
 }
 
 /// Every worker has its turn.

@@ -4,8 +4,8 @@ use Rattle.k_replay.specs.Progress.{weight}
 use Rattle.k_replay.specs.Rounds.{Rounds, begun}
 use Rattle.k_replay.proofs.rounds.run_rounds.Given as goal
 
-abbrev pub invariant-loop-state : goal.invariant-loop-state
-invariant-loop-state l = record {
+abbrev pub invariant-loop-core : goal.invariant-loop-core
+invariant-loop-core l = record {
   rounds : Rounds l.seed l.workers l.rounds (begun l.workers l.fn.core) (record { play = l.core; tallies = l.tallies.items });
   row : l.state ≡ row.state l.seed l.rounds;
   below : l.state < 2147483648;
@@ -13,5 +13,5 @@ invariant-loop-state l = record {
   tallies : length l.tallies.items ≡ l.workers;
 }
 
-abbrev pub decreases-loop-state : goal.decreases-loop-state
-decreases-loop-state l = weight l.core
+abbrev pub decreases-loop-core : goal.decreases-loop-core
+decreases-loop-core l = weight l.core
