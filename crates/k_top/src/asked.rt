@@ -8,18 +8,14 @@ ghost use Rattle.k_top_lemmas.specs.Parts.{GivesText, IsFresh};
 ghost use Rattle.k_top_lemmas.specs.Phases.{FindsJob};
 ghost use Rattle.k_top_lemmas.specs.Streams.{StreamsAnswer, StreamsJob};
 
-use crate::carried::carried_answer;
-use crate::checked::check_answer;
-use crate::demo::demo_answer;
-use crate::graph::graph_answer;
-use crate::paged::page_answer;
-use crate::reported::run_answer;
-use crate::running::make_ready;
-use crate::shown::show_answer;
 use k_edge::{Files, Sink, Source};
 use k_num::{NoMemory, Text};
 use k_shadow::Shadow;
 use k_top_answers::{Answer, Failure};
+use k_top_commands::{
+    carried_answer, check_answer, demo_answer, graph_answer, page_answer, run_answer, show_answer,
+};
+use k_top_programs::make_ready;
 use k_words::{Asked, Job, asked_for, help, version, words};
 use std::alloc::Global;
 

@@ -2,21 +2,7 @@
 #![tactic(auto)]
 
 mod asked;
-mod carried;
-mod checked;
-mod demo;
-mod graph;
-mod input;
-mod loading;
-mod machine;
-mod nowhere;
 mod output;
-mod paged;
-mod program;
-mod reported;
-mod running;
-mod shown;
-mod summary;
 mod top;
 
 pub use top::kremlin;

@@ -6,13 +6,13 @@ use Rattle.std.proofs.lemmas.Option.{none-some, same_Some, slice_get_past}
 use Rattle.k_words.specs.declared.job.Job.{Job}
 use Rattle.k_words.specs.declared.job.Job.TheVariants as job
 use Rattle.k_words.specs.declared.option.Command.{Command}
-use Rattle.k_words.specs.declared.option.Command.TheVariants.{Run, Graph, Carried, Page, Show, Check, Demo}
+use Rattle.k_words.specs.declared.option.Command.TheVariants.{Run, Graph, Carried, Page, Annotate, Show, Check, Demo}
 use Rattle.k_words.specs.declared.option.Setting.{Setting}
 use Rattle.k_words.specs.declared.usage.Usage.{Usage}
 use Rattle.k_words.specs.declared.usage.Usage.TheVariants.{NoCommand, UnknownWord, BadNumber, Twice, NoFile, Memory}
 use Rattle.k_words.specs.Setting.{is_value, option_of}
 use Rattle.k_words.specs.Settings.{IsFirst, bars, fault_if_there, given, option_fault, settings_fault}
-use Rattle.k_words.specs.Words.{Answers, AreRight, IsAnswer, carried_of, command_fault, command_of, demo_fault, demo_job, demo_loops, demo_number, fault_at, fault_behind, file_fault, graph_of, is_no_file, job_of, job_with, loops_fault, one_too_many, page_of, run_of, show_of}
+use Rattle.k_words.specs.Words.{Answers, AreRight, IsAnswer, annotate_of, carried_of, command_fault, command_of, demo_fault, demo_job, demo_loops, demo_number, fault_at, fault_behind, file_fault, graph_of, is_no_file, job_of, job_with, loops_fault, one_too_many, page_of, run_of, show_of}
 
 -- what is wrong with a word is no want of memory
 IsNoMemory : Option Usage → Type 0
@@ -73,6 +73,7 @@ behind_other (Some Run) arguments k = file_other Run arguments k
 behind_other (Some Graph) arguments k = file_other Graph arguments k
 behind_other (Some Carried) arguments k = file_other Carried arguments k
 behind_other (Some Page) arguments k = file_other Page arguments k
+behind_other (Some Annotate) arguments k = file_other Annotate arguments k
 behind_other (Some Show) arguments k = file_other Show arguments k
 behind_other (Some Check) arguments k = file_other Check arguments k
 behind_other (Some Demo) arguments k = demo_other arguments k
@@ -117,6 +118,7 @@ behind_past (Some Run) arguments k past = file_past Run arguments k past
 behind_past (Some Graph) arguments k past = file_past Graph arguments k past
 behind_past (Some Carried) arguments k past = file_past Carried arguments k past
 behind_past (Some Page) arguments k past = file_past Page arguments k past
+behind_past (Some Annotate) arguments k past = file_past Annotate arguments k past
 behind_past (Some Show) arguments k past = file_past Show arguments k past
 behind_past (Some Check) arguments k past = file_past Check arguments k past
 behind_past (Some Demo) arguments k past = demo_past arguments k past
@@ -150,6 +152,8 @@ job_behind (Some Carried) [] known right = absurd (none-some _ (sym (right 0)))
 job_behind (Some Carried) (file ∷ words) known right = (carried_of file (given Carried words), refl)
 job_behind (Some Page) [] known right = absurd (none-some _ (sym (right 0)))
 job_behind (Some Page) (file ∷ words) known right = (page_of file (given Page words), refl)
+job_behind (Some Annotate) [] known right = absurd (none-some _ (sym (right 0)))
+job_behind (Some Annotate) (file ∷ words) known right = (annotate_of file (given Annotate words), refl)
 job_behind (Some Show) [] known right = absurd (none-some _ (sym (right 0)))
 job_behind (Some Show) (file ∷ words) known right = (show_of file (given Show words), refl)
 job_behind (Some Check) [] known right = absurd (none-some _ (sym (right 0)))

@@ -7,13 +7,13 @@ use Rattle.std.specs.Str.Parse.{digits_value}
 use Rattle.k_words.specs.declared.job.Job.{Job}
 use Rattle.k_words.specs.declared.job.Job.TheVariants as job
 use Rattle.k_words.specs.declared.option.Command.{Command}
-use Rattle.k_words.specs.declared.option.Command.TheVariants.{Run, Graph, Carried, Page, Show, Check, Demo}
+use Rattle.k_words.specs.declared.option.Command.TheVariants.{Run, Graph, Carried, Page, Annotate, Show, Check, Demo}
 use Rattle.k_words.specs.declared.option.Setting.TheVariants.{Steps, Depth}
 use Rattle.k_words.specs.Number.{is_numeral, number_within, within}
 use Rattle.k_words.specs.Setting.{most_depth, most_steps, or_else}
 use Rattle.k_words.specs.Settings.{depth_in, first_of, given, steps_in, text_in}
 use Rattle.k_words.specs.Within.{IsJobWithin, IsRunWithin, IsWithin, JobsAreWithin}
-use Rattle.k_words.specs.Words.{carried_of, command_of, demo_loops, demo_number, graph_of, job_with, page_of, run_of}
+use Rattle.k_words.specs.Words.{annotate_of, carried_of, command_of, demo_loops, demo_number, graph_of, job_with, page_of, run_of}
 use Rattle.k_words.proofs.Given.{mapped, some_inner}
 
 -- nothing is something
@@ -99,6 +99,10 @@ command_within Page [] asked is = no_some asked is
 command_within Page (file ∷ words) asked is =
     subst IsJobWithin (some_inner (page_of file (given Page words)) asked is)
     (options_within Page words 100000000 (record { at_least = omega arith; at_most = omega arith }))
+command_within Annotate [] asked is = no_some asked is
+command_within Annotate (file ∷ words) asked is =
+    subst IsJobWithin (some_inner (annotate_of file (given Annotate words)) asked is)
+    (options_within Annotate words 100000000 (record { at_least = omega arith; at_most = omega arith }))
 command_within Show [] asked is = no_some asked is
 command_within Show (file ∷ words) asked is = subst IsJobWithin (some_inner _ asked is) tt
 command_within Check [] asked is = no_some asked is

@@ -35,15 +35,16 @@ help_text = concat (
     codes "kremlin graph FILE [OPTION ..]     lists the events of the run and a heaviest path for each region instance\n" ∷
     codes "kremlin carried FILE [OPTION ..]   lists for each loop which places use what other places gave in an earlier turn\n" ∷
     codes "kremlin page FILE [OPTION ..]      runs a C program and writes one page of HTML: its profile, its plan and its source\n" ∷
+    codes "kremlin annotate FILE [OPTION ..]  runs a C program and writes its source with the numbers of each loop and OpenMP lines\n" ∷
     codes "kremlin show FILE [OPTION ..]      writes a saved profile: its report, a JSON document, or its rows as CSV\n" ∷
     codes "kremlin check FILE                 reads and checks a C program and does not run it; what is refused it shows in its line\n" ∷
     codes "kremlin demo NUMBER LOOPS          makes a program of LOOPS loops (1 to 2000) from NUMBER and sums up its run\n" ∷
     codes "kremlin --help, -h                 writes this text\n" ∷
     codes "kremlin --version, -V              writes the product and its number\n" ∷
     codes "\n" ∷
-    codes "--steps=N       at most N operations; run, carried, page: 1 to 1000000000, default 100000000; graph: 1 to 200000, default 200000\n" ∷
-    codes "--depth=N       levels of regions that are tracked; run, graph, carried, page: 1 to 32, default 24\n" ∷
-    codes "--latency=FILE  a table of latencies in TOML; run, graph, carried, page; default the standard latencies\n" ∷
+    codes "--steps=N       at most N operations; run, carried, page, annotate: 1 to 1000000000, default 100000000; graph: 1 to 200000, default 200000\n" ∷
+    codes "--depth=N       levels of regions that are tracked; run, graph, carried, page, annotate: 1 to 32, default 24\n" ∷
+    codes "--latency=FILE  a table of latencies in TOML; run, graph, carried, page, annotate; default the standard latencies\n" ∷
     codes "--dict          lists the dictionary of summaries; run, page, show; default no list\n" ∷
     codes "--save=FILE     saves the profile; run; default not saved\n" ∷
     codes "--json          writes a JSON document, with the dictionary by --dict; show; default the report\n" ∷

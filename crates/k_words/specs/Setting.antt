@@ -4,7 +4,7 @@ use Rattle.std.specs.Prelude.{ℕ, Bool, true, false, ◌==◌, nat_eq, if◌the
 use Rattle.std.specs.List.{starts_with}
 use Rattle.std.specs.Cmp.Lexicographic.{pointwise}
 use Rattle.k_words.specs.declared.option.Command.{Command}
-use Rattle.k_words.specs.declared.option.Command.TheVariants.{Run, Graph, Carried, Page, Show, Check, Demo}
+use Rattle.k_words.specs.declared.option.Command.TheVariants.{Run, Graph, Carried, Page, Annotate, Show, Check, Demo}
 use Rattle.k_words.specs.declared.option.Setting.{Setting}
 use Rattle.k_words.specs.declared.option.Setting.TheVariants.{Steps, Depth, Latency, Dict, Save, Json, Csv}
 use Rattle.k_words.specs.Number.{number_within}
@@ -67,6 +67,13 @@ is_taken Page Dict = true
 is_taken Page Save = false
 is_taken Page Json = false
 is_taken Page Csv = false
+is_taken Annotate Steps = true
+is_taken Annotate Depth = true
+is_taken Annotate Latency = true
+is_taken Annotate Dict = false
+is_taken Annotate Save = false
+is_taken Annotate Json = false
+is_taken Annotate Csv = false
 is_taken Show Steps = false
 is_taken Show Depth = false
 is_taken Show Latency = false
@@ -91,6 +98,7 @@ most_steps Run = 1000000000
 most_steps Graph = 200000
 most_steps Carried = 1000000000
 most_steps Page = 1000000000
+most_steps Annotate = 1000000000
 most_steps Show = 1000000000
 most_steps Check = 1000000000
 most_steps Demo = 1000000000
@@ -99,7 +107,7 @@ most_steps Demo = 1000000000
 abbrev pub most_depth : ℕ
 most_depth = 32
 
--- how many operations `run`, `carried` and `page` make at most where they are not told, and `demo`
+-- how many operations `run`, `carried`, `page` and `annotate` make at most where they are not told, and `demo`
 abbrev pub standard_steps : ℕ
 standard_steps = 100000000
 

@@ -21,6 +21,7 @@ IsJobWithin (job.Run file steps depth latency dict save) = IsRunWithin 100000000
 IsJobWithin (job.Graph file steps depth latency) = IsRunWithin 200000 steps depth
 IsJobWithin (job.Carried file steps depth latency) = IsRunWithin 1000000000 steps depth
 IsJobWithin (job.Page file steps depth latency dict) = IsRunWithin 1000000000 steps depth
+IsJobWithin (job.Annotate file steps depth latency) = IsRunWithin 1000000000 steps depth
 IsJobWithin (job.Show file form) = Unit {0}
 IsJobWithin (job.Check file) = Unit {0}
 IsJobWithin (job.Demo number loops) = IsWithin 1 2000 loops

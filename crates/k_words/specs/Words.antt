@@ -8,7 +8,7 @@ use Rattle.k_words.specs.declared.job.Job.TheVariants as job
 use Rattle.k_words.specs.declared.job.Form.{Form}
 use Rattle.k_words.specs.declared.job.Form.TheVariants as form
 use Rattle.k_words.specs.declared.option.Command.{Command}
-use Rattle.k_words.specs.declared.option.Command.TheVariants.{Run, Graph, Carried, Page, Show, Check, Demo}
+use Rattle.k_words.specs.declared.option.Command.TheVariants.{Run, Graph, Carried, Page, Annotate, Show, Check, Demo}
 use Rattle.k_words.specs.declared.usage.Usage.{Usage}
 use Rattle.k_words.specs.declared.usage.Usage.TheVariants.{NoCommand, UnknownWord, BadNumber, Twice, NoFile, Memory}
 use Rattle.k_words.specs.Number.{number_within}
@@ -63,8 +63,8 @@ unfoldable pub command_of : List ℕ → Option Command
 command_of word =
     if is word (codes "run") then Some Run else if is word (codes "graph") then Some Graph
     else if is word (codes "carried") then Some Carried else if is word (codes "page") then Some Page
-    else if is word (codes "show") then Some Show else if is word (codes "check") then Some Check
-    else if is word (codes "demo") then Some Demo else None
+    else if is word (codes "annotate") then Some Annotate else if is word (codes "show") then Some Show
+    else if is word (codes "check") then Some Check else if is word (codes "demo") then Some Demo else None
 
 -- what is wrong with the command
 abbrev pub command_fault : Option Command → Option Usage
@@ -77,6 +77,7 @@ argument_fault Run words k = file_fault Run words k
 argument_fault Graph words k = file_fault Graph words k
 argument_fault Carried words k = file_fault Carried words k
 argument_fault Page words k = file_fault Page words k
+argument_fault Annotate words k = file_fault Annotate words k
 argument_fault Show words k = file_fault Show words k
 argument_fault Check words k = file_fault Check words k
 argument_fault Demo words k = demo_fault words k
@@ -109,6 +110,10 @@ carried_of file g = job.Carried file (unwrap_or g.steps standard_steps) (unwrap_
 abbrev pub page_of : List ℕ → Given → Job
 page_of file g = job.Page file (unwrap_or g.steps standard_steps) (unwrap_or g.depth standard_depth) g.latency g.dict
 
+-- what `annotate` with this file and these options asks for
+abbrev pub annotate_of : List ℕ → Given → Job
+annotate_of file g = job.Annotate file (unwrap_or g.steps standard_steps) (unwrap_or g.depth standard_depth) g.latency
+
 -- how `show` with these options shows a profile
 abbrev pub form_of : Given → Form
 form_of g = if g.csv then form.Csv else if g.json then form.Json g.dict else form.Report g.dict
@@ -137,6 +142,11 @@ abbrev pub page_job : List (List ℕ) → Option Job
 page_job [] = None
 page_job (file ∷ words) = Some (page_of file (given Page words))
 
+-- what `annotate` with these arguments asks for
+abbrev pub annotate_job : List (List ℕ) → Option Job
+annotate_job [] = None
+annotate_job (file ∷ words) = Some (annotate_of file (given Annotate words))
+
 -- what `show` with these arguments asks for
 abbrev pub show_job : List (List ℕ) → Option Job
 show_job [] = None
@@ -159,6 +169,7 @@ job_with words Run = run_job words
 job_with words Graph = graph_job words
 job_with words Carried = carried_job words
 job_with words Page = page_job words
+job_with words Annotate = annotate_job words
 job_with words Show = show_job words
 job_with words Check = check_job words
 job_with words Demo = demo_job words

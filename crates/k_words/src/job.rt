@@ -1,7 +1,7 @@
 //! What the words of the command line ask for.
 ghost use Rattle.std.specs.Prelude.{◌≡◌, MatchResult, IfOk, option_map};
 ghost use Rattle.k_words.specs.Settings.{IsFirst, seen, seen_words};
-ghost use Rattle.k_words.specs.Words.{Answers, IsAnswer, ReadsFile, carried_job, check_job, command_of, demo_fault, demo_job, file_fault, graph_job, is_no_file, page_job, run_job, show_job, form_of};
+ghost use Rattle.k_words.specs.Words.{Answers, IsAnswer, ReadsFile, annotate_job, carried_job, check_job, command_of, demo_fault, demo_job, file_fault, graph_job, is_no_file, page_job, run_job, show_job, form_of};
 
 use crate::number::number_within;
 use crate::option::{Command, STANDARD_DEPTH, STANDARD_STEPS};
@@ -56,6 +56,14 @@ pub enum Job {
         latency: Option<Text>,
         dict: bool,
     },
+    /// A program is run as by `run`, and its source is written with what its functions and loops took, and with an OpenMP line before each loop that may be
+    /// marked.
+    Annotate {
+        file: Text,
+        steps: u64,
+        depth: u32,
+        latency: Option<Text>,
+    },
     /// A saved profile is shown.
     Show {
         file: Text,
@@ -84,6 +92,7 @@ pub fn words(alloc: Global, list: &[String]) -> Result<Job, Usage>
         Some(Command::Graph) => graph_job(alloc, arguments),
         Some(Command::Carried) => carried_job(alloc, arguments),
         Some(Command::Page) => page_job(alloc, arguments),
+        Some(Command::Annotate) => annotate_job(alloc, arguments),
         Some(Command::Show) => show_job(alloc, arguments),
         Some(Command::Check) => check_job(alloc, arguments),
         Some(Command::Demo) => demo_job(arguments),
@@ -104,6 +113,8 @@ fn command_of(word: &str) -> Option<Command>
         Some(Command::Carried)
     } else if word == "page" {
         Some(Command::Page)
+    } else if word == "annotate" {
+        Some(Command::Annotate)
     } else if word == "show" {
         Some(Command::Show)
     } else if word == "check" {
@@ -179,6 +190,22 @@ fn page_job(alloc: Global, arguments: &[String]) -> Result<Job, Usage>
         depth: settings.depth.unwrap_or(STANDARD_DEPTH),
         latency: copy_of_name(alloc, settings.latency)?,
         dict: settings.dict,
+    })
+}
+
+/// What `annotate` with these arguments asks for.
+fn annotate_job(alloc: Global, arguments: &[String]) -> Result<Job, Usage>
+    ensures { Answers (file_fault Command.Annotate (seen_words arguments.now)) (annotate_job (seen_words arguments.now)) result }
+{
+    let (file, settings) = match file_and_settings(Command::Annotate, arguments) {
+        Ok(read) => read,
+        Err(fault) => return Err(fault),
+    };
+    Ok(Job::Annotate {
+        file: Text::copy_of(alloc, file)?,
+        steps: settings.steps.unwrap_or(STANDARD_STEPS),
+        depth: settings.depth.unwrap_or(STANDARD_DEPTH),
+        latency: copy_of_name(alloc, settings.latency)?,
     })
 }
 

@@ -9,6 +9,7 @@ pub enum Command {
     Graph,
     Carried,
     Page,
+    Annotate,
     Show,
     Check,
     Demo,
@@ -97,7 +98,7 @@ fn is_taken(command: Command, setting: Setting) -> bool
 {
     match command {
         Command::Run => !matches!(setting, Setting::Json | Setting::Csv),
-        Command::Graph | Command::Carried => {
+        Command::Graph | Command::Carried | Command::Annotate => {
             matches!(setting, Setting::Steps | Setting::Depth | Setting::Latency)
         }
         Command::Page => !matches!(setting, Setting::Save | Setting::Json | Setting::Csv),
@@ -106,7 +107,7 @@ fn is_taken(command: Command, setting: Setting) -> bool
     }
 }
 
-/// How many operations `run`, `carried` and `page` make at most where they are not told, and `demo`.
+/// How many operations `run`, `carried`, `page` and `annotate` make at most where they are not told, and `demo`.
 pub const STANDARD_STEPS: u64 = 100_000_000;
 
 /// Instances of depths below this are tracked where a command is not told.

@@ -31,7 +31,7 @@ fn parts(fault: Usage) -> (&'static str, u32) {
 }
 
 /// Lines of words that are refused, each with its fault and the fault's index.
-static REFUSED: [(&str, &str, u32); 88] = [
+static REFUSED: [(&str, &str, u32); 95] = [
     ("", "NoCommand", 0),
     ("ruN", "UnknownWord", 0),
     ("--help", "UnknownWord", 0),
@@ -40,6 +40,7 @@ static REFUSED: [(&str, &str, u32); 88] = [
     ("graph", "NoFile", 0),
     ("carried", "NoFile", 0),
     ("page", "NoFile", 0),
+    ("annotate", "NoFile", 0),
     ("show", "NoFile", 0),
     ("check", "NoFile", 0),
     ("demo", "NoFile", 0),
@@ -78,6 +79,9 @@ static REFUSED: [(&str, &str, u32); 88] = [
     ("page a.c --json", "UnknownWord", 2),
     ("page a.c --csv", "UnknownWord", 2),
     ("pages a.c", "UnknownWord", 0),
+    ("annotate a.c --dict", "UnknownWord", 2),
+    ("annotate a.c --save=x", "UnknownWord", 2),
+    ("annotated a.c", "UnknownWord", 0),
     ("check a.c --json", "UnknownWord", 2),
     ("check a.c --dict", "UnknownWord", 2),
     ("check a.c b.c", "UnknownWord", 2),
@@ -94,9 +98,12 @@ static REFUSED: [(&str, &str, u32); 88] = [
     ("run a.c --depth=33", "BadNumber", 2),
     ("run a.c --depth=4294967297", "BadNumber", 2),
     ("page a.c --steps=1000000001", "BadNumber", 2),
+    ("annotate a.c --steps=1000000001", "BadNumber", 2),
+    ("annotate a.c --depth=33", "BadNumber", 2),
     ("graph a.c --steps=200001", "BadNumber", 2),
     ("run a.c --dict --dict", "Twice", 3),
     ("page a.c --dict --dict", "Twice", 3),
+    ("annotate a.c --latency=l --latency=l", "Twice", 3),
     ("run a.c --steps=5 --steps=6", "Twice", 3),
     ("run a.c --steps=5 --depth=3 --steps=x", "Twice", 4),
     ("run a.c --latency=l --latency=m", "Twice", 3),
@@ -219,6 +226,16 @@ fn job_parts(job: &Job) -> ([&str; 4], [u64; 2], bool) {
             [*steps, u64::from(*depth)],
             *dict,
         ),
+        Job::Annotate {
+            file,
+            steps,
+            depth,
+            latency,
+        } => (
+            ["annotate", file.as_str(), name_of(latency), ""],
+            [*steps, u64::from(*depth)],
+            false,
+        ),
         Job::Show { file, form } => (
             ["show", file.as_str(), form_name(form), ""],
             [0, 0],
@@ -230,7 +247,7 @@ fn job_parts(job: &Job) -> ([&str; 4], [u64; 2], bool) {
 }
 
 /// Lines of words, each with its job's names, numbers and whether the dictionary is listed.
-static ACCEPTED: [(&str, [&str; 4], [u64; 2], bool); 25] = [
+static ACCEPTED: [(&str, [&str; 4], [u64; 2], bool); 27] = [
     ("run a.c", ["run", "a.c", "", ""], [100_000_000, 24], false),
     ("run -", ["run", "-", "", ""], [100_000_000, 24], false),
     ("run -x", ["run", "-x", "", ""], [100_000_000, 24], false),
@@ -301,6 +318,18 @@ static ACCEPTED: [(&str, [&str; 4], [u64; 2], bool); 25] = [
         ["page", "a.c", "l", ""],
         [1_000_000_000, 1],
         true,
+    ),
+    (
+        "annotate a.c",
+        ["annotate", "a.c", "", ""],
+        [100_000_000, 24],
+        false,
+    ),
+    (
+        "annotate a.c --depth=32 --steps=1000000000 --latency=l",
+        ["annotate", "a.c", "l", ""],
+        [1_000_000_000, 32],
+        false,
     ),
     ("show p", ["show", "p", "report", ""], [0, 0], false),
     ("show p --dict", ["show", "p", "report", ""], [0, 0], true),

@@ -1,5 +1,5 @@
 use Rattle.std.proofs.Common.{◌∙◌, Some, ap, string_bytes, sym}
-use Rattle.k_words.specs.declared.option.Command.TheVariants.{Run, Graph, Carried, Page, Show, Check, Demo}
+use Rattle.k_words.specs.declared.option.Command.TheVariants.{Run, Graph, Carried, Page, Annotate, Show, Check, Demo}
 use Rattle.k_words.specs.Settings.{seen_words}
 use Rattle.k_words.specs.Words.{command_of}
 use Rattle.k_words.proofs.Answering.{of_arguments}
@@ -28,6 +28,12 @@ returns-in-Some-Page c =
     of_arguments (seen_words c.args.list.now) (string_bytes c.in-Some.command.now) (seen_words c.in-Some.arguments.now) Page c.page_job.result
     (ap seen_words c.in-Some.ensures.cases.0)
     (ap command_of (sym c.as_str.ensures.value) ∙ sym c.command_of.ensures ∙ c.in-Some-Page.is ∙ ap Some c.in-Some-Page.field-0-is) c.page_job.ensures
+
+pub returns-in-Some-Annotate : goal.returns-in-Some-Annotate
+returns-in-Some-Annotate c =
+    of_arguments (seen_words c.args.list.now) (string_bytes c.in-Some.command.now) (seen_words c.in-Some.arguments.now) Annotate c.annotate_job.result
+    (ap seen_words c.in-Some.ensures.cases.0)
+    (ap command_of (sym c.as_str.ensures.value) ∙ sym c.command_of.ensures ∙ c.in-Some-Annotate.is ∙ ap Some c.in-Some-Annotate.field-0-is) c.annotate_job.ensures
 
 pub returns-in-Some-Show : goal.returns-in-Some-Show
 returns-in-Some-Show c =
