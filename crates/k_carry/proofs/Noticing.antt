@@ -156,7 +156,7 @@ module _ (s : Setting) (events : List Event) (k : Kept) (set : IsSetting s) (her
       (operation_gathers events class i.latency (sources_with m) i.place noted.origins g is (origins_are m cited noted.origins reads noted.numbers noted.placed))
 
   -- so many operations were made then
-  made_then : (operation : Option Made) → made_after made operation ≡ length (operations (events ++ operation_events class i c operation))
+  pub made_then : (operation : Option Made) → made_after made operation ≡ length (operations (events ++ operation_events class i c operation))
   made_then None =
       made_is s events k set here ∙ ap (λ (es : List Event). length (operations es)) (sym (append-nil events))
   made_then (Some m) =
@@ -200,7 +200,7 @@ module _ (s : Setting) (events : List Event) (k : Kept) (set : IsSetting s) (her
       (subst (λ (x : Gathered). IsOfProgram s x) (sym noted.operation.is) (operation_of_program s noted.operation.origins i.place h.operation g of))))
 
   -- so many operations are there behind it
-  happened_made : (h : Happened) → length (operations (events ++ happened class i c h)) ≡ made_after made h.operation
+  pub happened_made : (h : Happened) → length (operations (events ++ happened class i c h)) ≡ made_after made h.operation
   happened_made h =
       let one : List Event = events ++ operation_events class i c h.operation in
       ap (λ (es : List Event). length (operations es))

@@ -94,7 +94,7 @@ open_left events (suc n) =
     subst (λ (es : List Event). length (open_after es) ≤ length (open_after events)) (append_assoc events (Exit ∷ []) (replicate n Exit)) (omega (arith, one, rest))
 
 -- at most one more is open behind an instruction
-open_happened : (events : List Event) (class : Class) (i : Instr) (c : Configuration) (h : Happened)
+pub open_happened : (events : List Event) (class : Class) (i : Instr) (c : Configuration) (h : Happened)
     → length (open_after (events ++ happened class i c h)) ≤ length (open_after events) + 1
 open_happened events class i c h =
     let made : length (open_after (events ++ operation_events class i c h.operation)) ≤ length (open_after events) = by_operation h.operation in
@@ -219,7 +219,7 @@ module _ (s : Setting) (events : List Event) (k : Kept) (set : IsSetting s) (her
       let traced : IsTraced s.code now = configurations_are_traced s.code set.valid s.input s.budget here.count now here.run in
       omega (arith, traced.opened, here.opened, count_few)
 
-  next_run : (more : List Event) (k' : Kept) → GoesOn k more k' → run_of s.code s.input s.budget (suc here.count) ≡ Going (behind_all (events ++ more) here.taken (configuration_of k'))
+  pub next_run : (more : List Event) (k' : Kept) → GoesOn k more k' → run_of s.code s.input s.budget (suc here.count) ≡ Going (behind_all (events ++ more) here.taken (configuration_of k'))
   next_run more k' on =
       ap (step s.code) here.run
       ∙ (ap (λ (code : Code). step code (Going now)) (sym here.code) ∙ on.1 events here.taken)

@@ -3,7 +3,7 @@
 //! and of its turn, and the pairs.
 #![tactic(auto)]
 
-mod advance;
+pub mod advance;
 mod cited;
 mod kind;
 mod places;

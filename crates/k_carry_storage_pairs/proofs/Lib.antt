@@ -1,0 +1,9 @@
+pub mod Alike
+pub mod Answer
+pub mod Firsting
+pub mod Going
+pub mod Joined
+pub mod Keeping
+pub mod Knowing
+pub mod Relisted
+pub mod Within
