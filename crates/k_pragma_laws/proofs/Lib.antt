@@ -1,0 +1,11 @@
+pub mod Allowed
+pub mod Blind
+pub mod Classes
+pub mod Fronts
+pub mod Harmless
+pub mod Inserted
+pub mod Keeping
+pub mod Notes
+pub mod Reading
+pub mod Steps
+pub mod Whole

@@ -1,0 +1,4 @@
+//! Laws of annotated sources: what annotating keeps of a source.
+#![tactic(auto)]
+
+pub mod laws;
