@@ -11,11 +11,15 @@ the run of a large size is stopped after a million operations, and after a hundr
 program, gcc's and callgrind's columns alone.
 """
 
+import atexit
 import os
 import re
+import shutil
 import subprocess
 import sys
+import tempfile
 
+PEAK = []
 TURNS = 3
 CALLGRIND = ["valgrind", "--tool=callgrind", f"--callgrind-out-file={os.devnull}"]
 HERE = os.path.join(os.path.dirname(os.path.abspath(__file__)), "machine")
@@ -54,9 +58,20 @@ def built(source):
     return path
 
 
+def peak_of():
+    """A program that notes the largest memory of another, and where it does: what a process had before it became the other counts to the system."""
+    if not PEAK:
+        folder = tempfile.mkdtemp(prefix="kremlin-peak-")
+        atexit.register(shutil.rmtree, folder)
+        PEAK.extend([f"{folder}/peak_of", f"{folder}/peak"])
+        subprocess.run(["gcc", "-O1", "-o", PEAK[0], os.path.join(HERE, "..", "..", "tests", "peak.c")], check=True)
+    return PEAK
+
+
 def run(command, statuses=(0,)):
     """What a command prints and tells on standard error, its seconds of processor time and its largest memory in bytes."""
-    process = subprocess.Popen(command, stdout=subprocess.PIPE, stderr=subprocess.PIPE, text=True)
+    program, *words = command
+    process = subprocess.Popen([*peak_of(), shutil.which(program) or program, *words], stdout=subprocess.PIPE, stderr=subprocess.PIPE, text=True)
     # what is told is short, so it never fills its pipe while the output is read
     printed = process.stdout.read()
     told = process.stderr.read()
@@ -64,7 +79,8 @@ def run(command, statuses=(0,)):
     process.returncode = os.waitstatus_to_exitcode(status)
     if process.returncode not in statuses:
         sys.exit(f"{command} ended with {process.returncode}: {told}")
-    return printed, told, usage.ru_utime + usage.ru_stime, usage.ru_maxrss * 1024
+    with open(PEAK[1]) as file:
+        return printed, told, usage.ru_utime + usage.ru_stime, int(file.read()) * 1024
 
 
 def instructions(command):

@@ -7,6 +7,7 @@ mod long;
 mod noted;
 mod programs;
 mod saves;
+mod short;
 
 use k_edge::{Files, MemFiles, MemSink, MemSource, Sink, Source, SureFiles, SureSink, SureSource};
 use k_num::NoMemory;
