@@ -12,10 +12,10 @@ use Rattle.std.proofs.lemmas.Map.Keys.{sorted_tail}
 use Rattle.k_sum.specs.Exits.{counted, exit_of, runs_of}
 use Rattle.k_sum.specs.declared.exits.Exit.{Exit}
 
-cmp-less : (n m : ℤ) → int_lt n m ≡ true → int_cmp n m ≡ Less
+pub cmp-less : (n m : ℤ) → int_lt n m ≡ true → int_cmp n m ≡ Less
 cmp-less n m less = ap (λ b. cond b Less (cond (int_lt m n) Greater Equal)) less
 
-cmp-more : (n m : ℤ) → int_lt n m ≡ false → int_lt m n ≡ true → int_cmp n m ≡ Greater
+pub cmp-more : (n m : ℤ) → int_lt n m ≡ false → int_lt m n ≡ true → int_cmp n m ≡ Greater
 cmp-more n m unless more = ap (λ b. cond b Less (cond (int_lt m n) Greater Equal)) unless ∙ ap (λ b. cond b Greater Equal) more
 
 pub cmp-same : (n m : ℤ) → int_lt n m ≡ false → int_lt m n ≡ false → int_cmp n m ≡ Equal

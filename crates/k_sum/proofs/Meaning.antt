@@ -28,7 +28,7 @@ use Rattle.k_sum.proofs.Joins.{all_go_on, known_all, rise}
 
 -- ---- forests side by side
 
-together_is : (f g : Forest) → together f g ≡ beside f g
+pub together_is : (f g : Forest) → together f g ≡ beside f g
 together_is bare g = refl
 together_is (grown x i l) g = ap (grown x i) (together_is l g)
 
@@ -96,7 +96,7 @@ own_entries dict proper = record {
 -- ---- the entries of another dictionary, behind them
 
 -- what runs stand for is known where their entries' trees are
-knows_laid : (dict : List Entry) (trees : List Tree) (high : ℕ) → ((n : ℕ) → n < high → Knows dict (alone (get_or trees n no_tree)))
+pub knows_laid : (dict : List Entry) (trees : List Tree) (high : ℕ) → ((n : ℕ) → n < high → Knows dict (alone (get_or trees n no_tree)))
     → (runs : List Run) → NameBelow high runs → Knows dict (laid trees runs)
 knows_laid dict trees high each [] below = tt
 knows_laid dict trees high each (run ∷ runs) below = by (knows_laid dict trees high each runs below.2) run.count
@@ -106,11 +106,11 @@ knows_laid dict trees high each (run ∷ runs) below = by (knows_laid dict trees
     by rest (suc n) = let one = each run.entry below.0 in (one.0, one.1, by rest n)
 
 -- entries that were joined, where those of the other dictionary are these so far
-record Stands (seen : List Tree) (before : List Entry) (j : Joined) : Type 0 where
-  are : AreEntriesOf j.dict (seen ++ trees_of before)
-  count : length j.numbers ≡ length before
-  knows : (n : ℕ) → n < length before → Knows j.dict (alone (tree_at before n))
-  each : (n : ℕ) → n < length before → get_or j.numbers n 0 ≡ number_in j.dict (tree_at before n)
+pub record Stands (seen : List Tree) (before : List Entry) (j : Joined) : Type 0 where
+  pub are : AreEntriesOf j.dict (seen ++ trees_of before)
+  pub count : length j.numbers ≡ length before
+  pub knows : (n : ℕ) → n < length before → Knows j.dict (alone (tree_at before n))
+  pub each : (n : ℕ) → n < length before → get_or j.numbers n 0 ≡ number_in j.dict (tree_at before n)
 
 module _ (seen : List Tree) (before : List Entry) (j : Joined) (at : Stands seen before j) (e : Entry) (below : NameBelow (length before) e.runs) where
   abbrev children : Forest
@@ -234,7 +234,7 @@ stands_all seen before (e ∷ rest) j at earlier =
 
 -- ---- two sums together
 
-proper_of : (sum : Sum) → TellsOfRuns sum → AreProper sum.dict
+pub proper_of : (sum : Sum) → TellsOfRuns sum → AreProper sum.dict
 proper_of sum tells = record { earlier = tells.earlier; apart = tells.apart }
 
 module _ (one other : Sum) (tells : TellsOfRuns one) (more_tells : TellsOfRuns other) where
@@ -254,10 +254,10 @@ module _ (one other : Sum) (tells : TellsOfRuns one) (more_tells : TellsOfRuns o
         each = λ n less. absurd (omega arith);
       }
 
-  stand : Stands (trees_of one.dict) other.dict all
+  pub stand : Stands (trees_of one.dict) other.dict all
   stand = stands_all (trees_of one.dict) [] other.dict begin begins more_tells.earlier
 
-  proper : AreProper all.dict
+  pub proper : AreProper all.dict
   proper = stand.are.proper
 
   below : NameBelow (length other.dict) other.roots
@@ -275,7 +275,7 @@ module _ (one other : Sum) (tells : TellsOfRuns one) (more_tells : TellsOfRuns o
   coded_other : (so_far : List Run) → code all.dict g so_far ≡ renumbered all.numbers other.roots so_far
   coded_other so_far = code_renumbered all.dict (trees_of other.dict) all.numbers (length other.dict) stand.each other.roots so_far below
 
-  prefix : laid (trees_of all.dict) one.roots ≡ f
+  pub prefix : laid (trees_of all.dict) one.roots ≡ f
   prefix =
       let on = all_go_on begin other.dict in
       let trees = trees-kept one.dict on.0 in

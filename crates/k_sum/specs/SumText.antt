@@ -1,4 +1,4 @@
--- For contracts between crates: nobody has to believe it.
+-- Believed with a public law.
 -- The text of a sum file.
 use Rattle.std.specs.Prelude.{ℕ, List, ◌++◌, length, codes}
 use Rattle.std.specs.List.{flat_map}

@@ -31,7 +31,7 @@ pub(crate) fn count_all(tally: &mut Tally, runs: &[Run]) -> Result<(), NoMemory>
 }
 
 /// Counts these children too, where the entries that they name have these numbers.
-pub(crate) fn count_renumbered(
+pub fn count_renumbered(
     tally: &mut Tally,
     numbers: &[u32],
     runs: &[Run],
@@ -50,7 +50,7 @@ pub(crate) fn count_renumbered(
 }
 
 /// The entry for the instances of another one, where the entries that it names have these numbers.
-fn renumber(alloc: Global, numbers: &[u32], entry: &Entry) -> Result<Entry, NoMemory>
+pub fn renumber(alloc: Global, numbers: &[u32], entry: &Entry) -> Result<Entry, NoMemory>
     requires below { NameBelow (length numbers.now) entry.now.runs }
     requires few { total entry.now.runs < 2 ^ 64 }
     ensures { IfOk result (λ renumbered. renumbered ≡ renumbered_entry numbers.now entry.now) }

@@ -9,6 +9,7 @@ mod one;
 mod sum;
 mod writing;
 
+pub use entries::{count_renumbered, renumber};
 pub use exits::{Exit, Exits};
 pub use one::sum_of;
 pub use sum::{Sum, SumFault};

@@ -1,0 +1,11 @@
+pub mod Batches
+pub mod Comparing
+pub mod ExitOrder
+pub mod Left
+pub mod LevelOrder
+pub mod Merges
+pub mod Naming
+pub mod OneOrder
+pub mod Ordered
+pub mod Placed
+pub mod Steps
