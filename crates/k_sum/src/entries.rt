@@ -31,11 +31,7 @@ pub(crate) fn count_all(tally: &mut Tally, runs: &[Run]) -> Result<(), NoMemory>
 }
 
 /// Counts these children too, where the entries that they name have these numbers.
-pub fn count_renumbered(
-    tally: &mut Tally,
-    numbers: &[u32],
-    runs: &[Run],
-) -> Result<(), NoMemory>
+pub fn count_renumbered(tally: &mut Tally, numbers: &[u32], runs: &[Run]) -> Result<(), NoMemory>
     requires below { NameBelow (length numbers.now) runs.now }
     requires few { total tally.old + total runs.now < 2 ^ 64 }
     ensures { OnOk result (tally.new ≡ renumbered numbers.now runs.now tally.old) }
