@@ -1,0 +1,3 @@
+pub mod Knowing
+pub mod Moving
+pub mod Placing
