@@ -94,7 +94,7 @@ same_path one other (s, t, one_is, other_is, shape) =
 
 module _ (ran : Ran) where
   -- the profile expands to the run's tree, up to the order of siblings
-  alike : (nodes : List Node) (saved : Saved) → IsProfileOf ran nodes saved → AreAlike (nodes_of_profile saved) nodes
+  pub alike : (nodes : List Node) (saved : Saved) → IsProfileOf ran nodes saved → AreAlike (nodes_of_profile saved) nodes
   alike nodes saved is =
       let root = dictionary_expands nodes saved.dict is.dict in
       let count : length saved.dict ≡ root.0 + 1 = root.1 in
@@ -120,24 +120,27 @@ module _ (ran : Ran) where
             (listed p.contexts p.plan) p.plan);
       })
 
--- THE PAGE that is made of what is told of a run is the run's
+-- THE PROFILE that is made of what is told of a run is the run's
+module _ (exit : ℤ) (ops : ℕ) (regions : List Region) (dict : Option (List Entry)) (saved : Saved) (exit_is : saved.exit ≡ exit) (ops_are : saved.ops ≡ ops)
+    (regions_are : saved.regions ≡ regions) (dict_is : dict ≡ Some saved.dict) (ran : Ran) (s : IsSummed exit ops regions dict ran) where
+  pub profile_of : IsProfileOf ran s.nodes saved
+  profile_of =
+      let told : AreTold s.nodes (Some saved.dict) = subst (λ d. AreTold s.nodes d) dict_is s.told in
+      record {
+        exit = exit_is ∙ s.exit_is;
+        ops = ops_are ∙ s.ops_are;
+        regions = regions_are ∙ s.regions_are;
+        dict = told.0;
+        within = told.1;
+      }
+
+-- and so is the page
 module _ (name source : List ℕ) (exit : ℤ) (ops : ℕ) (regions : List Region) (dict : Option (List Entry)) where
   -- where the dictionary is told, with the profile that has it
-  module _ (saved : Saved) (exit_is : saved.exit ≡ exit) (ops_are : saved.ops ≡ ops) (regions_are : saved.regions ≡ regions) (dict_is : dict ≡ Some saved.dict)
-      (ran : Ran) (s : IsSummed exit ops regions dict ran) where
-    profile_of : IsProfileOf ran s.nodes saved
-    profile_of =
-        let told : AreTold s.nodes (Some saved.dict) = subst (λ d. AreTold s.nodes d) dict_is s.told in
-        record {
-          exit = exit_is ∙ s.exit_is;
-          ops = ops_are ∙ s.ops_are;
-          regions = regions_are ∙ s.regions_are;
-          dict = told.0;
-          within = told.1;
-        }
-
-    pub summed_paged : (with_dict : Bool) (text : List ℕ) → IsPage name source saved with_dict text → IsRunPage name source ran with_dict text
-    summed_paged with_dict text p = run_paged ran name source s.nodes saved with_dict text s.tree profile_of p
+  pub summed_paged : (saved : Saved) → saved.exit ≡ exit → saved.ops ≡ ops → saved.regions ≡ regions → dict ≡ Some saved.dict → (ran : Ran)
+      → IsSummed exit ops regions dict ran → (with_dict : Bool) (text : List ℕ) → IsPage name source saved with_dict text → IsRunPage name source ran with_dict text
+  summed_paged saved exit_is ops_are regions_are dict_is ran s with_dict text p =
+      run_paged ran name source s.nodes saved with_dict text s.tree (profile_of exit ops regions dict saved exit_is ops_are regions_are dict_is ran s) p
 
   -- where it is over its limits
   pub large_paged : dict ≡ None → (shown : ℤ) → shown ≡ exit → (with_dict : Bool) (text : List ℕ) → text ≡ large_page_text name shown ops → (ran : Ran)
@@ -150,14 +153,14 @@ module _ (name source : List ℕ) (exit : ℤ) (ops : ℕ) (regions : List Regio
 -- A RUN HAS ONE PAGE
 module _ (ran : Ran) (is_whole : IsWhole ran) (few : (nodes : List Node) → IsTree ran.depth ran.events nodes → length nodes ≤ 576460752303423488) where
   -- a dictionary is not both within its limits and over them
-  apart : (nodes others : List Node) (saved : Saved) → IsTree ran.depth ran.events nodes → IsTree ran.depth ran.events others → IsProfileOf ran nodes saved → IsLarge others → ⊥
+  pub apart : (nodes others : List Node) (saved : Saved) → IsTree ran.depth ran.events nodes → IsTree ran.depth ran.events others → IsProfileOf ran nodes saved → IsLarge others → ⊥
   apart nodes others saved tree other is over =
       let same : others ≡ nodes = one_tree ran others nodes other tree in
       let dict : saved.dict ≡ over.entries = dictionary_is_unique nodes saved.dict over.entries is.dict (subst (λ (l : List Node). IsDictionary l over.entries) same over.dict) in
       none-some over.which (sym is.within ∙ ap (dictionary.refusal 0 0) dict ∙ over.passed)
 
   -- the plan of a run's contexts
-  plans : (nodes : List Node) (saved : Saved) (contexts : List Context) (one other : Option Advice) → IsTree ran.depth ran.events nodes → IsProfileOf ran nodes saved
+  pub plans : (nodes : List Node) (saved : Saved) (contexts : List Context) (one other : Option Advice) → IsTree ran.depth ran.events nodes → IsProfileOf ran nodes saved
       → AreContexts ran.regions nodes contexts → IsPlanned contexts one → IsPlanned contexts other → one ≡ other
   plans nodes saved contexts one other tree is are p q =
       let back : AreContexts ran.regions (nodes_of_profile saved) contexts =

@@ -1,4 +1,4 @@
--- For contracts between crates: nobody has to believe it.
+-- Believed with the theorem on the top call.
 -- Which loops may be marked, and with which lines.
 use Rattle.std.specs.Prelude.{ℕ, ◌+◌, ◌*◌, nat_eq, Bool, false, ◌&&◌, if◌then◌else◌, List, [], ◌∷◌, ◌++◌, length, slice_get, Option, Some, None}
 use Rattle.std.specs.List.{flat_map, list_any}
