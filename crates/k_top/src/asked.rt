@@ -13,7 +13,8 @@ use k_num::{NoMemory, Text};
 use k_shadow::Shadow;
 use k_top_answers::{Answer, Failure};
 use k_top_commands::{
-    carried_answer, check_answer, demo_answer, graph_answer, page_answer, run_answer, show_answer,
+    annotate_answer, carried_answer, check_answer, demo_answer, graph_answer, page_answer,
+    run_answer, show_answer,
 };
 use k_top_programs::make_ready;
 use k_words::{Asked, Job, asked_for, help, version, words};
@@ -123,6 +124,29 @@ fn page_job<F: Files, S: Source, R: Shadow, P: Shadow>(
     Ok(answer)
 }
 
+/// The answer of `annotate` with its options.
+fn annotate_job<F: Files, S: Source, R: Shadow, P: Shadow>(
+    alloc: Global,
+    files: &mut F,
+    input: &mut S,
+    file: Text,
+    steps: u64,
+    depth: u32,
+    latency: Option<Text>,
+    regs: R,
+    pages: P,
+) -> Result<Answer, Failure>
+    requires within { IsRunWithin 1000000000 steps depth }
+    requires registers { IsFresh 2097152 (R.content regs) }
+    requires pages { IsFresh 4194304 (P.content pages) }
+    ensures { FindsJob result (job.Annotate file steps depth latency)
+        (record { files = F.seen files.old; input = S.seen input.old }) (record { files = F.seen files.new; input = S.seen input.new }) }
+{
+    let ready = make_ready(alloc, files, input, file, latency, steps)?;
+    let answer = annotate_answer(alloc, &ready, depth, regs, pages)?;
+    Ok(answer)
+}
+
 /// The rest of the answer to what is asked for. Only a program that `run` runs puts any of it.
 fn job_answer<F: Files, S: Source, K: Sink, R: Shadow, P: Shadow>(
     alloc: Global,
@@ -179,6 +203,14 @@ fn job_answer<F: Files, S: Source, K: Sink, R: Shadow, P: Shadow>(
             dict,
         } => page_job(
             alloc, files, input, file, steps, depth, latency, dict, regs, pages,
+        ),
+        Job::Annotate {
+            file,
+            steps,
+            depth,
+            latency,
+        } => annotate_job(
+            alloc, files, input, file, steps, depth, latency, regs, pages,
         ),
         Job::Show { file, form } => {
             drop(regs);

@@ -7,12 +7,14 @@ use Rattle.k_ending.specs.declared.ending.End.TheVariants.{Returned}
 use Rattle.k_evaluation.specs.Runs.{listing_of}
 use Rattle.k_gen.specs.Text.{program}
 use Rattle.k_types_calls.specs.Getchar.{calls_getchar}
+use Rattle.k_marks_meaning.specs.Marking.{marks_of}
 use Rattle.k_graph.specs.Listings.{IsListing}
 use Rattle.k_graph.specs.declared.tree.Instance.{Instance}
 use Rattle.k_dict_saved.specs.declared.fault.SavedFault.TheVariants.{NotSaved}
 use Rattle.k_report_profile.specs.Report.{IsReport}
 use Rattle.k_data_profile.specs.Pages.{IsRunPage}
 use Rattle.k_data_profile.specs.Shown.{IsDocument, IsTable}
+use Rattle.k_pragma_profile.specs.Annotated.{IsRunAnnotation}
 use Rattle.k_report_profile.specs.RunReport.{IsRunReport, Ran}
 use Rattle.k_regions.specs.Regions.{regions_of}
 use Rattle.k_carry_pairs.specs.Carried.{AreCarried}
@@ -110,6 +112,25 @@ abbrev pub IsPaged : Outside → List ℕ → ℕ → Bool → Answer → Runnin
 IsPaged outside file depth dict answer r =
     (source : List ℕ) × (outside.files file ≡ Some source) × AnswersPage file source depth dict answer r (run_of r).end
 
+-- ANNOTATE, where main returned: the source with what its functions and loops took, and a line before each loop that the plan picks, that carries nothing
+-- from turn to turn, and that may run in parallel
+pub record ToldAnnotated (source : List ℕ) (r : Running) (exit : ℤ) (depth : ℕ) (answer : Answer) : Type 0 where
+  pub loops : List LoopPairs
+  pub are_carried : AreCarried (regions_of r.typed) depth (run_of r).events loops
+  pub text : List ℕ
+  pub annotated : IsRunAnnotation source r.typed (marks_of r.typed) (ran_of r exit depth) loops text
+  pub is : answer ≡ done text
+
+-- ANNOTATE, by how the run of a source ended: where main did not return, nothing
+abbrev pub AnswersAnnotated : List ℕ → ℕ → Answer → Running → End → Type 0
+AnswersAnnotated source depth answer r (Returned exit) = ToldAnnotated source r exit depth answer
+AnswersAnnotated source depth answer r end = answer ≡ ended [] r.steps end
+
+-- ANNOTATE of a run: the source is what the file holds
+abbrev pub IsAnnotated : Outside → List ℕ → ℕ → Answer → Running → Type 0
+IsAnnotated outside file depth answer r =
+    (source : List ℕ) × (outside.files file ≡ Some source) × AnswersAnnotated source depth answer r (run_of r).end
+
 -- how a profile is shown: by its report, by a document, or by the table of its rows
 abbrev pub IsShown : Form → Saved → List ℕ → Type 0
 IsShown (shown.Report dict) profile text = IsReport profile dict text
@@ -146,6 +167,8 @@ AnswersJob outside answer (job.Carried file steps depth latency) =
     AnswersRunning (λ failure. answer ≡ refusal failure) outside file latency steps (λ r. AnswersCarried depth answer r (run_of r).end)
 AnswersJob outside answer (job.Page file steps depth latency dict) =
     AnswersRunning (λ failure. answer ≡ refusal failure) outside file latency steps (IsPaged outside file depth dict answer)
+AnswersJob outside answer (job.Annotate file steps depth latency) =
+    AnswersRunning (λ failure. answer ≡ refusal failure) outside file latency steps (IsAnnotated outside file depth answer)
 AnswersJob outside answer (job.Show file form) =
     AnswersFile (λ failure. answer ≡ refusal failure) outside profile_limit file (λ bytes. (read : Result Saved ℕ) × AnswersProfile form answer bytes read)
 AnswersJob outside answer (job.Check file) = AnswersFile (λ failure. answer ≡ refusal failure) outside file_limit file (AnswersChecked file answer)
@@ -179,6 +202,7 @@ JobCalls outside (job.Run file steps depth latency dict save) = FilesCall outsid
 JobCalls outside (job.Graph file steps depth latency) = FilesCall outside file latency
 JobCalls outside (job.Carried file steps depth latency) = FilesCall outside file latency
 JobCalls outside (job.Page file steps depth latency dict) = FilesCall outside file latency
+JobCalls outside (job.Annotate file steps depth latency) = FilesCall outside file latency
 JobCalls outside (job.Show file form) = ⊥
 JobCalls outside (job.Check file) = ⊥
 JobCalls outside (job.Demo number loops) = ⊥
@@ -193,6 +217,7 @@ JobLoads (job.Run file steps depth latency dict save) = Unit {0}
 JobLoads (job.Graph file steps depth latency) = Unit {0}
 JobLoads (job.Carried file steps depth latency) = Unit {0}
 JobLoads (job.Page file steps depth latency dict) = Unit {0}
+JobLoads (job.Annotate file steps depth latency) = Unit {0}
 JobLoads (job.Show file form) = Unit {0}
 JobLoads (job.Check file) = Unit {0}
 JobLoads (job.Demo number loops) = ⊥

@@ -17,7 +17,7 @@ use k_top_lemmas::Ready;
 use std::alloc::Global;
 
 /// How the run of a program ends, and what its loops carry, of whose instances those below a depth are tracked.
-fn loops_of(alloc: Global, ready: &Ready, depth: u32) -> Result<CarriedPairs, NoMemory>
+pub(crate) fn loops_of(alloc: Global, ready: &Ready, depth: u32) -> Result<CarriedPairs, NoMemory>
     requires { IsFit ready.now depth }
     ensures { IfOk result (λ found. TellsOfLoops (running_of ready.now) depth found) }
 {

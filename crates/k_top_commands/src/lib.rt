@@ -1,6 +1,7 @@
 //! The answers of the commands: of those that run a program, each from a program that is ready to run.
 #![tactic(auto)]
 
+mod annotated;
 mod carried;
 mod checked;
 mod demo;
@@ -10,6 +11,7 @@ mod reported;
 mod shown;
 mod summary;
 
+pub use annotated::annotate_answer;
 pub use carried::carried_answer;
 pub use checked::check_answer;
 pub use demo::demo_answer;

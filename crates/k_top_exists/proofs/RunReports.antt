@@ -24,6 +24,15 @@ use Rattle.k_data_profile.specs.Pages.{IsPage, IsRunPage, path_of, work_of}
 use Rattle.k_data_profile.specs.Pages as pages
 use Rattle.k_data_profile.specs.Shown.{IsDocument, IsTable, listed}
 use Rattle.k_data_profile.proofs.Pages.{run_paged}
+use Rattle.k_lex.specs.Tokens.{tokens}
+use Rattle.k_types_meaning.specs.declared.tree.unit.TUnit.{TUnit}
+use Rattle.k_marks_meaning.specs.declared.Marks.{Marks}
+use Rattle.k_carry_pairs.specs.declared.pairs.LoopPairs.{LoopPairs}
+use Rattle.k_pragma.specs.Insertions.{annotated}
+use Rattle.k_pragma.specs.Marked.{candidates}
+use Rattle.k_pragma_profile.specs.Annotated.{ArePicked, IsAnnotationOf, IsRunAnnotation, picked_in}
+use Rattle.k_pragma_profile.specs.Annotated as annotations
+use Rattle.k_pragma_profile.proofs.Annotations.{run_annotated}
 use Rattle.k_words.specs.declared.job.Form.{Form}
 use Rattle.k_words.specs.declared.job.Form.TheVariants as shown
 use Rattle.k_top_answers.specs.Answers.{IsShown}
@@ -135,3 +144,34 @@ module _ (rows_exist : RowsExist) (contexts_exist : ContextsExist) (plans_exist 
         large_page_text name ran.exit (ops_of ran),
         pages.large nodes tree (record { entries = dictionary.0; which = which; dict = dictionary.1; passed = passed }),
       )
+
+  module _ (source : List ℕ) (typed : TUnit) (marks : Marks) (found : List LoopPairs) where
+    annotations_exist : (saved : Saved) → IsSaved saved
+        → (text : List ℕ) × IsAnnotationOf source typed marks saved.regions (nodes_of_profile saved) found text
+    annotations_exist saved is =
+        let p : HasParts saved = parts_exist saved is in
+        let picked : List ℕ = picked_in p.contexts p.plan in
+        let are : ArePicked saved.regions (nodes_of_profile saved) picked =
+        record { contexts = p.contexts; plan = p.plan; are_contexts = p.are_contexts; planned = p.planned; is = refl } in (
+          annotated source (tokens source) typed marks saved.regions p.rows (candidates found picked),
+          record { rows = p.rows; picked = picked; are_rows = p.are_rows; are_picked = are; is = refl },
+        )
+
+    -- a run has an annotated source
+    pub run_annotations_exist : (ran : Ran) (nodes : List Node) → IsWhole ran → IsTree ran.depth ran.events nodes → length nodes ≤ 576460752303423488
+        → (text : List ℕ) × IsRunAnnotation source typed marks ran found text
+    run_annotations_exist ran nodes is_whole tree few = by (refusal 0 0 dictionary.0) refl
+      where
+        dictionary : (entries : List Entry) × IsDictionary nodes entries
+        dictionary = dictionary_exists nodes (run_in_order ran is_whole nodes tree)
+
+        by : (within : Option Which) → refusal 0 0 dictionary.0 ≡ within → (text : List ℕ) × IsRunAnnotation source typed marks ran found text
+        by None within =
+            let saved : Saved = record { exit = ran.exit; ops = ops_of ran; regions = ran.regions; dict = dictionary.0 } in
+            let is : IsProfileOf ran nodes saved = record { exit = refl; ops = refl; regions = refl; dict = dictionary.1; within = within } in
+            let told = annotations_exist saved (run_saved ran is_whole nodes tree saved is few) in
+            (told.0, run_annotated source typed marks found ran nodes saved told.0 tree is told.1)
+        by (Some which) passed = (
+          source,
+          annotations.large nodes tree (record { entries = dictionary.0; which = which; dict = dictionary.1; passed = passed }),
+        )

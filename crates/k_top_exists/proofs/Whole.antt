@@ -18,6 +18,8 @@ use Rattle.k_carry_pairs.specs.declared.pairs.LoopPairs.{LoopPairs}
 use Rattle.k_carry_text.specs.Lines.{carried_text}
 use Rattle.k_report.specs.Graph.{IsGraphText}
 use Rattle.k_data_profile.specs.Pages.{IsRunPage}
+use Rattle.k_marks_meaning.specs.Marking.{marks_of}
+use Rattle.k_pragma_profile.specs.Annotated.{IsRunAnnotation}
 use Rattle.k_dict_saved.specs.declared.saved.Saved.{Saved}
 use Rattle.k_words.specs.About.{asked_for, help_text, version_text}
 use Rattle.k_words.specs.Within.{IsJobWithin}
@@ -32,7 +34,7 @@ use Rattle.k_words.specs.declared.usage.Usage.TheVariants as usage
 use Rattle.k_words.proofs.Within.{jobs_are_within}
 use Rattle.k_top_answers.specs.declared.failure.Failure.TheVariants as why
 use Rattle.k_evaluation.specs.Runs.{listing_of}
-use Rattle.k_top_answers.specs.Answers.{AnswersAsked, AnswersCarried, AnswersChecked, AnswersJob, AnswersMade, AnswersPage, AnswersProfile, AnswersRun, AnswersWords, IsAnswer, IsListed, IsPaged, IsShown, checked, done, ended, made_running, ran_of, refusal, saved_file}
+use Rattle.k_top_answers.specs.Answers.{AnswersAnnotated, AnswersAsked, AnswersCarried, AnswersChecked, AnswersJob, AnswersMade, AnswersPage, AnswersProfile, AnswersRun, AnswersWords, IsAnnotated, IsAnswer, IsListed, IsPaged, IsShown, checked, done, ended, made_running, ran_of, refusal, saved_file}
 use Rattle.k_top_answers.specs.Checks.{told}
 use Rattle.k_top_answers.specs.Steps.{Outside, Running, file_limit, profile_limit, run_of}
 use Rattle.k_top_answers.specs.Texts.{AreProfileLines, demo_line, plan_line, run_lines, tree_lines, with_report}
@@ -49,7 +51,7 @@ use Rattle.k_top_exists.proofs.GraphTexts.{graph_text_exists}
 use Rattle.k_top_exists.proofs.Listings.{listing_exists, tree_exists}
 use Rattle.k_top_exists.proofs.ReportParts.{contexts_exist, plans_exist}
 use Rattle.k_top_exists.proofs.RowsOfTrees.{rows_exist}
-use Rattle.k_top_exists.proofs.RunReports.{profile_is_shown, run_pages_exist, run_reports_exist}
+use Rattle.k_top_exists.proofs.RunReports.{profile_is_shown, run_annotations_exist, run_pages_exist, run_reports_exist}
 use Rattle.k_top_exists.proofs.SavedFiles.{saved_file_is_answered}
 use Rattle.k_top_exists.proofs.Words.{words_are_answered}
 
@@ -131,6 +133,36 @@ paged_answers outside file latency steps depth dict limited some tracked None is
 paged_answers outside file latency steps depth dict limited some tracked (Some source) is =
     running_answers outside steps limited (λ a r. IsPaged outside file depth dict a r) (paged outside file depth dict some tracked source is) file latency
 
+-- ANNOTATE
+annotated_told : (source : List ℕ) (depth : ℕ) (r : Running) → IsSound r → 1 ≤ depth → depth ≤ 32 → (exit : ℤ) → (run_of r).end ≡ end.Returned exit
+    → (loops : List LoopPairs) × AreCarried (regions_of r.typed) depth (run_of r).events loops → Answered (λ a. AnswersAnnotated source depth a r (end.Returned exit))
+annotated_told source depth r sound some tracked exit is (loops, are_carried) =
+    let tree = tree_of r depth sound in
+    let told : (text : List ℕ) × IsRunAnnotation source r.typed (marks_of r.typed) (ran_of r exit depth) loops text =
+    run_annotations_exist rows_exist contexts_exist plans_exist source r.typed (marks_of r.typed) loops (ran_of r exit depth) tree.0
+    (run_whole r sound exit depth is (run_gives_int r sound exit is) some tracked) tree.1 (run_few r depth tree.0 sound tree.1) in
+    (done told.0, record { loops = loops; are_carried = are_carried; text = told.0; annotated = told.1; is = refl })
+
+annotated_answers : (source : List ℕ) (depth : ℕ) (r : Running) → IsSound r → 1 ≤ depth → depth ≤ 32 → (how : End) → (run_of r).end ≡ how
+    → Answered (λ a. AnswersAnnotated source depth a r how)
+annotated_answers source depth r sound some tracked (end.Returned exit) is =
+    annotated_told source depth r sound some tracked exit is (carried_exist (regions_of r.typed) depth (run_of r).events)
+annotated_answers source depth r sound some tracked (end.Trapped trap place) is = (ended [] r.steps (end.Trapped trap place), refl)
+annotated_answers source depth r sound some tracked end.OutOfSteps is = (ended [] r.steps end.OutOfSteps, refl)
+
+-- the annotated source of a run, of the source that the file holds
+annotated_held : (outside : Outside) (file : List ℕ) (depth : ℕ) → 1 ≤ depth → depth ≤ 32 → (source : List ℕ) → outside.files file ≡ Some source
+    → (r : Running) → IsSound r → Answered (λ a. IsAnnotated outside file depth a r)
+annotated_held outside file depth some tracked source is r sound =
+    let told = annotated_answers source depth r sound some tracked (run_of r).end refl in (told.0, (source, is, told.1))
+
+annotate_answers : (outside : Outside) (file : List ℕ) (latency : Option (List ℕ)) (steps depth : ℕ) → steps ≤ 1000000000 → 1 ≤ depth → depth ≤ 32
+    → (content : Option (List ℕ)) → outside.files file ≡ content → Answered (λ a. AnswersJob outside a (job.Annotate file steps depth latency))
+annotate_answers outside file latency steps depth limited some tracked None is =
+    absent_answers outside steps (λ a r. IsAnnotated outside file depth a r) file latency is
+annotate_answers outside file latency steps depth limited some tracked (Some source) is =
+    running_answers outside steps limited (λ a r. IsAnnotated outside file depth a r) (annotated_held outside file depth some tracked source is) file latency
+
 -- SHOW
 by_profile : (form : Form) (bytes : List ℕ) → SpellsProfileOrIsWrong bytes → Answered (λ a. (read : Result Saved ℕ) × AnswersProfile form a bytes read)
 by_profile form bytes (inl (saved, is)) =
@@ -168,6 +200,8 @@ job_answers outside (job.Carried file steps depth latency) within =
     running_answers outside steps within.steps.at_most (λ a r. AnswersCarried depth a r (run_of r).end) (λ r sound. carried_answers depth r (run_of r).end) file latency
 job_answers outside (job.Page file steps depth latency dict) within =
     paged_answers outside file latency steps depth dict within.steps.at_most within.depth.at_least within.depth.at_most (outside.files file) refl
+job_answers outside (job.Annotate file steps depth latency) within =
+    annotate_answers outside file latency steps depth within.steps.at_most within.depth.at_least within.depth.at_most (outside.files file) refl
 job_answers outside (job.Show file form) within =
     found_answers profile_limit file (λ a bytes. (read : Result Saved ℕ) × AnswersProfile form a bytes read)
     (λ bytes fits. by_profile form bytes (saved_file_is_answered bytes)) (outside.files file)

@@ -22,7 +22,7 @@ use Rattle.k_top_answers.specs.declared.answer.Answer.{Answer}
 use Rattle.k_top_answers.specs.declared.failure.Failure.{Failure}
 use Rattle.k_top_answers.specs.declared.failure.Failure.TheVariants as why
 use Rattle.k_top_lemmas.specs.declared.running.Ready.{Ready}
-use Rattle.k_top_answers.specs.Answers.{AnswersAsked, AnswersCarried, AnswersJob, AnswersPage, AnswersRun, AnswersWords, CallsForFiles, CallsForInput, IsAnswer, IsListed, IsPaged, JobCalls, JobLoads, done, refusal}
+use Rattle.k_top_answers.specs.Answers.{AnswersAnnotated, AnswersAsked, AnswersCarried, AnswersJob, AnswersPage, AnswersRun, AnswersWords, CallsForFiles, CallsForInput, IsAnnotated, IsAnswer, IsListed, IsPaged, JobCalls, JobLoads, done, refusal}
 use Rattle.k_top_answers.specs.Failures.{failure_of_usage}
 use Rattle.k_top_answers.specs.Requests.{AreToLoad, loads_of}
 use Rattle.k_top_lemmas.specs.Parts.{GivesText, running_of}
@@ -197,6 +197,58 @@ module _ (file : List ℕ) (latency : Option (List ℕ)) (steps depth : ℕ) (ol
   pub page_short : (dict : Bool) (r : Ready) → MakesReady (Ok r) file latency steps old new
       → FindsJob (Err why.NoMemory) (job.Page file steps depth latency dict) old new
   page_short dict r (view, is_view, (same, input, runs, holds)) = (view, is_view, (behind_input _ _ _ view old new tt same input, tt))
+
+  -- ANNOTATE
+  annotated_ends : (source : List ℕ) (answer : Answer) (r : Running) (how : End) → AnswersAnnotated source depth answer r how → IsEnd answer
+  annotated_ends source answer r (end.Returned exit) is = record {
+    low = done_low answer.failure (ap (λ (a : Answer). a.failure) is.is);
+    saves = inl (ap (λ (a : Answer). a.failure) is.is);
+  }
+  annotated_ends source answer r (end.Trapped trap place) is = record {
+    low = ended_low r.steps (end.Trapped trap place) answer.failure (ap (λ (a : Answer). a.failure) is);
+    saves = inr (ap (λ (a : Answer). a.saved) is);
+  }
+  annotated_ends source answer r end.OutOfSteps is = record {
+    low = ended_low r.steps end.OutOfSteps answer.failure (ap (λ (a : Answer). a.failure) is);
+    saves = inr (ap (λ (a : Answer). a.saved) is);
+  }
+
+  pub annotated_found : (r : Ready) (answer : Answer) → MakesReady (Ok r) file latency steps old new
+      → AnswersAnnotated r.program.source depth answer (running_of r) (run_of (running_of r)).end
+      → FindsJob (Ok answer) (job.Annotate file steps depth latency) old new
+  annotated_found r answer (view, is_view, (same, input, runs, holds)) is = (
+    view,
+    is_view,
+    (
+      (loads_of (job.Annotate file steps depth latency), refl, same),
+      input,
+      annotated_ends r.program.source answer (running_of r) (run_of (running_of r)).end is,
+      λ outside shows.
+          running_maps (λ failure. ⊥) (λ failure. answer ≡ refusal failure) (λ failure e. absurd e) (λ q. q ≡ running_of r) (IsAnnotated outside file depth answer)
+          (λ q e. (
+            r.program.source,
+            holds outside shows,
+            subst (λ (q : Running). AnswersAnnotated r.program.source depth answer q (run_of q).end) (sym e) is,
+          )) outside file latency steps (runs outside shows),
+    ),
+  )
+
+  pub annotated_failed : (failure : Failure) → MakesReady (Err failure) file latency steps old new
+      → FindsJob (Err failure) (job.Annotate file steps depth latency) old new
+  annotated_failed failure (view, is_view, (before, refuses)) = (
+    view,
+    is_view,
+    (
+      before,
+      refusal_maps _ _ failure (λ fails outside shows.
+          running_maps (λ other. other ≡ failure) (λ other. refusal failure ≡ refusal other) (λ other e. ap refusal (sym e)) (λ running. ⊥)
+          (IsAnnotated outside file depth (refusal failure)) (λ q e. absurd e) outside file latency steps (fails outside shows)) refuses,
+    ),
+  )
+
+  pub annotated_short : (r : Ready) → MakesReady (Ok r) file latency steps old new
+      → FindsJob (Err why.NoMemory) (job.Annotate file steps depth latency) old new
+  annotated_short r (view, is_view, (same, input, runs, holds)) = (view, is_view, (behind_input _ _ _ view old new tt same input, tt))
 
   -- CARRIED
   carried_ends : (answer : Answer) (r : Running) (how : End) → AnswersCarried depth answer r how → IsEnd answer

@@ -16,8 +16,10 @@ pub mod SummaryLemmas
 mod Statuses
 pub mod DemoLemmas
 pub mod PageLemmas
+pub mod AnnotateLemmas
 mod OneListing
 mod OnePage
+mod OneAnnotation
 mod OneReport
 pub mod AskedLemmas
 pub mod FileLemmas

@@ -30,13 +30,14 @@ use Rattle.k_words.specs.declared.usage.Usage.TheVariants as usage
 use Rattle.k_top_answers.specs.declared.answer.Answer.{Answer}
 use Rattle.k_top_answers.specs.declared.failure.Failure.{Failure}
 use Rattle.k_top_answers.specs.declared.failure.Failure.TheVariants as why
-use Rattle.k_top_answers.specs.Answers.{AnswersAsked, AnswersCarried, AnswersChecked, AnswersJob, AnswersProfile, AnswersRun, AnswersWords, IsListed, IsPaged, IsShown, checked, done, refusal}
+use Rattle.k_top_answers.specs.Answers.{AnswersAsked, AnswersCarried, AnswersChecked, AnswersJob, AnswersProfile, AnswersRun, AnswersWords, IsAnnotated, IsListed, IsPaged, IsShown, checked, done, refusal}
 use Rattle.k_top_answers.specs.Checks.{told}
 use Rattle.k_top_answers.specs.Laws.{AnswersAreUnique}
 use Rattle.k_top_answers.specs.Steps.{Outside, Running, file_limit, profile_limit, run_of}
 use Rattle.k_top_lemmas.proofs.Agreeing.{Agree, file_agrees, running_agrees, source_agrees}
 use Rattle.k_top_lemmas.proofs.OneListing.{one_listed}
 use Rattle.k_top_lemmas.proofs.OnePage.{by_paged}
+use Rattle.k_top_lemmas.proofs.OneAnnotation.{by_annotated}
 use Rattle.k_top_lemmas.proofs.OneReport.{one_reported}
 use Rattle.k_top_lemmas.proofs.OneSummary.{one_demo}
 use Rattle.k_top_lemmas.proofs.RunLemmas.{IsSound, run_gives_int}
@@ -131,6 +132,10 @@ one_job outside one other (job.Page file steps depth latency dict) within a b =
     by_paged outside file depth dict one other within.depth.at_least within.depth.at_most
     (running_agrees (λ failure. one ≡ refusal failure) (λ failure. other ≡ refusal failure) _ _ outside steps file latency
     (running_sound (λ failure. one ≡ refusal failure) (IsPaged outside file depth dict one) outside steps within.steps.at_most file latency a) b)
+one_job outside one other (job.Annotate file steps depth latency) within a b =
+    by_annotated outside file depth one other within.depth.at_least within.depth.at_most
+    (running_agrees (λ failure. one ≡ refusal failure) (λ failure. other ≡ refusal failure) _ _ outside steps file latency
+    (running_sound (λ failure. one ≡ refusal failure) (IsAnnotated outside file depth one) outside steps within.steps.at_most file latency a) b)
 one_job outside one other (job.Show file form) within a b =
     by_file form one other (file_agrees (λ failure. one ≡ refusal failure) (λ failure. other ≡ refusal failure) _ _ outside profile_limit file a b)
 one_job outside one other (job.Check file) within a b =

@@ -1,8 +1,12 @@
 -- What a source that is read comes to, by what its tokens, its tree and its types come to.
-use Rattle.std.proofs.Common.{ℕ, ◌≡◌, ◌⊎◌, refl, ap, sym, subst, List, [], ◌∷◌, Ok, Err, inl, inr}
+use Rattle.std.proofs.Common.{ℕ, ◌≡◌, ◌≤◌, ◌⊎◌, ◌∙◌, Bool, true, false, if◌then◌else◌, nat_lt, refl, ap, sym, subst, List, [], ◌∷◌, length, Result, Ok, Err, inl, inr, arith}
+use Rattle.std.proofs.lemmas.Bool.Decides.{nat_tests}
 use Rattle.k_tree.specs.declared.tokens.Token.{Token}
 use Rattle.k_tree.specs.declared.tree.unit.Unit as tree
-use Rattle.k_lex.specs.Tokens.{tokens}
+use Rattle.k_lex.specs.Tokens.{answer, first_place, tokens}
+use Rattle.k_lex_pieces.specs.Outcome.{refused}
+use Rattle.k_lex_pieces.specs.declared.fault.Refusal.TheVariants as refusal
+use Rattle.k_lex_pieces.specs.declared.fault.Fault.{Fault}
 use Rattle.k_lex.specs.declared.fault.LexFault.{LexFault}
 use Rattle.k_lex.specs.declared.fault.LexFault.TheVariants as lexical
 use Rattle.k_parse.specs.Parse.{IsParse}
@@ -120,3 +124,16 @@ type_fails bytes list unit fault lexed parsed (inl is) = subst (λ f. AcceptsSou
 type_fails bytes list unit fault lexed parsed (inr is) =
     let found = started fault (faults unit) is in
     type_fault bytes list unit fault found.0 lexed parsed found.1
+
+-- tokens that come behind a test came because it failed
+behind_test : (b : Bool) (one other : Result (List Token) Fault) (fault : LexFault) (list : List Token) → answer one ≡ Err fault
+    → answer (if b then one else other) ≡ Ok list → b ≡ false
+behind_test true one other fault list refused lexed = absurd (let wrong : Err fault ≡ Ok list = sym refused ∙ lexed in cc wrong)
+behind_test false one other fault list refused lexed = refl
+
+-- a source that has tokens is no longer than one may be
+pub source_short : (bytes : List ℕ) (list : List Token) → tokens bytes ≡ Ok list → length bytes ≤ 1048576
+source_short bytes list lexed =
+    let fits : nat_lt 1048576 (length bytes) ≡ false =
+    behind_test (nat_lt 1048576 (length bytes)) (refused refusal.SourceLong first_place) _ (lexical.SourceLong first_place) list refl lexed in
+    grind (arith, nat_tests, fits)

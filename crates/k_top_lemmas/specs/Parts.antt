@@ -101,12 +101,14 @@ is_name (Some name) file = pointwise nat_eq name file
 abbrev pub program_of : Program → evaluation.Program
 program_of p = record { unit = p.typed; marks = p.marks; latencies = p.latencies }
 
--- a program of which laws of runs and of lowering speak: that of an accepted source, with its marks, whose regions can be saved
+-- a program of which laws of runs and of lowering speak: that of an accepted source, which is no longer than one may be, with its marks, whose regions can be
+-- saved
 pub record CanRun (p : Program) : Type 0 where
   pub unit : source.Unit
   pub accepted : IsAccepted unit (program_of p)
   pub regions : AreRegions (regions_of p.typed)
   pub marks : p.marks ≡ marks_of p.typed
+  pub short : length p.source ≤ 1048576
 
 -- what reading a source comes to: a program with these latencies, or why it is refused
 abbrev pub AcceptsSource : Result Program Failure → List ℕ → Type 0

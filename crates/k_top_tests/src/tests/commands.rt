@@ -78,6 +78,60 @@ static PAGES: [Row; 5] = [
     ),
 ];
 
+/// Annotated sources, and where there are none.
+static ANNOTATED: [Row; 6] = [
+    // sum loop
+    (
+        "annotate a.c",
+        &[(
+            "a.c",
+            "int main(void){int i,s; s=0; for(i=0;i<4;i++) s+=i; return s;}",
+        )],
+        (
+            0,
+            "int /* kremlin: func n=1 work=18 path=3 sp=1/1 */main(void){int i,s; s=0; /* kremlin: loop n=1 work=18 path=3 sp=6/1 */\n#pragma omp parallel for reduction(+:s)\nfor(i=0;i<4;i++) s+=i; return s;}",
+            "",
+        ),
+    ),
+    // chain, whose loop is not picked
+    (
+        "annotate a.c",
+        &[(
+            "a.c",
+            "int a[64]; int main(void){int i; a[0]=0; for(i=1;i<64;i++) a[i]=a[i-1]+1; return a[63];}",
+        )],
+        (
+            0,
+            "int a[64]; int /* kremlin: func n=1 work=765 path=384 sp=129/128 */main(void){int i; a[0]=0; /* kremlin: loop n=1 work=758 path=380 sp=139/76 */for(i=1;i<64;i++) a[i]=a[i-1]+1; return a[63];}",
+            "",
+        ),
+    ),
+    // a trap behind output
+    (
+        "annotate a.c",
+        &[("a.c", "int main(void){int x; putchar('a'); return x;}")],
+        (1, "", "kremlin: trap Uninit at 1:37\n"),
+    ),
+    // few steps
+    (
+        "annotate a.c --steps=5",
+        &[("a.c", "int main(void){for(;;);}")],
+        (2, "", "kremlin: out of steps after 5\n"),
+    ),
+    // refused
+    (
+        "annotate a.c",
+        &[("a.c", "int main(void){return x;}")],
+        (3, "", "kremlin: source refused: Unknown(x) at 1:23\n"),
+    ),
+    // no table
+    (
+        "annotate a.c --latency=l.toml",
+        &[("a.c", "int main(void){return 0;}")],
+        (5, "", "kremlin: no such file: l.toml\n"),
+    ),
+];
+
 /// Sources that are checked.
 static CHECKED: [Row; 4] = [
     // accepted, though its run would trap, and though it reads its input
@@ -282,6 +336,7 @@ static OTHERS: [Row; 2] = [
 fn commands(rt: HostRuntime) -> Result<(), Fail> {
     expect_rows(&rt, rt.alloc(), &TABLES)?;
     expect_rows(&rt, rt.alloc(), &PAGES)?;
+    expect_rows(&rt, rt.alloc(), &ANNOTATED)?;
     expect_rows(&rt, rt.alloc(), &CHECKED)?;
     expect_rows(&rt, rt.alloc(), &CARRIED)?;
     expect_rows(&rt, rt.alloc(), &PROFILES)?;

@@ -21,6 +21,9 @@ carried_job-requires g c = subst IsJobWithin c.in-Carried.is c.requires.within
 pub page_job-requires-clause-within : goal.page_job-requires-clause-within
 page_job-requires-clause-within g c = subst IsJobWithin c.in-Page.is c.requires.within
 
+pub annotate_job-requires-clause-within : goal.annotate_job-requires-clause-within
+annotate_job-requires-clause-within g c = subst IsJobWithin c.in-Annotate.is c.requires.within
+
 pub returns-in-Graph : goal.returns-in-Graph
 returns-in-Graph g c =
     let old : Around = record { files = g.F.Files.seen c.args.files.now; input = g.S.Source.seen c.args.input.now } in
@@ -44,6 +47,14 @@ returns-in-Page g c =
     let out = g.K.Sink.seen c.args.out.now in
     subst (λ (j : Job). StreamsJob c.page_job.result j old new out out) (sym c.in-Page.is)
     (nothing_first c.page_job.result (job.Page c.in-Page.file c.in-Page.steps c.in-Page.depth c.in-Page.latency c.in-Page.dict) old new out out refl c.page_job.ensures)
+
+pub returns-in-Annotate : goal.returns-in-Annotate
+returns-in-Annotate g c =
+    let old : Around = record { files = g.F.Files.seen c.args.files.now; input = g.S.Source.seen c.args.input.now } in
+    let new : Around = record { files = g.F.Files.seen c.annotate_job.new.files; input = g.S.Source.seen c.annotate_job.new.input } in
+    let out = g.K.Sink.seen c.args.out.now in
+    subst (λ (j : Job). StreamsJob c.annotate_job.result j old new out out) (sym c.in-Annotate.is)
+    (nothing_first c.annotate_job.result (job.Annotate c.in-Annotate.file c.in-Annotate.steps c.in-Annotate.depth c.in-Annotate.latency) old new out out refl c.annotate_job.ensures)
 
 pub returns-in-Show : goal.returns-in-Show
 returns-in-Show g c =

@@ -1,4 +1,4 @@
-use Rattle.std.proofs.Common.{◌≡◌, Result, Err, inl, refl, sym, subst, rules, arith}
+use Rattle.std.proofs.Common.{ℕ, ◌≡◌, ◌≤◌, List, length, Result, Err, inl, refl, sym, subst, rules, arith}
 use Rattle.k_types_meaning.specs.declared.tree.unit.TUnit.{TUnit}
 use Rattle.k_top_answers.specs.declared.failure.Failure.{Failure}
 use Rattle.k_top_answers.specs.declared.failure.Failure.TheVariants as why
@@ -6,7 +6,7 @@ use Rattle.k_top_lemmas.specs.declared.program.Program.{Program}
 use Rattle.k_top_answers.specs.Failures.{failure_of_lex, failure_of_parse, failure_of_types}
 use Rattle.k_top_lemmas.specs.Parts.{AcceptsSource}
 use Rattle.k_top_lemmas.proofs.RegionLemmas.{source_regions}
-use Rattle.k_top_lemmas.proofs.SourceLemmas.{accepted, lex_fails, parse_fails, type_fails}
+use Rattle.k_top_lemmas.proofs.SourceLemmas.{accepted, lex_fails, parse_fails, source_short, type_fails}
 use Rattle.k_top_programs.proofs.program.accept.Goals as goal
 
 pub returns-in_err-tokens-clause-source : goal.returns-in_err-tokens-clause-source
@@ -59,4 +59,5 @@ returns-clause-can_run c = record {
   regions = source_regions c.args.source.now c.in_ok-tokens.tokens c.in_ok-unit.unit c.in_ok-typed.typed c.in_ok-tokens.ensures.tokens
       c.in_ok-unit.ensures.tree c.in_ok-typed.ensures.faultless c.in_ok-typed.ensures.typed;
   marks = c.in_ok-marks.ensures;
+  short = subst (λ (bytes : List ℕ). length bytes ≤ 1048576) (sym c.in_ok-kept.ensures) (source_short c.args.source.now c.in_ok-tokens.tokens c.in_ok-tokens.ensures.tokens);
 }
