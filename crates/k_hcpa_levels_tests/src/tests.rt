@@ -1,0 +1,6 @@
+//! Sources that the machine runs.
+mod history;
+mod levels;
+mod programs;
+mod source;
+mod watched;
