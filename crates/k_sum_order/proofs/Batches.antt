@@ -1,6 +1,6 @@
 -- The entries of a level as they are found and sorted.
-use Rattle.std.proofs.Common.{◌≡◌, ℕ, zero, suc, ◌+◌, ◌<◌, ◌≤◌, ◌⊎◌, inl, inr, false, All, Contains, List, [], ◌∷◌, ◌++◌, length, map, get_or, refl, sym, ap, ◌∙◌, subst, arith}
-use Rattle.std.proofs.lemmas.List.Elements.{All-tail, All-nil, All-push}
+use Rattle.std.proofs.Common.{◌≡◌, ℕ, zero, suc, ◌+◌, ◌<◌, inl, inr, false, All, List, [], ◌∷◌, length, map, get_or, sym, subst, arith}
+use Rattle.std.proofs.lemmas.List.Elements.{All-tail}
 use Rattle.std.proofs.lemmas.List.Sorted.{All-permutation, Contains-permutation, IsPermutation-map}
 use Rattle.std.specs.Cmp.Lexicographic.{slice_cmp}
 use Rattle.std.specs.List.Sorted.{IsPermutation}
@@ -8,7 +8,7 @@ use Rattle.std.specs.Ordering.{is_lt, nat_cmp}
 use Rattle.k_dict.specs.Entries.{NameEarlier}
 use Rattle.k_dict.specs.declared.entry.Entry.{Entry}
 use Rattle.k_sum_order.specs.Order.{ComesBefore, key_of}
-use Rattle.k_sum_order.specs.Placing.{AreLevels, AreOrderedTo, AreRanked, HaveRisingKeys, Ordering, OrdersLevel, entry_with, placed_all}
+use Rattle.k_sum_order.specs.Placing.{AreLevels, AreOrderedTo, AreRanked, HaveRisingKeys, Ordering, OrdersLevel, entry_with}
 use Rattle.k_sum_order.specs.declared.batch.Ranked.{Ranked}
 use Rattle.k_sum_order.proofs.Comparing.{not_lower}
 use Rattle.k_sum_order.proofs.Placed.{AreOfLevel, IsAmong, Rise, level_ordered}

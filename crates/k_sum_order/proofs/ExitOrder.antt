@@ -1,5 +1,5 @@
 -- Exit values are one list where as many runs ended with each.
-use Rattle.std.proofs.Common.{◌≡◌, ℕ, ℤ, ◌+◌, ◌<◌, ◌≤◌, Bool, true, false, List, [], ◌∷◌, refl, sym, ap, ◌∙◌, subst, arith, int_cmp, int_lt, if◌then◌else◌}
+use Rattle.std.proofs.Common.{◌≡◌, ℕ, ℤ, ◌+◌, ◌≤◌, Bool, true, false, List, [], ◌∷◌, refl, sym, ap, ◌∙◌, subst, arith, int_cmp, int_lt, if◌then◌else◌}
 use Rattle.std.proofs.lemmas.Bool.Decides.{Decides-int_eq}
 use Rattle.std.proofs.lemmas.Cmp.{int_cmp_total, tied_itself}
 use Rattle.std.specs.Ordering.{int_eq, is_eq, ordering_reverse}
@@ -8,7 +8,7 @@ use Rattle.std.specs.declared.cmp.Ordering.TheVariants.{Less, Equal, Greater}
 use Rattle.k_sum.specs.Exits.{counted, with_exits}
 use Rattle.k_sum.specs.Laws.{ended_with}
 use Rattle.k_sum.specs.declared.exits.Exit.{Exit}
-use Rattle.k_sum.proofs.Counting.{cmp-less, cmp-same}
+use Rattle.k_sum.proofs.Counting.{cmp-less}
 
 -- a value is lower than those of exit values
 abbrev pub IsBelow : ℤ → List Exit → Type 0

@@ -1,7 +1,6 @@
 -- No entry of a sum is left over, and sums of the same runs have one file.
-use Rattle.std.proofs.Common.{◌≡◌, ℕ, zero, suc, ◌+◌, ◌-◌, ◌<◌, ◌≤◌, ◌⊎◌, inl, inr, List, [], ◌∷◌, ◌++◌, length, get_or, Some, slice_get, refl, sym, ap, ◌∙◌, subst, arith, length-append}
+use Rattle.std.proofs.Common.{◌≡◌, ℕ, zero, suc, ◌+◌, ◌-◌, ◌<◌, ◌≤◌, ◌⊎◌, inl, inr, List, [], ◌∷◌, ◌++◌, length, get_or, Some, slice_get, refl, sym, ap, ◌∙◌, subst, arith}
 use Rattle.std.proofs.lemmas.Bool.{cases_lt}
-use Rattle.std.proofs.lemmas.List.{get_or_append_left}
 use Rattle.std.proofs.lemmas.Option.{none-some, same_Some, slice_get_within}
 use Rattle.k_dict.specs.Entries.{NameBelow, NameEarlier, copies, laid, no_tree, tree_at, tree_of, trees_of}
 use Rattle.k_dict.specs.Laws.{HaveLikes}
@@ -11,7 +10,7 @@ use Rattle.k_dict.specs.declared.entry.Entry.{Entry}
 use Rattle.k_dict.specs.declared.entry.Run.{Run}
 use Rattle.k_dict.proofs.Again.{IsAt, from_list}
 use Rattle.k_dict.proofs.Coding.{AreProper, Knows, code, code_alike, entry_at, tree_alike}
-use Rattle.k_dict.proofs.EntryTrees.{below_bound, length-trees, tree_is, trees-kept}
+use Rattle.k_dict.proofs.EntryTrees.{below_bound, length-trees, tree_is}
 use Rattle.k_dict.proofs.Forests.{Alike-sym, SameShape-further, SameShape-refl, SameShape-sym}
 use Rattle.k_dict.proofs.Numbers.{IsIn}
 use Rattle.k_dict.proofs.Walking.{EachWith-back, tree_there}

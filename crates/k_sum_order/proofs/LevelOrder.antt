@@ -1,5 +1,5 @@
 -- Levels of entries, and that entries of lower levels come first.
-use Rattle.std.proofs.Common.{◌≡◌, ℕ, zero, suc, ◌+◌, ◌<◌, ◌≤◌, ◌⊎◌, inl, inr, max, List, [], ◌∷◌, ◌++◌, length, get_or, Some, slice_get, refl, sym, ap, ◌∙◌, subst, arith, length-append}
+use Rattle.std.proofs.Common.{◌≡◌, ℕ, zero, suc, ◌+◌, ◌<◌, ◌≤◌, inl, inr, max, List, [], ◌∷◌, ◌++◌, length, get_or, refl, sym, ap, ◌∙◌, subst, arith, length-append}
 use Rattle.std.proofs.lemmas.Bool.{cases_lt}
 use Rattle.std.proofs.lemmas.List.{get_or_append_left, get_or_at}
 use Rattle.k_dict.specs.Entries.{NameBelow, NameEarlier}
@@ -10,7 +10,7 @@ use Rattle.k_dict.proofs.EntryTrees.{below_bound}
 use Rattle.k_dict_saved.specs.Formats.{Names}
 use Rattle.k_sum_order.specs.Order.{ComesBefore, behind}
 use Rattle.k_sum_order.specs.Placing.{AreLevels, AreOrderedTo, Ordering, entry_with, level_over}
-use Rattle.k_sum_order.proofs.Comparing.{before_itself, fewer_before, place_before}
+use Rattle.k_sum_order.proofs.Comparing.{fewer_before, place_before}
 use Rattle.k_sum_order.proofs.Naming.{EachNamed, behind_below, behind_named, each_below, each_both, each_more}
 use Rattle.k_sum_order.proofs.OneOrder.{entry_there}
 

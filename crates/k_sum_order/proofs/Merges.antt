@@ -1,5 +1,5 @@
 -- Profiles that are put together in another order or grouping have one file.
-use Rattle.std.proofs.Common.{◌≡◌, ℕ, ℤ, ◌+◌, List, [], ◌∷◌, refl, sym, ap, ◌∙◌, subst, arith}
+use Rattle.std.proofs.Common.{◌≡◌, ℤ, List, [], refl, sym, ◌∙◌, subst, arith}
 use Rattle.k_optab.specs.declared.region.Region.{Region}
 use Rattle.k_dict.specs.Trees.{Alike, Forest}
 use Rattle.k_dict.specs.Trees as trees

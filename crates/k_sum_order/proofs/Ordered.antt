@@ -1,7 +1,7 @@
 -- A sum in order tells of the same runs.
-use Rattle.std.proofs.Common.{◌≡◌, ℕ, zero, suc, ◌+◌, ◌<◌, ◌≤◌, ◌⊎◌, inl, inr, List, [], ◌∷◌, length, get_or, Some, slice_get, refl, sym, ap, ◌∙◌, subst, arith}
+use Rattle.std.proofs.Common.{◌≡◌, ℕ, zero, suc, ◌<◌, ◌≤◌, inl, inr, List, [], ◌∷◌, length, get_or, Some, slice_get, refl, sym, ap, ◌∙◌, subst, arith}
 use Rattle.std.proofs.lemmas.Option.{same_Some, slice_get_within}
-use Rattle.k_dict.specs.Entries.{AreRuns, NameBelow, NameEarlier, label_of, laid, no_tree, tree_at, tree_of, trees_of}
+use Rattle.k_dict.specs.Entries.{AreRuns, NameBelow, NameEarlier, label_of, laid, tree_at, tree_of, trees_of}
 use Rattle.k_dict.specs.Gathering.{number_of}
 use Rattle.k_dict.specs.Rules.{entry_of}
 use Rattle.k_dict.specs.Trees.{Alike, Forest, SameShape, Tree, alone, bare, further}
@@ -10,17 +10,15 @@ use Rattle.k_dict.specs.declared.entry.Run.{Run}
 use Rattle.k_dict.proofs.Coding.{AreProper, Knows, beside-bare, code, entry_at, laid_code, number_in, tree_alike}
 use Rattle.k_dict.proofs.EntryTrees.{below_bound, tree_is}
 use Rattle.k_dict.proofs.Forests.{Alike-same, beside}
-use Rattle.k_dict.proofs.Numbers.{IsIn, number_found}
-use Rattle.k_dict.proofs.Sound.{AreRuns-wider}
+use Rattle.k_dict.proofs.Numbers.{number_found}
 use Rattle.k_dict_saved.specs.Formats.{Names}
 use Rattle.k_dict_saved.specs.Migration.{renumbered, renumbered_entry}
 use Rattle.k_dict_saved.proofs.Migrating.{code_renumbered}
-use Rattle.k_sum.specs.Laws.{TellsOfRuns, forest_of}
-use Rattle.k_sum.specs.declared.sum.Sum.{Sum}
-use Rattle.k_sum.proofs.Meaning.{knows_laid, proper_of}
+use Rattle.k_sum.specs.Laws.{forest_of}
+use Rattle.k_sum.proofs.Meaning.{knows_laid}
 use Rattle.k_sum_order.specs.Laws.{OrderKeepsRuns}
-use Rattle.k_sum_order.specs.Order.{AreOrdered, ComesBefore, IsOrdered, behind}
-use Rattle.k_sum_order.proofs.Comparing.{before_itself, fewer_before, order_apart, place_before}
+use Rattle.k_sum_order.specs.Order.{AreOrdered, ComesBefore, behind}
+use Rattle.k_sum_order.proofs.Comparing.{fewer_before, order_apart, place_before}
 use Rattle.k_sum_order.proofs.Naming.{EachNamed, behind_below, behind_named, each_below, each_both, each_more, rise_in}
 use Rattle.k_sum_order.proofs.OneOrder.{entry_there, proper_order}
 

@@ -1,24 +1,21 @@
 -- The entries of a level, brought in order behind those of lower ones.
-use Rattle.std.proofs.Common.{◌≡◌, ℕ, zero, suc, ◌+◌, ◌<◌, ◌≤◌, ◌≢◌, ◌⊎◌, inl, inr, false, All, Contains, List, [], ◌∷◌, ◌++◌, length, map, get_or, set, Some, slice_get, refl, sym, ap, ◌∙◌, subst, arith, get_or-set_other, get_or-set_same}
+use Rattle.std.proofs.Common.{◌≡◌, ℕ, ◌+◌, ◌<◌, ◌≤◌, ◌≢◌, ◌⊎◌, inl, inr, List, [], ◌∷◌, length, get_or, set, Some, slice_get, refl, sym, ap, ◌∙◌, subst, arith, get_or-set_other, get_or-set_same}
 use Rattle.std.proofs.Math.ListN.{length-set}
 use Rattle.std.proofs.lemmas.Bool.{cases_lt, cases_order}
-use Rattle.std.proofs.lemmas.Option.{none-some, same_Some, slice_get_within}
-use Rattle.std.specs.Cmp.Lexicographic.{slice_cmp}
-use Rattle.std.specs.Ordering.{is_lt, nat_cmp}
+use Rattle.std.proofs.lemmas.Option.{same_Some, slice_get_within}
 use Rattle.k_dict.specs.Entries.{NameEarlier}
 use Rattle.k_dict.specs.Gathering.{number_of, with_entry}
 use Rattle.k_dict.specs.Rules.{entry_of}
 use Rattle.k_dict.specs.declared.entry.Entry.{Entry}
-use Rattle.k_dict.specs.declared.entry.Run.{Run}
-use Rattle.k_dict.proofs.Numbers.{IsAbsent, IsIn, is_in_or_absent, number_absent, number_found, with_absent, with_there}
+use Rattle.k_dict.proofs.Numbers.{is_in_or_absent, number_absent, number_found, with_absent, with_there}
 use Rattle.k_dict.proofs.Places.{place_kept, place_of_push}
 use Rattle.k_dict.proofs.Walking.{has_added}
 use Rattle.k_dict_saved.specs.Migration.{renumbered, renumbered_entry}
-use Rattle.k_sum_order.specs.Order.{AreInOrder, AreOrdered, ComesBefore, key_of}
+use Rattle.k_sum_order.specs.Order.{AreInOrder, AreOrdered, ComesBefore}
 use Rattle.k_sum_order.specs.Placing.{AreLevels, AreOrderedTo, Ordering, entry_with, placed, placed_all}
-use Rattle.k_sum_order.proofs.Comparing.{before_not, before_or, not_lower, order_apart, order_push}
+use Rattle.k_sum_order.proofs.Comparing.{before_not, before_or, order_apart, order_push}
 use Rattle.k_sum_order.proofs.LevelOrder.{each_child, lower_first}
-use Rattle.k_sum_order.proofs.Naming.{EachNamed, each_more, renumbered_same}
+use Rattle.k_sum_order.proofs.Naming.{each_more, renumbered_same}
 use Rattle.k_sum_order.proofs.OneOrder.{entry_there}
 
 -- a number is one of these

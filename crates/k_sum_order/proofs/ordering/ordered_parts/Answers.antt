@@ -1,6 +1,5 @@
 use Rattle.std.proofs.Common.{◌≡◌, ℕ, List, length, sym, ap, ◌∙◌, subst}
 use Rattle.k_dict.specs.Entries.{NameBelow}
-use Rattle.k_dict.specs.declared.entry.Entry.{Entry}
 use Rattle.k_dict.specs.declared.entry.Run.{Run}
 use Rattle.k_dict.proofs.EntryTrees.{below_bound}
 use Rattle.k_sum_order.proofs.ordering.ordered_parts.Goals as goal

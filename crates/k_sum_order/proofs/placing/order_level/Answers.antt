@@ -1,4 +1,4 @@
-use Rattle.std.proofs.Common.{◌≡◌, ◌<◌, All, List, length, map, ap, ◌∙◌, subst, sym}
+use Rattle.std.proofs.Common.{◌<◌, All, List, length, ap, ◌∙◌, subst, sym}
 use Rattle.std.proofs.lemmas.Result.{on_ok_weaker}
 use Rattle.k_sum_order.specs.Placing.{Ordering, placed_all}
 use Rattle.k_sum_order.specs.declared.batch.Ranked.{Ranked}

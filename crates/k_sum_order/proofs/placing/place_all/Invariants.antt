@@ -1,4 +1,4 @@
-use Rattle.std.proofs.Common.{◌≡◌, ◌<◌, All, length, map}
+use Rattle.std.proofs.Common.{◌≡◌, ◌<◌, All, length}
 use Rattle.k_sum_order.specs.Placing.{placed_all}
 use Rattle.k_sum_order.specs.declared.batch.Ranked.{Ranked}
 use Rattle.k_sum_order.proofs.Batches.{numbers_of}

@@ -1,0 +1,17 @@
+-- Believed with a public law.
+-- What holds of the files of sums: the statements of the laws.
+use Rattle.std.specs.Prelude.{ℕ, ◌≡◌, List, ◌++◌, codes}
+use Rattle.k_sum_saved.specs.SumLines.{IsFirstWrong, IsWhole, Leads, Opened, Stage}
+
+-- a text has at most one first wrong line
+abbrev pub FirstWrongIsOne : Type 0
+FirstWrongIsOne = (bytes : List ℕ) (one other : ℕ) → IsFirstWrong bytes one → IsFirstWrong bytes other → one ≡ other
+
+-- a text whose lines lead to the end has none
+abbrev pub WholeIsNotWrong : Type 0
+WholeIsNotWrong = (lines : List ℕ) (whole : Stage) (place : ℕ) → Leads Opened lines whole → IsWhole whole → IsFirstWrong (lines ++ codes "end\n") place → ⊥
+
+-- and it tells one sum
+abbrev pub WholeIsOne : Type 0
+WholeIsOne = (lines others : List ℕ) (one other : Stage) → Leads Opened lines one → Leads Opened others other → IsWhole one → IsWhole other
+    → lines ++ codes "end\n" ≡ others ++ codes "end\n" → one ≡ other
