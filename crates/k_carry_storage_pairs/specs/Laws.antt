@@ -1,4 +1,4 @@
--- For contracts between crates: nobody has to believe it.
+-- Believed with a public law.
 -- That there is one answer, and what is gathered: the statements of the laws.
 use Rattle.std.specs.Prelude.{ℕ, ◌≡◌, List, [], ◌∷◌, ◌++◌, length, map, min, take, Option, Some}
 use Rattle.k_num.specs.declared.place.Place.{Place}
