@@ -1,5 +1,5 @@
 -- Notes at the places of tokens stand before tokens of lines of text, and before no other byte.
-use Rattle.std.proofs.Common.{◌≡◌, ℕ, zero, suc, ◌+◌, ◌-◌, ◌<◌, ◌≤◌, Bool, true, false, ◌&&◌, eqb, ◌⊎◌, if◌then◌else◌, List, [], ◌∷◌, ◌++◌, Result, Ok, Err, take, drop, refl, sym, ap, subst, ◌∙◌, inl, inr, append_assoc, append-nil, arith}
+use Rattle.std.proofs.Common.{◌≡◌, ℕ, zero, suc, ◌+◌, ◌-◌, ◌<◌, Bool, true, false, eqb, ◌⊎◌, if◌then◌else◌, List, [], ◌∷◌, ◌++◌, Result, Ok, Err, take, drop, refl, sym, ap, subst, ◌∙◌, inl, inr, append_assoc, append-nil, arith}
 use Rattle.std.specs.Prelude.{IfOk}
 use Rattle.std.proofs.lemmas.Bool.{and_parts, cases_Bool, eqb-true}
 use Rattle.std.proofs.lemmas.Result.{IfOk-at_ok}
@@ -16,7 +16,7 @@ use Rattle.k_lex.specs.Tokens.{piece_in, turn, run}
 use Rattle.k_lex.proofs.Outcomes.{Each, each_append, bind_ok}
 use Rattle.k_pragma.specs.declared.notes.Note.{Note}
 use Rattle.k_pragma.specs.Clauses.{same_place}
-use Rattle.k_pragma_laws.proofs.Steps.{Adds, Grows, IsText, IsSolid, step_adds}
+use Rattle.k_pragma_laws.proofs.Steps.{Adds, IsText, IsSolid, step_adds}
 
 -- ---- places in order
 

@@ -5,7 +5,6 @@ use Rattle.std.proofs.lemmas.Option.{none-some, same_Some}
 use Rattle.k_num.specs.declared.numbers.Kind.{Kind}
 use Rattle.k_num.specs.declared.place.Place.{Place}
 use Rattle.k_tree.specs.declared.tokens.Token.{Token}
-use Rattle.k_tree.specs.declared.tokens.TokenKind.{TokenKind}
 use Rattle.k_tree.specs.declared.tokens.TokenKind.TheVariants as t
 use Rattle.k_lex_pieces.specs.declared.fault.Fault.{Fault}
 use Rattle.k_lex_pieces.specs.declared.fault.Refusal.TheVariants as r
@@ -19,7 +18,7 @@ use Rattle.k_lex_pieces.specs.Pieces.{item_length}
 use Rattle.k_lex_pieces.specs.Words.{word_of}
 use Rattle.k_lex_macros.specs.declared.headers.Header.{Header}
 use Rattle.k_lex_macros.specs.declared.macros.Lexeme.{Lexeme}
-use Rattle.k_lex_macros.specs.Macros.{lexeme, find, body_at, replaced, is_named, mentions, stands_at, header_of, header_macros, breaks_order, changes, included, sizes, placed}
+use Rattle.k_lex_macros.specs.Macros.{lexeme, find, body_at, replaced, is_named, mentions, stands_at, header_macros, breaks_order, changes, included, sizes, placed}
 use Rattle.k_lex.specs.declared.lines.Mode.{Mode}
 use Rattle.k_lex.specs.declared.lines.Mode.TheVariants as m
 use Rattle.k_lex.specs.Lines

@@ -1,13 +1,13 @@
 -- Where pieces can be made longer, for each of the three ways of cutting a text.
-use Rattle.std.proofs.Common.{◌≡◌, ◌≢◌, ℕ, zero, suc, ◌+◌, ◌<◌, ◌≤◌, Bool, true, false, not, ◌&&◌, ◌||◌, ◌⊎◌, if◌then◌else◌, eqb, leb, List, [], ◌∷◌, ◌++◌, Option, Some, None, is_some, length, take, drop, refl, sym, ap, subst, ◌∙◌, inl, inr, arith}
-use Rattle.std.proofs.lemmas.Bool.{and_left, and_right, and_from, and_parts, or_left, or_right, or_cases, or_from, cases_Bool, false≢true, true≢false, eqb-true, eq-eqb, lt-leb}
+use Rattle.std.proofs.Common.{◌≡◌, ◌≢◌, ℕ, suc, ◌+◌, ◌≤◌, Bool, true, false, not, ◌&&◌, ◌||◌, ◌⊎◌, if◌then◌else◌, eqb, leb, List, [], ◌∷◌, ◌++◌, Option, Some, None, is_some, length, take, drop, refl, sym, ap, ◌∙◌, inl, inr, arith}
+use Rattle.std.proofs.lemmas.Bool.{and_left, and_right, and_from, and_parts, or_left, or_right, or_cases, or_from, cases_Bool, false≢true, eqb-true, eq-eqb, lt-leb}
 use Rattle.std.proofs.lemmas.List.{length-append}
 use Rattle.k_tree.specs.declared.tokens.mark.Mark.{Mark}
 use Rattle.k_lex_pieces.specs.declared.pieces.Piece.{Piece}
 use Rattle.k_lex_pieces.specs.declared.pieces.Piece.TheVariants as p
 use Rattle.k_lex_pieces.specs.Bytes.{is_letter, is_digit, in_name, is_blank, every, same, begins}
 use Rattle.k_lex_pieces.specs.Marks.{marks, mark_of}
-use Rattle.k_lex_pieces.specs.Pieces.{is_name, is_number, is_character, is_string, is_comment, is_blank_piece, is_header, takes_sign, goes_on, number_goes_on, starts_number, closes, ends_comment, closes_header, in_line, item_length, mark_piece, class_of, class_in_pragma, class_in_include, is_known}
+use Rattle.k_lex_pieces.specs.Pieces.{is_name, is_number, is_character, is_string, is_comment, is_blank_piece, is_header, takes_sign, goes_on, number_goes_on, closes, ends_comment, closes_header, in_line, mark_piece, class_of, class_in_pragma, class_in_include, is_known}
 use Rattle.k_lex_pieces.proofs.Classes.{first_is, not_number, not_character, not_comment, not_blank}
 use Rattle.k_lex_pieces.proofs.PieceLaws.{test_fails}
 use Rattle.k_lex_pieces.proofs.Tables.{all_keys, no_key}

@@ -1,9 +1,9 @@
 -- The notes of regions: a comment that ends where it is to end, and nothing or a line of a `#pragma`.
-use Rattle.std.proofs.Common.{◌≡◌, ◌≢◌, ℕ, zero, suc, ◌+◌, ◌*◌, ◌/◌, ◌%◌, Bool, true, false, not, ◌&&◌, ◌||◌, ◌⊎◌, eqb, ltb, nat_eq, if◌then◌else◌, List, [], ◌∷◌, ◌++◌, Option, Some, None, slice_get, codes, refl, sym, ap, subst, ◌∙◌, inl, inr, arith}
+use Rattle.std.proofs.Common.{◌≡◌, ℕ, zero, suc, ◌+◌, ◌/◌, ◌%◌, Bool, true, false, not, ◌||◌, eqb, ltb, nat_eq, if◌then◌else◌, List, [], ◌∷◌, ◌++◌, Option, Some, None, slice_get, codes, refl, sym, ap, ◌∙◌, inl, inr, arith}
 use Rattle.std.specs.Prelude.{All}
 use Rattle.std.specs.List.{flat_map}
 use Rattle.std.specs.Fmt.{decimal, digits, digits_onto, digit_glyph}
-use Rattle.std.proofs.lemmas.Bool.{and_from, and_parts, cases_Bool, false≢true, true≢false, eqb-true}
+use Rattle.std.proofs.lemmas.Bool.{and_from, and_parts, cases_Bool, false≢true, eqb-true}
 use Rattle.std.proofs.lemmas.List.Elements.{All-head, All-tail}
 use Rattle.k_num.specs.declared.place.Place.{Place}
 use Rattle.k_optab.specs.declared.region.Region.{Region}
@@ -15,12 +15,11 @@ use Rattle.k_tree.specs.declared.tokens.TokenKind.{TokenKind}
 use Rattle.k_tree.specs.declared.tokens.TokenKind.TheVariants as t
 use Rattle.k_types_meaning.specs.declared.tree.unit.TFunc.{TFunc}
 use Rattle.k_types_meaning.specs.declared.tree.unit.TVariable.{TVariable}
-use Rattle.k_marks_meaning.specs.declared.uses.Group.{Group}
 use Rattle.k_marks_meaning.specs.declared.uses.Group.TheVariants.{Sums, Products, Ands, Ors, Xors}
 use Rattle.k_lex_pieces.specs.Bytes.{every, in_name, is_letter, is_digit}
 use Rattle.k_lex_pieces.specs.Pieces.{ends_comment, is_name}
 use Rattle.k_lex_pieces.proofs.PieceLaws.{test_fails}
-use Rattle.k_lex.specs.Laws.{IsNamed, IsRightKind, IsRightToken}
+use Rattle.k_lex.specs.Laws.{IsRightKind, IsRightToken}
 use Rattle.k_lex.proofs.Outcomes.{Each, each_append}
 use Rattle.k_pragma_texts.specs.declared.occurrence.LoopText.{LoopText}
 use Rattle.k_pragma_texts.specs.declared.occurrence.Occurrence.{Occurrence}

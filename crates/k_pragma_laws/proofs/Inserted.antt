@@ -1,25 +1,24 @@
 -- What is inserted before a token is read as if it were not there.
-use Rattle.std.proofs.Common.{◌≡◌, ℕ, zero, suc, ◌+◌, ◌-◌, ◌<◌, ◌≤◌, Bool, true, false, not, ◌&&◌, ◌||◌, ◌⊎◌, eqb, if◌then◌else◌, List, [], ◌∷◌, ◌++◌, Option, Some, None, Result, Ok, Err, length, take, drop, codes, refl, sym, ap, subst, ◌∙◌, inl, inr, append_assoc, option_and_then, arith}
-use Rattle.std.proofs.lemmas.Bool.{and_left, and_right, and_parts, cases_Bool, false≢true, not-true}
-use Rattle.std.proofs.lemmas.Option.{same_Some}
+use Rattle.std.proofs.Common.{◌≡◌, ℕ, suc, ◌+◌, ◌-◌, Bool, true, false, not, ◌&&◌, ◌⊎◌, eqb, if◌then◌else◌, List, [], ◌∷◌, ◌++◌, Option, Some, None, Ok, length, take, drop, codes, refl, sym, ap, ◌∙◌, inl, inr, append_assoc, option_and_then, arith}
+use Rattle.std.proofs.lemmas.Bool.{and_right, and_parts, false≢true}
 use Rattle.k_num.specs.declared.place.Place.{Place}
 use Rattle.k_lex_pieces.specs.declared.pieces.Piece.{Piece}
 use Rattle.k_lex_pieces.specs.declared.pieces.Piece.TheVariants as p
 use Rattle.k_lex_pieces.specs.Bytes.{every, same}
 use Rattle.k_lex_pieces.specs.Marks.{marks, mark_of}
 use Rattle.k_lex_pieces.specs.Pieces.{class_of, ends_comment, piece_by}
-use Rattle.k_lex_pieces.specs.Scans.{comment_at, mark_at, or_mark}
+use Rattle.k_lex_pieces.specs.Scans.{comment_at, or_mark}
 use Rattle.k_lex_pieces.proofs.Classes.{first_is}
 use Rattle.k_lex_pieces.proofs.PieceLaws.{blank_is, comment_is, name_is, newline_is, other_is, pragma_newline_is, pragma_other_is}
 use Rattle.k_lex_pieces.proofs.Tables.{no_key}
 use Rattle.k_lex.specs.declared.lines.Mode.{Mode}
 use Rattle.k_lex.specs.declared.lines.Mode.TheVariants as m
-use Rattle.k_lex.specs.Lines.{State, in_mode, in_text, step, step_in}
+use Rattle.k_lex.specs.Lines.{State, in_mode, in_text, step_in}
 use Rattle.k_lex.specs.Tokens.{piece_in, turn, first_place}
 use Rattle.k_lex.proofs.Outcomes.{Each}
 use Rattle.k_pragma.specs.declared.notes.Note.{Note}
 use Rattle.k_pragma.specs.Clauses.{same_place}
-use Rattle.k_pragma.specs.Insertions.{inserted_at, inserted_by, note_text, parted, spells_for}
+use Rattle.k_pragma.specs.Insertions.{inserted_at, note_text, parted, spells_for}
 use Rattle.k_pragma_laws.proofs.Notes.{IsHarmless, IsPragmaLine, is_plain}
 use Rattle.k_pragma_laws.proofs.Blind.{if_ok}
 use Rattle.k_pragma_laws.proofs.Reading.{blind, blind_piece}

@@ -1,7 +1,7 @@
 -- A text with what is inserted gives what the text gives, but for places.
-use Rattle.std.proofs.Common.{◌≡◌, ◌≢◌, ℕ, zero, suc, ◌+◌, ◌-◌, ◌<◌, ◌≤◌, Bool, true, false, ◌&&◌, eqb, ◌⊎◌, if◌then◌else◌, List, [], ◌∷◌, ◌++◌, Option, Some, None, Result, Ok, Err, length, take, drop, codes, refl, sym, ap, subst, ◌∙◌, inl, inr, option_and_then, arith}
+use Rattle.std.proofs.Common.{◌≡◌, ◌≢◌, ℕ, zero, suc, ◌-◌, ◌≤◌, true, false, ◌&&◌, eqb, ◌⊎◌, if◌then◌else◌, List, [], ◌∷◌, ◌++◌, Option, Some, None, Result, Ok, Err, length, take, drop, codes, refl, sym, ap, subst, ◌∙◌, inl, inr, arith}
 use Rattle.std.specs.Prelude.{IfOk}
-use Rattle.std.proofs.lemmas.Bool.{and_parts, cases_Bool, false≢true, eqb-true, eqb-false}
+use Rattle.std.proofs.lemmas.Bool.{and_parts, cases_Bool, eqb-true, eqb-false}
 use Rattle.std.proofs.lemmas.List.{length-take-le, take-append-drop}
 use Rattle.std.proofs.lemmas.Result.{IfOk-at_ok}
 use Rattle.k_num.specs.declared.place.Place.{Place}
@@ -24,11 +24,11 @@ use Rattle.k_lex.proofs.Outcomes.{Each}
 use Rattle.k_lex.proofs.RunLaws.{piece_in_length}
 use Rattle.k_pragma.specs.declared.notes.Note.{Note}
 use Rattle.k_pragma.specs.Clauses.{same_place}
-use Rattle.k_pragma.specs.Insertions.{inserted_at, inserted_by, note_text, parted, spells_for, with_notes}
+use Rattle.k_pragma.specs.Insertions.{inserted_at, note_text, parted, spells_for, with_notes}
 use Rattle.k_pragma_laws.proofs.Notes.{IsHarmless}
 use Rattle.k_pragma_laws.proofs.Allowed.{Fits, IsAllowed, IsSilent}
 use Rattle.k_pragma_laws.proofs.Blind.{unplaced, unplaced_mode, if_ok, seen, Alike, step_agrees}
-use Rattle.k_pragma_laws.proofs.Fronts.{Follows, IsParted, is_sound}
+use Rattle.k_pragma_laws.proofs.Fronts.{Follows, is_sound}
 use Rattle.k_pragma_laws.proofs.Inserted.{fresh_same, hash_piece, read_inserted, text_piece}
 use Rattle.k_pragma_laws.proofs.Reading.{blind, blind_piece, blind_skip, final, piece_in_unplaced, piece_kept, run_blind}
 use Rattle.k_pragma_laws.proofs.Steps.{Goes, IsText, IsSolid, define_stays, step_goes}

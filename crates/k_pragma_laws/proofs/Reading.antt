@@ -1,19 +1,19 @@
 -- Reading a text without places.
-use Rattle.std.proofs.Common.{◌≡◌, ℕ, zero, suc, ◌+◌, ◌-◌, ◌≤◌, true, List, [], ◌∷◌, ◌++◌, Option, Some, None, Result, Ok, Err, length, take, drop, codes, refl, sym, ap, ◌∙◌, option_and_then, arith}
+use Rattle.std.proofs.Common.{◌≡◌, ℕ, zero, suc, ◌-◌, true, List, [], ◌∷◌, ◌++◌, Option, Some, None, Result, Ok, Err, length, take, drop, refl, sym, ap, ◌∙◌, option_and_then, arith}
 use Rattle.std.proofs.lemmas.List.{take_at, drop_at}
 use Rattle.std.proofs.lemmas.Option.{none-some, same_Some}
 use Rattle.k_num.specs.declared.place.Place.{Place}
 use Rattle.k_lex_pieces.specs.declared.fault.Fault.{Fault}
 use Rattle.k_lex_pieces.specs.declared.pieces.Piece.{Piece}
 use Rattle.k_lex_pieces.specs.declared.pieces.Piece.TheVariants as p
-use Rattle.k_lex_pieces.specs.Bytes.{after, begins}
+use Rattle.k_lex_pieces.specs.Bytes.{after}
 use Rattle.k_lex_pieces.specs.Outcome.{◌>>=◌}
-use Rattle.k_lex_pieces.specs.Pieces.{class_of, class_in_pragma, class_in_include, is_known, piece_by}
+use Rattle.k_lex_pieces.specs.Pieces.{class_of, class_in_pragma, class_in_include, piece_by}
 use Rattle.k_lex.specs.declared.lines.Mode.{Mode}
 use Rattle.k_lex.specs.declared.lines.Mode.TheVariants as m
 use Rattle.k_lex.specs.Lines.{State, step}
 use Rattle.k_lex.specs.Tokens.{piece_in, turn, run, first_place}
-use Rattle.k_pragma_laws.proofs.Blind.{unplaced_mode, unplaced, if_ok, seen, Agree, Alike, step_agrees}
+use Rattle.k_pragma_laws.proofs.Blind.{unplaced_mode, unplaced, if_ok, Agree, Alike, step_agrees}
 use Rattle.k_pragma_laws.proofs.Classes.{cut_of, cut_in_pragma, cut_in_include}
 use Rattle.k_pragma_laws.proofs.Fronts.{IsCut, Follows, front_of, is_sound, keep, piece_of, sound_known}
 

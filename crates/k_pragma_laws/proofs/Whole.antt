@@ -1,17 +1,15 @@
 -- The tokens of an annotated source.
-use Rattle.std.proofs.Common.{◌≡◌, ℕ, zero, suc, ◌≤◌, Bool, true, false, ltb, ◌⊎◌, if◌then◌else◌, List, [], ◌∷◌, ◌++◌, Option, Some, None, Result, Ok, Err, length, map, slice_get, refl, sym, ap, subst, ◌∙◌, inl, inr}
+use Rattle.std.proofs.Common.{◌≡◌, ℕ, zero, suc, ◌≤◌, Bool, true, false, ltb, ◌⊎◌, if◌then◌else◌, List, [], ◌∷◌, ◌++◌, Some, Result, Ok, Err, length, map, slice_get, refl, sym, ap, subst, ◌∙◌, inl, inr}
 use Rattle.std.proofs.lemmas.Bool.{le-ltb}
 use Rattle.std.proofs.lemmas.List.{map-append}
 use Rattle.std.proofs.lemmas.Option.{none-some, same_Some}
 use Rattle.k_num.specs.declared.place.Place.{Place}
-use Rattle.k_optab.specs.declared.region.Region.{Region}
 use Rattle.k_tree.specs.declared.tokens.Token.{Token}
 use Rattle.k_tree.specs.declared.tokens.TokenKind.{TokenKind}
 use Rattle.k_tree.specs.declared.tokens.TokenKind.TheVariants as t
 use Rattle.k_lex_pieces.specs.declared.fault.Fault.{Fault}
 use Rattle.k_lex_pieces.specs.declared.fault.Refusal.TheVariants as r
 use Rattle.k_lex_pieces.specs.Outcome.{◌>>=◌, refused}
-use Rattle.k_lex.specs.declared.fault.LexFault.{LexFault}
 use Rattle.k_lex.specs.Laws.{kinds_of}
 use Rattle.k_lex.specs.Lines.{State}
 use Rattle.k_lex.specs.Tokens.{answer, first_place, join, join_kinds, joined, limits, nothing_read, run, tokens}

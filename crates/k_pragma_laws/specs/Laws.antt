@@ -1,7 +1,6 @@
 -- Believed with a public law.
 -- What annotating keeps of a source.
 use Rattle.std.specs.Prelude.{◌≡◌, ◌≤◌, ℕ, List, Ok, length, slice_get, Some}
-use Rattle.k_num.specs.declared.place.Place.{Place}
 use Rattle.k_optab.specs.declared.region.Region.{Region}
 use Rattle.k_selfpar.specs.declared.row.Row.{Row}
 use Rattle.k_tree.specs.declared.tokens.Token.{Token}
