@@ -1,4 +1,4 @@
--- For contracts between crates: nobody has to believe it.
+-- Believed with the theorem on the top call.
 -- Where variables occur in declarations and in the parts of statements that may be left out, and which is their last node.
 use Rattle.std.specs.Prelude.{ℕ, List, [], ◌∷◌, ◌++◌, map, Option, Some, None}
 use Rattle.k_types_meaning.specs.declared.tree.declaration.TDeclarator.{TDeclarator}

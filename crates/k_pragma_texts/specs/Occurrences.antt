@@ -1,4 +1,4 @@
--- For contracts between crates: nobody has to believe it.
+-- Believed with the theorem on the top call.
 -- Where variables occur in an expression, and which is its last node.
 use Rattle.std.specs.Prelude.{ℕ, nat_eq, Bool, if◌then◌else◌, List, [], ◌∷◌, ◌++◌, Option, Some, None}
 use Rattle.std.specs.List.{list_any}

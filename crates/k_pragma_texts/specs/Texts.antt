@@ -1,4 +1,4 @@
--- For contracts between crates: nobody has to believe it.
+-- Believed with the theorem on the top call.
 -- What stands in the text of a statement and of a function: where variables occur, which assignments feed reads behind them, and the loops.
 use Rattle.std.specs.Prelude.{ℕ, List, [], ◌∷◌, ◌++◌, map, Option, Some, None}
 use Rattle.k_types_meaning.specs.declared.tree.expression.TExpr.{TExpr}
