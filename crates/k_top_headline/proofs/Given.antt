@@ -47,6 +47,7 @@ one_word (Some command.Run) j is = none-some j is
 one_word (Some command.Graph) j is = none-some j is
 one_word (Some command.Carried) j is = none-some j is
 one_word (Some command.Page) j is = none-some j is
+one_word (Some command.Annotate) j is = none-some j is
 one_word (Some command.Show) j is = none-some j is
 one_word (Some command.Check) j is = none-some j is
 one_word (Some command.Demo) j is = none-some j is

@@ -1,3 +1,4 @@
+pub mod Annotated
 pub mod Checked
 pub mod Given
 pub mod OtherRuns

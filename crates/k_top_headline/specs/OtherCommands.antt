@@ -1,6 +1,6 @@
 -- Believed with a public law.
--- What `kremlin graph`, `carried`, `page`, `show`, `check` and `demo` write, and with which status they end, where nothing goes wrong outside and memory
--- suffices.
+-- What `kremlin graph`, `carried`, `page`, `annotate`, `show`, `check` and `demo` write, and with which status they end, where nothing goes wrong outside and
+-- memory suffices.
 use Rattle.std.specs.Prelude.{ℕ, ◌-◌, ◌≡◌, ◌≤◌, Bool, List, [], length, Option, Some, None}
 use Rattle.k_edge.specs.SinkWords.{Grows}
 use Rattle.k_optab.specs.declared.node.Node.{Node}
@@ -8,6 +8,7 @@ use Rattle.k_optab.specs.Tree.{IsTree}
 use Rattle.k_ending.specs.declared.ending.End.{End}
 use Rattle.k_ending.specs.declared.ending.End.TheVariants.{Returned, Trapped, OutOfSteps}
 use Rattle.k_evaluation.specs.Runs.{listing_of}
+use Rattle.k_marks_meaning.specs.Marking.{marks_of}
 use Rattle.k_regions.specs.Regions.{regions_of}
 use Rattle.k_carry_pairs.specs.Carried.{AreCarried}
 use Rattle.k_carry_pairs.specs.declared.pairs.LoopPairs.{LoopPairs}
@@ -30,6 +31,7 @@ use Rattle.k_report_profile.specs.RunReport.{Ran, ops_of}
 use Rattle.k_page.specs.Page.{large_page_text}
 use Rattle.k_data_profile.specs.Pages.{IsPageOf}
 use Rattle.k_data_profile.specs.Shown.{IsDocumentOf, IsTableOf}
+use Rattle.k_pragma_profile.specs.Annotated.{IsAnnotationOf}
 use Rattle.k_types_meaning.specs.declared.tree.unit.TUnit.{TUnit}
 use Rattle.k_words.specs.Setting.{standard_depth}
 use Rattle.k_words.specs.declared.job.Form.{Form}
@@ -118,6 +120,45 @@ abbrev pub PageIsTold : Type 0
 PageIsTold = (words : List (List ℕ)) (status : ℕ) (old new : World) (file : List ℕ) (r : Running) (depth : ℕ) (dict : Bool)
     → Keeps words status old new → WentWell words (job.Page file r.steps depth None dict) status old new → (program : HoldsProgram old file r)
     → PageTells file program.bytes r depth dict status old new
+
+-- the annotated source, by which limit the dictionary passes, if it passes one: there the source stands as it is. Else it is that of a tree: it tells its rows,
+-- and marks those loops of the best plan of its contexts that carry nothing and may run in parallel
+abbrev pub AnnotatesWithin : List ℕ → Running → Ran → List LoopPairs → List Node → List ℕ → Option Which → Type 0
+AnnotatesWithin source r ran loops nodes text None = IsAnnotationOf source r.typed (marks_of r.typed) ran.regions nodes loops text
+AnnotatesWithin source r ran loops nodes text (Some which) = text ≡ source
+
+-- THE ANNOTATED SOURCE of the graph of a run
+pub record AnnotatesGraph (source : List ℕ) (r : Running) (ran : Ran) (text : List ℕ) : Type 0 where
+  -- what the loops of the run carry from turn to turn
+  pub loops : List LoopPairs
+  pub are_carried : AreCarried ran.regions ran.depth ran.events loops
+  -- the tree of the explicit dependence graph, and the dictionary of that tree
+  pub nodes : List Node
+  pub tree : IsTree ran.depth ran.events nodes
+  pub entries : List Entry
+  pub dictionary : IsDictionary nodes entries
+  -- the annotated source of that tree, or the source, exactly where its dictionary is over its limits
+  pub within : AnnotatesWithin source r ran loops nodes text (refusal 0 0 entries)
+
+-- what is written, by how the run ended: the annotated source where main returned, and else nothing
+abbrev pub Annotates : List ℕ → Running → ℕ → List ℕ → End → Type 0
+Annotates source r depth text (Returned exit) = AnnotatesGraph source r (ran_of r exit depth) text
+Annotates source r depth text (Trapped trap place) = text ≡ []
+Annotates source r depth text OutOfSteps = text ≡ []
+
+-- ANNOTATE, the conclusions
+pub record AnnotateTells (source : List ℕ) (r : Running) (depth status : ℕ) (old new : World) : Type 0 where
+  pub text : List ℕ
+  pub written : Annotates source r depth text (run_of r).end
+  -- is what is told
+  pub tells : TellsOfRun r text status old new
+
+-- ANNOTATE. The words ask for the annotated source of a file, and name no table of latencies; and the file is an accepted program, with its input. Its bytes
+-- are the source
+abbrev pub AnnotateIsTold : Type 0
+AnnotateIsTold = (words : List (List ℕ)) (status : ℕ) (old new : World) (file : List ℕ) (r : Running) (depth : ℕ)
+    → Keeps words status old new → WentWell words (job.Annotate file r.steps depth None) status old new → (program : HoldsProgram old file r)
+    → AnnotateTells program.bytes r depth status old new
 
 -- the files tell that one of this name is a saved profile of either format, of at most 536,870,912 bytes
 pub record HoldsProfile (old : World) (name : List ℕ) (file : File) : Type 0 where

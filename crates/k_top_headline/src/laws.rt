@@ -1,6 +1,6 @@
 //! What each command writes: each function's contract is a law, and its body does nothing.
 ghost use Rattle.k_top_headline.specs.Headline.{RunIsTold};
-ghost use Rattle.k_top_headline.specs.OtherCommands.{AcceptedIsTold, CarriedIsTold, DemoIsTold, GraphIsTold, PageIsTold, RefusalIsTold, ShowIsTold};
+ghost use Rattle.k_top_headline.specs.OtherCommands.{AcceptedIsTold, AnnotateIsTold, CarriedIsTold, DemoIsTold, GraphIsTold, PageIsTold, RefusalIsTold, ShowIsTold};
 
 /// `run` of an accepted source writes the program's output and, where main returned, the report of the tree of that run.
 pub fn run_is_told()
@@ -25,6 +25,12 @@ pub fn show_is_told()
 /// `page` of an accepted source writes, where main returned, the page of the tree of that run, beside the source.
 pub fn page_is_told()
     ensures { PageIsTold }
+{}
+
+/// `annotate` of an accepted source writes, where main returned, the source with what its functions and loops took in the tree of that run, and with an
+/// OpenMP line before each loop that the plan picks, that carried nothing, and that may run in parallel.
+pub fn annotate_is_told()
+    ensures { AnnotateIsTold }
 {}
 
 /// `check` writes nothing of a source that is accepted, and of one that is refused its place, a sentence, and its line with a caret.
