@@ -1,4 +1,4 @@
--- For contracts between crates: nobody has to believe it.
+-- Believed with a public law.
 -- *Storage pairs*: the elements that the turns of loops share without handing them on.
 use Rattle.std.specs.Prelude.{ℕ, ◌≡◌, ◌<◌, ◌&&◌, ◌||◌, nat_lt, Bool, true, false, not, List, slice_get, Option, Some}
 use Rattle.k_optab.specs.declared.event.Event.{Event}
