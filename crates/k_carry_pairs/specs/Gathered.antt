@@ -1,4 +1,4 @@
--- Believed with a public law.
+-- For contracts between crates: nobody has to believe it.
 -- What is gathered of a run, event by event, and what it means.
 use Rattle.std.specs.Prelude.{ℕ, ◌≡◌, ◌+◌, ◌<◌, ◌≤◌, ◌⊎◌, ◌&&◌, ◌||◌, nat_eq, nat_lt, nat_le, Bool, true, false, not, if◌then◌else◌, List, [], ◌∷◌, length, map, replicate, reverse, slice_get, slice_set, Option, Some, None}
 use Rattle.k_num.specs.declared.place.Place.{Place}

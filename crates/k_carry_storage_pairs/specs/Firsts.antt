@@ -1,4 +1,4 @@
--- Believed with a public law.
+-- For contracts between crates: nobody has to believe it.
 -- The operations that are the first of an instance to make an access, among those that are kept.
 use Rattle.std.specs.Prelude.{ℕ, ◌≡◌, ◌≤◌, ◌⊎◌, ◌&&◌, nat_eq, nat_lt, Bool, false, if◌then◌else◌, List, [], ◌∷◌, ◌++◌, reverse, Option, Some, None}
 use Rattle.k_num.specs.Top.{top}

@@ -1,4 +1,4 @@
--- Believed with a public law.
+-- For contracts between crates: nobody has to believe it.
 -- What is gathered of a run, event by event, and what it means.
 use Rattle.std.specs.Prelude.{ℕ, ◌≡◌, ◌-◌, ◌<◌, nat_eq, Bool, true, false, if◌then◌else◌, List, [], ◌∷◌, ◌++◌, length, map, take, slice_get, Option, Some}
 use Rattle.k_num.specs.declared.place.Place.{Place}
