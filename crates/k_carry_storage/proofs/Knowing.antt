@@ -1,5 +1,5 @@
 -- What is kept of elements, and what is gathered, behind the events of an instruction.
-use Rattle.std.proofs.Common.{ℕ, zero, suc, ◌≡◌, ◌≢◌, ◌⊎◌, nat_eq, Bool, true, false, List, [], ◌∷◌, ◌++◌, length, slice_get, Option, Some, None, min, take, arith, refl, sym, subst, ap, inl, inr, ◌∙◌}
+use Rattle.std.proofs.Common.{ℕ, zero, suc, ◌≡◌, ◌≢◌, ◌⊎◌, nat_eq, Bool, true, false, List, [], ◌∷◌, ◌++◌, length, Option, Some, None, min, take, refl, sym, subst, ap, inl, inr, ◌∙◌}
 use Rattle.std.specs.Prelude.{replicate}
 use Rattle.std.proofs.lemmas.Bool.Decides.{eqb_tells}
 use Rattle.std.proofs.lemmas.List.{append_assoc, append-nil}
@@ -12,11 +12,11 @@ use Rattle.k_optab.specs.declared.region.Region.{Region}
 use Rattle.k_optab.specs.Events.{Operation, operations}
 use Rattle.k_mem.specs.declared.pointer.Pointer.{Pointer}
 use Rattle.k_carry_pairs.specs.declared.origin.Origin.{Origin}
-use Rattle.k_carry_pairs.proofs.Events.{entered_operations, left_operations}
+use Rattle.k_carry_pairs.proofs.Events.{left_operations}
 use Rattle.k_carry_pairs.proofs.Lists.{get_last}
 use Rattle.k_carry_storage_pairs.specs.declared.access.Access.{Access}
 use Rattle.k_carry_storage_pairs.specs.Firsts.{IsNoted, listed}
-use Rattle.k_carry_storage_pairs.specs.Kept.{Keeps, Kept, Knows, both_left, both_shared}
+use Rattle.k_carry_storage_pairs.specs.Kept.{Keeps, Kept, Knows, both_left}
 use Rattle.k_carry_storage_pairs.specs.Storage.{Makes, access}
 use Rattle.k_carry_storage_pairs.proofs.Going.{access_here, knows_on}
 use Rattle.k_carry_storage_pairs.proofs.Keeping.{AreFirsts, keeps_entered, keeps_left, keeps_operation}

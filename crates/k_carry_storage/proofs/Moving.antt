@@ -1,5 +1,5 @@
 -- Where a run stands behind one instruction more, and what is told where it has ended.
-use Rattle.std.proofs.Common.{ℕ, zero, suc, ◌≡◌, ◌+◌, ◌<◌, ◌≤◌, nat_lt, Bool, true, false, List, [], ◌∷◌, ◌++◌, length, slice_get, Option, Some, None, Result, Ok, Err, arith, refl, sym, subst, ap, ◌∙◌}
+use Rattle.std.proofs.Common.{ℕ, suc, ◌≡◌, ◌+◌, ◌≤◌, nat_lt, Bool, true, false, List, [], ◌∷◌, ◌++◌, length, slice_get, Option, Some, None, Result, Ok, Err, arith, refl, sym, subst, ap, ◌∙◌}
 use Rattle.std.specs.Prelude.{if◌then◌else◌, replicate, IfOk}
 use Rattle.std.proofs.lemmas.List.{append_assoc, append-nil}
 use Rattle.std.proofs.lemmas.Result.{IfOk-weaker}
@@ -7,14 +7,12 @@ use Rattle.k_num.specs.declared.memory.NoMemory.{NoMemory}
 use Rattle.k_optab.specs.declared.class.Class.{Class}
 use Rattle.k_optab.specs.declared.event.Event.{Event}
 use Rattle.k_optab.specs.declared.event.Event.TheVariants.{Enter, Exit}
-use Rattle.k_optab.specs.declared.region.Region.{Region}
 use Rattle.k_optab.specs.Events.{Operation, operations}
-use Rattle.k_optab.specs.Open.{Open, open_after}
+use Rattle.k_optab.specs.Open.{open_after}
 use Rattle.k_ending.specs.declared.ending.End.{End}
 use Rattle.k_mem.specs.declared.pointer.Pointer.{Pointer}
 use Rattle.k_world.specs.declared.answer.Stop.TheVariants as stop
 use Rattle.k_world.specs.Operands.{sources}
-use Rattle.k_world.specs.Worlds.{World}
 use Rattle.k_code.specs.declared.code.Code.{Code}
 use Rattle.k_code.specs.declared.code.CodeFunc.{CodeFunc}
 use Rattle.k_code.specs.declared.instruction.Instr.{Instr}
@@ -30,23 +28,22 @@ use Rattle.k_carry_pairs.proofs.Events.{entered_operations}
 use Rattle.k_carry.specs.declared.advance.Happened.{Happened}
 use Rattle.k_carry.specs.declared.advance.Made.{Made}
 use Rattle.k_carry.specs.Noting.{made_after}
-use Rattle.k_carry.specs.Running.{HasEnded, IsSetting, StandsBehind, left_to_go}
+use Rattle.k_carry.specs.Running.{IsSetting, StandsBehind}
 use Rattle.k_carry.specs.Sources.{Setting}
 use Rattle.k_carry.specs.Steps.{GoesOrEnds, entered_events, happened, operation_events}
 use Rattle.k_carry.proofs.Noticing.{happened_made, made_then}
-use Rattle.k_carry.proofs.Starting.{ended_at_once, started}
 use Rattle.k_carry.proofs.Stepping.{dropped_left, made_is, nearer, next_run, open_happened}
 use Rattle.k_carry_storage_pairs.specs.declared.access.Access.{Access}
 use Rattle.k_carry_storage_pairs.specs.declared.pairs.LoopStorage.{LoopStorage}
 use Rattle.k_carry_storage_pairs.specs.declared.pairs.StoragePairs.{StoragePairs}
-use Rattle.k_carry_storage_pairs.specs.Kept.{Keeps, Kept, Knows, both_entered, none_shared, storage_of}
+use Rattle.k_carry_storage_pairs.specs.Kept.{Keeps, Kept, Knows, both_entered, none_shared}
 use Rattle.k_carry_storage_pairs.specs.Storage.{AreShared, access}
 use Rattle.k_carry_storage_pairs.proofs.Keeping.{keeps_nothing, storage_is_shared}
 use Rattle.k_carry_storage.specs.declared.table.Table.{Table}
-use Rattle.k_carry_storage.specs.Accesses.{access_at, access_by, accesses_of, next_access, step_access}
+use Rattle.k_carry_storage.specs.Accesses.{access_at, access_by, accesses_of, next_access}
 use Rattle.k_carry_storage.specs.Answer.{TellsOf}
 use Rattle.k_carry_storage.specs.Noting.{IsNotedAll, IsNotedMade, all_left, entered_if}
-use Rattle.k_carry_storage.specs.Running.{IsKept, IsOver, IsToldOf, KnowsAll, Stepped}
+use Rattle.k_carry_storage.specs.Running.{IsKept, IsOver, IsToldOf, Stepped}
 use Rattle.k_carry_storage.specs.Tables.{kept_at}
 use Rattle.k_carry_storage.proofs.Knowing.{Stays, all_left_stays, entered_stays, operation_stays}
 

@@ -1,6 +1,5 @@
-use Rattle.std.proofs.Common.{◌∙◌, ℕ, Option, arith, subst}
+use Rattle.std.proofs.Common.{◌∙◌, Option, arith, subst}
 use Rattle.k_carry.proofs.Stepping.{finds, made_few, made_is, regions_few}
-use Rattle.k_carry_pairs.specs.declared.origin.Origin.{Origin}
 use Rattle.k_carry_storage_pairs.specs.declared.access.Access.{Access}
 use Rattle.k_carry_storage.specs.Noting.{IsNotedAll}
 use Rattle.k_carry_storage.specs.Running.{setting_of}
