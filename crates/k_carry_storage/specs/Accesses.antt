@@ -30,6 +30,7 @@ abbrev pub accessed : Bool → Option Pointer → Option Access
 accessed writes None = None
 accessed writes (Some element) = Some (access writes element)
 
+-- the same, where an operation that accesses an element may store to it or load it, and another one accesses none
 abbrev pub accessed_by : Option Bool → Option Pointer → Option Access
 accessed_by None element = None
 accessed_by (Some writes) element = accessed writes element
@@ -47,6 +48,7 @@ access_at c (Some i) = access_by i.act (reads_of c i.act)
 abbrev pub step_access : Code → Configuration → Run → List (Option Access)
 step_access code c next = if nat_lt c.world.made (world_of next).made then access_at c (slice_get code.instrs c.pc) ∷ [] else []
 
+-- that of the operation that is made next, if the run goes on
 abbrev pub next_access : Code → Run → List (Option Access)
 next_access code (Going c) = step_access code c (step code (Going c))
 next_access code (Over end w) = []
