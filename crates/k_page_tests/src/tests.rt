@@ -191,8 +191,18 @@ fn wide_page(alloc: Global) -> Result<Vec<u8>, NoMemory> {
 #[test]
 fn without_contexts_the_run_as_a_whole_is_told(rt: HostRuntime) -> Result<(), Fail> {
     let found = wide_page(rt.alloc())?;
-    assert!(rt; holds(found.as_slice(), b"<th scope=\"row\">work</th><td>100</td>"));
-    assert!(rt; holds(found.as_slice(), b"<th scope=\"row\">path</th><td>20</td>"));
+    assert!(rt;
+        holds(
+            found.as_slice(),
+            b"<th scope=\"row\">work</th>\n<td>100</td>"
+        )
+    );
+    assert!(rt;
+        holds(
+            found.as_slice(),
+            b"<th scope=\"row\">path</th>\n<td>20</td>"
+        )
+    );
     assert!(rt; holds(found.as_slice(), b"<td>25.0 %</td>"));
     assert!(rt; holds(found.as_slice(), b"<p>There are more than 65536 ways"));
     Ok(())
@@ -202,11 +212,16 @@ fn without_contexts_the_run_as_a_whole_is_told(rt: HostRuntime) -> Result<(), Fa
 fn without_a_profile_a_page_says_why(rt: HostRuntime) -> Result<(), Fail> {
     let found = large_page(rt.alloc(), "a<b.c", -1, 47)?;
     assert!(rt; holds(found.as_slice(), b"<title>a&lt;b.c</title>"));
-    assert!(rt; holds(found.as_slice(), b"<th scope=\"row\">exit</th><td>-1</td>"));
     assert!(rt;
         holds(
             found.as_slice(),
-            b"<th scope=\"row\">operations</th><td>47</td>"
+            b"<th scope=\"row\">exit</th>\n<td>-1</td>"
+        )
+    );
+    assert!(rt;
+        holds(
+            found.as_slice(),
+            b"<th scope=\"row\">operations</th>\n<td>47</td>"
         )
     );
     assert!(rt;
