@@ -74,11 +74,6 @@ a_loop spot l body uses = record {
   statements = body.statements ++ with_jumps spot body.jumps (out_of_loop body.jumps) ∷ [];
 }
 
--- the same of what may be left out
-abbrev pub where_given : {A B : Type 0} → (A → B) → Option A → Option B
-where_given f None = None
-where_given f (Some x) = Some (f x)
-
 -- what a statement has in it, of whose statements and parts it is known
 abbrev pub inside_step : TStmt-F Inside Inside → Inside
 inside_step (TStmt-F.Expr spot e) = statement spot (only (action_uses e)) no_jumps no_jumps
