@@ -1,6 +1,6 @@
 -- Believed with a public law.
 -- The texts that a program may write: those of its strings and formats, as one list of bytes in text order.
-use Rattle.std.specs.Prelude.{ℕ, List, [], ◌∷◌, ◌++◌, map, Option, Some, None}
+use Rattle.std.specs.Prelude.{ℕ, List, [], ◌∷◌, ◌++◌, map, Option, Some, None, unwrap_or}
 use Rattle.std.specs.List.{concat}
 use Rattle.k_types_meaning.specs.declared.tree.declaration.TDeclarator.{TDeclarator}
 use Rattle.k_types_meaning.specs.declared.tree.declaration.TInit.{TInit}
@@ -18,11 +18,6 @@ use Rattle.k_types_meaning.specs.declared.tree.statement.TPart.TheOpen.{TPart-F,
 use Rattle.k_types_meaning.specs.declared.tree.statement.TStmt.{TStmt, fold-TStmt}
 use Rattle.k_types_meaning.specs.declared.tree.unit.TFunc.{TFunc}
 use Rattle.k_types_meaning.specs.declared.tree.unit.TUnit.{TUnit}
-
--- a text that may be left out
-abbrev pub if_there : Option (List ℕ) → List ℕ
-if_there None = []
-if_there (Some bytes) = bytes
 
 -- the bytes of a piece of a format
 abbrev pub piece_text : Piece → List ℕ
@@ -97,7 +92,7 @@ abbrev pub stmt_step : TStmt-F (List ℕ) (List ℕ) → List ℕ
 stmt_step (TStmt-F.Expr spot e) = texts e
 stmt_step (TStmt-F.Empty spot) = []
 stmt_step (TStmt-F.Block spot parts) = concat parts
-stmt_step (TStmt-F.If spot test a b) = texts test ++ (a ++ if_there b)
+stmt_step (TStmt-F.If spot test a b) = texts test ++ (a ++ unwrap_or b [])
 stmt_step (TStmt-F.While spot number test body) = texts test ++ body
 stmt_step (TStmt-F.DoWhile spot number body test) = texts test ++ body
 stmt_step (TStmt-F.For spot number start test step body) = first_texts start ++ (option_texts test ++ (option_texts step ++ body))

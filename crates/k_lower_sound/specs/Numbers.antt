@@ -1,22 +1,17 @@
 -- Believed with a public law.
 -- The numbers of the statements of a program.
-use Rattle.std.specs.Prelude.{ℕ, suc, ◌≤◌, ◌<◌, List, [], ◌∷◌, ◌++◌, map, Option, Some, None}
+use Rattle.std.specs.Prelude.{ℕ, suc, ◌≤◌, ◌<◌, List, [], ◌∷◌, ◌++◌, map, unwrap_or}
 use Rattle.std.specs.List.{concat}
 use Rattle.k_types_meaning.specs.declared.tree.statement.TPart.TheOpen.{TPart-F, TStmt-F}
 use Rattle.k_types_meaning.specs.declared.tree.statement.TStmt.{TStmt, fold-TStmt}
 use Rattle.k_types_meaning.specs.declared.tree.unit.TFunc.{TFunc}
-
--- those of what may be left out
-abbrev pub if_there : Option (List ℕ) → List ℕ
-if_there None = []
-if_there (Some ns) = ns
 
 -- the number of a statement and those of the statements in it, in text order, of whose statements and parts they are known
 abbrev pub statement_step : TStmt-F (List ℕ) (List ℕ) → List ℕ
 statement_step (TStmt-F.Expr spot e) = spot.number ∷ []
 statement_step (TStmt-F.Empty spot) = spot.number ∷ []
 statement_step (TStmt-F.Block spot parts) = spot.number ∷ concat parts
-statement_step (TStmt-F.If spot test a b) = spot.number ∷ a ++ if_there b
+statement_step (TStmt-F.If spot test a b) = spot.number ∷ a ++ unwrap_or b []
 statement_step (TStmt-F.While spot loop test body) = spot.number ∷ body
 statement_step (TStmt-F.DoWhile spot loop body test) = spot.number ∷ body
 statement_step (TStmt-F.For spot loop start test step body) = spot.number ∷ body
