@@ -37,7 +37,7 @@ use Rattle.k_types_meaning.specs.Names.{Names, meaning_of}
 use Rattle.k_types_meaning.specs.Operands as operands
 use Rattle.k_types_meaning.specs.Operands.{name_rule, number_rule, char_rule, string_rule, index_rule, unary_rule, post_rule, pre_rule, sizeof_rule, sizeof_type_rule, cast_rule}
 use Rattle.k_types_meaning.specs.Operators as ops
-use Rattle.k_types_meaning.specs.Operators.{compares, taken_in, taken_in_three, shift_of, common_of, on_numbers, pointer_and_number, number_and_pointer, equal_pointers, two_pointers, operand, operated, operated_by, binary_rule, arms, tested, cond_rule, assigned, change_kind, right_kind, changed, moved, changed_by, assign_by, assign_rule, comma_rule}
+use Rattle.k_types_meaning.specs.Operators.{compares, taken_in, taken_in_three, shift_of, common_of, on_numbers, pointer_and_number, number_and_pointer, equal_pointers, two_pointers, operand, operated, operated_by, binary_rule, arms, cond_of_kind, cond_rule, assigned, change_kind, right_kind, changed, moved, changed_by, assign_by, assign_rule, comma_rule}
 use Rattle.k_types_meaning.specs.Types.{decayed, same_kind, same_element, equal_element, number_kind, told, pointer_to}
 use Rattle.k_types_meaning.proofs.Fine.{IfFine}
 use Rattle.k_types_meaning.proofs.Folds.{typed_Binary, typed_Both, typed_Either, typed_Forward, typed_Onto, typed_Back, typed_PtrCompare, typed_PtrDistance, typed_Cond, typed_Assign, typed_AssignBy, typed_Comma, typed_Call, typed_Getchar, typed_Putchar, typed_Puts, typed_Printf}
@@ -278,7 +278,7 @@ module _ (site : Around) where
     arms_good (ops.APointer d) ops.Nothing a b = tt
     arms_good (ops.APointer d) (ops.ANumber j) a b = tt
 
-    tested_good : (kind : Option Kind) → IfFine (Good site) (tested p kind t x y)
+    tested_good : (kind : Option Kind) → IfFine (Good site) (cond_of_kind p kind t x y)
     tested_good None = tt
     tested_good (Some kind) = arms_good (operand x.of) (operand y.of) refl refl
 
