@@ -357,12 +357,12 @@ puts_held p [] = tt
 puts_held p (a ∷ []) = line_held p (all_taken (a ∷ [])) a.tree (bytes_in a.tree)
 puts_held p (a ∷ b ∷ args) = tt
 
-trees_held : (p : Place) (marks : List formats.Mark) (taken : List ℕ) (o : Option (List TExpr)) → IfFine IsHeld (print_trees p marks taken o)
+trees_held : (p : Place) (marks : List formats.FormatMark) (taken : List ℕ) (o : Option (List TExpr)) → IfFine IsHeld (print_trees p marks taken o)
 trees_held p marks taken None = tt
 trees_held p marks taken (Some trees) =
     λ ranged. none_held (ctype.Number I32) (typed.Printf (at p (ttype.Number I32)) (pieces_of marks) trees) (typed_Printf (Option ℤ) value_step (at p (ttype.Number I32)) (pieces_of marks) trees)
 
-marks_held : (p : Place) (taken : List ℕ) (args : List Typed) (o : Option (List formats.Mark)) → IfFine IsHeld (print_marks p taken args o)
+marks_held : (p : Place) (taken : List ℕ) (args : List Typed) (o : Option (List formats.FormatMark)) → IfFine IsHeld (print_marks p taken args o)
 marks_held p taken args None = tt
 marks_held p taken args (Some marks) = trees_held p marks taken (all_formatted (kinds_taken marks) args)
 

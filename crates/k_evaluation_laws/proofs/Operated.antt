@@ -410,13 +410,13 @@ module _ (site : Around) where
   all_formatted_fit (kind ∷ kinds) (a ∷ args) h =
       tree_before_fits (formatted kind a (number_kind a.of)) (all_formatted kinds args) (formatted_fits kind a (number_kind a.of) refl h.0) (all_formatted_fit kinds args h.1)
 
-  print_trees_good : (p : Place) (marks : List formats.Mark) (taken : List ℕ) (o : Option (List TExpr)) → TreesFit o → IfFine (Good site) (print_trees p marks taken o)
+  print_trees_good : (p : Place) (marks : List formats.FormatMark) (taken : List ℕ) (o : Option (List TExpr)) → TreesFit o → IfFine (Good site) (print_trees p marks taken o)
   print_trees_good p marks taken None h = tt
   print_trees_good p marks taken (Some trees) h =
       is_by site (ANumber I32) (typed.Printf (at p (ttype.Number I32)) (pieces_of marks) trees) (expr_step site (TExpr-F.Printf (at p (ttype.Number I32)) (pieces_of marks) (map (see site) trees)))
       (typed_Printf Seen (expr_step site) (at p (ttype.Number I32)) (pieces_of marks) trees) refl h
 
-  print_marks_good : (p : Place) (taken : List ℕ) (args : List Typed) (o : Option (List formats.Mark)) → AllGood args → IfFine (Good site) (print_marks p taken args o)
+  print_marks_good : (p : Place) (taken : List ℕ) (args : List Typed) (o : Option (List formats.FormatMark)) → AllGood args → IfFine (Good site) (print_marks p taken args o)
   print_marks_good p taken args None h = tt
   print_marks_good p taken args (Some marks) h = print_trees_good p marks taken (all_formatted (kinds_taken marks) args) (all_formatted_fit (kinds_taken marks) args h)
 

@@ -386,11 +386,11 @@ bare_all_formatted (kind ∷ kinds) [] all = tt
 bare_all_formatted (kind ∷ kinds) (a ∷ args) all =
     bare_tree_before (formatted kind a (number_kind a.of)) (all_formatted kinds args) (bare_formatted kind a (number_kind a.of) all.0) (bare_all_formatted kinds args all.1)
 
-bare_print_trees : (p : Place) (marks : List formats.Mark) (taken : List ℕ) (o : Option (List TExpr)) → BareTrees o → BareMade (print_trees p marks taken o)
+bare_print_trees : (p : Place) (marks : List formats.FormatMark) (taken : List ℕ) (o : Option (List TExpr)) → BareTrees o → BareMade (print_trees p marks taken o)
 bare_print_trees p marks taken None h = tt
 bare_print_trees p marks taken (Some trees) h = bare_Printf p (ttype.Number I32) (pieces_of marks) trees h
 
-bare_print_marks : (p : Place) (taken : List ℕ) (args : List Typed) (o : Option (List formats.Mark)) → AllOf IsBareTyped args → BareMade (print_marks p taken args o)
+bare_print_marks : (p : Place) (taken : List ℕ) (args : List Typed) (o : Option (List formats.FormatMark)) → AllOf IsBareTyped args → BareMade (print_marks p taken args o)
 bare_print_marks p taken args None all = tt
 bare_print_marks p taken args (Some marks) all = bare_print_trees p marks taken (all_formatted (kinds_taken marks) args) (bare_all_formatted (kinds_taken marks) args all)
 
