@@ -8,7 +8,7 @@ use k_dict::{Entry, Run};
 
 /// The levels and the instances of a tree.
 #[derive(Clone, Copy, Debug, PartialEq, Eq)]
-pub(crate) struct Extent {
+pub struct Extent {
     pub levels: u64,
     pub instances: u64,
 }
