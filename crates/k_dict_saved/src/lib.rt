@@ -18,8 +18,8 @@ pub use format::{Accepts, Format};
 pub use loading::{read, read_old};
 pub use migration::migrate;
 pub use reading::{
-    Extent, Halt, Stop, are_rising, count_line, is_end, is_main, mark, mark_all, named, next_entry,
-    next_region, read_file, runs,
+    Extent, Halt, Stop, Sums, are_rising, count_line, is_end, is_main, mark, mark_all, named,
+    next_entry, next_region, read_file, runs, sums_of,
 };
 pub use saved::{Old, Saved};
 pub use saving::write;

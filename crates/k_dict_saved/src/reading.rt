@@ -23,7 +23,7 @@ use ending::{are_named, ends_in_main};
 pub use ending::{is_main, mark, mark_all};
 use entry_lines::entries;
 pub use entry_lines::{are_rising, next_entry};
-pub use extents::Extent;
+pub use extents::{Extent, Sums, sums_of};
 use k_dict::Entry;
 use k_num::NoMemory;
 use k_optab::Region;
