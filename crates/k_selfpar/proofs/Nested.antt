@@ -185,27 +185,25 @@ root_alone region t some = elim (cases_eq t.label.region region) [
     count_all : Forest → ℕ
     count_all f = outer one f
 
-pub contexts_can_be_planned : (regions : List Region) (entries : List Entry) (root : ℕ) (contexts : List Context) → AreProfile entries → root < length entries
-    → AreUnder regions 0 0 (alone (tree_at entries root)) contexts → length contexts ≤ 65536 → CanPlan contexts
-contexts_can_be_planned regions entries root contexts profile lt whole few =
-    let t : Tree = tree_at entries root in
-    let bounded : Bounded (alone t) = bounded_tree entries profile.interned.earlier profile.numbers root lt in
-    let o = opened regions 0 0 (alone t) contexts whole (omega arith) in
-    let empty : o.later ≡ [] = no_contexts regions 0 ((0 + 1) + length o.below) (others o.region (alone t)) o.later (root_alone o.region t o.some) o.behind in
-    let mine : Forest = chosen o.region (alone t) in
-    let inner_bounded : Bounded (inner_forest mine) = bounded_children mine (bounded_chosen o.region (alone t) bounded) in
-    let most = work_small entries profile root lt in
+-- the contexts of instances side by side that are of one region have a plan
+pub forest_can_be_planned : (regions : List Region) (f : Forest) (contexts : List Context) → Bounded f → outer_works f ≤ 2 ^ 44 → 0 < outer one f
+    → ((region : ℕ) → 0 < count_in region f → others region f ≡ bare) → AreUnder regions 0 0 f contexts → length contexts ≤ 65536 → CanPlan contexts
+forest_can_be_planned regions f contexts bounded most some_there alone_there whole few =
+    let o = opened regions 0 0 f contexts whole some_there in
+    let empty : o.later ≡ [] = no_contexts regions 0 ((0 + 1) + length o.below) (others o.region f) o.later (alone_there o.region o.some) o.behind in
+    let mine : Forest = chosen o.region f in
+    let inner_bounded : Bounded (inner_forest mine) = bounded_children mine (bounded_chosen o.region f bounded) in
     record {
       few = few;
       parents = subst ParentsComeFirst (sym o.whole) (
         o.is.parent_is,
         behind_append 1 o.below o.later (parents_first regions 0 1 (inner_forest mine) o.below o.under (omega arith))
-            (parents_first regions 0 ((0 + 1) + length o.below) (others o.region (alone t)) o.later o.behind (omega arith)),
+            (parents_first regions 0 ((0 + 1) + length o.below) (others o.region f) o.later o.behind (omega arith)),
       );
       small = λ k c at.
-          let small : c.work ≤ 2 ^ 44 = works_small (2 ^ 44) regions 0 0 (alone t) contexts whole bounded (omega arith) k c at in omega arith;
+          let small : c.work ≤ 2 ^ 44 = works_small (2 ^ 44) regions 0 0 f contexts whole bounded most k c at in omega arith;
       works = subst (λ (l : List Context). (k : ℕ) (c : Context) → slice_get l k ≡ Some c → works_under k (behind_root l) ≤ c.work) (sym o.whole)
-          (within o.below o.later (o.first) mine o.under inner_bounded (works_of_children mine (bounded_chosen o.region (alone t) bounded)) o.is.work empty);
+          (within o.below o.later (o.first) mine o.under inner_bounded (works_of_children mine (bounded_chosen o.region f bounded)) o.is.work empty);
     }
   where
     within : (below later : List Context) (first : Context) (mine : Forest) → AreUnder regions 0 (0 + 1) (inner_forest mine) below → Bounded (inner_forest mine)
@@ -230,3 +228,11 @@ contexts_can_be_planned regions entries root contexts profile lt whole few =
       where
         one_more : (k : ℕ) → suc k ≡ 1 + k
         one_more k = omega arith
+
+pub contexts_can_be_planned : (regions : List Region) (entries : List Entry) (root : ℕ) (contexts : List Context) → AreProfile entries → root < length entries
+    → AreUnder regions 0 0 (alone (tree_at entries root)) contexts → length contexts ≤ 65536 → CanPlan contexts
+contexts_can_be_planned regions entries root contexts profile lt whole few =
+    let t : Tree = tree_at entries root in
+    let most = work_small entries profile root lt in
+    forest_can_be_planned regions (alone t) contexts (bounded_tree entries profile.interned.earlier profile.numbers root lt) (omega arith) (omega arith)
+    (λ region some. root_alone region t some) whole few
