@@ -1,6 +1,6 @@
 //! The operations whose values an operation uses: those of its operands whose dependence is not broken.
 ghost use Rattle.std.specs.Prelude.{◌≡◌, ◌++◌, [], ◌∷◌, OnOk, IfOk};
-ghost use Rattle.k_code.specs.Named.{operands, returned};
+ghost use Rattle.k_code.specs.Named.{operands, returned_operands};
 ghost use Rattle.k_hcpa_store.specs.Kept.{configuration_of};
 ghost use Rattle.k_carry.specs.Sources.{cited_numbers, one_number, operand_numbers};
 
@@ -62,7 +62,7 @@ fn cite_returned(
     first: u32,
     value: &Option<Arg>,
 ) -> Result<(), NoMemory>
-    ensures { OnOk result (cited_numbers cited.new.items ≡ cited_numbers cited.old.items ++ operand_numbers (configuration_of store.now) (returned value.now)) }
+    ensures { OnOk result (cited_numbers cited.new.items ≡ cited_numbers cited.old.items ++ operand_numbers (configuration_of store.now) (returned_operands value.now)) }
 {
     match value {
         Some(a) => cite_all(cited, store, first, &[*a]),

@@ -5,7 +5,7 @@ use Rattle.std.proofs.lemmas.Bool.{cases_eq, eqb-true, eq-eqb, both_ways, false_
 use Rattle.std.proofs.lemmas.Option.{none-some, same_Some}
 use Rattle.k_code.specs.declared.balance.Balance.{Balance}
 use Rattle.k_code.specs.declared.instruction.Instr.{Instr}
-use Rattle.k_code.specs.Balances.{IsBalance, IsBelow, nothing_open, left, is_met, goes_on, jumps_to}
+use Rattle.k_code.specs.Balances.{IsBalance, IsBelow, nothing_open, left_open, is_met, goes_on, jumps_to}
 use Rattle.k_code.specs.Decides.{IsKnown, IsOpen, Knows, HasBalance, Settles}
 use Rattle.k_code.proofs.Known.{not_both}
 
@@ -16,7 +16,7 @@ NoneBefore entry instrs k = (j : ℕ) (earlier : Instr) → j ≤ k → slice_ge
 
 -- what a balance has at an instruction
 pub record Step (entry : ℕ) (instrs : List Instr) (before : ℕ → Balance) (k : ℕ) (i : Instr) : Type 0 where
-  pub next : goes_on i.act ≡ true → before (k + 1) ≡ left i.act (before k)
+  pub next : goes_on i.act ≡ true → before (k + 1) ≡ left_open i.act (before k)
   pub jumps : (to : ℕ) → jumps_to i.act (entry + to) ≡ true → before to ≡ before k
   pub others : goes_on i.act ≡ false → NoneBefore entry instrs k → before (k + 1) ≡ before k
   pub met : is_met i.act (before k) ≡ true
@@ -135,7 +135,7 @@ changed_steps entry instrs k before t x above none s = record {
         let here : changed before t x j ≡ before j = changed_else before t x j (λ e. omega (arith, above, low, e)) in
         let behind : changed before t x (j + 1) ≡ before (j + 1) = changed_else before t x (j + 1) (λ e. omega (arith, above, low, e)) in
         record {
-          next = λ goes. behind ∙ (a.next goes ∙ ap (left i.act) (sym here));
+          next = λ goes. behind ∙ (a.next goes ∙ ap (left_open i.act) (sym here));
           jumps = λ to e. elim (cases_eq to t) [
             | inl same ↦ absurd (both_ways (jumps_to i.act (entry + t)) (none j i low is) (subst (λ n. jumps_to i.act (entry + n) ≡ true) same e))
             | inr other ↦ changed_else before t x to other ∙ (a.jumps to e ∙ sym here)
@@ -265,7 +265,7 @@ module _ (entry : ℕ) (instrs : List Instr) (some others : ℕ → Balance) (on
           ∙ (same n (omega arith) ∙ sym (two.others n i is stops (λ j x early at. none j x (omega (arith, early)) at)))
 
       by : (goes : Bool) → goes_on i.act ≡ goes → some (n + 1) ≡ others (n + 1)
-      by true e = one.next n i is e ∙ (ap (left i.act) (same n (omega arith)) ∙ sym (two.next n i is e))
+      by true e = one.next n i is e ∙ (ap (left_open i.act) (same n (omega arith)) ∙ sym (two.next n i is e))
       by false e = by_reach e (reached_or_none entry instrs (n + 1) (n + 1))
 
   same_below : (n : ℕ) → n ≤ length instrs → (j : ℕ) → j < n → some j ≡ others j

@@ -4,14 +4,14 @@ use Rattle.std.specs.Prelude.{◌^◌}
 use Rattle.k_code.specs.declared.balance.Balance.{Balance}
 use Rattle.k_code.specs.declared.instruction.Do.{Do}
 use Rattle.k_code.specs.declared.instruction.Do.TheVariants as act
-use Rattle.k_code.specs.Balances.{IsBelow, left}
+use Rattle.k_code.specs.Balances.{IsBelow, left_open}
 
 pub below_more : (n : ℕ) (b : Balance) → IsBelow n b → IsBelow (n + 1) b
 below_more n b h = (omega (arith, h.0), omega (arith, h.1), omega (arith, h.2))
 
 -- an instruction adds at most one
-pub left_below : (n : ℕ) (what : Do) (b : Balance) → IsBelow n b → IsBelow (n + 1) (left what b)
-unfolding left
+pub left_below : (n : ℕ) (what : Do) (b : Balance) → IsBelow n b → IsBelow (n + 1) (left_open what b)
+unfolding left_open
 left_below n act.Save b h = (omega (arith, h.0), omega (arith, h.1), omega (arith, h.2))
 left_below n act.Keep b h = (omega (arith, h.0), omega (arith, h.1), omega (arith, h.2))
 left_below n act.Back b h = (omega (arith, h.0), omega (arith, h.1), omega (arith, h.2))

@@ -9,7 +9,7 @@ use Rattle.k_code.specs.declared.instruction.Arg.{Arg}
 use Rattle.k_code.specs.declared.instruction.Do.{Do}
 use Rattle.k_code.specs.declared.instruction.Do.TheVariants as act
 use Rattle.k_code.specs.declared.instruction.Instr.{Instr}
-use Rattle.k_code.specs.Balances.{IsBelow, left, is_met, goes_on, jumps_to}
+use Rattle.k_code.specs.Balances.{IsBelow, left_open, is_met, goes_on, jumps_to}
 use Rattle.k_code.specs.Decides.{Adds, Agrees, Differs, Follows, HasBalance, IsKnown, IsOpen, Knows, Settles}
 use Rattle.k_code.specs.Valid.{stays_within, is_within}
 use Rattle.k_code.proofs.Balanced.{Has, NoneBefore, Step, Steps, balance_step, balance_steps, steps_of, balance_of, steps_have, has_steps, open_unreached, known_reached}
@@ -21,10 +21,10 @@ pub record Next (k : ℕ) (what : Do) (b : Balance) (mid new : List (Option Bala
   pub long : length new ≡ length mid
   pub kept : (t : ℕ) (c : Balance) → IsKnown mid t c → IsKnown new t c
   pub here : (c : Balance) × IsKnown new (k + 1) c
-  pub goes : goes_on what ≡ true → IsKnown new (k + 1) (left what b)
+  pub goes : goes_on what ≡ true → IsKnown new (k + 1) (left_open what b)
   pub stops : goes_on what ≡ false → IsOpen mid (k + 1) → IsKnown new (k + 1) b
   pub only : (t : ℕ) (c : Balance) → IsKnown new t c
-      → IsKnown mid t c ⊎ ((t ≡ k + 1) × (((goes_on what ≡ true) × (c ≡ left what b)) ⊎ ((goes_on what ≡ false) × IsOpen mid (k + 1) × (c ≡ b))))
+      → IsKnown mid t c ⊎ ((t ≡ k + 1) × (((goes_on what ≡ true) × (c ≡ left_open what b)) ⊎ ((goes_on what ≡ false) × IsOpen mid (k + 1) × (c ≡ b))))
 
 -- what there is at a place within a list
 there : (list : List (Option Balance)) (t : ℕ) → t < length list → IsOpen list t ⊎ ((c : Balance) × IsKnown list t c)
@@ -41,11 +41,11 @@ there list t low =
 follows_next : (k : ℕ) (what : Do) (b : Balance) (mid new : List (Option Balance)) → k + 1 < length mid → Follows true k what b mid new → Next k what b mid new
 follows_next k what b mid new room f = by (goes_on what) refl
   where
-    by_going : goes_on what ≡ true → Adds (λ t. t ≡ k + 1) (left what b) mid new → Next k what b mid new
+    by_going : goes_on what ≡ true → Adds (λ t. t ≡ k + 1) (left_open what b) mid new → Next k what b mid new
     by_going goes x = record {
       long = x.long;
       kept = x.kept;
-      here = (left what b, x.here (k + 1) refl);
+      here = (left_open what b, x.here (k + 1) refl);
       goes = λ _. x.here (k + 1) refl;
       stops = λ stops _. absurd (both_ways (goes_on what) stops goes);
       only = λ t c e. elim (x.only t c e) [
@@ -114,8 +114,8 @@ module _ (entry : ℕ) (instrs : List Instr) (k : ℕ) (i : Instr) (is : slice_g
             | inr now ↦ ap before now.0 ∙ behind c now.1
           ]
         where
-          behind : (c : Balance) → ((goes_on i.act ≡ true) × (c ≡ left i.act b)) ⊎ ((goes_on i.act ≡ false) × IsOpen mid (k + 1) × (c ≡ b)) → before (k + 1) ≡ c
-          behind c (inl x) = here.next x.0 ∙ (ap (left i.act) (here_is before s) ∙ sym x.1)
+          behind : (c : Balance) → ((goes_on i.act ≡ true) × (c ≡ left_open i.act b)) ⊎ ((goes_on i.act ≡ false) × IsOpen mid (k + 1) × (c ≡ b)) → before (k + 1) ≡ c
+          behind c (inl x) = here.next x.0 ∙ (ap (left_open i.act) (here_is before s) ∙ sym x.1)
           behind c (inr x) = here.others x.0 (none_before x.1) ∙ (here_is before s ∙ sym x.2)
 
       old_has : (before : ℕ → Balance) → Has new before → Has list before
@@ -123,7 +123,7 @@ module _ (entry : ℕ) (instrs : List Instr) (k : ℕ) (i : Instr) (is : slice_g
 
       step_here : (before : ℕ → Balance) → Has new before → Step entry instrs before k i
       step_here before h = record {
-        next = λ goes. h (k + 1) (left i.act b) (n.goes goes) ∙ ap (left i.act) (sym here);
+        next = λ goes. h (k + 1) (left_open i.act b) (n.goes goes) ∙ ap (left_open i.act) (sym here);
         jumps = λ to e. h to b (n.kept to b (j.here to e)) ∙ sym here;
         others = λ stops none. others stops none (there mid (k + 1) room);
         met = ap (is_met i.act) here ∙ met;
@@ -175,7 +175,7 @@ module _ (entry : ℕ) (instrs : List Instr) (k : ℕ) (i : Instr) (is : slice_g
             | inr now ↦ subst (λ x. IsBelow (k + 1) x) (sym now.1) this
           ]
 
-          behind : ((goes_on i.act ≡ true) × (c ≡ left i.act b)) ⊎ ((goes_on i.act ≡ false) × IsOpen mid (k + 1) × (c ≡ b)) → IsBelow (k + 1 + 1) c
+          behind : ((goes_on i.act ≡ true) × (c ≡ left_open i.act b)) ⊎ ((goes_on i.act ≡ false) × IsOpen mid (k + 1) × (c ≡ b)) → IsBelow (k + 1 + 1) c
           behind (inl x) = subst (λ y. IsBelow (k + 1 + 1) y) (sym x.1) (left_below (k + 1) i.act b this)
           behind (inr x) = subst (λ y. IsBelow (k + 1 + 1) y) (sym x.2) (below_more (k + 1) b this)
 
@@ -202,10 +202,10 @@ module _ (entry : ℕ) (instrs : List Instr) (k : ℕ) (i : Instr) (is : slice_g
         here : Step entry instrs balance.0 k i
         here = balance_step entry instrs balance.0 k i balance.1 is
 
-        fails : goes_on i.act ≡ true → Differs (λ t. t ≡ k + 1) (left i.act b) mid → ⊥
+        fails : goes_on i.act ≡ true → Differs (λ t. t ≡ k + 1) (left_open i.act b) mid → ⊥
         fails goes d =
             let known : balance.0 d.place ≡ d.other = mid_has balance.0 s here d.place d.other d.known in
-            let next : balance.0 (k + 1) ≡ left i.act b = here.next goes ∙ ap (left i.act) (here_is balance.0 s) in
+            let next : balance.0 (k + 1) ≡ left_open i.act b = here.next goes ∙ ap (left_open i.act) (here_is balance.0 s) in
             d.differs (sym known ∙ (ap balance.0 d.there ∙ next))
 
         by : (goes : Bool) → goes_on i.act ≡ goes → ⊥

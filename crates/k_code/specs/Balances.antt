@@ -17,15 +17,15 @@ abbrev pub IsBelow : ℕ → Balance → Type 0
 IsBelow bound b = (b.saved < bound) × (b.objects < bound) × (b.regions < bound)
 
 -- what an instruction leaves of what was open before it
-unfoldable pub left : Do → Balance → Balance
-left Save b = record b { saved = b.saved + 1 }
-left Keep b = record b { saved = b.saved - 1 }
-left Back b = record b { saved = b.saved - 1 }
-left (ObjectOpen elements) b = record b { objects = b.objects + 1 }
-left (ObjectsClose count) b = record b { objects = b.objects - count }
-left (Enter region) b = record b { regions = b.regions + 1 }
-left Exit b = record b { regions = b.regions - 1 }
-left act b = b
+unfoldable pub left_open : Do → Balance → Balance
+left_open Save b = record b { saved = b.saved + 1 }
+left_open Keep b = record b { saved = b.saved - 1 }
+left_open Back b = record b { saved = b.saved - 1 }
+left_open (ObjectOpen elements) b = record b { objects = b.objects + 1 }
+left_open (ObjectsClose count) b = record b { objects = b.objects - count }
+left_open (Enter region) b = record b { regions = b.regions + 1 }
+left_open Exit b = record b { regions = b.regions - 1 }
+left_open act b = b
 
 -- an object is one of the program's, or one of the live call's that is there
 abbrev pub home_met : Home → Balance → Bool
@@ -62,7 +62,7 @@ jumps_to act n = false
 -- its target. An instruction to which none before it leads has what the one before it has. All is there that an instruction takes away.
 pub record IsBalance (entry : ℕ) (instrs : List Instr) (before : ℕ → Balance) : Type 0 where
   pub first : before 0 ≡ nothing_open
-  pub next : (k : ℕ) (i : Instr) → slice_get instrs k ≡ Some i → goes_on i.act ≡ true → before (k + 1) ≡ left i.act (before k)
+  pub next : (k : ℕ) (i : Instr) → slice_get instrs k ≡ Some i → goes_on i.act ≡ true → before (k + 1) ≡ left_open i.act (before k)
   pub jumps : (k : ℕ) (i : Instr) (to : ℕ) → slice_get instrs k ≡ Some i → jumps_to i.act (entry + to) ≡ true → before to ≡ before k
   pub others : (k : ℕ) (i : Instr) → slice_get instrs k ≡ Some i → goes_on i.act ≡ false
       → ((j : ℕ) (earlier : Instr) → j ≤ k → slice_get instrs j ≡ Some earlier → jumps_to earlier.act (entry + (k + 1)) ≡ false)

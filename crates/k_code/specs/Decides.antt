@@ -7,7 +7,7 @@ use Rattle.k_code.specs.declared.balance.Balance.{Balance}
 use Rattle.k_code.specs.declared.validity.extents.Extent.{Extent}
 use Rattle.k_code.specs.declared.instruction.Do.{Do}
 use Rattle.k_code.specs.declared.instruction.Instr.{Instr}
-use Rattle.k_code.specs.Balances.{IsBalance, IsBelow, left, goes_on}
+use Rattle.k_code.specs.Balances.{IsBalance, IsBelow, left_open, goes_on}
 use Rattle.k_code.specs.Named.{registers_needed}
 use Rattle.k_code.specs.Valid.{end_of, body_of, is_in_range, stays_within}
 
@@ -134,7 +134,7 @@ Agrees false at b old new = Differs at b old
 -- the balance behind an instruction agrees: what that leaves, or if it doesn't go on, what is known, or else the same
 abbrev pub Follows : Bool → ℕ → Do → Balance → List (Option Balance) → List (Option Balance) → Type 0
 Follows answer k act b old new =
-    (goes_on act ≡ true → Agrees answer (λ t. t ≡ k + 1) (left act b) old new)
+    (goes_on act ≡ true → Agrees answer (λ t. t ≡ k + 1) (left_open act b) old new)
     × (goes_on act ≡ false → (answer ≡ true) × Adds (λ t. (t ≡ k + 1) × IsOpen old t) b old new)
 
 -- BEHIND THE FIRST k INSTRUCTIONS OF A FUNCTION: a function is a balance of these exactly if it has all that is known. What is before the next instruction

@@ -1,6 +1,6 @@
 //! What a call of a function has open at an instruction.
 ghost use Rattle.std.specs.Prelude.{◌≡◌, ◌+◌, ◌<◌, ◌^◌};
-ghost use Rattle.k_code.specs.Balances.{IsBelow, is_met as is_met_by, home_met as home_met_by, left as left_by, nothing_open};
+ghost use Rattle.k_code.specs.Balances.{IsBelow, is_met as is_met_by, home_met as home_met_by, left_open, nothing_open};
 
 use crate::{Do, Home};
 
@@ -55,10 +55,10 @@ impl Balance {
     }
 
     /// What an instruction leaves.
-    #[tactic(auto, unfolding(crate::specs::Balances::left))]
+    #[tactic(auto, unfolding(crate::specs::Balances::left_open))]
     pub(crate) fn after(self, act: &Do) -> Balance
-        requires { IsBelow (2 ^ 64) (left_by act.now self) }
-        ensures { result ≡ left_by act.now self }
+        requires { IsBelow (2 ^ 64) (left_open act.now self) }
+        ensures { result ≡ left_open act.now self }
     {
         match act {
             Do::Save => Balance {

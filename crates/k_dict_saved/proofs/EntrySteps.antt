@@ -26,7 +26,7 @@ use Rattle.k_dict.proofs.Places.{is_there, place_of_push}
 use Rattle.k_dict.proofs.Pushes.{all_runs-push}
 use Rattle.k_dict_saved.proofs.RegionSteps.{flat_map-push}
 use Rattle.k_dict_saved.proofs.Spelled.{AreSmall, entry_again, entry_takes}
-use Rattle.k_dict_saved.proofs.Sums.{size-copies}
+use Rattle.k_dict_saved.proofs.RunSums.{size-copies}
 
 -- a tree has an instance
 some_instance : (t : Tree) → 1 ≤ size (alone t)

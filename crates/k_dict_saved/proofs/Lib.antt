@@ -11,8 +11,8 @@ pub mod Migrating
 pub mod Profiles
 pub mod ReadingRuns
 pub mod RegionSteps
+pub mod RunSums
 pub mod Shapes
 pub mod Spelled
-pub mod Sums
 pub mod Visiting
 pub mod Whole

@@ -36,7 +36,7 @@ use Rattle.k_dict_saved.proofs.Spelled.{named_again}
 use Rattle.k_dict_saved.proofs.Whole.{count_line}
 
 -- the lines of regions lead on, and no body is missing behind them
-leads_regions : (format : Format) (count : ℕ) (before after : List Region) → ((n : ℕ) (r : Region) → slice_get after n ≡ Some r → IsRegion r) → ArePaired (last_of before) after
+pub leads_regions : (format : Format) (count : ℕ) (before after : List Region) → ((n : ℕ) (r : Region) → slice_get after n ≡ Some r → IsRegion r) → ArePaired (last_of before) after
     → length before + length after ≡ count
     → Leads (InRegions format count before) (flat_map region_line after) (InRegions format count (before ++ after)) × IsClosed (last_of (before ++ after))
 leads_regions format count before [] each paired sum =
@@ -55,7 +55,7 @@ leads_regions format count before (r ∷ after) each paired sum =
     (subst T (sym (flat_map-cons region_line r after)) (onward (InRegions format count before) (region_line r) (InRegions format count next) (flat_map region_line after) (InRegions format count (next ++ after)) line more.0), more.1)
 
 -- each entry of a profile may stand behind those before it
-next_entry : (format : Format) (regions : ℕ) (before : List Entry) (e : Entry) (after : List Entry) → AreFileEntries format (before ++ e ∷ after) → NameRegions regions (before ++ e ∷ after)
+pub next_entry : (format : Format) (regions : ℕ) (before : List Entry) (e : Entry) (after : List Entry) → AreFileEntries format (before ++ e ∷ after) → NameRegions regions (before ++ e ∷ after)
     → IsNextEntry format regions before e
 next_entry format regions before e after are named =
     let place = place_behind before e after in
@@ -84,7 +84,7 @@ next_entry format regions before e after are named =
     }
 
 -- the lines of entries lead on
-leads_entries : (format : Format) (list : List Region) (count : ℕ) (before after : List Entry) → AreFileEntries format (before ++ after) → NameRegions (length list) (before ++ after)
+pub leads_entries : (format : Format) (list : List Region) (count : ℕ) (before after : List Entry) → AreFileEntries format (before ++ after) → NameRegions (length list) (before ++ after)
     → length before + length after ≡ count → Leads (InEntries format list count before) (flat_map entry_line after) (InEntries format list count (before ++ after))
 leads_entries format list count before [] are named sum =
     let P : List Entry → Type 0 = λ l. Leads (InEntries format list count before) [] (InEntries format list count l) in

@@ -9,12 +9,13 @@ use Rattle.k_dict.specs.declared.entry.Entry.{Entry}
 use Rattle.k_dict.specs.declared.entry.Run.{Run}
 use Rattle.k_dict.proofs.EntryTrees.{below_bound}
 
-length-marked : (marks : List Bool) (runs : List Run) → length (marked marks runs) ≡ length marks
+-- marking keeps the number of marks
+pub length-marked : (marks : List Bool) (runs : List Run) → length (marked marks runs) ≡ length marks
 length-marked marks [] = refl
 length-marked marks (run ∷ runs) = length-marked (set marks run.entry true) runs ∙ length-set marks run.entry true
 
 -- a mark is set where a run names its place, or was set before
-marked_set : (marks : List Bool) (runs : List Run) (n : ℕ) → NameBelow (length marks) runs
+pub marked_set : (marks : List Bool) (runs : List Run) (n : ℕ) → NameBelow (length marks) runs
     → (get_or (marked marks runs) n false ≡ true → (get_or marks n false ≡ true) ⊎ Names n runs)
     × ((get_or marks n false ≡ true) ⊎ Names n runs → get_or (marked marks runs) n false ≡ true)
 marked_set marks [] n below = (λ h. inl h, λ h. elim h [ inl k ↦ k | inr k ↦ absurd k ])
@@ -43,7 +44,7 @@ marked_set marks (run ∷ runs) n below =
     ]
 
 -- the same of all entries
-marked_all_set : (marks : List Bool) (entries : List Entry) (n : ℕ) → AllNameBelow (length marks) entries
+pub marked_all_set : (marks : List Bool) (entries : List Entry) (n : ℕ) → AllNameBelow (length marks) entries
     → (get_or (marked_all marks entries) n false ≡ true → (get_or marks n false ≡ true) ⊎ IsNamedBy n entries)
     × ((get_or marks n false ≡ true) ⊎ IsNamedBy n entries → get_or (marked_all marks entries) n false ≡ true)
 marked_all_set marks [] n below = (λ h. inl h, λ h. elim h [ inl k ↦ k | inr k ↦ absurd k ])
@@ -55,7 +56,8 @@ marked_all_set marks (e ∷ entries) n below =
       λ h. later.1 (elim h [ inl k ↦ inl (one.1 (inl k)) | inr k ↦ elim k [ inl named ↦ inl (one.1 (inr named)) | inr more ↦ inr more ] ]),
     )
 
-length-marked_all : (marks : List Bool) (entries : List Entry) → length (marked_all marks entries) ≡ length marks
+-- so does marking by all entries
+pub length-marked_all : (marks : List Bool) (entries : List Entry) → length (marked_all marks entries) ≡ length marks
 length-marked_all marks [] = refl
 length-marked_all marks (e ∷ entries) = length-marked_all (marked marks e.runs) entries ∙ length-marked marks e.runs
 

@@ -232,13 +232,15 @@ abbrev pub AreSmall : List Run → Type 0
 AreSmall [] = Unit {0}
 AreSmall (run ∷ runs) = (run.count < 2 ^ 64) × AreSmall runs
 
-abbrev runs_text : List Run → List ℕ → List ℕ
+-- the text of runs at the end of a line
+abbrev pub runs_text : List Run → List ℕ → List ℕ
 runs_text runs rest = flat_map run_text runs ++ 10 ∷ rest
 
 runs_text-cons : (run : Run) (runs : List Run) (rest : List ℕ) → runs_text (run ∷ runs) rest ≡ run_text run ++ runs_text runs rest
 runs_text-cons run runs rest = ap (λ l. l ++ 10 ∷ rest) (flat_map-cons run_text run runs) ∙ append_assoc (run_text run) (flat_map run_text runs) (10 ∷ rest)
 
-no_digit_first : (runs : List Run) (rest : List ℕ) → NoDigit (runs_text runs rest)
+-- no digit stands first there
+pub no_digit_first : (runs : List Run) (rest : List ℕ) → NoDigit (runs_text runs rest)
 no_digit_first [] rest = refl
 no_digit_first (run ∷ runs) rest =
     let P : List ℕ → Type 0 = NoDigit in
@@ -248,11 +250,13 @@ no_digit_first (run ∷ runs) rest =
 abbrev runs_more : ℕ → ℕ → List ℕ → Option (List Run × List ℕ)
 runs_more high most text = run_at high text >>= λ run. runs_at high most run.1 >>= λ runs. Some (run.0 ∷ runs.0, runs.1)
 
-record AreRead (high : ℕ) (text : List ℕ) (runs : List Run) (rest : List ℕ) : Type 0 where
-  spelled : text ≡ runs_text runs rest
-  below : NameBelow high runs
+-- these runs were read
+pub record AreRead (high : ℕ) (text : List ℕ) (runs : List Run) (rest : List ℕ) : Type 0 where
+  pub spelled : text ≡ runs_text runs rest
+  pub below : NameBelow high runs
 
-runs_takes : (high most : ℕ) (text : List ℕ) (runs : List Run) (rest : List ℕ) → runs_at high most text ≡ Some (runs, rest) → AreRead high text runs rest
+-- the runs at the end of a line that were read
+pub runs_takes : (high most : ℕ) (text : List ℕ) (runs : List Run) (rest : List ℕ) → runs_at high most text ≡ Some (runs, rest) → AreRead high text runs rest
 unfolding runs_at
 runs_takes high zero text runs rest h =
     let a = bind_some (word_at (codes "\n") text) (λ rest. Some ([], rest)) (runs, rest) h in
@@ -280,7 +284,8 @@ runs_takes high (suc most) text runs rest h = by (λ t rs r is. runs_takes high 
           below = (one.1, one.2, more.below);
         })
 
-runs_again : (high most : ℕ) (runs : List Run) (rest : List ℕ) → length runs ≤ most → NameBelow high runs → high < 2 ^ 64 → AreSmall runs
+-- the runs at the end of a line are read
+pub runs_again : (high most : ℕ) (runs : List Run) (rest : List ℕ) → length runs ≤ most → NameBelow high runs → high < 2 ^ 64 → AreSmall runs
     → runs_at high most (runs_text runs rest) ≡ Some (runs, rest)
 unfolding runs_at
 runs_again high zero [] rest few below fits small = refl

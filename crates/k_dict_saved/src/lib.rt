@@ -17,6 +17,9 @@ pub use file::File;
 pub use format::{Accepts, Format};
 pub use loading::{read, read_old};
 pub use migration::migrate;
-pub use reading::read_file;
+pub use reading::{
+    Extent, Halt, Stop, Sums, are_rising, count_line, is_end, is_main, mark, mark_all, named,
+    next_entry, next_region, read_file, runs, sums_of,
+};
 pub use saved::{Old, Saved};
 pub use saving::write;

@@ -20,16 +20,20 @@ use crate::fault::SavedFault;
 use crate::file::File;
 use crate::format::{Accepts, Format};
 use ending::{are_named, ends_in_main};
+pub use ending::{is_main, mark, mark_all};
 use entry_lines::entries;
+pub use entry_lines::{are_rising, next_entry};
+pub use extents::{Extent, Sums, sums_of};
 use k_dict::Entry;
 use k_num::NoMemory;
 use k_optab::Region;
 use k_scan::{signed, word};
-use lines::named;
+pub use lines::{named, runs};
 use order::are_in_post_order;
+pub use region_lines::next_region;
 use region_lines::{are_closed, regions};
 use std::alloc::Global;
-use stop::Halt;
+pub use stop::{Halt, Stop};
 
 /// The first line: the format of the file.
 #[tactic(auto, unfolding(crate::specs::Reading::first_at))]
@@ -76,7 +80,7 @@ fn head(text: &[u8]) -> Result<(i32, u64, u32, &[u8]), Halt>
 }
 
 /// The line with the number of entries, behind these regions.
-fn count_line<'a>(regions: &[Region], text: &'a [u8]) -> Option<(u32, &'a [u8])>
+pub fn count_line<'a>(regions: &[Region], text: &'a [u8]) -> Option<(u32, &'a [u8])>
     ensures { FoundCount regions.now text.now (option_map (λ found. (found.0, found.1.now)) result) }
 {
     match named(b"entries ", 1, 1_048_576, text) {
@@ -92,7 +96,7 @@ fn count_line<'a>(regions: &[Region], text: &'a [u8]) -> Option<(u32, &'a [u8])>
 }
 
 /// Whether the last line of a file stands here, and nothing behind it.
-fn is_end(text: &[u8]) -> bool
+pub fn is_end(text: &[u8]) -> bool
     ensures { IsTrue result ↔ (text.now ≡ codes "end\n") }
 {
     match word(b"end\n", text) {

@@ -1,5 +1,6 @@
 -- Expressions write bytes, where their texts are bytes and calls write bytes.
 use Rattle.std.proofs.Common.{ℕ, ℤ, pos, List, [], ◌∷◌, ◌++◌, map, Option, Some, None, Bool, true, false, if◌then◌else◌, sym, subst}
+use Rattle.std.specs.List.{concat}
 use Rattle.k_num.specs.declared.place.Place.{Place}
 use Rattle.k_num.specs.declared.numbers.Bin.{Bin}
 use Rattle.k_num.specs.declared.numbers.Bin.TheVariants as bin
@@ -35,7 +36,7 @@ use Rattle.k_evaluation.specs.Operators.{plus, unary, convert, cast, binary, com
 use Rattle.k_evaluation.specs.Assignments.{assign, assign_by, pre, post, writes, old_value, converts_between, converts_side, converts_back, combined, changed, changes, changes_old, one, after_old}
 use Rattle.k_evaluation.specs.Library.{getchar, putchar, puts, printf, conversion_of, chunk_of}
 use Rattle.k_evaluation.specs.Expressions.{Calls, call, eval_step, eval}
-use Rattle.k_evaluation.specs.Texts.{joined, piece_text, texts_step, texts}
+use Rattle.k_evaluation.specs.Texts.{piece_text, texts_step, texts}
 use Rattle.k_evaluation.proofs.Written.{bytes_first, bytes_second, ChunksAreClean, IsClean, then_clean, gives_clean, sets_clean, settled_clean, makes_clean, computes_clean}
 
 -- an expression writes bytes, as a value and as a place, and its text is bytes
@@ -333,12 +334,12 @@ module _ (program : Program) where
   written_as how.Decimal chunks h = h
   written_as how.Hex chunks h = h
 
-  format_clean : (format : List Piece) → AreBytes (joined (map piece_text format)) → ChunksAreClean (map chunk_of format)
+  format_clean : (format : List Piece) → AreBytes (concat (map piece_text format)) → ChunksAreClean (map chunk_of format)
   format_clean [] h = tt
-  format_clean (piece.Bytes bytes ∷ format) h = (bytes_first bytes (joined (map piece_text format)) h, format_clean format (bytes_second bytes (joined (map piece_text format)) h))
+  format_clean (piece.Bytes bytes ∷ format) h = (bytes_first bytes (concat (map piece_text format)) h, format_clean format (bytes_second bytes (concat (map piece_text format)) h))
   format_clean (piece.Argument w ∷ format) h = written_as w (map chunk_of format) (format_clean format h)
 
-  printf_clean : (node : Node) (format : List Piece) (args : List Meaning) → AreBytes (joined (map piece_text format)) → AreClean args → CleanMeaning (printf program node format args)
+  printf_clean : (node : Node) (format : List Piece) (args : List Meaning) → AreBytes (concat (map piece_text format)) → AreClean args → CleanMeaning (printf program node format args)
   unfolding printf
   printf_clean node format args h k =
       value_clean node _ (λ used. then_clean (in_turn args) _ (turn_clean args k)
@@ -364,11 +365,11 @@ module _ (program : Program) where
     abbrev WritesStep : TExpr-F TExpr → Type 0
     WritesStep x = AreBytes (texts_step (map-TExpr TExpr (List ℕ) texts x)) → CleanMeaning (step (map-TExpr TExpr Meaning meaning x))
 
-    all_clean : (items : List ((e : TExpr) × Writes e)) → AreBytes (joined (map texts (map (λ (x : (e : TExpr) × Writes e). x.0) items)))
+    all_clean : (items : List ((e : TExpr) × Writes e)) → AreBytes (concat (map texts (map (λ (x : (e : TExpr) × Writes e). x.0) items)))
         → AreClean (map meaning (map (λ (x : (e : TExpr) × Writes e). x.0) items))
     all_clean [] h = tt
     all_clean (x ∷ items) h =
-        let rest : List ℕ = joined (map texts (map (λ (x : (e : TExpr) × Writes e). x.0) items)) in
+        let rest : List ℕ = concat (map texts (map (λ (x : (e : TExpr) × Writes e). x.0) items)) in
         (x.1 (bytes_first (texts x.0) rest h), all_clean items (bytes_second (texts x.0) rest h))
 
     step_clean : (y : TExpr-F ((e : TExpr) × Writes e)) → WritesStep (map-TExpr _ TExpr (λ (x : (e : TExpr) × Writes e). x.0) y)
@@ -382,8 +383,8 @@ module _ (program : Program) where
     step_clean (TExpr-F.Putchar node a) h = putchar_clean node (meaning a.0) (a.1 h)
     step_clean (TExpr-F.Puts node a) h = puts_clean node (meaning a.0) (a.1 h)
     step_clean (TExpr-F.Printf node format args) h =
-        let rest : List ℕ = joined (map texts (map (λ (x : (e : TExpr) × Writes e). x.0) args)) in
-        printf_clean node format _ (bytes_first (joined (map piece_text format)) rest h) (all_clean args (bytes_second (joined (map piece_text format)) rest h))
+        let rest : List ℕ = concat (map texts (map (λ (x : (e : TExpr) × Writes e). x.0) args)) in
+        printf_clean node format _ (bytes_first (concat (map piece_text format)) rest h) (all_clean args (bytes_second (concat (map piece_text format)) rest h))
     step_clean (TExpr-F.Post node c a) h = post_clean node c (meaning a.0) (a.1 h)
     step_clean (TExpr-F.Pre node c a) h = pre_clean node c (meaning a.0) (a.1 h)
     step_clean (TExpr-F.Address node a) h = address_clean node (meaning a.0) (a.1 h)

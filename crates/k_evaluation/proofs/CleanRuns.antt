@@ -1,5 +1,6 @@
 -- A run writes bytes, where the texts of its program are bytes.
 use Rattle.std.proofs.Common.{ℕ, zero, suc, ◌+◌, ◌-◌, ℤ, pos, List, [], ◌∷◌, ◌++◌, map, Option, Some, None, Bool, true, false, nat_eq, if◌then◌else◌, sym, subst, slice_get}
+use Rattle.std.specs.List.{concat}
 use Rattle.k_num.specs.declared.place.Place.{Place}
 use Rattle.k_num.specs.declared.numbers.Kind.{Kind}
 use Rattle.k_num.specs.declared.numbers.Bin.TheVariants as bin
@@ -48,7 +49,7 @@ use Rattle.k_evaluation.specs.Switches.{PartDoing, ACase, ADefault, AStatement, 
 use Rattle.k_evaluation.specs.Statements.{expression, empty, compound, does_or_none, chosen_arm, if_jumps, if_else, for_loop, break, continue, returns_moved, returns_value, return, declaration, does_step, part_step, does}
 use Rattle.k_evaluation.specs.Calls.{serves_by, serves, falls_off, at_end, result_of, function_region, within, body, runs, entered, back_to, enters_function, enters_number, calls_operation, calls}
 use Rattle.k_evaluation.specs.Runs.{starts_object, starts_objects, starts_strings, runs_main, whole, initial, ended, run}
-use Rattle.k_evaluation.specs.Texts.{joined, texts, option_texts, item_texts, init_texts, declared_texts, first_texts, stmt_step, stmt_texts, part_texts, function_texts, source_texts}
+use Rattle.k_evaluation.specs.Texts.{texts, option_texts, item_texts, init_texts, declared_texts, first_texts, stmt_step, stmt_texts, part_texts, function_texts, source_texts}
 use Rattle.k_evaluation.specs.Texts as texts_of
 use Rattle.k_evaluation.specs.Laws.{RunsWriteBytes}
 use Rattle.k_evaluation.proofs.Written.{bytes_first, bytes_second, CleanOutcome, IsClean, then_clean, gives_clean, traps_clean, sets_clean, control_clean, settles_clean, settled_clean, region_clean, block_clean, makes_object_clean, makes_string_clean, fills_clean, makes_clean, computes_clean}
@@ -227,11 +228,11 @@ module _ (program : Program) (function : ℕ) (vs : List TVariable) (calls : Cal
       then_clean ((means here e).value true) (stores program place (element_of home n)) ((means_clean e h).value true)
       (λ a. then_clean _ _ (computes_clean program class.Store place act.Store (element_of home n ∷ a ∷ []) tt) (λ v. gives_clean {A = Unit {0}} tt))
 
-  stores_items_clean : (home : Held) (items : List TItem) → AreBytes (joined (map item_texts items)) → IsClean (stores_items here home items)
+  stores_items_clean : (home : Held) (items : List TItem) → AreBytes (concat (map item_texts items)) → IsClean (stores_items here home items)
   stores_items_clean home [] h = gives_clean {A = Unit {0}} tt
   stores_items_clean home (i ∷ items) h =
-      then_clean (stores_item here home i) (λ done. stores_items here home items) (stores_item_clean home i (bytes_first (item_texts i) (joined (map item_texts items)) h))
-      (λ done. stores_items_clean home items (bytes_second (item_texts i) (joined (map item_texts items)) h))
+      then_clean (stores_item here home i) (λ done. stores_items here home items) (stores_item_clean home i (bytes_first (item_texts i) (concat (map item_texts items)) h))
+      (λ done. stores_items_clean home items (bytes_second (item_texts i) (concat (map item_texts items)) h))
 
   begins_object_clean : (d : TDeclarator) (i : TInit) (home : Held) → AreBytes (init_texts i) → IsClean (begins_object here d i home)
   begins_object_clean d init.Nothing home h = gives_clean {A = Unit {0}} tt
@@ -358,16 +359,16 @@ module _ (program : Program) (function : ℕ) (vs : List TVariable) (calls : Cal
   abbrev Parts : Type 0
   Parts = List ((p : TPart) × OfPart p)
 
-  all_do : (items : Stmts) → AreBytes (joined (map stmt_texts (map (λ (x : (s : TStmt) × OfStmt s). x.0) items))) → AllClean (map (does here) (map (λ (x : (s : TStmt) × OfStmt s). x.0) items))
+  all_do : (items : Stmts) → AreBytes (concat (map stmt_texts (map (λ (x : (s : TStmt) × OfStmt s). x.0) items))) → AllClean (map (does here) (map (λ (x : (s : TStmt) × OfStmt s). x.0) items))
   all_do [] h = tt
   all_do (x ∷ items) h =
-      let rest : List ℕ = joined (map stmt_texts (map (λ (x : (s : TStmt) × OfStmt s). x.0) items)) in
+      let rest : List ℕ = concat (map stmt_texts (map (λ (x : (s : TStmt) × OfStmt s). x.0) items)) in
       (x.1 (bytes_first (stmt_texts x.0) rest h), all_do items (bytes_second (stmt_texts x.0) rest h))
 
-  parts_do : (items : Parts) → AreBytes (joined (map part_texts (map (λ (x : (p : TPart) × OfPart p). x.0) items))) → PartsClean (map part_does (map (λ (x : (p : TPart) × OfPart p). x.0) items))
+  parts_do : (items : Parts) → AreBytes (concat (map part_texts (map (λ (x : (p : TPart) × OfPart p). x.0) items))) → PartsClean (map part_does (map (λ (x : (p : TPart) × OfPart p). x.0) items))
   parts_do [] h = tt
   parts_do (x ∷ items) h =
-      let rest : List ℕ = joined (map part_texts (map (λ (x : (p : TPart) × OfPart p). x.0) items)) in
+      let rest : List ℕ = concat (map part_texts (map (λ (x : (p : TPart) × OfPart p). x.0) items)) in
       (x.1 (bytes_first (part_texts x.0) rest h), parts_do items (bytes_second (part_texts x.0) rest h))
 
   -- the same of the layers of a tree
@@ -406,7 +407,7 @@ module _ (program : Program) (function : ℕ) (vs : List TVariable) (calls : Cal
       (bytes_first (option_texts test) (option_texts step ++ stmt_texts a.0) behind_start) (bytes_first (option_texts step) (stmt_texts a.0) behind_test)
       (a.1 (bytes_second (option_texts step) (stmt_texts a.0) behind_test))
   stmt_by (TStmt-F.Switch spot kind on parts) h =
-      let rest : List ℕ = joined (map part_texts (map (λ (x : (p : TPart) × OfPart p). x.0) parts)) in
+      let rest : List ℕ = concat (map part_texts (map (λ (x : (p : TPart) × OfPart p). x.0) parts)) in
       switch_clean kind on (map part_does (map (λ (x : (p : TPart) × OfPart p). x.0) parts)) (bytes_first (texts on) rest h) (parts_do parts (bytes_second (texts on) rest h))
   stmt_by (TStmt-F.Break spot) h = break_clean
   stmt_by (TStmt-F.Continue spot) h = continue_clean
@@ -421,10 +422,10 @@ module _ (program : Program) (function : ℕ) (vs : List TVariable) (calls : Cal
       (λ x y is h. subst CleanDoing (sym (fold-roll-TStmt PartDoing Doing part_step (does_step here) x))
       (subst StmtLayer is (stmt_by y) (subst AreBytes (fold-roll-TStmt (List ℕ) (List ℕ) texts_of.part_step stmt_step x) h)))
 
-  all_statements : (list : List TStmt) → AreBytes (joined (map stmt_texts list)) → AllClean (map (does here) list)
+  all_statements : (list : List TStmt) → AreBytes (concat (map stmt_texts list)) → AllClean (map (does here) list)
   all_statements [] h = tt
   all_statements (s ∷ list) h =
-      (does_clean s (bytes_first (stmt_texts s) (joined (map stmt_texts list)) h), all_statements list (bytes_second (stmt_texts s) (joined (map stmt_texts list)) h))
+      (does_clean s (bytes_first (stmt_texts s) (concat (map stmt_texts list)) h), all_statements list (bytes_second (stmt_texts s) (concat (map stmt_texts list)) h))
 
 -- CALLS
 module _ (program : Program) where
@@ -479,7 +480,7 @@ module _ (program : Program) where
 
   -- each function's texts are bytes
   abbrev AllTexts : List TFunc → Type 0
-  AllTexts fs = AreBytes (joined (map function_texts fs))
+  AllTexts fs = AreBytes (concat (map function_texts fs))
 
   abbrev TextThere : Option TFunc → Type 0
   TextThere None = Unit {0}
@@ -487,8 +488,8 @@ module _ (program : Program) where
 
   text_there : (fs : List TFunc) (n : ℕ) → AllTexts fs → TextThere (slice_get fs n)
   text_there [] n h = tt
-  text_there (f ∷ fs) zero h = bytes_first (function_texts f) (joined (map function_texts fs)) h
-  text_there (f ∷ fs) (suc n) h = text_there fs n (bytes_second (function_texts f) (joined (map function_texts fs)) h)
+  text_there (f ∷ fs) zero h = bytes_first (function_texts f) (concat (map function_texts fs)) h
+  text_there (f ∷ fs) (suc n) h = text_there fs n (bytes_second (function_texts f) (concat (map function_texts fs)) h)
 
   enters_number_clean : (inner : Calls) (number : ℕ) (place : Place) (f : Option TFunc) (args : List (Option Held)) → CleanCalls inner → TextThere f
       → IsClean (enters_number program inner number place f args)

@@ -1,5 +1,5 @@
 -- The jumps that *Evaluation* finds in a statement are those that *Marks* finds in it, whatever else its steps do.
-use Rattle.std.proofs.Common.{◌≡◌, ◌∙◌, List, [], ◌∷◌, ◌++◌, map, Option, Some, None, refl, sym, ap, subst}
+use Rattle.std.proofs.Common.{◌≡◌, ◌∙◌, List, [], ◌∷◌, ◌++◌, map, Option, Some, None, unwrap_or, refl, sym, ap, subst}
 use Rattle.k_types_meaning.specs.declared.tree.statement.Spot.{Spot}
 use Rattle.k_types_meaning.specs.declared.tree.statement.TPart.{TPart, fold-TPart, fold-roll-TPart, map-TPart}
 use Rattle.k_types_meaning.specs.declared.tree.statement.TPart.TheOpen.{TPart-F, TStmt-F}
@@ -7,7 +7,7 @@ use Rattle.k_types_meaning.specs.declared.tree.statement.TStmt.{TStmt, fold-TStm
 use Rattle.k_marks_meaning.specs.declared.jumps.Jumps.{Jumps}
 use Rattle.k_marks_meaning.specs.declared.jumps.StatementJumps.{StatementJumps}
 use Rattle.k_marks_meaning.specs.Jumps.{no_jumps, a_break, a_continue, a_return, jumps_of_both, out_of_loop, out_of_switch}
-use Rattle.k_marks_meaning.specs.Contents.{Inside, both, if_there, inside, inside_step, only, part_inside, row, with_jumps}
+use Rattle.k_marks_meaning.specs.Contents.{Inside, both, inside, inside_step, only, part_inside, row, with_jumps}
 use Rattle.k_marks_meaning.specs.Contents as contents
 use Rattle.k_marks_meaning.specs.Reductions.{action_uses}
 use Rattle.k_marks_meaning.specs.Uses.{declared_uses, option_uses, uses_of}
@@ -151,7 +151,9 @@ listed_step : (y : TStmt-F Inside Inside) → Listed (inside_step y) (spot_in y)
 listed_step (TStmt-F.Expr spot e) = listed_by spot (only (action_uses e)) no_jumps no_jumps
 listed_step (TStmt-F.Empty spot) = listed_by spot contents.nothing no_jumps no_jumps
 listed_step (TStmt-F.Block spot parts) = listed_by spot (row parts) (row parts).jumps (row parts).jumps
-listed_step (TStmt-F.If spot test a b) = listed_by spot (both (only (uses_of test)) (both a (if_there b))) (jumps_of_both a.jumps (if_there b).jumps) (jumps_of_both a.jumps (if_there b).jumps)
+listed_step (TStmt-F.If spot test a b) =
+    let other = unwrap_or b contents.nothing in
+    listed_by spot (both (only (uses_of test)) (both a other)) (jumps_of_both a.jumps other.jumps) (jumps_of_both a.jumps other.jumps)
 listed_step (TStmt-F.While spot number test body) = (body.statements, body.jumps, refl)
 listed_step (TStmt-F.DoWhile spot number body test) = (body.statements, body.jumps, refl)
 listed_step (TStmt-F.For spot number start test by body) = (body.statements, body.jumps, refl)

@@ -46,8 +46,8 @@ abbrev pub follow : {A B : Type 0} → Outcome A → (A → Part B) → Outcome 
 follow (Goes a s) next = next a s
 follow (Stops end world) next = Stops end world
 
--- one part behind another
 infixl 10 ◌>>=◌
+-- one part behind another
 abbrev pub ◌>>=◌ : {A B : Type 0} → Part A → (A → Part B) → Part B
 (part >>= next) s = follow (part s) next
 

@@ -1,6 +1,7 @@
 -- Believed with a public law.
 -- The texts that a program may write: those of its strings and formats, as one list of bytes in text order.
-use Rattle.std.specs.Prelude.{ℕ, List, [], ◌∷◌, ◌++◌, map, Option, Some, None}
+use Rattle.std.specs.Prelude.{ℕ, List, [], ◌∷◌, ◌++◌, map, Option, Some, None, unwrap_or}
+use Rattle.std.specs.List.{concat}
 use Rattle.k_types_meaning.specs.declared.tree.declaration.TDeclarator.{TDeclarator}
 use Rattle.k_types_meaning.specs.declared.tree.declaration.TInit.{TInit}
 use Rattle.k_types_meaning.specs.declared.tree.declaration.TInit.TheVariants as init
@@ -18,16 +19,6 @@ use Rattle.k_types_meaning.specs.declared.tree.statement.TStmt.{TStmt, fold-TStm
 use Rattle.k_types_meaning.specs.declared.tree.unit.TFunc.{TFunc}
 use Rattle.k_types_meaning.specs.declared.tree.unit.TUnit.{TUnit}
 
--- several texts, one behind another
-abbrev pub joined : List (List ℕ) → List ℕ
-joined [] = []
-joined (bytes ∷ rest) = bytes ++ joined rest
-
--- a text that may be left out
-abbrev pub if_there : Option (List ℕ) → List ℕ
-if_there None = []
-if_there (Some bytes) = bytes
-
 -- the bytes of a piece of a format
 abbrev pub piece_text : Piece → List ℕ
 piece_text (piece.Bytes bytes) = bytes
@@ -40,11 +31,11 @@ texts_step (TExpr-F.Str node n bytes) = bytes
 texts_step (TExpr-F.Object node n) = []
 texts_step (TExpr-F.Variable node n) = []
 texts_step (TExpr-F.Index node a b) = a ++ b
-texts_step (TExpr-F.Call node f args) = joined args
+texts_step (TExpr-F.Call node f args) = concat args
 texts_step (TExpr-F.Getchar node) = []
 texts_step (TExpr-F.Putchar node a) = a
 texts_step (TExpr-F.Puts node a) = a
-texts_step (TExpr-F.Printf node format args) = joined (map piece_text format) ++ joined args
+texts_step (TExpr-F.Printf node format args) = concat (map piece_text format) ++ concat args
 texts_step (TExpr-F.Post node change a) = a
 texts_step (TExpr-F.Pre node change a) = a
 texts_step (TExpr-F.Address node a) = a
@@ -84,11 +75,11 @@ item_texts (item.Value place n e) = texts e
 abbrev pub init_texts : TInit → List ℕ
 init_texts init.Nothing = []
 init_texts (init.Value e) = texts e
-init_texts (init.Elements items) = joined (map item_texts items)
+init_texts (init.Elements items) = concat (map item_texts items)
 
 -- those of declarators
 abbrev pub declared_texts : List TDeclarator → List ℕ
-declared_texts list = joined (map (λ (d : TDeclarator). init_texts d.init) list)
+declared_texts list = concat (map (λ (d : TDeclarator). init_texts d.init) list)
 
 -- those of the first part of a `for`
 abbrev pub first_texts : TFirst → List ℕ
@@ -100,12 +91,12 @@ first_texts (first.Declare list) = declared_texts list
 abbrev pub stmt_step : TStmt-F (List ℕ) (List ℕ) → List ℕ
 stmt_step (TStmt-F.Expr spot e) = texts e
 stmt_step (TStmt-F.Empty spot) = []
-stmt_step (TStmt-F.Block spot parts) = joined parts
-stmt_step (TStmt-F.If spot test a b) = texts test ++ (a ++ if_there b)
+stmt_step (TStmt-F.Block spot parts) = concat parts
+stmt_step (TStmt-F.If spot test a b) = texts test ++ (a ++ unwrap_or b [])
 stmt_step (TStmt-F.While spot number test body) = texts test ++ body
 stmt_step (TStmt-F.DoWhile spot number body test) = texts test ++ body
 stmt_step (TStmt-F.For spot number start test step body) = first_texts start ++ (option_texts test ++ (option_texts step ++ body))
-stmt_step (TStmt-F.Switch spot kind on parts) = texts on ++ joined parts
+stmt_step (TStmt-F.Switch spot kind on parts) = texts on ++ concat parts
 stmt_step (TStmt-F.Break spot) = []
 stmt_step (TStmt-F.Continue spot) = []
 stmt_step (TStmt-F.Return spot value) = option_texts value
@@ -127,8 +118,8 @@ part_texts = fold-TPart (List ℕ) (List ℕ) part_step stmt_step
 
 -- those of a function
 abbrev pub function_texts : TFunc → List ℕ
-function_texts f = joined (map stmt_texts f.body)
+function_texts f = concat (map stmt_texts f.body)
 
 -- those of a source
 unfoldable pub source_texts : TUnit → List ℕ
-source_texts unit = joined (map function_texts unit.functions)
+source_texts unit = concat (map function_texts unit.functions)

@@ -1,5 +1,5 @@
 -- What fits is the same without the numbers of a tree.
-use Rattle.std.proofs.Common.{◌≡◌, Bool, ◌&&◌, List, [], ◌∷◌, map, slice_get, Option, Some, None, refl, ap}
+use Rattle.std.proofs.Common.{◌≡◌, Bool, true, ◌&&◌, List, [], ◌∷◌, map, slice_get, Option, Some, None, unwrap_or, refl, ap}
 use Rattle.k_num.specs.declared.numbers.Kind.{Kind}
 use Rattle.k_types_meaning.specs.declared.tree.declaration.TDeclarator.{TDeclarator}
 use Rattle.k_types_meaning.specs.declared.tree.declaration.TInit.{TInit}
@@ -15,7 +15,7 @@ use Rattle.k_types_meaning.specs.declared.tree.statement.TStmt.{TStmt}
 use Rattle.k_types_meaning.specs.Bare.{bare_expr, bare_option, bare_item, bare_init, bare_declared, bare_first, bare_stmt}
 use Rattle.k_lower_fits.proofs.Bared.{bare_form, bare_stmt_form, expr_same, stmt_same}
 use Rattle.k_evaluation_laws.specs.Kinds.{Sort, ANumber, kind_in}
-use Rattle.k_evaluation_laws.proofs.Fits.{Around, Seen, same, expr_step, see, option_fits, item_fits, items_fit, init_fits, init_of, declared_fit, first_fits, return_fits, all_stand, if_there, stmt_step, part_step, stmt_fits}
+use Rattle.k_evaluation_laws.proofs.Fits.{Around, Seen, same, expr_step, see, option_fits, item_fits, items_fit, init_fits, init_of, declared_fit, first_fits, return_fits, all_stand, stmt_step, part_step, stmt_fits}
 
 module _ (site : Around) where
   keeps : (y : TExpr-F Seen) → expr_step site (bare_form y) ≡ expr_step site y
@@ -66,7 +66,7 @@ module _ (site : Around) where
   stmt_keeps (TStmt-F.Expr spot e) = λ i. (seen_alike e i).fits
   stmt_keeps (TStmt-F.Empty spot) = refl
   stmt_keeps (TStmt-F.Block spot parts) = refl
-  stmt_keeps (TStmt-F.If spot test a b) = λ i. (seen_alike test i).fits && (a && if_there b)
+  stmt_keeps (TStmt-F.If spot test a b) = λ i. (seen_alike test i).fits && (a && unwrap_or b true)
   stmt_keeps (TStmt-F.While spot n test body) = λ i. (seen_alike test i).fits && body
   stmt_keeps (TStmt-F.DoWhile spot n body test) = λ i. (seen_alike test i).fits && body
   stmt_keeps (TStmt-F.For spot n start test step body) = λ i. first_alike start i && (option_alike test i && (option_alike step i && body))

@@ -45,7 +45,7 @@ use Rattle.k_types_meaning.specs.Names.{Names, meaning_of}
 use Rattle.k_types_meaning.specs.Operands as operands
 use Rattle.k_types_meaning.specs.Operands.{addressed, cast_number, cast_pointer, cast_rule, cast_to, char_rule, index_rule, indexed, name_rule, named, number_rule, of_number, plus_of, pointed_to, post_rule, pre_rule, size_named, size_number, sizeof_rule, sizeof_type_rule, step_change, stepped, string_rule, unary_kind, unary_of, unary_rule, written}
 use Rattle.k_types_meaning.specs.Operators as ops
-use Rattle.k_types_meaning.specs.Operators.{Operand, arms, assign_by, assign_rule, assigned, binary_rule, change_kind, changed, changed_by, comma_rule, common_of, compares, cond_rule, equal_pointers, moved, number_and_pointer, on_numbers, operand, operated, operated_by, pointer_and_number, right_kind, shift_of, taken_in, taken_in_three, tested, two_pointers}
+use Rattle.k_types_meaning.specs.Operators.{Operand, arms, assign_by, assign_rule, assigned, binary_rule, change_kind, changed, changed_by, comma_rule, common_of, compares, cond_rule, equal_pointers, moved, number_and_pointer, on_numbers, operand, operated, operated_by, pointer_and_number, right_kind, shift_of, taken_in, taken_in_three, cond_of_kind, two_pointers}
 use Rattle.k_types_meaning.specs.Specifiers.{type_named}
 use Rattle.k_types_meaning.specs.Types.{as_type, decayed, equal_element, number_kind, pointed, pointer_to, same_element, same_kind, size_of, told}
 use Rattle.k_types_meaning.proofs.Fine.{IfFine}
@@ -357,12 +357,12 @@ puts_held p [] = tt
 puts_held p (a ∷ []) = line_held p (all_taken (a ∷ [])) a.tree (bytes_in a.tree)
 puts_held p (a ∷ b ∷ args) = tt
 
-trees_held : (p : Place) (marks : List formats.Mark) (taken : List ℕ) (o : Option (List TExpr)) → IfFine IsHeld (print_trees p marks taken o)
+trees_held : (p : Place) (marks : List formats.FormatMark) (taken : List ℕ) (o : Option (List TExpr)) → IfFine IsHeld (print_trees p marks taken o)
 trees_held p marks taken None = tt
 trees_held p marks taken (Some trees) =
     λ ranged. none_held (ctype.Number I32) (typed.Printf (at p (ttype.Number I32)) (pieces_of marks) trees) (typed_Printf (Option ℤ) value_step (at p (ttype.Number I32)) (pieces_of marks) trees)
 
-marks_held : (p : Place) (taken : List ℕ) (args : List Typed) (o : Option (List formats.Mark)) → IfFine IsHeld (print_marks p taken args o)
+marks_held : (p : Place) (taken : List ℕ) (args : List Typed) (o : Option (List formats.FormatMark)) → IfFine IsHeld (print_marks p taken args o)
 marks_held p taken args None = tt
 marks_held p taken args (Some marks) = trees_held p marks taken (all_formatted (kinds_taken marks) args)
 
@@ -484,7 +484,7 @@ module _ (p : Place) (t x y : Typed) (h : IsHeld x) (k : IsHeld y) where
   arms_held (ops.APointer d) ops.Nothing is also = tt
   arms_held (ops.APointer d) (ops.ANumber j) is also = tt
 
-  tested_held : (kind : Option Kind) → IfFine IsHeld (tested p kind t x y)
+  tested_held : (kind : Option Kind) → IfFine IsHeld (cond_of_kind p kind t x y)
   tested_held None = tt
   tested_held (Some kind) = arms_held (operand x.of) (operand y.of) refl refl
 

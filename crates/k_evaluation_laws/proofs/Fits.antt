@@ -1,5 +1,5 @@
 -- What typing gives of the types of operands: by it each value is of the type of its node.
-use Rattle.std.specs.Prelude.{Bool, true, false, ◌&&◌, not, ◌≡◌, if◌then◌else◌, List, [], ◌∷◌, map, take, slice_get, Option, Some, None}
+use Rattle.std.specs.Prelude.{Bool, true, false, ◌&&◌, not, ◌≡◌, if◌then◌else◌, List, [], ◌∷◌, map, take, slice_get, Option, Some, None, unwrap_or}
 use Rattle.k_num.specs.declared.numbers.Bin.{Bin}
 use Rattle.k_num.specs.declared.numbers.Kind.{Kind}
 use Rattle.k_num.specs.declared.numbers.Kind.TheVariants.{I8, I32, I64}
@@ -26,7 +26,7 @@ use Rattle.k_types_meaning.specs.declared.tree.unit.TUnit.{TUnit}
 use Rattle.k_types_meaning.specs.declared.tree.unit.TVariable.{TVariable}
 use Rattle.k_types_meaning.specs.Types.{same_kind}
 use Rattle.k_evaluation_laws.specs.Kinds.{Sort, NoValue, ANumber, APointer, sort_of, kind_in}
-pub use Rattle.k_evaluation_laws.specs.Ranges.{all_stand, if_there}
+pub use Rattle.k_evaluation_laws.specs.Ranges.{all_stand}
 
 -- what a call has to know of a function: what its parameters and its result are
 pub record Callee : Type 0 where
@@ -222,7 +222,7 @@ abbrev pub stmt_step : Around → TStmt-F Bool Bool → Bool
 stmt_step around (TStmt-F.Expr spot e) = expr_fits around e
 stmt_step around (TStmt-F.Empty spot) = true
 stmt_step around (TStmt-F.Block spot parts) = all_stand parts
-stmt_step around (TStmt-F.If spot test a b) = expr_fits around test && (a && if_there b)
+stmt_step around (TStmt-F.If spot test a b) = expr_fits around test && (a && unwrap_or b true)
 stmt_step around (TStmt-F.While spot number test body) = expr_fits around test && body
 stmt_step around (TStmt-F.DoWhile spot number body test) = expr_fits around test && body
 stmt_step around (TStmt-F.For spot number start test step body) = first_fits around start && (option_fits around test && (option_fits around step && body))

@@ -14,7 +14,7 @@ use Rattle.k_tree.specs.Literals.{NumberIsHeld, string_bytes}
 use Rattle.k_tree.specs.Spelling.{Spelled}
 use Rattle.k_types_meaning.specs.declared.tree.expression.Piece.{Piece}
 use Rattle.k_types_meaning.specs.declared.tree.expression.Piece.TheVariants as piece
-use Rattle.k_types_meaning.specs.Formats.{Mark, Literal, Takes, Reading, Outside, Behind, mark_before, mark_ended, marks_from, byte_before, pieces_of}
+use Rattle.k_types_meaning.specs.Formats.{FormatMark, Literal, Takes, Reading, Outside, Behind, mark_before, mark_ended, marks_from, byte_before, pieces_of}
 use Rattle.k_lower_texts.specs.Laws.{FormatsFollow, NumbersFollow, TokenPasses}
 use Rattle.k_lower_texts.specs.Passing.{Asks}
 use Rattle.k_evaluation_laws.specs.Ranges.{CharacterIsHeld}
@@ -30,20 +30,20 @@ asks = record {
 }
 
 -- marks that there may be are no more than this
-abbrev Short : Option (List Mark) → ℕ → Type 0
-Short o n = (marks : List Mark) → o ≡ Some marks → length marks ≤ n
+abbrev Short : Option (List FormatMark) → ℕ → Type 0
+Short o n = (marks : List FormatMark) → o ≡ Some marks → length marks ≤ n
 
 short_none : (n : ℕ) → Short None n
 short_none n marks is = absurd (none-some marks is)
 
-short_more : (o : Option (List Mark)) (n : ℕ) → Short o n → Short o (suc n)
+short_more : (o : Option (List FormatMark)) (n : ℕ) → Short o n → Short o (suc n)
 short_more o n h marks is = let few : length marks ≤ n = h marks is in omega (arith, few)
 
-short_if : (b : Bool) (o p : Option (List Mark)) (n : ℕ) → Short o n → Short p n → Short (if b then o else p) n
+short_if : (b : Bool) (o p : Option (List FormatMark)) (n : ℕ) → Short o n → Short p n → Short (if b then o else p) n
 short_if true o p n h k = h
 short_if false o p n h k = k
 
-short_before : (mark : Option Mark) (o : Option (List Mark)) (n : ℕ) → Short o n → Short (mark_before mark o) (suc n)
+short_before : (mark : Option FormatMark) (o : Option (List FormatMark)) (n : ℕ) → Short o n → Short (mark_before mark o) (suc n)
 short_before None o n h marks is = short_none (suc n) marks is
 short_before (Some mark) None n h marks is = short_none (suc n) marks is
 short_before (Some mark) (Some rest) n h marks is =
@@ -52,7 +52,7 @@ short_before (Some mark) (Some rest) n h marks is =
     omega (arith, few, same)
 
 short_from : (reading : Reading) (text : List ℕ) → Short (marks_from reading text) (length text)
-short_from Outside [] marks is = let same : 0 ≡ length marks = ap (λ (ms : List Mark). length ms) (same_Some [] marks is) in omega (arith, same)
+short_from Outside [] marks is = let same : 0 ≡ length marks = ap (λ (ms : List FormatMark). length ms) (same_Some [] marks is) in omega (arith, same)
 short_from Outside (b ∷ text) marks is =
     short_if (b == 37) (marks_from (Behind 0) text) (if b == 0 then None else mark_before (Some (Literal b)) (marks_from Outside text)) (suc (length text))
     (short_more (marks_from (Behind 0) text) (length text) (short_from (Behind 0) text))
@@ -70,7 +70,7 @@ before_most b [] = omega arith
 before_most b (piece.Bytes bytes ∷ pieces) = omega arith
 before_most b (piece.Argument how ∷ pieces) = omega arith
 
-pieces_few : (marks : List Mark) → most_written (pieces_of marks) ≤ 65 * length marks
+pieces_few : (marks : List FormatMark) → most_written (pieces_of marks) ≤ 65 * length marks
 pieces_few [] = omega arith
 pieces_few (Literal b ∷ marks) =
     let rest : most_written (pieces_of marks) ≤ 65 * length marks = pieces_few marks in

@@ -32,7 +32,7 @@ use Rattle.k_lower_texts.proofs.Sources.{functions_pass}
 use Rattle.k_evaluation_laws.specs.Ranges.{CharactersOfUnitAreHeld, ObjectsAreInRange}
 use Rattle.k_evaluation_laws.proofs.Formats.{asks, formats_follow, literals_pass, numbers_follow}
 use Rattle.k_evaluation_laws.proofs.Ranges as ranges
-use Rattle.k_evaluation_laws.proofs.Ranges.{AreInRange, all_stand, if_there, most_written, declared_in_range, expr_in_range, first_in_range, init_in_range, item_in_range, items_in_range, option_in_range, stmt_in_range}
+use Rattle.k_evaluation_laws.proofs.Ranges.{AreInRange, all_stand, most_written, declared_in_range, expr_in_range, first_in_range, init_in_range, item_in_range, items_in_range, option_in_range, stmt_in_range}
 
 is_below : (n k : ℕ) → n < k → nat_lt n k ≡ true
 is_below n k less = grind (arith, nat_tests, less)

@@ -37,7 +37,7 @@ use Rattle.k_types_meaning.specs.Names.{Names, meaning_of}
 use Rattle.k_types_meaning.specs.Operands as operands
 use Rattle.k_types_meaning.specs.Operands.{name_rule, number_rule, char_rule, string_rule, index_rule, unary_rule, post_rule, pre_rule, sizeof_rule, sizeof_type_rule, cast_rule}
 use Rattle.k_types_meaning.specs.Operators as ops
-use Rattle.k_types_meaning.specs.Operators.{compares, taken_in, taken_in_three, shift_of, common_of, on_numbers, pointer_and_number, number_and_pointer, equal_pointers, two_pointers, operand, operated, operated_by, binary_rule, arms, tested, cond_rule, assigned, change_kind, right_kind, changed, moved, changed_by, assign_by, assign_rule, comma_rule}
+use Rattle.k_types_meaning.specs.Operators.{compares, taken_in, taken_in_three, shift_of, common_of, on_numbers, pointer_and_number, number_and_pointer, equal_pointers, two_pointers, operand, operated, operated_by, binary_rule, arms, cond_of_kind, cond_rule, assigned, change_kind, right_kind, changed, moved, changed_by, assign_by, assign_rule, comma_rule}
 use Rattle.k_types_meaning.specs.Types.{decayed, same_kind, same_element, equal_element, number_kind, told, pointer_to}
 use Rattle.k_types_meaning.proofs.Fine.{IfFine}
 use Rattle.k_types_meaning.proofs.Folds.{typed_Binary, typed_Both, typed_Either, typed_Forward, typed_Onto, typed_Back, typed_PtrCompare, typed_PtrDistance, typed_Cond, typed_Assign, typed_AssignBy, typed_Comma, typed_Call, typed_Getchar, typed_Putchar, typed_Puts, typed_Printf}
@@ -278,7 +278,7 @@ module _ (site : Around) where
     arms_good (ops.APointer d) ops.Nothing a b = tt
     arms_good (ops.APointer d) (ops.ANumber j) a b = tt
 
-    tested_good : (kind : Option Kind) → IfFine (Good site) (tested p kind t x y)
+    tested_good : (kind : Option Kind) → IfFine (Good site) (cond_of_kind p kind t x y)
     tested_good None = tt
     tested_good (Some kind) = arms_good (operand x.of) (operand y.of) refl refl
 
@@ -410,13 +410,13 @@ module _ (site : Around) where
   all_formatted_fit (kind ∷ kinds) (a ∷ args) h =
       tree_before_fits (formatted kind a (number_kind a.of)) (all_formatted kinds args) (formatted_fits kind a (number_kind a.of) refl h.0) (all_formatted_fit kinds args h.1)
 
-  print_trees_good : (p : Place) (marks : List formats.Mark) (taken : List ℕ) (o : Option (List TExpr)) → TreesFit o → IfFine (Good site) (print_trees p marks taken o)
+  print_trees_good : (p : Place) (marks : List formats.FormatMark) (taken : List ℕ) (o : Option (List TExpr)) → TreesFit o → IfFine (Good site) (print_trees p marks taken o)
   print_trees_good p marks taken None h = tt
   print_trees_good p marks taken (Some trees) h =
       is_by site (ANumber I32) (typed.Printf (at p (ttype.Number I32)) (pieces_of marks) trees) (expr_step site (TExpr-F.Printf (at p (ttype.Number I32)) (pieces_of marks) (map (see site) trees)))
       (typed_Printf Seen (expr_step site) (at p (ttype.Number I32)) (pieces_of marks) trees) refl h
 
-  print_marks_good : (p : Place) (taken : List ℕ) (args : List Typed) (o : Option (List formats.Mark)) → AllGood args → IfFine (Good site) (print_marks p taken args o)
+  print_marks_good : (p : Place) (taken : List ℕ) (args : List Typed) (o : Option (List formats.FormatMark)) → AllGood args → IfFine (Good site) (print_marks p taken args o)
   print_marks_good p taken args None h = tt
   print_marks_good p taken args (Some marks) h = print_trees_good p marks taken (all_formatted (kinds_taken marks) args) (all_formatted_fit (kinds_taken marks) args h)
 

@@ -1,5 +1,5 @@
 -- What is in range as `specs/Ranges` says it, with numbers of strings that the source has, and no format writes more bytes than an int can count.
-use Rattle.std.specs.Prelude.{ℕ, ◌+◌, ◌≡◌, nat_le, nat_lt, Bool, true, ◌&&◌, List, [], ◌∷◌, map, length, slice_get, Option, Some, None}
+use Rattle.std.specs.Prelude.{ℕ, ◌+◌, ◌≡◌, nat_le, nat_lt, Bool, true, ◌&&◌, List, [], ◌∷◌, map, length, slice_get, Option, Some, None, unwrap_or}
 use Rattle.k_types_meaning.specs.declared.tree.declaration.TDeclarator.{TDeclarator}
 use Rattle.k_types_meaning.specs.declared.tree.declaration.TInit.{TInit}
 use Rattle.k_types_meaning.specs.declared.tree.declaration.TInit.TheVariants as begins
@@ -17,7 +17,7 @@ use Rattle.k_types_meaning.specs.declared.tree.unit.TFunc.{TFunc}
 use Rattle.k_types_meaning.specs.declared.tree.unit.TObject.{TObject}
 use Rattle.k_types_meaning.specs.declared.tree.unit.TUnit.{TUnit}
 use Rattle.k_evaluation_laws.specs.Kinds.{sort_of, kind_in}
-pub use Rattle.k_evaluation_laws.specs.Ranges.{all_stand, if_there, is_in_range, initials_in_range}
+pub use Rattle.k_evaluation_laws.specs.Ranges.{all_stand, is_in_range, initials_in_range}
 
 -- the most bytes that a piece of a format writes: an argument never takes more than 65
 abbrev pub most_of : Piece → ℕ
@@ -97,7 +97,7 @@ abbrev pub stmt_step : ℕ → TStmt-F Bool Bool → Bool
 stmt_step strings (TStmt-F.Expr spot e) = expr_in_range strings e
 stmt_step strings (TStmt-F.Empty spot) = true
 stmt_step strings (TStmt-F.Block spot parts) = all_stand parts
-stmt_step strings (TStmt-F.If spot test a b) = expr_in_range strings test && (a && if_there b)
+stmt_step strings (TStmt-F.If spot test a b) = expr_in_range strings test && (a && unwrap_or b true)
 stmt_step strings (TStmt-F.While spot number test body) = expr_in_range strings test && body
 stmt_step strings (TStmt-F.DoWhile spot number body test) = expr_in_range strings test && body
 stmt_step strings (TStmt-F.For spot number start test step body) =

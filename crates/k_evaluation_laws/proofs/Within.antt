@@ -20,7 +20,7 @@ use Rattle.k_types_meaning.specs.declared.tree.statement.TStmt.{TStmt, fold_out-
 use Rattle.k_types_meaning.specs.Types.{same_kind}
 use Rattle.k_evaluation_laws.specs.Kinds.{Sort, ANumber, sort_of, kind_in}
 use Rattle.k_evaluation_laws.proofs.Ranges as ranges
-use Rattle.k_evaluation_laws.proofs.Ranges.{all_stand, declared_in_range, expr_in_range, first_in_range, if_there, init_in_range, item_in_range, items_in_range, most_written, option_in_range, stmt_in_range}
+use Rattle.k_evaluation_laws.proofs.Ranges.{all_stand, declared_in_range, expr_in_range, first_in_range, init_in_range, item_in_range, items_in_range, most_written, option_in_range, stmt_in_range}
 use Rattle.k_evaluation_laws.specs.Standing.{IsWithin, itself_within, in_operand, operands_of, option_values, item_values, init_values, declared_values, first_values, expressions_at}
 use Rattle.k_evaluation_laws.proofs.Fits.{Around, Seen, all_fit, binary_fits, call_fits, cast_fits, change_fits, declarator_fits, declared_fit, expr_fits, expr_step, first_fits, init_fits, init_of, is_number, is_pointer, items_fit, option_fits, part_step, points, return_fits, same, see, stmt_fits, stmt_step, unary_fits, unused_or, value_fits}
 

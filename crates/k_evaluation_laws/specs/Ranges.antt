@@ -1,6 +1,6 @@
 -- Believed with a public law.
 -- The constants that stand in a source are numbers of their kinds, and its objects begin with numbers of theirs.
-use Rattle.std.specs.Prelude.{ℕ, ◌≡◌, Bool, true, ◌&&◌, IsTrue, ℤ, List, [], ◌∷◌, slice_get, Option, Some, None, All}
+use Rattle.std.specs.Prelude.{ℕ, ◌≡◌, Bool, true, ◌&&◌, IsTrue, ℤ, List, [], ◌∷◌, slice_get, Some, All}
 use Rattle.k_num.specs.declared.initial.Initial.{Initial}
 use Rattle.k_num.specs.declared.numbers.Kind.{Kind}
 use Rattle.k_num.specs.declared.numbers.Kind.TheVariants.{I32}
@@ -19,11 +19,6 @@ use Rattle.k_evaluation_laws.specs.Kinds.{sort_of, kind_in}
 abbrev pub all_stand : List Bool → Bool
 all_stand [] = true
 all_stand (s ∷ ss) = s && all_stand ss
-
--- what may be left out is so
-abbrev pub if_there : Option Bool → Bool
-if_there None = true
-if_there (Some s) = s
 
 -- a constant is a number of its kind
 abbrev pub is_in_range : TType → ℤ → Bool

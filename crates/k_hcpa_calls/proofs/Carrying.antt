@@ -12,7 +12,7 @@ use Rattle.k_code.specs.declared.code.Code.{Code}
 use Rattle.k_code.specs.Steps.{Configuration}
 use Rattle.k_hcpa_meaning.specs.Locations.{source_at, saved_in, frames_of}
 use Rattle.k_hcpa_meaning.specs.Timed.{live_levels, ArePaths, IsTimed}
-use Rattle.k_hcpa_meaning.specs.Timings.{Location, Timing, HasLevels, time_of, left, left_below, all_left_below}
+use Rattle.k_hcpa_meaning.specs.Timings.{Location, Timing, HasLevels, time_of, innermost_gone, left_below, all_left_below}
 use Rattle.k_hcpa_laws.specs.Carried.{IsCarried, timed, kept}
 use Rattle.k_hcpa_laws.proofs.Opened.{left_length, paths_left, paths_shallower}
 
@@ -45,7 +45,7 @@ one_path : (depth : ℕ) (events : List Event) (t : Timing) → 0 < length (open
 one_path depth events t some paths = by (nat_lt depth (length (open_after events))) refl
   where
     by : (b : Bool) → nat_lt depth (length (open_after events)) ≡ b
-        → ArePaths depth (events ++ Exit ∷ []) (let new : Timing = if b then t else left t in new.paths)
+        → ArePaths depth (events ++ Exit ∷ []) (let new : Timing = if b then t else innermost_gone t in new.paths)
     by true is = paths_shallower depth events t.paths some (ltb-true depth (length (open_after events)) is) paths
     by false is = paths_left depth events t.paths some (ltb-false depth (length (open_after events)) is) paths
 

@@ -1,6 +1,6 @@
 //! On what an operation depends beside the control source, and where what it gives is held.
 ghost use Rattle.std.specs.Prelude.{◌≡◌, ℕ, ◌+◌, ◌*◌, ◌^◌, ◌<◌, [], ◌∷◌, IfSome, length};
-ghost use Rattle.k_code.specs.Named.{operands, returned};
+ghost use Rattle.k_code.specs.Named.{operands, returned_operands};
 ghost use Rattle.k_code.specs.Steps.{operation_of};
 ghost use Rattle.k_hcpa_meaning.specs.Locations.{operand_locations, element_location, register_location};
 ghost use Rattle.k_hcpa_meaning.specs.Timings.{raised_all, given_to_all};
@@ -61,10 +61,10 @@ fn raise_returned<T: Timed, L: Ledger>(
     value: Option<Arg>,
     steps: &mut Steps<L>,
 )
-    requires { AreBelow first (T.seen times.old).registers (returned value) }
-    ensures raised { T.seen times.new ≡ made (raised_all (operand_locations first (returned value))) (T.seen times.old) }
+    requires { AreBelow first (T.seen times.old).registers (returned_operands value) }
+    ensures raised { T.seen times.new ≡ made (raised_all (operand_locations first (returned_operands value))) (T.seen times.old) }
     ensures kept { Keeps (T.room times.old) (T.room times.new) }
-    ensures steps { steps.new ≡ steps.old + length (operand_locations first (returned value)) * levels (T.seen times.old) }
+    ensures steps { steps.new ≡ steps.old + length (operand_locations first (returned_operands value)) * levels (T.seen times.old) }
 {
     if let Some(a) = value {
         times.raise_arg(first, a, steps);

@@ -3,7 +3,7 @@ use Rattle.std.proofs.Common.{ℕ, ◌≡◌, ◌+◌, ◌-◌, ◌<◌, ◌≤�
 use Rattle.std.proofs.lemmas.Bool.{cases_lt}
 use Rattle.std.proofs.lemmas.List.{get_or-map, get_or_past, get_or_append_left, get_or_push, get_or-take, length-map, length_push, length-take-le}
 use Rattle.std.proofs.lemmas.Option.{slice_get-map, slice_get-get_or}
-use Rattle.k_hcpa_meaning.specs.Timings.{Location, Register, Element, InCell, OutCell, Control, Saved, Timing, HasLevels, times_at, time_of, entered, left, without_last}
+use Rattle.k_hcpa_meaning.specs.Timings.{Location, Register, Element, InCell, OutCell, Control, Saved, Timing, HasLevels, times_at, time_of, entered, innermost_gone, without_last}
 use Rattle.k_hcpa_laws.proofs.Lists.{get_mapped}
 
 -- the map that has no time
@@ -95,7 +95,7 @@ map_left_time levels level r below =
     ∙ sym (get_or-map (λ (m : ℕ → ℕ). m r) levels level none 0 (omega arith))
 
 -- at the levels around the one that is left each location has its time
-pub time_left : (count : ℕ) (t : Timing) (at : Location) (level : ℕ) → HasLevels count t → level + 1 < count → time_of (left t) at level ≡ time_of t at level
+pub time_left : (count : ℕ) (t : Timing) (at : Location) (level : ℕ) → HasLevels count t → level + 1 < count → time_of (innermost_gone t) at level ≡ time_of t at level
 unfolding times_at
 time_left count t (Register r) level shape below = map_left_time t.registers level r (omega (arith, shape.registers, below))
 time_left count t (Element e) level shape below = map_left_time t.elements level e (omega (arith, shape.elements, below))
@@ -112,7 +112,7 @@ time_left count t (Saved n) level shape below = elim (cases_lt n (length t.saved
       ∙ sym (ap (λ (times : List ℕ). get_or times level 0) (get_or_past t.saved n [] past))
 ]
 
-pub shape_left : (count : ℕ) (t : Timing) → HasLevels (count + 1) t → HasLevels count (left t)
+pub shape_left : (count : ℕ) (t : Timing) → HasLevels (count + 1) t → HasLevels count (innermost_gone t)
 shape_left count t shape = record {
   registers = omega (arith, length-without_last t.registers, shape.registers);
   elements = omega (arith, length-without_last t.elements, shape.elements);

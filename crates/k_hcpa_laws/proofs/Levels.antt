@@ -13,7 +13,7 @@ use Rattle.k_code.specs.declared.code.Code.{Code}
 use Rattle.k_code.specs.Steps.{Configuration}
 use Rattle.k_hcpa_meaning.specs.Locations.{source_at}
 use Rattle.k_hcpa_meaning.specs.Timed.{live_levels, CameEarlier, IsTimed}
-use Rattle.k_hcpa_meaning.specs.Timings.{Location, Register, Element, InCell, OutCell, Control, Saved, Timing, HasLevels, time_of, entered, left, entered_below, left_below, all_left_below, without_last}
+use Rattle.k_hcpa_meaning.specs.Timings.{Location, Register, Element, InCell, OutCell, Control, Saved, Timing, HasLevels, time_of, entered, innermost_gone, entered_below, left_below, all_left_below, without_last}
 use Rattle.std.proofs.lemmas.Option.{slice_get_within}
 use Rattle.k_hcpa_laws.proofs.Entering.{shape_entered, shape_left, time_entered, time_entered_new, time_left}
 use Rattle.k_hcpa_laws.proofs.Opened.{entered_length, entered_open, entered_operations, left_length, left_open, left_operations, paths_deeper, paths_entered, paths_left, paths_shallower}
@@ -116,14 +116,14 @@ module _ (code : Code) (depth : ℕ) (c : Configuration) (t : Timing) (is : IsTi
   ]
 
   -- the innermost instance is left, which has a level
-  left_level : 0 < count → count ≤ depth → IsTimed code depth (at_events (events ++ Exit ∷ []) c) (left t)
+  left_level : 0 < count → count ≤ depth → IsTimed code depth (at_events (events ++ Exit ∷ []) c) (innermost_gone t)
   left_level some shallow = record {
     shape = shape_left (live_levels depth (events ++ Exit ∷ [])) t (subst (λ (n : ℕ). HasLevels n t) next is.shape);
     saved = length-map t.saved (λ (times : List ℕ). without_last times) ∙ is.saved;
     times = λ level o at source live there holds.
         let held : source_at code c at ≡ Some source = sym (source_at_events code c (events ++ Exit ∷ []) at) ∙ holds in
         let inside : level + 1 < live_levels depth events = omega (arith, next, live) in
-        subst (λ (ops : List Operation). IsTime ops o.start source (time_of (left t) at level)) (sym (left_operations events))
+        subst (λ (ops : List Operation). IsTime ops o.start source (time_of (innermost_gone t) at level)) (sym (left_operations events))
         (subst (λ (n : ℕ). IsTime (operations events) o.start source n) (sym (time_left (live_levels depth events) t at level is.shape inside))
         (is.times level o at source (omega (arith, inside)) (left_open events level o some there) held));
     paths = paths_left depth events t.paths some shallow is.paths;
@@ -152,10 +152,10 @@ module _ (code : Code) (depth : ℕ) (c : Configuration) (t : Timing) (is : IsTi
   timed_left some = elim (cases_lt depth count) [
     | inl deep ↦
         (let test : nat_lt depth count ≡ true = grind arith in
-        subst (λ (b : Bool). IsTimed code depth (at_events (events ++ Exit ∷ []) c) (if b then t else left t)) (sym test) (left_deeper some deep))
+        subst (λ (b : Bool). IsTimed code depth (at_events (events ++ Exit ∷ []) c) (if b then t else innermost_gone t)) (sym test) (left_deeper some deep))
     | inr shallow ↦
         (let test : nat_lt depth count ≡ false = grind arith in
-        subst (λ (b : Bool). IsTimed code depth (at_events (events ++ Exit ∷ []) c) (if b then t else left t)) (sym test) (left_level some shallow))
+        subst (λ (b : Bool). IsTimed code depth (at_events (events ++ Exit ∷ []) c) (if b then t else innermost_gone t)) (sym test) (left_level some shallow))
   ]
 
 -- the innermost ones are left, so many of those that are open

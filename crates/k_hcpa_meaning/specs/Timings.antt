@@ -142,8 +142,8 @@ abbrev pub without_last : {A : Type 0} → List A → List A
 without_last xs = take (length xs - 1) xs
 
 -- the innermost level is gone
-abbrev pub left : Timing → Timing
-left t = record {
+abbrev pub innermost_gone : Timing → Timing
+innermost_gone t = record {
   registers = without_last t.registers;
   elements = without_last t.elements;
   control = without_last t.control;
@@ -160,7 +160,7 @@ entered_below depth count t = if nat_lt count depth then entered t else t
 
 -- the innermost of so many open instances is left
 abbrev pub left_below : ℕ → ℕ → Timing → Timing
-left_below depth count t = if nat_lt depth count then t else left t
+left_below depth count t = if nat_lt depth count then t else innermost_gone t
 
 -- so are the innermost ones, so many of them
 abbrev pub all_left_below : ℕ → ℕ → ℕ → Timing → Timing

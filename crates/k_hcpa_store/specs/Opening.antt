@@ -15,10 +15,10 @@ use Rattle.k_code.specs.Steps.{Run, Over}
 use Rattle.k_hcpa_store.specs.Kept.{Kept}
 
 -- an object was made, or there was no room for it
-abbrev pub Makes : Place → Option World → World → Result ⊤ Stop → World → Type 0
-Makes place made old (Ok done) new = made ≡ Some new
-Makes place made old (Err (stop.Ended end)) new = (made ≡ None) × (end ≡ Trapped MemoryLimit place) × (new ≡ old)
-Makes place made old (Err stop.Memory) new = Unit {0}
+abbrev pub MakesObject : Place → Option World → World → Result ⊤ Stop → World → Type 0
+MakesObject place made old (Ok done) new = made ≡ Some new
+MakesObject place made old (Err (stop.Ended end)) new = (made ≡ None) × (end ≡ Trapped MemoryLimit place) × (new ≡ old)
+MakesObject place made old (Err stop.Memory) new = Unit {0}
 
 -- all these objects were made, whatever comes then, or the run ends where there was no room for one
 abbrev pub OpensAll : List CodeObject → World → Result ⊤ Stop → World → Type 0

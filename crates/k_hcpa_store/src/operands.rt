@@ -1,7 +1,7 @@
 //! The parts of instructions that make operations.
 ghost use Rattle.std.specs.Prelude.{◌≡◌, option_map};
 ghost use Rattle.k_world.specs.Answers.{act_of};
-ghost use Rattle.k_code.specs.Named.{operands as operands_named, register_set as register_named, returned as returned_operand};
+ghost use Rattle.k_code.specs.Named.{operands as operands_named, register_set as register_named, returned_operands};
 ghost use Rattle.k_hcpa_store.specs.Parts.{listed, plain_act};
 
 use k_code::{Arg, Do};
@@ -66,7 +66,7 @@ pub fn operands_in(what: &Do) -> Operands<'_>
 
 /// The operand of a return.
 fn returned(value: &Option<Arg>) -> Operands<'_>
-    ensures { listed result ≡ returned_operand value.now }
+    ensures { listed result ≡ returned_operands value.now }
 {
     match value {
         Some(a) => Operands::One(a),

@@ -3,8 +3,8 @@ use Rattle.std.proofs.Common.{◌≡◌, ℕ, ◌+◌, ◌-◌, zero, suc, List,
 use Rattle.std.specs.Prelude.{slice_get, Some}
 use Rattle.std.proofs.lemmas.List.{length-take-le}
 use Rattle.std.proofs.lemmas.Option.{none-some, same_Some}
-use Rattle.k_hcpa_meaning.specs.Timings.{Timing, HasLevels, entered, left, without_last}
-use Rattle.k_shadow.specs.Content.{Content, entered as content_entered, left as content_left}
+use Rattle.k_hcpa_meaning.specs.Timings.{Timing, HasLevels, entered, innermost_gone, without_last}
+use Rattle.k_shadow.specs.Content.{Content, entered as content_entered, level_dropped}
 use Rattle.k_shadow.specs.Stack.{Stack, level_entered as stack_entered, level_left as stack_left}
 use Rattle.k_hcpa_times.specs.Seen.{seen_of}
 
@@ -36,7 +36,7 @@ levels_entered n t h = record {
   paths = longer t.paths 0 n h.paths;
 }
 
-levels_left : (n : ℕ) (t : Timing) → HasLevels n t → HasLevels (n - 1) (left t)
+levels_left : (n : ℕ) (t : Timing) → HasLevels n t → HasLevels (n - 1) (innermost_gone t)
 levels_left n t h = record {
   registers = shorter t.registers n h.registers;
   elements = shorter t.elements n h.elements;
@@ -60,11 +60,11 @@ all_entered r e c {r'} {e'} {c'} {i} {i'} {o} {o'} {w} {w'} {p} {p'} rs es cs is
     at_same same (ap (λ xs. length xs) ps ∙ longer p 0 (length p) refl) (levels_entered (length p) (seen_of r e c i o w p).timing h)
 
 -- the innermost level is left everywhere
-pub all_left : (r e : Content) (c : Stack) → {r' e' : Content} {c' : Stack} {i i' o o' w w' p p' : List ℕ} → r' ≡ content_left r → e' ≡ content_left e → c' ≡ stack_left c
+pub all_left : (r e : Content) (c : Stack) → {r' e' : Content} {c' : Stack} {i i' o o' w w' p p' : List ℕ} → r' ≡ level_dropped r → e' ≡ level_dropped e → c' ≡ stack_left c
     → i' ≡ without_last i → o' ≡ without_last o → w' ≡ without_last w → p' ≡ without_last p
     → HasLevels (length p) (seen_of r e c i o w p).timing → HasLevels (length p') (seen_of r' e' c' i' o' w' p').timing
 all_left r e c {r'} {e'} {c'} {i} {i'} {o} {o'} {w} {w'} {p} {p'} rs es cs is os ws ps h =
-    let same : (seen_of r' e' c' i' o' w' p').timing ≡ left (seen_of r e c i o w p).timing = λ j. (seen_of (rs j) (es j) (cs j) (is j) (os j) (ws j) (ps j)).timing in
+    let same : (seen_of r' e' c' i' o' w' p').timing ≡ innermost_gone (seen_of r e c i o w p).timing = λ j. (seen_of (rs j) (es j) (cs j) (is j) (os j) (ws j) (ps j)).timing in
     at_same same (ap (λ xs. length xs) ps ∙ shorter p (length p) refl) (levels_left (length p) (seen_of r e c i o w p).timing h)
 
 -- as long lists stand in the places of the row and of the paths

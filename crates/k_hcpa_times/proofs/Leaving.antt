@@ -3,7 +3,7 @@ use Rattle.std.proofs.Common.{◌≡◌, ℕ, ◌+◌, ◌-◌, ◌<◌, ◌≤�
 use Rattle.std.specs.Prelude.{if◌then◌else◌}
 use Rattle.std.proofs.lemmas.Bool.{ltb-true, ltb-false}
 use Rattle.std.proofs.lemmas.List.{length-take-le}
-use Rattle.k_hcpa_meaning.specs.Timings.{Timing, left, left_below, all_left_below, without_last}
+use Rattle.k_hcpa_meaning.specs.Timings.{Timing, innermost_gone, left_below, all_left_below, without_last}
 use Rattle.k_hcpa_times.specs.Seen.{Seen, made, levels}
 
 -- one instance, and then the rest
@@ -18,7 +18,7 @@ left_first depth count regions k s t goal lt is same =
     ∙ same
 
 levels_if : (b : Bool) (depth count : ℕ) (t : Timing) → (b ≡ true → depth < count) → (b ≡ false → count ≤ depth) → length t.paths ≡ min depth count
-    → length (if b then t else left t).paths ≡ min depth (count - 1)
+    → length (if b then t else innermost_gone t).paths ≡ min depth (count - 1)
 levels_if true depth count t above below live = let lt : depth < count = above refl in omega arith
 levels_if false depth count t above below live =
     let le : count ≤ depth = below refl in

@@ -1,6 +1,6 @@
 //! The contract of the times of all locations.
 ghost use Rattle.std.specs.Prelude.{◌≡◌, ℕ, ◌+◌, ◌*◌, ◌-◌, ◌^◌, ◌<◌, ◌≤◌, min, [], ◌∷◌, length, OnOk};
-ghost use Rattle.k_hcpa_meaning.specs.Timings.{Register, Element, InCell, OutCell, Control, begun, raised, raised_all, settled, operated, given_to, registers_cleared, elements_cleared, control_saved, control_restored, control_kept, control_back, saved_kept, left, left_below, all_left_below};
+ghost use Rattle.k_hcpa_meaning.specs.Timings.{Register, Element, InCell, OutCell, Control, begun, raised, raised_all, settled, operated, given_to, registers_cleared, elements_cleared, control_saved, control_restored, control_kept, control_back, saved_kept, innermost_gone, left_below, all_left_below};
 ghost use Rattle.k_hcpa_meaning.specs.Locations.{operand_locations};
 ghost use Rattle.k_hcpa_meaning.specs.Calls.{handed, arguments_handed};
 ghost use Rattle.k_hcpa_times.specs.AtOnce.{at_once};
@@ -40,7 +40,7 @@ pub trait Timed: Drop {
     /// Leaves the innermost level.
     fn leave(&mut self)
         requires { 0 < levels (seen self.old) }
-        ensures left { seen self.new ≡ made left (seen self.old) };
+        ensures left { seen self.new ≡ made innermost_gone (seen self.old) };
 
     /// Makes room for the `count` registers from `first` on. A refusal may have made room for some.
     fn reserve_registers(&mut self, first: u32, count: u32) -> Result<(), NoMemory>

@@ -1,7 +1,7 @@
 -- Which pieces of a source its tokens come of: those outside of directives.
 use Rattle.std.proofs.Common.{◌≡◌, ℕ, zero, suc, ◌+◌, ◌-◌, Bool, true, false, ◌&&◌, ◌||◌, not, nat_lt, eqb, if◌then◌else◌, List, [], ◌∷◌, ◌++◌, Option, Some, None, Result, Ok, Err, length, map, take, drop, codes, refl, sym, ap, subst, ◌∙◌, inl, inr, append_assoc, is_none, is_some}
 use Rattle.std.specs.Prelude.{IfOk}
-use Rattle.std.specs.List.{All}
+use Rattle.std.specs.List.{All, list_any}
 use Rattle.std.proofs.lemmas.Bool.{cases_Bool, false≢true}
 use Rattle.std.proofs.lemmas.List.{append-nil}
 use Rattle.std.proofs.lemmas.List.Elements.{All-nil, All-cons}
@@ -30,7 +30,7 @@ use Rattle.k_lex.specs.Lines.{State, token_of, step_in}
 use Rattle.k_lex_pieces.specs.Outcome.{◌>>=◌, refused}
 use Rattle.k_lex.specs.Tokens.{piece_in, turn, run, joined, first_place, nothing_read, tokens_within, limits}
 use Rattle.k_lex.specs.Cuts.{Cut, cut, cuts}
-use Rattle.k_lex.specs.Laws.{Line, Fresh, Text, Directive, begun, line_behind, is_text, is_directive, pieces_of, header_names, names_in, names_of, is_among, is_in_directive, IsToken, Gives, Come, with_end, TokensComeOfText}
+use Rattle.k_lex.specs.Laws.{Line, Fresh, Text, Directive, begun, line_behind, is_text, is_directive, pieces_of, header_names, names_in, names_of, is_in_directive, IsToken, Gives, Come, with_end, TokensComeOfText}
 use Rattle.k_lex_pieces.proofs.Tables.{same_true, same_refl}
 use Rattle.k_lex.proofs.Outcomes.{Each, each_one_more, either_way, cond_ok, bind_ok, bind_any, bind_equal, answered}
 
@@ -508,13 +508,17 @@ or_true : (b c : Bool) → c ≡ true → (b || c) ≡ true
 or_true true c e = refl
 or_true false c e = e
 
-among_more : (x : List ℕ) (all names : List (List ℕ)) → AreKnown (is_among all) names → AreKnown (is_among (x ∷ all)) names
-among_more x all [] names_known = tt
-among_more x all (name ∷ names) names_known = (or_true (same x name) (is_among all name) names_known.0, among_more x all names names_known.1)
+-- the name is one of these
+abbrev among : List (List ℕ) → List ℕ → Bool
+among names name = list_any (λ (n : List ℕ). same n name) names
 
-among_all : (names : List (List ℕ)) → AreKnown (is_among names) names
+among_more : (x : List ℕ) (all names : List (List ℕ)) → AreKnown (among all) names → AreKnown (among (x ∷ all)) names
+among_more x all [] names_known = tt
+among_more x all (name ∷ names) names_known = (or_true (same x name) (among all name) names_known.0, among_more x all names names_known.1)
+
+among_all : (names : List (List ℕ)) → AreKnown (among names) names
 among_all [] = tt
-among_all (name ∷ names) = (ap (λ (b : Bool). b || is_among names name) (same_refl name), among_more name names names (among_all names))
+among_all (name ∷ names) = (ap (λ (b : Bool). b || among names name) (same_refl name), among_more name names names (among_all names))
 
 -- the list is what the pieces of lines of text give
 abbrev ComesOf : (List ℕ → Bool) → List Cut → Place → List Token → Type 0

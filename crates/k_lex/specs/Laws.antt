@@ -1,6 +1,7 @@
 -- Believed with a public law.
 -- Laws of the definition of tokens, in words that its modes and tables are not needed for.
-use Rattle.std.specs.Prelude.{◌≡◌, ℕ, zero, suc, ◌-◌, ◌<◌, ◌≤◌, Bool, true, false, not, ◌||◌, ◌==◌, if◌then◌else◌, ◌⊎◌, List, [], ◌∷◌, ◌++◌, Option, Some, None, Result, Ok, Err, All, map, take, length, codes}
+use Rattle.std.specs.Prelude.{◌≡◌, ℕ, zero, suc, ◌-◌, ◌<◌, ◌≤◌, Bool, true, false, not, ◌==◌, if◌then◌else◌, ◌⊎◌, List, [], ◌∷◌, ◌++◌, Option, Some, None, Result, Ok, Err, All, map, take, length, codes}
+use Rattle.std.specs.List.{list_any}
 use Rattle.k_num.specs.declared.place.Place.{Place}
 use Rattle.k_tree.specs.declared.tokens.Token.{Token}
 use Rattle.k_tree.specs.declared.tokens.TokenKind.{TokenKind}
@@ -171,14 +172,9 @@ abbrev pub names_of : List Cut → List (List ℕ)
 names_of [] = []
 names_of (cut ∷ cuts) = names_in cut.what cut.spelling ++ names_of cuts
 
--- the name is one of these
-abbrev pub is_among : List (List ℕ) → List ℕ → Bool
-is_among [] name = false
-is_among (n ∷ names) name = same n name || is_among names name
-
 -- C17 6.10.3: the name stands in a directive, or a header that a directive names has it
 abbrev pub is_in_directive : List Cut → List ℕ → Bool
-is_in_directive cuts name = is_among (names_of (pieces_of is_directive Fresh cuts)) name
+is_in_directive cuts name = list_any (λ (n : List ℕ). same n name) (names_of (pieces_of is_directive Fresh cuts))
 
 -- the group is the one token that the piece is, at the piece's place
 abbrev pub IsToken : Piece → Place → List ℕ → List Token → Type 0

@@ -15,7 +15,7 @@ use Rattle.k_types_meaning.specs.declared.tree.expression.Piece.TheVariants as p
 use Rattle.k_types_meaning.specs.declared.tree.expression.Written.{Written}
 use Rattle.k_types_meaning.specs.declared.tree.expression.Written.TheVariants as written
 use Rattle.k_types_meaning.specs.declared.tree.unit.TUnit.{TUnit}
-use Rattle.k_types_meaning.specs.Formats.{Mark, Literal, Takes, Reading, Outside, Behind, mark_before, mark_ended, marks_from, byte_before, pieces_of}
+use Rattle.k_types_meaning.specs.Formats.{FormatMark, Literal, Takes, Reading, Outside, Behind, mark_before, mark_ended, marks_from, byte_before, pieces_of}
 use Rattle.k_world.specs.declared.act.Out.TheVariants as out
 use Rattle.k_code.specs.Named.{chunk_bytes, out_is_short}
 use Rattle.k_evaluation.specs.Library.{chunk_of, conversion_of}
@@ -33,20 +33,20 @@ asks_of unit = record {
 }
 
 -- marks that there may be are no more than this
-abbrev Short : Option (List Mark) → ℕ → Type 0
-Short o n = (marks : List Mark) → o ≡ Some marks → length marks ≤ n
+abbrev Short : Option (List FormatMark) → ℕ → Type 0
+Short o n = (marks : List FormatMark) → o ≡ Some marks → length marks ≤ n
 
 short_none : (n : ℕ) → Short None n
 short_none n marks is = absurd (none-some marks is)
 
-short_more : (o : Option (List Mark)) (n : ℕ) → Short o n → Short o (suc n)
+short_more : (o : Option (List FormatMark)) (n : ℕ) → Short o n → Short o (suc n)
 short_more o n h marks is = let few : length marks ≤ n = h marks is in omega (arith, few)
 
-short_if : (b : Bool) (o p : Option (List Mark)) (n : ℕ) → Short o n → Short p n → Short (if b then o else p) n
+short_if : (b : Bool) (o p : Option (List FormatMark)) (n : ℕ) → Short o n → Short p n → Short (if b then o else p) n
 short_if true o p n h k = h
 short_if false o p n h k = k
 
-short_before : (mark : Option Mark) (o : Option (List Mark)) (n : ℕ) → Short o n → Short (mark_before mark o) (suc n)
+short_before : (mark : Option FormatMark) (o : Option (List FormatMark)) (n : ℕ) → Short o n → Short (mark_before mark o) (suc n)
 short_before None o n h marks is = short_none (suc n) marks is
 short_before (Some mark) None n h marks is = short_none (suc n) marks is
 short_before (Some mark) (Some rest) n h marks is =
@@ -55,7 +55,7 @@ short_before (Some mark) (Some rest) n h marks is =
     omega (arith, few, same)
 
 short_from : (reading : Reading) (text : List ℕ) → Short (marks_from reading text) (length text)
-short_from Outside [] marks is = let same : 0 ≡ length marks = ap (λ (ms : List Mark). length ms) (same_Some [] marks is) in omega (arith, same)
+short_from Outside [] marks is = let same : 0 ≡ length marks = ap (λ (ms : List FormatMark). length ms) (same_Some [] marks is) in omega (arith, same)
 short_from Outside (b ∷ text) marks is =
     short_if (b == 37) (marks_from (Behind 0) text) (if b == 0 then None else mark_before (Some (Literal b)) (marks_from Outside text)) (suc (length text))
     (short_more (marks_from (Behind 0) text) (length text) (short_from (Behind 0) text))
@@ -94,11 +94,11 @@ before_bytes b (piece.Bytes bytes ∷ pieces) =
 before_bytes b (piece.Argument how ∷ pieces) = bytes_cons (piece.Bytes (b ∷ [])) (piece.Argument how ∷ pieces)
 
 -- pieces are no more than the marks that they are made of
-record AreFew (marks : List Mark) : Type 0 where
+record AreFew (marks : List FormatMark) : Type 0 where
   long : length (pieces_of marks) ≤ length marks
   bytes : bytes_in (pieces_of marks) ≤ length marks
 
-pieces_few : (marks : List Mark) → AreFew marks
+pieces_few : (marks : List FormatMark) → AreFew marks
 pieces_few [] = record { long = omega arith; bytes = omega arith }
 pieces_few (Literal b ∷ marks) =
     let rest : AreFew marks = pieces_few marks in

@@ -21,7 +21,7 @@ use Rattle.k_types_meaning.specs.declared.tree.expression.TExpr.TheOpen.{TExpr-F
 use Rattle.k_types_meaning.specs.declared.tree.expression.TExpr.TheVariants as typed
 use Rattle.k_types_meaning.specs.CallRules.{Passing, Passes, WrongKind, WrongCount, passed_before, passing, called_with, function_called, getchar_called, putchar_tree, putchar_called, bytes_step, bytes_in, has_zero, put_line, puts_called, formatted, tree_before, all_formatted, print_trees, print_marks, print_bytes, printf_called, library_called, called, call_rule, all_taken}
 use Rattle.k_types_meaning.specs.Conversions.{Typed, at, in_kind, passed}
-use Rattle.k_types_meaning.specs.Formats.{Mark, marks_of, pieces_of, kinds_taken}
+use Rattle.k_types_meaning.specs.Formats.{FormatMark, marks_of, pieces_of, kinds_taken}
 use Rattle.k_types_meaning.specs.Made.{Made, Fine, Faulty, refused}
 use Rattle.k_types_meaning.specs.Names.{Names, meaning_in, meaning_of, library}
 use Rattle.k_types_meaning.specs.Operands.{value, number}
@@ -176,7 +176,7 @@ module _ (limits : Limits) where
   all_formatted_ready (kind ∷ kinds) (n ∷ ns) (a ∷ args) h =
       tree_before_ready n ns (formatted kind a (number_kind a.of)) (all_formatted kinds args) (formatted_ready kind n a (number_kind a.of) refl h.0) (all_formatted_ready kinds ns args h.1)
 
-  print_trees_good : (p : Place) (n : ℕ) (ns : List ℕ) (marks : List Mark) (taken : List ℕ) (o : Option (List TExpr)) → TreesReady ns o → IfFine (Good limits (1 + sum (n ∷ ns))) (print_trees p marks taken o)
+  print_trees_good : (p : Place) (n : ℕ) (ns : List ℕ) (marks : List FormatMark) (taken : List ℕ) (o : Option (List TExpr)) → TreesReady ns o → IfFine (Good limits (1 + sum (n ∷ ns))) (print_trees p marks taken o)
   print_trees_good p n ns marks taken None h = tt
   print_trees_good p n ns marks taken (Some trees) h =
       let v : Typed = number I32 (typed.Printf (at p (ttype.Number I32)) (pieces_of marks) trees) taken in
@@ -186,7 +186,7 @@ module _ (limits : Limits) where
       (typed_Printf Use (expr_step limits) (at p (ttype.Number I32)) (pieces_of marks) trees) (typed_Printf Cost expr_cost_step (at p (ttype.Number I32)) (pieces_of marks) trees)
       (λ used may. all_fit limits ns trees h) (pays_arguments (sum ns) (arguments (map expr_cost trees)) (all_paid limits ns trees h)))
 
-  print_marks_good : (p : Place) (n : ℕ) (ns : List ℕ) (taken : List ℕ) (args : List Typed) (o : Option (List Mark)) → AllGood ns args → IfFine (Good limits (1 + sum (n ∷ ns))) (print_marks p taken args o)
+  print_marks_good : (p : Place) (n : ℕ) (ns : List ℕ) (taken : List ℕ) (args : List Typed) (o : Option (List FormatMark)) → AllGood ns args → IfFine (Good limits (1 + sum (n ∷ ns))) (print_marks p taken args o)
   print_marks_good p n ns taken args None h = tt
   print_marks_good p n ns taken args (Some marks) h = print_trees_good p n ns marks taken (all_formatted (kinds_taken marks) args) (all_formatted_ready (kinds_taken marks) ns args h)
 

@@ -23,7 +23,7 @@ use Rattle.k_types_meaning.specs.declared.tree.expression.TExpr.TheVariants as t
 use Rattle.k_types_meaning.specs.Conversions.{Typed, at, in_kind, number_in_kind, passed}
 use Rattle.k_types_meaning.specs.Made.{Fine, refused}
 use Rattle.k_types_meaning.specs.Operands.{value, number}
-use Rattle.k_types_meaning.specs.Operators.{Operand, Nothing, ANumber, APointer, compares, taken_in, taken_in_three, shift_of, common_of, on_numbers, pointer_and_number, number_and_pointer, equal_pointers, two_pointers, operand, operated, operated_by, binary_rule, arms, tested, cond_rule, assigned, change_kind, right_kind, changed, moved, changed_by, assign_by, assign_rule, comma_rule}
+use Rattle.k_types_meaning.specs.Operators.{Operand, Nothing, ANumber, APointer, compares, taken_in, taken_in_three, shift_of, common_of, on_numbers, pointer_and_number, number_and_pointer, equal_pointers, two_pointers, operand, operated, operated_by, binary_rule, arms, cond_of_kind, cond_rule, assigned, change_kind, right_kind, changed, moved, changed_by, assign_by, assign_rule, comma_rule}
 use Rattle.k_types_meaning.specs.Types.{decayed, same_element, equal_element, number_kind, told, pointer_to}
 use Rattle.k_types_meaning.proofs.Fine.{IfFine}
 use Rattle.k_types_meaning.proofs.Folds.{typed_Binary, typed_Both, typed_Either, typed_Forward, typed_Onto, typed_Back, typed_PtrCompare, typed_PtrDistance, typed_Cond, typed_Assign, typed_AssignBy, typed_Comma}
@@ -193,7 +193,7 @@ module _ (limits : Limits) where
     arms_good (APointer d) (ANumber j) a b has = tt
 
     tested_good : (kind : Option Kind) → number_kind t.of ≡ kind
-        → IfFine (Good limits (1 + l + m + n)) (tested p kind t x y)
+        → IfFine (Good limits (1 + l + m + n)) (cond_of_kind p kind t x y)
     tested_good None is = tt
     tested_good (Some kind) is = arms_good (operand x.of) (operand y.of) refl refl (number_has_values t.of kind is)
 

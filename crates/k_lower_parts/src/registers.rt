@@ -1,6 +1,6 @@
 //! How many registers instructions need.
 ghost use Rattle.std.specs.Prelude.{◌≡◌, [], ◌∷◌};
-ghost use Rattle.k_code.specs.Named.{operands, register_set as register_set_by, registers_needed as registers_needed_by, up_to_operand as up_to_operand_of, up_to_operands as up_to_operands_of, up_to_register as up_to_register_of, returned};
+ghost use Rattle.k_code.specs.Named.{operands, register_set as register_set_by, registers_needed as registers_needed_by, up_to_operand as up_to_operand_of, up_to_operands as up_to_operands_of, up_to_register as up_to_register_of, returned_operands};
 ghost use Rattle.k_lower_code.specs.Functions.{registers_of};
 
 use k_code::{Arg, Do, Instr};
@@ -84,7 +84,7 @@ fn up_to_all(args: &[Arg]) -> u64
 
 /// How many the operand of a return needs.
 fn up_to_returned(value: Option<Arg>) -> u64
-    ensures { result ≡ up_to_operands_of (returned value) }
+    ensures { result ≡ up_to_operands_of (returned_operands value) }
 {
     match value {
         Some(a) => up_to_one(a),

@@ -1,5 +1,6 @@
 -- The numbers of statements go up in text order.
 use Rattle.std.proofs.Common.{ℕ, suc, ◌≡◌, ◌≤◌, ◌+◌, List, [], ◌∷◌, ◌++◌, map, length, Some, None, sym, subst, arith}
+use Rattle.std.specs.List.{concat}
 use Rattle.k_tree.specs.declared.tree.unit.Unit as source
 use Rattle.k_types_meaning.specs.declared.tree.statement.TPart.{TPart, fold-TPart, fold-roll-TPart, map-TPart}
 use Rattle.k_types_meaning.specs.declared.tree.statement.TPart.TheOpen.{TPart-F, TStmt-F}
@@ -12,7 +13,7 @@ use Rattle.k_evaluation.specs.States.{Program}
 use Rattle.k_lower_accepted.specs.Accepted.{IsAccepted}
 use Rattle.k_lower_sound.specs.Laws.{AcceptedStatementsHaveNumbers}
 use Rattle.k_lower_sound.proofs.Numbers.{Up, up_from}
-use Rattle.k_lower_sound.specs.Numbers.{GoUp, all_of, part_step, statement_numbers, statement_step, statements_of}
+use Rattle.k_lower_sound.specs.Numbers.{GoUp, part_step, statement_numbers, statement_step, statements_of}
 
 -- A list is a part of another in its order.
 data Among : List ℕ → List ℕ → Type 0 where
@@ -54,12 +55,12 @@ abbrev Within : List ℕ → Numbers → Type 0
 Within own all = Among own all.nodes
 
 all_within : {T : Type 0} (own : T → List ℕ) (all : T → Numbers) (items : List ((x : T) × Within (own x) (all x)))
-    → Within (all_of (map own (map (λ (x : (x : T) × Within (own x) (all x)). x.0) items)))
+    → Within (concat (map own (map (λ (x : (x : T) × Within (own x) (all x)). x.0) items)))
     (numbered.listed (map all (map (λ (x : (x : T) × Within (own x) (all x)). x.0) items)))
 all_within own all [] = End
 all_within {T} own all (x ∷ items) =
     let trees : List T = map (λ (x : (x : T) × Within (own x) (all x)). x.0) items in
-    both_among (own x.0) (all x.0).nodes (all_of (map own trees)) (numbered.listed (map all trees)).nodes x.1 (all_within own all items)
+    both_among (own x.0) (all x.0).nodes (concat (map own trees)) (numbered.listed (map all trees)).nodes x.1 (all_within own all items)
 
 abbrev part_own : TPart → List ℕ
 part_own = fold-TPart (List ℕ) (List ℕ) part_step statement_step
@@ -103,7 +104,7 @@ stmt_by (TStmt-F.Expr spot e) = alone spot.number (expr_numbers e).nodes
 stmt_by (TStmt-F.Empty spot) = alone spot.number []
 stmt_by (TStmt-F.Block spot parts) =
     let trees : List TStmt = map (λ (x : Stmts). x.0) parts in
-    Keep spot.number (all_of (map statement_numbers trees)) (numbered.listed (map stmt_numbers trees)).nodes (all_within statement_numbers stmt_numbers parts)
+    Keep spot.number (concat (map statement_numbers trees)) (numbered.listed (map stmt_numbers trees)).nodes (all_within statement_numbers stmt_numbers parts)
 stmt_by (TStmt-F.If spot test a None) =
     let within : Among (statement_numbers a.0 ++ []) ((stmt_numbers a.0).nodes ++ []) = both_among (statement_numbers a.0) (stmt_numbers a.0).nodes [] [] a.1 End in
     Keep spot.number (statement_numbers a.0 ++ []) ((expr_numbers test).nodes ++ ((stmt_numbers a.0).nodes ++ []))
@@ -129,7 +130,7 @@ stmt_by (TStmt-F.For spot loop start test step a) =
     (behind_among (option_numbers test).nodes own stepped (behind_among (option_numbers step).nodes own body a.1)))
 stmt_by (TStmt-F.Switch spot kind on parts) =
     let trees : List TPart = map (λ (x : Parts). x.0) parts in
-    let own : List ℕ = all_of (map part_own trees) in
+    let own : List ℕ = concat (map part_own trees) in
     let all : List ℕ = (numbered.listed (map part_all trees)).nodes in
     Keep spot.number own ((expr_numbers on).nodes ++ all) (behind_among (expr_numbers on).nodes own all (all_within part_own part_all parts))
 stmt_by (TStmt-F.Break spot) = alone spot.number []
@@ -151,15 +152,15 @@ stmt_within =
     moved _ _ _ _ (fold-roll-TStmt (List ℕ) (List ℕ) part_step statement_step x) (fold-roll-TStmt Numbers Numbers part_numbers_step stmt_numbers_step x)
     (subst StmtLayer is (stmt_by y)))
 
-body_within : (body : List TStmt) → Within (all_of (map statement_numbers body)) (numbered.listed (map stmt_numbers body))
+body_within : (body : List TStmt) → Within (concat (map statement_numbers body)) (numbered.listed (map stmt_numbers body))
 body_within [] = End
 body_within (s ∷ body) =
-    both_among (statement_numbers s) (stmt_numbers s).nodes (all_of (map statement_numbers body)) (numbered.listed (map stmt_numbers body)).nodes (stmt_within s) (body_within body)
+    both_among (statement_numbers s) (stmt_numbers s).nodes (concat (map statement_numbers body)) (numbered.listed (map stmt_numbers body)).nodes (stmt_within s) (body_within body)
 
 functions_within : (fs : List TFunc) → Within (statements_of fs) (functions_numbers fs)
 functions_within [] = End
 functions_within (f ∷ fs) =
-    both_among (all_of (map statement_numbers f.body)) (function_numbers f).nodes (statements_of fs) (functions_numbers fs).nodes (body_within f.body) (functions_within fs)
+    both_among (concat (map statement_numbers f.body)) (function_numbers f).nodes (statements_of fs) (functions_numbers fs).nodes (body_within f.body) (functions_within fs)
 
 -- THE LAW
 numbered_so : (unit : source.Unit) (program : Program) → IsAccepted unit program → IsNumbered program.unit

@@ -1,30 +1,21 @@
 -- Believed with a public law.
 -- The numbers of the statements of a program.
-use Rattle.std.specs.Prelude.{ℕ, suc, ◌≤◌, ◌<◌, List, [], ◌∷◌, ◌++◌, map, Option, Some, None}
+use Rattle.std.specs.Prelude.{ℕ, suc, ◌≤◌, ◌<◌, List, [], ◌∷◌, ◌++◌, map, unwrap_or}
+use Rattle.std.specs.List.{concat}
 use Rattle.k_types_meaning.specs.declared.tree.statement.TPart.TheOpen.{TPart-F, TStmt-F}
 use Rattle.k_types_meaning.specs.declared.tree.statement.TStmt.{TStmt, fold-TStmt}
 use Rattle.k_types_meaning.specs.declared.tree.unit.TFunc.{TFunc}
-
--- all that these lists have, one list behind another
-abbrev pub all_of : List (List ℕ) → List ℕ
-all_of [] = []
-all_of (ns ∷ lists) = ns ++ all_of lists
-
--- those of what may be left out
-abbrev pub if_there : Option (List ℕ) → List ℕ
-if_there None = []
-if_there (Some ns) = ns
 
 -- the number of a statement and those of the statements in it, in text order, of whose statements and parts they are known
 abbrev pub statement_step : TStmt-F (List ℕ) (List ℕ) → List ℕ
 statement_step (TStmt-F.Expr spot e) = spot.number ∷ []
 statement_step (TStmt-F.Empty spot) = spot.number ∷ []
-statement_step (TStmt-F.Block spot parts) = spot.number ∷ all_of parts
-statement_step (TStmt-F.If spot test a b) = spot.number ∷ a ++ if_there b
+statement_step (TStmt-F.Block spot parts) = spot.number ∷ concat parts
+statement_step (TStmt-F.If spot test a b) = spot.number ∷ a ++ unwrap_or b []
 statement_step (TStmt-F.While spot loop test body) = spot.number ∷ body
 statement_step (TStmt-F.DoWhile spot loop body test) = spot.number ∷ body
 statement_step (TStmt-F.For spot loop start test step body) = spot.number ∷ body
-statement_step (TStmt-F.Switch spot kind on parts) = spot.number ∷ all_of parts
+statement_step (TStmt-F.Switch spot kind on parts) = spot.number ∷ concat parts
 statement_step (TStmt-F.Break spot) = spot.number ∷ []
 statement_step (TStmt-F.Continue spot) = spot.number ∷ []
 statement_step (TStmt-F.Return spot value) = spot.number ∷ []
@@ -42,7 +33,7 @@ statement_numbers = fold-TStmt (List ℕ) (List ℕ) part_step statement_step
 
 -- those of the statements of functions
 abbrev pub statements_of : List TFunc → List ℕ
-statements_of fs = all_of (map (λ (f : TFunc). all_of (map statement_numbers f.body)) fs)
+statements_of fs = concat (map (λ (f : TFunc). concat (map statement_numbers f.body)) fs)
 
 -- numbers go up, the first from `low` on, and all are less than `high`
 abbrev pub GoUp : ℕ → ℕ → List ℕ → Type 0

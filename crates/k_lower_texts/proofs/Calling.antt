@@ -21,7 +21,7 @@ use Rattle.k_types_meaning.specs.declared.tree.expression.TExpr.TheOpen.{TExpr-F
 use Rattle.k_types_meaning.specs.declared.tree.expression.TExpr.TheVariants as typed
 use Rattle.k_types_meaning.specs.CallRules.{Passing, Passes as Passed, WrongKind, WrongCount, passed_before, passing, called_with, function_called, getchar_called, putchar_tree, putchar_called, bytes_step, bytes_in, has_zero, put_line, puts_called, formatted, tree_before, all_formatted, print_trees, print_marks, print_bytes, printf_called, library_called, called, call_rule, all_taken}
 use Rattle.k_types_meaning.specs.Conversions.{Typed, at, in_kind, passed}
-use Rattle.k_types_meaning.specs.Formats.{Mark, marks_of, pieces_of, kinds_taken}
+use Rattle.k_types_meaning.specs.Formats.{FormatMark, marks_of, pieces_of, kinds_taken}
 use Rattle.k_types_meaning.specs.Made.{Fine, refused}
 use Rattle.k_types_meaning.specs.Names.{Names, meaning_in, meaning_of, library}
 use Rattle.k_types_meaning.specs.Operands.{number}
@@ -141,7 +141,7 @@ module _ (asks : Asks) (numbers : NumbersFollow asks) where
   all_formatted_pass (kind ∷ kinds) (a ∷ args) h =
       tree_before_passes (formatted kind a (number_kind a.of)) (all_formatted kinds args) (formatted_passes kind a (number_kind a.of) h.0) (all_formatted_pass kinds args h.1)
 
-  print_trees_passes : (p : Place) (marks : List Mark) (taken : List ℕ) (o : Option (List TExpr)) → asks.format (pieces_of marks) ≡ true → IfThere (AllOf (Passes asks)) o
+  print_trees_passes : (p : Place) (marks : List FormatMark) (taken : List ℕ) (o : Option (List TExpr)) → asks.format (pieces_of marks) ≡ true → IfThere (AllOf (Passes asks)) o
       → IfFine (G asks) (print_trees p marks taken o)
   print_trees_passes p marks taken None format h = tt
   print_trees_passes p marks taken (Some trees) format h = (
@@ -151,7 +151,7 @@ module _ (asks : Asks) (numbers : NumbersFollow asks) where
   )
 
   module _ (follow : FormatsFollow asks) where
-    print_marks_passes : (p : Place) (taken : List ℕ) (args : List Typed) (o : Option (List Mark)) → ((marks : List Mark) → o ≡ Some marks → asks.format (pieces_of marks) ≡ true) → AllOf (G asks) args
+    print_marks_passes : (p : Place) (taken : List ℕ) (args : List Typed) (o : Option (List FormatMark)) → ((marks : List FormatMark) → o ≡ Some marks → asks.format (pieces_of marks) ≡ true) → AllOf (G asks) args
         → IfFine (G asks) (print_marks p taken args o)
     print_marks_passes p taken args None each h = tt
     print_marks_passes p taken args (Some marks) each h =

@@ -14,14 +14,14 @@ use Rattle.k_types_meaning.specs.declared.tree.unit.TUnit.{TUnit}
 use Rattle.k_types_meaning.specs.declared.types.TType.{TType}
 use Rattle.k_types_meaning.specs.declared.types.TType.TheVariants as ttype
 use Rattle.k_types_meaning.specs.Bare.{IsTyped}
-use Rattle.k_types_meaning.specs.Formats.{Mark, marks_of, pieces_of}
+use Rattle.k_types_meaning.specs.Formats.{FormatMark, marks_of, pieces_of}
 use Rattle.k_types_meaning.specs.Units.{faults}
 use Rattle.k_lower_fits.specs.Fits.{has_values}
 use Rattle.k_lower_texts.specs.Passing.{Asks, body_passes}
 
 -- the bytes of a string that spells a format pass with its pieces
 abbrev pub FormatsFollow : Asks → Type 0
-FormatsFollow asks = (bytes : List ℕ) (marks : List Mark) → asks.bytes bytes ≡ true → marks_of bytes ≡ Some marks → asks.format (pieces_of marks) ≡ true
+FormatsFollow asks = (bytes : List ℕ) (marks : List FormatMark) → asks.bytes bytes ≡ true → marks_of bytes ≡ Some marks → asks.format (pieces_of marks) ≡ true
 
 -- the token passes, if it is a string, an integer constant or a character constant
 abbrev pub TokenPasses : Asks → TokenKind → Type 0

@@ -7,7 +7,7 @@ use Rattle.k_code.specs.declared.balance.Balance.{Balance}
 use Rattle.k_code.specs.declared.code.Code.{Code}
 use Rattle.k_code.specs.declared.instruction.Do.TheVariants as act
 use Rattle.k_code.specs.declared.instruction.Instr.{Instr}
-use Rattle.k_code.specs.Balances.{left, is_met, goes_on}
+use Rattle.k_code.specs.Balances.{left_open, is_met, goes_on}
 use Rattle.k_code.specs.Named.{is_there}
 use Rattle.k_evaluation.specs.States.{Program}
 use Rattle.k_lower_code.specs.Pieces.{instruction}
@@ -54,7 +54,7 @@ module _ (code : Code) (program : Program) (table : HasTable program) where
         → Leaves text.jumps.breaks g site.breaks (first + ((text.size + pads_size text.jumps) + 1)) (opened s o r)
         → Leaves text.jumps.continues g site.continues (first + ((text.size + pads_size text.jumps) + 1)) (opened s o r)
         → AllFine code g first (text.code (to_pads text.jumps (first + text.size) site) first ++ behind_text site (first + text.size))
-    unfolding goes_on left is_met is_there
+    unfolding goes_on left_open is_met is_there
     closed_fine g site s o r z first enters leaves saved has labels end low high breaks continues =
         (let inner : Site = to_pads text.jumps (first + text.size) site in
         (let has_text : HasAt g first (text.code inner first) = has_first g first (text.code inner first) (behind_text site (first + text.size)) has in
@@ -137,7 +137,7 @@ module _ (code : Code) (program : Program) (table : HasTable program) where
 
   -- A STRETCH BETWEEN a `Save` and a `Back`, of which no `break` and no `continue` leads out
   pub settled_spans : (t : Stretch) → t.jumps.breaks ≡ false → t.jumps.continues ≡ false → SpansFrom code 1 t 0 0 → Spans code (settled program t) 0 0
-  unfolding goes_on left is_met is_there
+  unfolding goes_on left_open is_met is_there
   settled_spans t no_breaks no_continues is = record {
     sized = sized;
     marks = λ s o r. opened s o r ∷ (is.marks (s + 1) o r ++ (opened (s + 1) o r ∷ []));

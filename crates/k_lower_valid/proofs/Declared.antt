@@ -17,7 +17,7 @@ use Rattle.k_code.specs.declared.instruction.Arg.TheVariants.{Reg}
 use Rattle.k_code.specs.declared.instruction.Do.{Do}
 use Rattle.k_code.specs.declared.instruction.Do.TheVariants as act
 use Rattle.k_code.specs.declared.instruction.Home.TheVariants.{Local}
-use Rattle.k_code.specs.Balances.{left, is_met, goes_on}
+use Rattle.k_code.specs.Balances.{left_open, is_met, goes_on}
 use Rattle.k_code.specs.Named.{is_there, text_is_short}
 use Rattle.k_evaluation.specs.Declarations.{elements_of, values_from}
 use Rattle.k_evaluation.specs.States.{Program}
@@ -50,7 +50,7 @@ module _ (code : Code) where
       (one.0 ++ other.0, λ g first. both_segments (first + piece.size) (piece.size + (next piece.gives).size) refl refl (one.1 g first) (other.1 g (first + piece.size)))
 
   module _ (program : Program) (table : HasTable program) where
-    pub does_at : (place : Place) (what : Do) (b0 b1 : Balance) → goes_on what ≡ true → is_there code what ≡ true → text_is_short what ≡ true → is_met what b0 ≡ true → left what b0 ≡ b1
+    pub does_at : (place : Place) (what : Do) (b0 b1 : Balance) → goes_on what ≡ true → is_there code what ≡ true → text_is_short what ≡ true → is_met what b0 ≡ true → left_open what b0 ≡ b1
         → PieceAt (does program place what) b0 b1
     does_at place what b0 b1 on there short met leave = (b0 ∷ [], λ g first. going_segment code program table place what b0 b1 on there short met leave)
 
@@ -71,14 +71,14 @@ module _ (code : Code) where
         (writes_stand code w.program table d.place false (temporary w) target ((means w e).value true (temporary w)).gives) (only_stands code tt))
 
     register_stands : (d : TDeclarator) (i : TInit) → init_named w.program code i ≡ true → Stands code (begins_register w d i)
-    unfolding goes_on left is_met is_there
+    unfolding goes_on left_open is_met is_there
     register_stands d init.Nothing named = does_stands code w.program table d.place (act.Forget d.variable) refl (λ b. refl) (λ b. refl) refl refl
     register_stands d (init.Value e) named = initialises_stands d e (InRegister d.variable false) named
     register_stands d (init.Elements items) named = only_stands code tt
 
     -- a value is stored in an object that is live
     stored_at : (s o r : ℕ) (place : Place) (object n : ℕ) (e : TExpr) → object < o → Named e → PieceAt (stores_at w place object n e) (opened s o r) (opened s o r)
-    unfolding goes_on left is_met is_there
+    unfolding goes_on left_open is_met is_there
     stored_at s o r place object n e live named =
         binds_at (opened s o r) (opened s o r) (opened s o r) ((means w e).value true (temporary w))
         (λ a. sets w.program place (act.Address (Local object) n) (temporary w + 1) >>> λ address. does w.program place (act.Store address a None))
@@ -103,7 +103,7 @@ module _ (code : Code) where
         (items_at s o r object items live (and_parts (item_named w.program code i) (items_named w.program code items) named).1)
 
     object_at : (d : TDeclarator) (s o r object : ℕ) (i : TInit) → object < o → init_named w.program code i ≡ true → PieceAt (begins_object w d object i) (opened s o r) (opened s o r)
-    unfolding goes_on left is_met is_there
+    unfolding goes_on left_open is_met is_there
     object_at d s o r object init.Nothing live named = stands_at s o r (only {A = Unit {0}} tt) (only_stands code {A = Unit {0}} tt)
     object_at d s o r object (init.Value e) live named = stored_at s o r d.place object 0 e live named
     object_at d s o r object (init.Elements items) live named =
@@ -113,7 +113,7 @@ module _ (code : Code) where
 
     -- A VARIABLE THAT IS MEMORY makes an object
     variable_at : (d : TDeclarator) (elements s o r : ℕ) → init_named w.program code d.init ≡ true → PieceAt (makes_variable w d elements o) (opened s o r) (opened s (o + 1) r)
-    unfolding goes_on left is_met is_there
+    unfolding goes_on left_open is_met is_there
     variable_at d elements s o r named =
         binds_at (opened s o r) (opened s (o + 1) r) (opened s (o + 1) r) (does w.program d.place (act.ObjectOpen elements))
         (λ made. does w.program d.place (act.Address (Local o) 0 d.variable) >>> λ set. begins_object w d o d.init)
@@ -202,7 +202,7 @@ module _ (code : Code) where
   -- PARAMETERS that are memory
   module _ (program : Program) (table : HasTable program) where
     parameter_at : (register : ℕ) (place : Place) (n elements s o r : ℕ) → PieceAt (makes_parameter program register place n elements o) (opened s o r) (opened s (o + 1) r)
-    unfolding goes_on left is_met is_there
+    unfolding goes_on left_open is_met is_there
     parameter_at register place n elements s o r =
         binds_at (opened s o r) (opened s (o + 1) r) (opened s (o + 1) r) (does program place (act.ObjectOpen elements))
         (λ made. sets program place (act.Address (Local o) 0) register >>> λ address. does program place (act.Store address (Reg n false) None) >>> λ stored. does program place (act.Address (Local o) 0 n))

@@ -21,7 +21,7 @@ use Rattle.k_code.specs.declared.instruction.Arg.{Arg}
 use Rattle.k_code.specs.declared.instruction.Arg.TheVariants.{Number, Reg}
 use Rattle.k_code.specs.declared.instruction.Do.TheVariants as act
 use Rattle.k_code.specs.declared.instruction.Home.TheVariants.{File}
-use Rattle.k_code.specs.Balances.{left, is_met, goes_on}
+use Rattle.k_code.specs.Balances.{left_open, is_met, goes_on}
 use Rattle.k_code.specs.Named.{is_there, out_is_short}
 use Rattle.k_evaluation.specs.Assignments.{side_kind}
 use Rattle.k_evaluation.specs.Library.{chunk_of}
@@ -54,7 +54,7 @@ module _ (code : Code) (program : Program) (table : HasTable program) where
   only_value_stands node v value = record { value = value; place = λ r. only_stands code (InMemory nothing); short = omega arith }
 
   loads_stand : (place : Place) (used : Bool) (r : ℕ) (a : Arg) → Stands code (loads program place used r a)
-  unfolding goes_on left is_met is_there
+  unfolding goes_on left_open is_met is_there
   loads_stand place false r a = only_stands code nothing
   loads_stand place true r a = sets_stand code program table place (act.Load a) r refl (λ b. refl) (λ b. refl) refl refl
 
@@ -96,7 +96,7 @@ module _ (code : Code) (program : Program) (table : HasTable program) where
   number_stands node z = only_value_stands node (λ used r. only (Number z)) (λ used r. only_stands code (Number z))
 
   address_of_stands : (place : Place) (object r : ℕ) → object < length code.objects → Stands code (places.address_of program place object r)
-  unfolding goes_on left is_met is_there
+  unfolding goes_on left_open is_met is_there
   address_of_stands place object r there = sets_stand code program table place (act.Address (File object) 0) r refl (λ b. refl) (λ b. refl) (lt-ltb object (length code.objects) there) refl
 
   string_value_stands : (place : Place) (object : ℕ) (used : Bool) (r : ℕ) → object < length code.objects → Stands code (places.string_value program place object used r)
@@ -124,7 +124,7 @@ module _ (code : Code) (program : Program) (table : HasTable program) where
   variable_stands vs node n = at_place_stands node (λ r. only (places.variable_place program node n (is_register vs n))) (λ r. variable_place_stands node n (is_register vs n))
 
   offset_stands : (place : Place) (minus : Bool) (scale r : ℕ) (a b : Arg) → Stands code (places.offset program place minus scale r a b)
-  unfolding goes_on left is_met is_there
+  unfolding goes_on left_open is_met is_there
   offset_stands place minus scale r a b = sets_stand code program table place (act.Offset minus scale a b) r refl (λ b. refl) (λ b. refl) refl refl
 
   element_stands : (place : Place) (scale r : ℕ) (a b : Arg) → Stands code (places.element_at program place scale r a b)
@@ -166,12 +166,12 @@ module _ (code : Code) (program : Program) (table : HasTable program) where
   plus_stands node e is = only_value_stands node e.value is.value
 
   pub unary_stands : (node : Node) (op : Un) (kind : Kind) (e : Lowered) → LoweredStands code e → LoweredStands code (operators.unary program node op kind e)
-  unfolding operators.unary goes_on left is_met is_there
+  unfolding operators.unary goes_on left_open is_met is_there
   unary_stands node op kind e is = on_one_stands node e (operators.unary_on program node.place op kind) is
       (λ r a. sets_stand code program table node.place (act.Unary op kind a) r refl (λ b. refl) (λ b. refl) refl refl)
 
   converts_stand : (place : Place) (kind : Option Kind) (r : ℕ) (a : Arg) → Stands code (operators.converts program place kind r a)
-  unfolding goes_on left is_met is_there
+  unfolding goes_on left_open is_met is_there
   converts_stand place None r a = only_stands code a
   converts_stand place (Some kind) r a = sets_stand code program table place (act.Convert kind a) r refl (λ b. refl) (λ b. refl) refl refl
 
@@ -190,7 +190,7 @@ module _ (code : Code) (program : Program) (table : HasTable program) where
   cast_stands node e is = only_value_stands node (operators.cast_to program node.place node.of e) (cast_to_stands node.place node.of e is)
 
   binary_on_stands : (place : Place) (op : Bin) (kind : Kind) (r : ℕ) (a b : Arg) → Stands code (operators.binary_on program place op kind r a b)
-  unfolding goes_on left is_met is_there
+  unfolding goes_on left_open is_met is_there
   binary_on_stands place op kind r a b = sets_stand code program table place (act.Binary op kind a b) r refl (λ b. refl) (λ b. refl) refl refl
 
   pub binary_stands : (node : Node) (op : Bin) (kind : Kind) (a b : Lowered) → LoweredStands code a → LoweredStands code b → LoweredStands code (operators.binary program node op kind a b)
@@ -198,17 +198,17 @@ module _ (code : Code) (program : Program) (table : HasTable program) where
   binary_stands node op kind a b first second = on_two_stands node a b (operators.binary_on program node.place op kind) first second (binary_on_stands node.place op kind)
 
   pub compare_stands : (node : Node) (op : Bin) (a b : Lowered) → LoweredStands code a → LoweredStands code b → LoweredStands code (operators.compare program node op a b)
-  unfolding operators.compare goes_on left is_met is_there
+  unfolding operators.compare goes_on left_open is_met is_there
   compare_stands node op a b first second = on_two_stands node a b (operators.compare_on program node.place op) first second
       (λ r x y. sets_stand code program table node.place (act.PtrCompare op x y) r refl (λ b. refl) (λ b. refl) refl refl)
 
   pub distance_stands : (node : Node) (a b : Lowered) → LoweredStands code a → LoweredStands code b → LoweredStands code (operators.distance program node a b)
-  unfolding operators.distance goes_on left is_met is_there
+  unfolding operators.distance goes_on left_open is_met is_there
   distance_stands node a b first second = on_two_stands node a b (operators.distance_on program node.place (scale_of a.node.of)) first second
       (λ r x y. sets_stand code program table node.place (act.PtrDistance (scale_of a.node.of) x y) r refl (λ b. refl) (λ b. refl) refl refl)
 
   truth_of_stands : (node : Node) (right : Lowered) (r : ℕ) → LoweredStands code right → Stands code (operators.truth_of program node right r)
-  unfolding goes_on left is_met is_there
+  unfolding goes_on left_open is_met is_there
   truth_of_stands node right r is =
       binds_stand code (right.value true (r + 1)) (λ b. does program node.place (act.Binary bin.Ne (kind_or_int (kind_of right.node.of)) b nothing r)) (is.value true (r + 1))
       (does_stands code program table node.place (act.Binary bin.Ne (kind_or_int (kind_of right.node.of)) (right.value true (r + 1)).gives nothing r) refl (λ b. refl) (λ b. refl) refl refl)
@@ -231,7 +231,7 @@ module _ (code : Code) (program : Program) (table : HasTable program) where
   either_stands node a b first second = logical_stands node true a b first second
 
   moves_stand : (place : Place) (r : ℕ) (a : Arg) → Stands code (operators.moves program place r a)
-  unfolding goes_on left is_met is_there
+  unfolding goes_on left_open is_met is_there
   moves_stand place r a = sets_stand code program table place (act.Move a) r refl (λ b. refl) (λ b. refl) refl refl
 
   arm_stands : (place : Place) (of : TType) (r : ℕ) (e : Lowered) → LoweredStands code e → Stands code (operators.arm program place of r e)
@@ -256,7 +256,7 @@ module _ (code : Code) (program : Program) (table : HasTable program) where
 
   -- ASSIGNMENTS
   pub writes_stand : (place : Place) (used : Bool) (r : ℕ) (d : Designated) (a : Arg) → Stands code (assignments.writes program place used r d a)
-  unfolding goes_on left is_met is_there
+  unfolding goes_on left_open is_met is_there
   writes_stand place used r (InRegister n broken) a =
       binds_stand code (does program place (act.Move a n)) (λ done. only (Reg n false)) (does_stands code program table place (act.Move a n) refl (λ b. refl) (λ b. refl) refl refl) (only_stands code (Reg n false))
   writes_stand place used r (InMemory address) a =
@@ -271,7 +271,7 @@ module _ (code : Code) (program : Program) (table : HasTable program) where
       (writes_stand node.place used r (a.place r).gives (b.value true (r + 1)).gives)))
 
   old_value_stands : (place : Place) (r : ℕ) (d : Designated) → Stands code (assignments.old_value program place r d)
-  unfolding goes_on left is_met is_there
+  unfolding goes_on left_open is_met is_there
   old_value_stands place r (InRegister n broken) = only_stands code (Reg n broken)
   old_value_stands place r (InMemory address) = sets_stand code program table place (act.Load address) r refl (λ b. refl) (λ b. refl) refl refl
 
@@ -346,11 +346,11 @@ module _ (code : Code) (program : Program) (table : HasTable program) where
 
   -- CALLS
   outputs_stand : (place : Place) (what : Out) (r : ℕ) (args : List Arg) → out_is_short what ≡ true → Stands code (library.outputs program place what r args)
-  unfolding goes_on left is_met is_there
+  unfolding goes_on left_open is_met is_there
   outputs_stand place what r args short = sets_stand code program table place (act.Output what args) r refl (λ b. refl) (λ b. refl) refl short
 
   pub getchar_stands : (node : Node) → LoweredStands code (library.getchar program node)
-  unfolding library.getchar goes_on left is_met is_there
+  unfolding library.getchar goes_on left_open is_met is_there
   getchar_stands node = only_value_stands node (λ used r. sets program node.place act.Input r)
       (λ used r. sets_stand code program table node.place act.Input r refl (λ b. refl) (λ b. refl) refl refl)
 
@@ -379,7 +379,7 @@ module _ (code : Code) (program : Program) (table : HasTable program) where
       (outputs_stand node.place (out.Format (map chunk_of format)) r (in_turn args r).gives short))
 
   calls_with_stands : (node : Node) (f : ℕ) (used : Bool) (r : ℕ) (args : List Arg) → f < length code.funcs → Stands code (library.calls_with program node f used r args)
-  unfolding goes_on left is_met is_there
+  unfolding goes_on left_open is_met is_there
   calls_with_stands node f used r args there =
       settled_stands code program table node.place (does program node.place (act.Call f args (library.returned_to node.of used r)) >>> λ done. only (library.value_returned node.of r))
       (binds_stand code (does program node.place (act.Call f args (library.returned_to node.of used r))) (λ done. only (library.value_returned node.of r))

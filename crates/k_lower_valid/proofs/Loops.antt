@@ -7,7 +7,7 @@ use Rattle.k_code.specs.declared.balance.Balance.{Balance}
 use Rattle.k_code.specs.declared.code.Code.{Code}
 use Rattle.k_code.specs.declared.instruction.Do.TheVariants as act
 use Rattle.k_code.specs.declared.instruction.Instr.{Instr}
-use Rattle.k_code.specs.Balances.{left, is_met, goes_on, jumps_to}
+use Rattle.k_code.specs.Balances.{left_open, is_met, goes_on, jumps_to}
 use Rattle.k_code.specs.Named.{is_there}
 use Rattle.k_evaluation.specs.Loops.{stays_behind_loop}
 use Rattle.k_evaluation.specs.States.{Program}
@@ -79,7 +79,7 @@ module _ (code : Code) (program : Program) (table : HasTable program) where
   pad_segment : {F : Type 0} (place : Place) (g : Text) (n end : ℕ) (b : Bool) (s o r : ℕ) → (F → b ≡ true → (n + 2 < end) × (end < g.end) × (g.before end ≡ opened s o r))
       → (F → b ≡ true → Comes g n (n + 2))
       → Segment code F g n (pad program place act.Exit b end) (pad_marks b (opened s o (r + 1)) (opened s o r)) (pad_size b) (opened s o (r + 1)) (opened s o (r + 1))
-  unfolding goes_on left is_met is_there
+  unfolding goes_on left_open is_met is_there
   pad_segment place g n end false s o r facts comes = no_segment n (opened s o (r + 1))
   pad_segment {F = F} place g n end true s o r facts comes =
       both_segments (n + 1) 2 refl refl
@@ -145,7 +145,7 @@ module _ (code : Code) (program : Program) (table : HasTable program) where
 
     front_segment : (g : Text) (site : Site) (s o r end first : ℕ) → site.objects ≡ o
         → Segment code (BodyFacts g s o r end first) g first (front_code site first) (front_marks s o r) (before_body l + l.body.size) (opened s o r) (opened (more s) o (r + 1))
-    unfolding goes_on left is_met is_there
+    unfolding goes_on left_open is_met is_there
     front_segment g site s o r end first enters =
         both_segments (enter_at first) (before_body l + l.body.size) refl (omega arith)
         (both_segments (first + one_if l.counted) (one_if l.counted + one_if sv) refl refl
@@ -175,7 +175,7 @@ module _ (code : Code) (program : Program) (table : HasTable program) where
 
     body_segment : (g : Text) (site : Site) (s o r end first : ℕ) → site.objects ≡ o
         → Segment code (BodyFacts g s o r end first) g first (body_code program l site end first) (body_marks s o r) (body_size l) (opened s o r) (opened s o r)
-    unfolding goes_on left is_met is_there
+    unfolding goes_on left_open is_met is_there
     body_segment g site s o r end first enters =
         both_segments (exit_at first) (body_size l) (omega arith) (omega arith) (padded_segment g site s o r end first enters)
         (both_segments (exit_at first + 1) (1 + one_if sv) refl refl
@@ -257,7 +257,7 @@ module _ (code : Code) (program : Program) (table : HasTable program) where
 
       turn_segment : (g : Text) (site : Site) (s o r first : ℕ) → site.objects ≡ o
           → Segment code (TurnFacts g s o r first) g first ((body_code program l site (end_at first) first ++ if_so program l.place rs act.Restore) ++ l.step.code (step_at first)) (turn_marks s o r) (turn_size l) (opened s o r) (opened s o r)
-      unfolding goes_on left is_met is_there
+      unfolding goes_on left_open is_met is_there
       turn_segment g site s o r first enters =
           both_segments (step_at first) (turn_size l) (omega arith) refl
           (both_segments (first + body_size l) (body_size l + one_if rs) refl refl
@@ -325,7 +325,7 @@ module _ (code : Code) (program : Program) (table : HasTable program) where
           (let e : test_at (turns_at first) < g.end = omega (arith, f.turns_facts.high) in e) (as_before (next ∙ sym here)))
 
       head_segment : (g : Text) (s o r first : ℕ) → Segment code (LoopFacts g s o r first) g first (head first) (opened s o r ∷ ifs l.tested (opened s o (r + 1))) (before_turns l) (opened s o r) (opened s o (r + 1))
-      unfolding goes_on left is_met is_there
+      unfolding goes_on left_open is_met is_there
       head_segment g s o r first =
           both_segments (first + 1) (before_turns l) refl refl
           (going_segment code program table l.place (act.Enter l.region) (opened s o r) (opened s o (r + 1)) refl region_there refl refl refl)
@@ -333,7 +333,7 @@ module _ (code : Code) (program : Program) (table : HasTable program) where
 
       loop_segment : (g : Text) (site : Site) (s o r first : ℕ) → site.objects ≡ o
           → Segment code (LoopFacts g s o r first) g first ((inside_loop program l).code site first) (loop_marks s o r) loop_size (opened s o r) (opened s o r)
-      unfolding goes_on left is_met is_there
+      unfolding goes_on left_open is_met is_there
       loop_segment g site s o r first enters =
           both_segments (end_at (turns_at first)) loop_size (omega arith) (omega arith)
           (both_segments (turns_at first) (before_turns l + turns_size) refl refl (head_segment g s o r first)

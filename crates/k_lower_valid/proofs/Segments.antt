@@ -6,7 +6,7 @@ use Rattle.k_code.specs.declared.balance.Balance.{Balance}
 use Rattle.k_code.specs.declared.code.Code.{Code}
 use Rattle.k_code.specs.declared.instruction.Do.{Do}
 use Rattle.k_code.specs.declared.instruction.Instr.{Instr}
-use Rattle.k_code.specs.Balances.{left, is_met, goes_on}
+use Rattle.k_code.specs.Balances.{left_open, is_met, goes_on}
 use Rattle.k_code.specs.Named.{is_there, text_is_short}
 use Rattle.k_evaluation.specs.States.{Program}
 use Rattle.k_lower_code.specs.Loops.{if_so, one_if}
@@ -109,7 +109,7 @@ stretch_segment {g = g} first s o r k e l site t is enters saves breaks continue
 module _ (code : Code) (program : Program) (table : HasTable program) where
   -- an instruction that goes on
   pub going_segment : {F : Type 0} {g : Text} {first : ℕ} (place : Place) (what : Do) (b0 b1 : Balance) → goes_on what ≡ true → is_there code what ≡ true → text_is_short what ≡ true
-      → is_met what b0 ≡ true → left what b0 ≡ b1 → Segment code F g first (instruction program place what ∷ []) (b0 ∷ []) 1 b0 b1
+      → is_met what b0 ≡ true → left_open what b0 ≡ b1 → Segment code F g first (instruction program place what ∷ []) (b0 ∷ []) 1 b0 b1
   going_segment {g = g} {first = first} place what b0 b1 on there short met leave =
       one_segment (λ facts has here next low high. goes code g program place what first b0 table on there short met here (next ∙ sym leave) high)
 
@@ -120,7 +120,7 @@ module _ (code : Code) (program : Program) (table : HasTable program) where
 
   -- such a one
   pub if_segment : {F : Type 0} {g : Text} {first : ℕ} (place : Place) (so : Bool) (what : Do) (b0 b1 : Balance) → goes_on what ≡ true → is_there code what ≡ true → text_is_short what ≡ true
-      → (F → so ≡ true → is_met what b0 ≡ true) → (so ≡ true → left what b0 ≡ b1) → (so ≡ false → b0 ≡ b1)
+      → (F → so ≡ true → is_met what b0 ≡ true) → (so ≡ true → left_open what b0 ≡ b1) → (so ≡ false → b0 ≡ b1)
       → Segment code F g first (if_so program place so what) (marks_if so b0) (one_if so) b0 b1
   if_segment {first = first} place false what b0 b1 on there short met leave same = between b0 b1 refl (same refl) (no_segment first b0)
   if_segment {g = g} {first = first} place true what b0 b1 on there short met leave same =

@@ -9,7 +9,7 @@ use Rattle.k_code.specs.declared.code.Code.{Code}
 use Rattle.k_code.specs.declared.instruction.Do.{Do}
 use Rattle.k_code.specs.declared.instruction.Do.TheVariants as act
 use Rattle.k_code.specs.declared.instruction.Instr.{Instr}
-use Rattle.k_code.specs.Balances.{left, is_met, goes_on, jumps_to}
+use Rattle.k_code.specs.Balances.{left_open, is_met, goes_on, jumps_to}
 use Rattle.k_code.specs.Named.{is_there}
 use Rattle.k_evaluation.specs.States.{Program}
 use Rattle.k_lower_code.specs.Pieces.{Piece, instruction}
@@ -216,7 +216,7 @@ module _ (code : Code) where
 
     -- they are fine
     pub closing_fine : (place : Place) (closes : Do) (b c x : Bool) (g : Text) (site : Site) (n : ℕ) (inner outer : Balance)
-        → goes_on closes ≡ true → is_there code closes ≡ true → Rattle.k_code.specs.Named.text_is_short closes ≡ true → is_met closes inner ≡ true → left closes inner ≡ outer
+        → goes_on closes ≡ true → is_there code closes ≡ true → Rattle.k_code.specs.Named.text_is_short closes ≡ true → is_met closes inner ≡ true → left_open closes inner ≡ outer
         → HasAt g n (pads program place closes (record { breaks = b; continues = c; returns = x }) site n ++ instruction program place closes ∷ [])
         → Labelled g n (closing_marks (record { breaks = b; continues = c; returns = x }) inner outer)
         → g.before ((n + pads_size (record { breaks = b; continues = c; returns = x })) + 1) ≡ outer

@@ -10,7 +10,7 @@ use Rattle.k_code.specs.declared.instruction.Arg.{Arg}
 use Rattle.k_code.specs.declared.instruction.Do.{Do}
 use Rattle.k_code.specs.declared.instruction.Do.TheVariants as act
 use Rattle.k_code.specs.declared.instruction.Instr.{Instr}
-use Rattle.k_code.specs.Balances.{left, is_met, goes_on}
+use Rattle.k_code.specs.Balances.{left_open, is_met, goes_on}
 use Rattle.k_code.specs.Named.{is_there, text_is_short}
 use Rattle.k_evaluation.specs.States.{Program}
 use Rattle.k_lower_code.specs.Operators.{chooses, tests_before}
@@ -79,7 +79,7 @@ module _ (code : Code) where
 
   module _ (program : Program) (table : HasTable program) where
     -- an instruction that goes on and leaves all as it is
-    pub does_stands : (place : Place) (what : Do) → goes_on what ≡ true → ((b : Balance) → left what b ≡ b) → ((b : Balance) → is_met what b ≡ true)
+    pub does_stands : (place : Place) (what : Do) → goes_on what ≡ true → ((b : Balance) → left_open what b ≡ b) → ((b : Balance) → is_met what b ≡ true)
         → is_there code what ≡ true → text_is_short what ≡ true → Stands (does program place what)
     does_stands place what on same met there short = record {
       sized = does_sized program place what;
@@ -90,14 +90,14 @@ module _ (code : Code) where
           (goes code g program place what first (opened s o r) table on there short (met (opened s o r)) labels.0 (end ∙ sym (same (opened s o r))) high, tt);
     }
 
-    pub sets_stand : (place : Place) (what : ℕ → Do) (to : ℕ) → goes_on (what to) ≡ true → ((b : Balance) → left (what to) b ≡ b) → ((b : Balance) → is_met (what to) b ≡ true)
+    pub sets_stand : (place : Place) (what : ℕ → Do) (to : ℕ) → goes_on (what to) ≡ true → ((b : Balance) → left_open (what to) b ≡ b) → ((b : Balance) → is_met (what to) b ≡ true)
         → is_there code (what to) ≡ true → text_is_short (what to) ≡ true → Stands (sets program place what to)
     sets_stand place what to on same met there short =
         binds_stand (does program place (what to)) (λ done. only (Rattle.k_code.specs.declared.instruction.Arg.TheVariants.Reg to false)) (does_stands place (what to) on same met there short) (only_stands _)
 
     -- a piece between a `Save` and a `Back`
     pub settled_stands : {A : Type 0} (place : Place) (piece : Piece A) → Stands piece → Stands (settled program place piece)
-    unfolding goes_on left is_met is_there
+    unfolding goes_on left_open is_met is_there
     settled_stands place piece one = record {
       sized = settled_sized program place piece one.sized;
       marks = λ s o r. opened s o r ∷ (one.marks (s + 1) o r ++ (opened (s + 1) o r ∷ []));

@@ -9,7 +9,7 @@ use Rattle.k_code.specs.declared.code.Code.{Code}
 use Rattle.k_code.specs.declared.instruction.Arg.{Arg}
 use Rattle.k_code.specs.declared.instruction.Arg.TheVariants.{Number, Reg}
 use Rattle.k_code.specs.declared.instruction.Do.TheVariants as act
-use Rattle.k_code.specs.Balances.{left, is_met, goes_on}
+use Rattle.k_code.specs.Balances.{left_open, is_met, goes_on}
 use Rattle.k_code.specs.Named.{is_there}
 use Rattle.k_evaluation.specs.States.{Program}
 use Rattle.k_lower_code.specs.Pieces.{Piece}
@@ -95,7 +95,7 @@ module _ (code : Code) (program : Program) (table : HasTable program) where
 
   case_segment : {F : Type 0} (g : Text) (kind : Kind) (register : ℕ) (on : Arg) (parts : List PartLowered) (at first : ℕ) (b : Balance) → (F → Bounds g b parts at)
       → Segment code F g first (cases_code program kind register on parts at first) (case_marks parts b) (cases_size parts) b b
-  unfolding goes_on left is_met is_there
+  unfolding goes_on left_open is_met is_there
   case_segment g kind register on [] at first b bounds = no_segment first b
   case_segment g kind register on (ADefault ∷ parts) at first b bounds = case_segment g kind register on parts at first b bounds
   case_segment g kind register on (AStatement s ∷ parts) at first b bounds = case_segment g kind register on parts (at + s.size) first b (λ f. (bounds f).1)

@@ -12,7 +12,7 @@ use Rattle.k_code.specs.declared.instruction.Arg.{Arg}
 use Rattle.k_code.specs.declared.instruction.Do.{Do}
 use Rattle.k_code.specs.declared.instruction.Do.TheVariants as act
 use Rattle.k_code.specs.declared.instruction.Instr.{Instr}
-use Rattle.k_code.specs.Balances.{left, is_met, goes_on, jumps_to}
+use Rattle.k_code.specs.Balances.{left_open, is_met, goes_on, jumps_to}
 use Rattle.k_code.specs.Named.{is_there, text_is_short}
 use Rattle.k_code.specs.Steps.{operation_of}
 use Rattle.k_code.specs.Valid.{is_within, stays_within, class_fits, is_of_tests}
@@ -46,7 +46,7 @@ pub data Behind (g : Text) (n : ℕ) : Type 0 where
 -- AN INSTRUCTION IS FINE at its number
 pub record Fine (code : Code) (g : Text) (n : ℕ) (i : Instr) : Type 0 where
   pub sound : IsSound code i
-  pub next : goes_on i.act ≡ true → g.before (n + 1) ≡ left i.act (g.before n)
+  pub next : goes_on i.act ≡ true → g.before (n + 1) ≡ left_open i.act (g.before n)
   pub jumps : (to : ℕ) → jumps_to i.act to ≡ true → g.before to ≡ g.before n
   pub others : goes_on i.act ≡ false → Behind g n
   pub met : is_met i.act (g.before n) ≡ true
@@ -152,12 +152,12 @@ sound code program place what table there short class =
 -- AN INSTRUCTION THAT GOES ON is fine, where it leaves what stands behind it
 pub goes : (code : Code) (g : Text) (program : Program) (place : Place) (what : Do) (n : ℕ) (b : Balance) → HasTable program
     → goes_on what ≡ true → is_there code what ≡ true → text_is_short what ≡ true → is_met what b ≡ true
-    → g.before n ≡ b → g.before (n + 1) ≡ left what b → n + 1 < g.end → Fine code g n (instruction program place what)
+    → g.before n ≡ b → g.before (n + 1) ≡ left_open what b → n + 1 < g.end → Fine code g n (instruction program place what)
 goes code g program place what n b table on there short met here next last =
     let is : IsGoing what = is_going what on in
     record {
       sound = sound code program place what table there short is.class;
-      next = λ yes. subst (λ x. g.before (n + 1) ≡ left what x) (sym here) next;
+      next = λ yes. subst (λ x. g.before (n + 1) ≡ left_open what x) (sym here) next;
       jumps = λ to jump. absurd (no_both (jumps_to what to) jump (is.still to));
       others = λ no. absurd (no_both (goes_on what) on no);
       met = subst (λ x. is_met what x ≡ true) (sym here) met;

@@ -1,6 +1,6 @@
 //! The loops of a function, found in text order.
-ghost use Rattle.std.specs.Prelude.{◌≡◌, ◌++◌, map, OnOk};
-ghost use Rattle.k_marks_meaning.specs.Contents.{inside, part_inside, if_there, where_given, row};
+ghost use Rattle.std.specs.Prelude.{◌≡◌, ◌++◌, map, OnOk, option_map, unwrap_or};
+ghost use Rattle.k_marks_meaning.specs.Contents.{inside, nothing, part_inside, row};
 ghost use Rattle.k_marks.specs.Found.{seen};
 
 use k_num::{Box, NoMemory, Seq};
@@ -81,7 +81,7 @@ pub(crate) fn find_stmts<'a>(
 /// Finds the loops of a statement that may be left out.
 #[cycle(statements)]
 fn find_else<'a>(stmt: &'a Option<Box<TStmt>>, loops: &mut Vec<Turns<'a>>) -> Result<(), NoMemory>
-    ensures { OnOk result (map seen loops.new.items ≡ map seen loops.old.items ++ (if_there (where_given inside stmt.now)).loops) }
+    ensures { OnOk result (map seen loops.new.items ≡ map seen loops.old.items ++ (unwrap_or (option_map inside stmt.now) nothing).loops) }
 {
     match stmt {
         None => Ok(()),

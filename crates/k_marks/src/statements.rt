@@ -1,6 +1,6 @@
 //! What statements do with variables, noted in text order.
-ghost use Rattle.std.specs.Prelude.{◌≡◌, ◌++◌, map, OnOk};
-ghost use Rattle.k_marks_meaning.specs.Contents.{inside, part_inside, if_there, where_given, row};
+ghost use Rattle.std.specs.Prelude.{◌≡◌, ◌++◌, map, OnOk, option_map, unwrap_or};
+ghost use Rattle.k_marks_meaning.specs.Contents.{inside, nothing, part_inside, row};
 
 use crate::actions::note_action;
 use crate::notes::{note_declared, note_expr, note_first, note_option};
@@ -70,7 +70,7 @@ fn note_stmts(stmts: &Seq<TStmt>, uses: &mut Vec<Use>) -> Result<(), NoMemory>
 /// Notes what a statement does that may be left out.
 #[cycle(statements)]
 fn note_else(stmt: &Option<Box<TStmt>>, uses: &mut Vec<Use>) -> Result<(), NoMemory>
-    ensures { OnOk result (uses.new.items ≡ uses.old.items ++ (if_there (where_given inside stmt.now)).uses) }
+    ensures { OnOk result (uses.new.items ≡ uses.old.items ++ (unwrap_or (option_map inside stmt.now) nothing).uses) }
 {
     match stmt {
         None => Ok(()),

@@ -1,6 +1,6 @@
 //! The walk over statements that lists the jumps of each.
-ghost use Rattle.std.specs.Prelude.{◌≡◌, ◌++◌, ◌∷◌, [], map, IfOk, OnOk};
-ghost use Rattle.k_marks_meaning.specs.Contents.{if_there, inside, part_inside, row, where_given, with_jumps};
+ghost use Rattle.std.specs.Prelude.{◌≡◌, ◌++◌, ◌∷◌, [], map, IfOk, OnOk, option_map, unwrap_or};
+ghost use Rattle.k_marks_meaning.specs.Contents.{inside, nothing, part_inside, row, with_jumps};
 ghost use Rattle.k_marks_meaning.specs.Marking.{statements_in};
 
 use crate::jumps::{jumps_of_both, no_jumps, out_of_loop, out_of_switch};
@@ -104,8 +104,8 @@ fn list_stmts(stmts: &Seq<TStmt>, found: &mut Vec<StatementJumps>) -> Result<Jum
 /// The same of a statement that may be left out.
 #[cycle(statements)]
 fn list_else(stmt: &Option<Box<TStmt>>, found: &mut Vec<StatementJumps>) -> Result<Jumps, NoMemory>
-    ensures jumps { IfOk result (λ j. j ≡ (if_there (where_given inside stmt.now)).jumps) }
-    ensures found { OnOk result (found.new.items ≡ found.old.items ++ (if_there (where_given inside stmt.now)).statements) }
+    ensures jumps { IfOk result (λ j. j ≡ (unwrap_or (option_map inside stmt.now) nothing).jumps) }
+    ensures found { OnOk result (found.new.items ≡ found.old.items ++ (unwrap_or (option_map inside stmt.now) nothing).statements) }
 {
     match stmt {
         None => Ok(no_jumps()),

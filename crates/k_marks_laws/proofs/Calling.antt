@@ -19,7 +19,7 @@ use Rattle.k_types_meaning.specs.declared.tree.expression.TExpr.TheOpen.{TExpr-F
 use Rattle.k_types_meaning.specs.declared.tree.expression.TExpr.TheVariants as typed
 use Rattle.k_types_meaning.specs.CallRules.{Passing, Passes, WrongKind, WrongCount, passed_before, passing, called_with, function_called, getchar_called, putchar_tree, putchar_called, bytes_in, has_zero, put_line, puts_called, formatted, tree_before, all_formatted, print_trees, print_marks, print_bytes, printf_called, library_called, called, call_rule, all_taken}
 use Rattle.k_types_meaning.specs.Conversions.{Typed, at, in_kind, passed}
-use Rattle.k_types_meaning.specs.Formats.{Mark, marks_of, pieces_of, kinds_taken}
+use Rattle.k_types_meaning.specs.Formats.{FormatMark, marks_of, pieces_of, kinds_taken}
 use Rattle.k_types_meaning.specs.Made.{Fine, refused}
 use Rattle.k_types_meaning.specs.Names.{Names, meaning_of}
 use Rattle.k_types_meaning.specs.Operands.{value, number}
@@ -120,13 +120,13 @@ module _ (K : ℕ → Kind → Type 0) (count : ℕ) where
   all_formatted_below (kind ∷ kinds) (a ∷ args) h =
       tree_before_below (formatted kind a (number_kind a.of)) (all_formatted kinds args) (formatted_below kind a (number_kind a.of) h.0) (all_formatted_below kinds args h.1)
 
-  print_trees_meant : (p : Place) (marks : List Mark) (taken : List ℕ) (o : Option (List TExpr)) → TreesBelow o → IfFine (Meant K count) (print_trees p marks taken o)
+  print_trees_meant : (p : Place) (marks : List FormatMark) (taken : List ℕ) (o : Option (List TExpr)) → TreesBelow o → IfFine (Meant K count) (print_trees p marks taken o)
   print_trees_meant p marks taken None below = tt
   print_trees_meant p marks taken (Some trees) below =
       meant_of K count (number I32 (typed.Printf (at p (ttype.Number I32)) (pieces_of marks) trees) taken) (TExpr-F.Printf (at p (ttype.Number I32)) (pieces_of marks) trees)
       (out_Printf (at p (ttype.Number I32)) (pieces_of marks) trees) (all_below K count trees below) tt tt
 
-  print_marks_meant : (p : Place) (taken : List ℕ) (args : List Typed) (o : Option (List Mark)) → AllMeant K count args → IfFine (Meant K count) (print_marks p taken args o)
+  print_marks_meant : (p : Place) (taken : List ℕ) (args : List Typed) (o : Option (List FormatMark)) → AllMeant K count args → IfFine (Meant K count) (print_marks p taken args o)
   print_marks_meant p taken args None h = tt
   print_marks_meant p taken args (Some marks) h = print_trees_meant p marks taken (all_formatted (kinds_taken marks) args) (all_formatted_below (kinds_taken marks) args h)
 

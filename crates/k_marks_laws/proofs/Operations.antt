@@ -25,7 +25,7 @@ use Rattle.k_types_meaning.specs.declared.tree.expression.TExpr.TheVariants as t
 use Rattle.k_types_meaning.specs.Conversions.{Typed, at, node_of, in_kind, number_in, conversion, number_in_kind, passed, passed_number, passed_pointer, keeps_const}
 use Rattle.k_types_meaning.specs.Made.{Fine, refused}
 use Rattle.k_types_meaning.specs.Operands.{value, number}
-use Rattle.k_types_meaning.specs.Operators.{Operand, Nothing, ANumber, APointer, compares, taken_in, taken_in_three, shift_of, common_of, on_numbers, pointer_and_number, number_and_pointer, equal_pointers, two_pointers, operand, operated, operated_by, binary_rule, arms, tested, cond_rule, assigned, change_kind, right_kind, changed, moved, changed_by, assign_by, assign_rule, comma_rule}
+use Rattle.k_types_meaning.specs.Operators.{Operand, Nothing, ANumber, APointer, compares, taken_in, taken_in_three, shift_of, common_of, on_numbers, pointer_and_number, number_and_pointer, equal_pointers, two_pointers, operand, operated, operated_by, binary_rule, arms, cond_of_kind, cond_rule, assigned, change_kind, right_kind, changed, moved, changed_by, assign_by, assign_rule, comma_rule}
 use Rattle.k_types_meaning.specs.Types.{decayed, same_kind, same_element, equal_element, number_kind, pointed, told, pointer_to}
 use Rattle.k_marks_meaning.specs.declared.uses.Group.{Group}
 use Rattle.k_marks_meaning.specs.Uses.{used, uses_of, assigns}
@@ -208,7 +208,7 @@ module _ (K : ℕ → Kind → Type 0) (count : ℕ) where
   unfolding cond_rule
   cond_meant p x y z a b c = by (number_kind x.of)
     where
-      by : (o : Option Kind) → IfFine (Meant K count) (tested p o x y z)
+      by : (o : Option Kind) → IfFine (Meant K count) (cond_of_kind p o x y z)
       by None = tt
       by (Some kind) = arms_meant p (operand y.of) (operand z.of) x y z a b c
 

@@ -1,6 +1,6 @@
 -- Believed with the theorem on the top call.
 -- What a statement has in it: what it does with variables, the jumps that lead out of it, its loops, and its statements with their jumps.
-use Rattle.std.specs.Prelude.{List, [], ◌∷◌, ◌++◌, Option, Some, None}
+use Rattle.std.specs.Prelude.{List, [], ◌∷◌, ◌++◌, Some, None, unwrap_or}
 use Rattle.k_types_meaning.specs.declared.tree.statement.Spot.{Spot}
 use Rattle.k_types_meaning.specs.declared.tree.statement.TFirst.TheVariants as first
 use Rattle.k_types_meaning.specs.declared.tree.statement.TStmt.{TStmt, fold-TStmt}
@@ -47,11 +47,6 @@ abbrev pub row : List Inside → Inside
 row [] = nothing
 row (a ∷ rest) = both a (row rest)
 
--- a part that may be left out
-abbrev pub if_there : Option Inside → Inside
-if_there None = nothing
-if_there (Some a) = a
-
 -- a statement at this spot, by the jumps that lead out of its parts and those that lead out of it
 abbrev pub with_jumps : Spot → Jumps → Jumps → StatementJumps
 with_jumps spot parts itself = record { number = spot.number; parts = parts; itself = itself }
@@ -74,18 +69,13 @@ a_loop spot l body uses = record {
   statements = body.statements ++ with_jumps spot body.jumps (out_of_loop body.jumps) ∷ [];
 }
 
--- the same of what may be left out
-abbrev pub where_given : {A B : Type 0} → (A → B) → Option A → Option B
-where_given f None = None
-where_given f (Some x) = Some (f x)
-
 -- what a statement has in it, of whose statements and parts it is known
 abbrev pub inside_step : TStmt-F Inside Inside → Inside
 inside_step (TStmt-F.Expr spot e) = statement spot (only (action_uses e)) no_jumps no_jumps
 inside_step (TStmt-F.Empty spot) = statement spot nothing no_jumps no_jumps
 inside_step (TStmt-F.Block spot parts) = statement spot (row parts) (row parts).jumps (row parts).jumps
 inside_step (TStmt-F.If spot test a b) =
-    statement spot (both (only (uses_of test)) (both a (if_there b))) (jumps_of_both a.jumps (if_there b).jumps) (jumps_of_both a.jumps (if_there b).jumps)
+    statement spot (both (only (uses_of test)) (both a (unwrap_or b nothing))) (jumps_of_both a.jumps (unwrap_or b nothing).jumps) (jumps_of_both a.jumps (unwrap_or b nothing).jumps)
 inside_step (TStmt-F.While spot turns test body) =
     a_loop spot (record { start = first.Nothing; test = Some test; step = None; body_uses = body.uses; body_jumps = body.jumps }) body
     (uses_of test ++ body.uses)

@@ -1,13 +1,13 @@
 -- Declarations and parameters are given back by themselves without places and the places of their pieces.
 use Rattle.std.proofs.Common.{◌≡◌, ◌≢◌, List, [], ◌∷◌, ◌++◌, map, Bool, Option, Some, None, append_assoc, ap, ◌∙◌, refl}
-use Rattle.std.specs.Prelude.{All}
+use Rattle.std.specs.Prelude.{All, option_map}
 use Rattle.std.proofs.lemmas.List.{map-append}
 use Rattle.std.proofs.lemmas.List.Elements.{All-nil, All-cons}
 use Rattle.k_parse_steps.specs.Types.{Place, Word, Init, Declarator, Param, Params}
 use Rattle.k_tree.specs.declared.tokens.mark.Mark.TheVariants as mark
 use Rattle.k_tree.specs.declared.tree.declaration.Init.TheVariants as init
 use Rattle.k_tree.specs.declared.tree.declaration.Params.TheVariants as params
-use Rattle.k_tree.specs.Bare.{where_given, bare_init, bare_declarator, bare_param, bare_params}
+use Rattle.k_tree.specs.Bare.{bare_init, bare_declarator, bare_param, bare_params}
 use Rattle.k_tree.proofs.Folds.{init_One, init_List}
 use Rattle.k_tree.specs.Places.{Pieces, plain, lay_expr, lay_init, lay_init_step, lay_initialised, lay_behind_commas, lay_declarator, lay_declaration, lay_with_commas, lay_dims, lay_param, lay_params}
 use Rattle.k_tree.specs.Ranked.{RankedInit, RankedInits, one, braces, no_inits, more_inits, IfGiven, Specs, RankedDeclarator, RankedDeclaration, RankedParam, RankedParams}
@@ -47,11 +47,11 @@ mutual
   inits_filled _ no_inits ps = refl
   inits_filled _ (more_inits i is x xs) ps = simp (places-append, append_assoc, init_filled i x, inits_filled is xs)
 
-initialised_blank : (i : Option Init) → IfGiven RankedInit i → lay_initialised (where_given bare_init i) ≡ blank (lay_initialised i)
+initialised_blank : (i : Option Init) → IfGiven RankedInit i → lay_initialised (option_map bare_init i) ≡ blank (lay_initialised i)
 initialised_blank None h = refl
 initialised_blank (Some i) h = simp (init_blank i h)
 
-initialised_filled : (i : Option Init) → IfGiven RankedInit i → Fills (lay_initialised i) (fill_option fill_init (where_given bare_init i)) i
+initialised_filled : (i : Option Init) → IfGiven RankedInit i → Fills (lay_initialised i) (fill_option fill_init (option_map bare_init i)) i
 initialised_filled None h ps = refl
 initialised_filled (Some i) h ps = simp (init_filled i h)
 

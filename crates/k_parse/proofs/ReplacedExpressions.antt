@@ -1,5 +1,5 @@
 -- An expression is given back by the expression without its places and the places of its pieces.
-use Rattle.std.proofs.Common.{ℕ, ◌≡◌, ◌≢◌, ◌+◌, List, [], ◌∷◌, ◌++◌, map, Option, Some, None, append_assoc, sym, ap, ◌∙◌, refl}
+use Rattle.std.proofs.Common.{ℕ, ◌≡◌, ◌≢◌, ◌+◌, List, [], ◌∷◌, ◌++◌, map, Option, Some, None, append_assoc, sym, ap, ◌∙◌, refl, option_map}
 use Rattle.std.proofs.lemmas.List.{map-append}
 use Rattle.std.proofs.lemmas.List.Elements.{All-head, All-tail}
 use Rattle.k_tree.specs.declared.tokens.TokenKind.TheVariants as token
@@ -7,7 +7,7 @@ use Rattle.k_tree.specs.declared.tokens.mark.Mark.TheVariants as mark
 use Rattle.k_parse_steps.specs.Types.{Expr}
 use Rattle.k_tree.specs.declared.tree.expression.Expr.TheVariants as expr
 use Rattle.k_tree.specs.Begins.{begins_expr}
-use Rattle.k_tree.specs.Bare.{where_given, bare_expr, bare_dims}
+use Rattle.k_tree.specs.Bare.{bare_expr, bare_dims}
 use Rattle.k_tree.proofs.Folds.{expr_Assign, expr_Binary, expr_Call, expr_Cast, expr_Char, expr_Comma, expr_Cond, expr_Index, expr_Name, expr_Number, expr_Paren, expr_Post, expr_Pre, expr_SizeofExpr, expr_SizeofType, expr_Str, expr_Unary}
 use Rattle.k_tree.specs.Places.{Pieces, kinds_of, lay_expr, lay_expr_step, lay_with_commas, lay_behind_commas, lay_option, lay_dims}
 use Rattle.k_tree.specs.Ranked.{Ranked, RankedArgs, IfGiven, RankedDims, no_args, more_args, comma, assignment, conditional, binary, cast, unary, prefix, sizeof_expr, sizeof_type, index, postfix, call, name, number, character, string, paren}
@@ -90,11 +90,11 @@ mutual
 pub expr_laid : (k : ℕ) (e : Expr) → Ranked k e → lay_expr e ≢ []
 expr_laid k e h q = not_empty begins_expr (spell_expr e) (expr_begins k e h) (sym (expr_spelled k e h) ∙ ap kinds_of q)
 
-pub option_blank : (k : ℕ) (e : Option Expr) → IfGiven (Ranked k) e → lay_option (where_given bare_expr e) ≡ blank (lay_option e)
+pub option_blank : (k : ℕ) (e : Option Expr) → IfGiven (Ranked k) e → lay_option (option_map bare_expr e) ≡ blank (lay_option e)
 option_blank k None h = refl
 option_blank k (Some e) h = expr_blank k e h
 
-pub option_filled : (k : ℕ) (e : Option Expr) → IfGiven (Ranked k) e → Fills (lay_option e) (fill_option fill_expr (where_given bare_expr e)) e
+pub option_filled : (k : ℕ) (e : Option Expr) → IfGiven (Ranked k) e → Fills (lay_option e) (fill_option fill_expr (option_map bare_expr e)) e
 option_filled k None h ps = refl
 option_filled k (Some e) h ps = simp (expr_filled k e h)
 

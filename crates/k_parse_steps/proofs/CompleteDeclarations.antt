@@ -1,11 +1,11 @@
 -- Declarators and declarations.
-use Rattle.std.proofs.Common.{ℕ, ◌≡◌, ◌≢◌, ◌+◌, ◌≤◌, Bool, cond, IsTrue, All, List, [], ◌∷◌, ◌++◌, map, length, Option, Some, None, sym, ap, ◌∙◌, subst, refl, arith, append_assoc}
+use Rattle.std.proofs.Common.{ℕ, ◌≡◌, ◌≢◌, ◌+◌, ◌≤◌, Bool, cond, IsTrue, All, List, [], ◌∷◌, ◌++◌, map, length, Option, Some, None, sym, ap, ◌∙◌, subst, refl, arith, append_assoc, option_map}
 use Rattle.std.proofs.lemmas.List.Elements.{All-head, All-tail}
 use Rattle.k_parse_steps.specs.Types.{Place, Token, Word, Expr, Init, Declarator, Stars, Front, Declaration, Reading}
 use Rattle.k_tree.specs.declared.tokens.TokenKind.TheVariants as token
 use Rattle.k_tree.specs.declared.tokens.mark.Mark.TheVariants as mark
 use Rattle.k_tree.specs.declared.tokens.word.Word.TheVariants as word_
-use Rattle.k_tree.specs.Bare.{bare_dims, bare_init, bare_declarator, where_given, nowhere}
+use Rattle.k_tree.specs.Bare.{bare_dims, bare_init, bare_declarator, nowhere}
 use Rattle.k_tree.specs.Nesting.{init_depth, initialised_depth, declarator_depth, declarators_depth}
 use Rattle.k_tree.specs.Ranked.{Specs, IfGiven, RankedInit, RankedDeclarator, RankedDeclaration, is_spec}
 use Rattle.k_tree.specs.Spelling.{spell_init, spell_initialised, spell_dims, spell_stars, spell_specs, spell_declarator, the_name, behind_commas, with_commas}
@@ -141,10 +141,10 @@ unfolding after inits.after inits.plug
 init_semicolon f d i p = refl
 
 declarator_same : (p q : Place) (stars : List Bool) (x : List ℕ) (ds es : List (Option Expr)) (i j : Option Init)
-    → bare_dims ds ≡ bare_dims es → where_given bare_init i ≡ where_given bare_init j
+    → bare_dims ds ≡ bare_dims es → option_map bare_init i ≡ option_map bare_init j
     → bare_declarator (record { place = p; stars = stars; name = x; dims = ds; init = i }) ≡ bare_declarator (record { place = q; stars = stars; name = x; dims = es; init = j })
 declarator_same p q stars x ds es i j e h =
-    ap (λ v. let d : Declarator = record { place = nowhere; stars = stars; name = x; dims = v; init = where_given bare_init i } in d) e
+    ap (λ v. let d : Declarator = record { place = nowhere; stars = stars; name = x; dims = v; init = option_map bare_init i } in d) e
     ∙ ap (λ v. let d : Declarator = record { place = nowhere; stars = stars; name = x; dims = bare_dims es; init = v } in d) h
 
 -- what stands behind the dimensions
@@ -155,7 +155,7 @@ init_lead bound f d None h positive low p dims e j = record {
   made = named_at f p d.stars d.name dims;
   comma = no_init_comma f (named_at f p d.stars d.name dims);
   semicolon = no_init_semicolon f (named_at f p d.stars d.name dims);
-  same = declarator_same p d.place d.stars d.name dims d.dims None d.init e (ap (where_given bare_init) j);
+  same = declarator_same p d.place d.stars d.name dims d.dims None d.init e (ap (option_map bare_init) j);
 }
 init_lead bound f d (Some i) h positive low p dims e j = λ at.
     let base : Declarator = named_at f p d.stars d.name dims in
@@ -171,7 +171,7 @@ init_lead bound f d (Some i) h positive low p dims e j = λ at.
             made = record base { init = Some k.made };
             comma = λ to. k.next (token_at to (token.Mark mark.Comma)) comma_below ∙ init_comma f base k.made to;
             semicolon = λ to. k.next (token_at to (token.Mark mark.Semicolon)) (semicolon_below 1) ∙ init_semicolon f base k.made to;
-            same = declarator_same p d.place d.stars d.name dims d.dims (Some k.made) d.init e (ap Some k.same ∙ ap (where_given bare_init) j);
+            same = declarator_same p d.place d.stars d.name dims d.dims (Some k.made) d.init e (ap Some k.same ∙ ap (option_map bare_init) j);
           });
     }
 

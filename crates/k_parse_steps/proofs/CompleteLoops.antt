@@ -1,5 +1,5 @@
 -- `for`, with its three parts.
-use Rattle.std.proofs.Common.{ℕ, ◌≡◌, ◌+◌, ◌≤◌, max, Bool, true, false, cond, ◌&&◌, IsTrue, List, [], ◌∷◌, ◌++◌, map, length, Option, Some, None, sym, ap, ◌∙◌, subst, refl, arith, append_assoc, ⊎_elim}
+use Rattle.std.proofs.Common.{ℕ, ◌≡◌, ◌+◌, ◌≤◌, max, Bool, true, false, cond, ◌&&◌, IsTrue, List, [], ◌∷◌, ◌++◌, map, length, Option, Some, None, sym, ap, ◌∙◌, subst, refl, arith, append_assoc, ⊎_elim, option_map}
 use Rattle.std.proofs.lemmas.Bool.{and_parts, eqb-true, cases_Bool}
 use Rattle.std.proofs.lemmas.List.Elements.{All-head}
 use Rattle.k_parse_steps.specs.Types.{Place, Token, TokenKind, Word, Expr, Declarator, First, Stmt, Part, Declaration, Reading, ExpressionStage, Site, Body}
@@ -8,7 +8,7 @@ use Rattle.k_tree.specs.declared.tokens.mark.Mark.TheVariants as mark
 use Rattle.k_tree.specs.declared.tokens.word.Word.TheVariants as word
 use Rattle.k_tree.specs.declared.tree.statement.First.TheVariants as first
 use Rattle.k_tree.specs.declared.tree.statement.Stmt.TheVariants as stmt
-use Rattle.k_tree.specs.Bare.{bare_expr, bare_first, bare_stmt, bare_part_step, bare_stmt_step, where_given, nowhere}
+use Rattle.k_tree.specs.Bare.{bare_expr, bare_first, bare_stmt, bare_part_step, bare_stmt_step, nowhere}
 use Rattle.k_tree.proofs.Folds.{stmt_For}
 use Rattle.k_tree.specs.Nesting.{option_depth, first_depth, declarators_depth, stmt_depth, part_depth_step, stmt_depth_step}
 use Rattle.k_tree.specs.Ranked.{Ranked, IfGiven, RankedFirst, RankedDeclaration, ends_open_part, ends_open_step, is_spec}
@@ -121,7 +121,7 @@ record FirstRead (ps : Parts) (s : Frames) (p : Place) (x : First) (z : Body) : 
 some_once : (a b : Expr) → ◌≡◌ {A = Option Expr} (Some a) (Some b) → a ≡ b
 some_once a b e = cc
 
-first_same : (e : Option Expr) (f : Option Expr) → where_given bare_expr e ≡ where_given bare_expr f → bare_first (first_of e) ≡ bare_first (first_of f)
+first_same : (e : Option Expr) (f : Option Expr) → option_map bare_expr e ≡ option_map bare_expr f → bare_first (first_of e) ≡ bare_first (first_of f)
 first_same None None h = refl
 first_same None (Some f) h = absurd cc
 first_same (Some e) None h = absurd cc
@@ -265,10 +265,10 @@ for_reads p x a b c hx ha hb positive f =
               made = stmt.For at h.made i.made j.made k.made;
               next = λ t u. k.next t (λ o. u (stmt_For (Unit {0}) Bool ends_open_part ends_open_step p x a b c ∙ o)) ∙ for_behind ps s at h.made i.made j.made k.made t;
               same = stmt_For Part Stmt bare_part_step bare_stmt_step at h.made i.made j.made k.made
-                  ∙ (ap (λ o. stmt.For nowhere o (where_given bare_expr i.made) (where_given bare_expr j.made) (bare_stmt k.made)) h.same
-                  ∙ (ap (λ o. stmt.For nowhere (bare_first x) o (where_given bare_expr j.made) (bare_stmt k.made)) i.same
-                  ∙ (ap (λ o. stmt.For nowhere (bare_first x) (where_given bare_expr a) o (bare_stmt k.made)) j.same
-                  ∙ (ap (λ o. stmt.For nowhere (bare_first x) (where_given bare_expr a) (where_given bare_expr b) o) k.same
+                  ∙ (ap (λ o. stmt.For nowhere o (option_map bare_expr i.made) (option_map bare_expr j.made) (bare_stmt k.made)) h.same
+                  ∙ (ap (λ o. stmt.For nowhere (bare_first x) o (option_map bare_expr j.made) (bare_stmt k.made)) i.same
+                  ∙ (ap (λ o. stmt.For nowhere (bare_first x) (option_map bare_expr a) o (bare_stmt k.made)) j.same
+                  ∙ (ap (λ o. stmt.For nowhere (bare_first x) (option_map bare_expr a) (option_map bare_expr b) o) k.same
                   ∙ sym (stmt_For Part Stmt bare_part_step bare_stmt_step p x a b c)))));
             }))))))));
       };

@@ -1,5 +1,5 @@
 -- Parameters, up to the closing parenthesis.
-use Rattle.std.proofs.Common.{ℕ, ◌≡◌, ◌+◌, ◌≤◌, Bool, true, false, cond, ◌&&◌, nat_eq, is_none, IsTrue, All, List, [], ◌∷◌, ◌++◌, map, length, Option, Some, None, sym, ap, ◌∙◌, subst, refl, arith, append_assoc}
+use Rattle.std.proofs.Common.{ℕ, ◌≡◌, ◌+◌, ◌≤◌, Bool, true, false, cond, ◌&&◌, nat_eq, is_none, IsTrue, All, List, [], ◌∷◌, ◌++◌, map, length, Option, Some, None, sym, ap, ◌∙◌, subst, refl, arith, append_assoc, option_map}
 use Rattle.std.proofs.lemmas.Bool.{and_parts, eqb-true, ne_eqb, false_from_ne_true}
 use Rattle.std.proofs.lemmas.List.{length-map}
 use Rattle.std.proofs.lemmas.List.Elements.{All-head, All-tail, All-nil}
@@ -8,7 +8,7 @@ use Rattle.k_tree.specs.declared.tokens.TokenKind.TheVariants as token
 use Rattle.k_tree.specs.declared.tokens.mark.Mark.TheVariants as mark
 use Rattle.k_tree.specs.declared.tokens.word.Word.TheVariants as word_
 use Rattle.k_tree.specs.declared.tree.declaration.Params.TheVariants as params
-use Rattle.k_tree.specs.Bare.{bare_expr, bare_dims, bare_param, bare_params, where_given, nowhere}
+use Rattle.k_tree.specs.Bare.{bare_expr, bare_dims, bare_param, bare_params, nowhere}
 use Rattle.k_tree.specs.Nesting.{dims_depth, param_depth, params_depth, deepest}
 use Rattle.k_tree.specs.Ranked.{Specs, RankedDims, RankedParam, RankedParams, IsVoidAlone, is_spec}
 use Rattle.k_tree.specs.Spelling.{spell_dims, spell_stars, spell_specs, spell_optional_name, spell_param, spell_params, behind_commas}
@@ -239,7 +239,7 @@ void_alone p h =
 
 void_bare : (p : Param) → is_void_alone (bare_param p) ≡ is_void_alone p
 unfolding is_void_alone
-void_bare p = ap (λ n. is_void_list p.specs && (nat_eq (length p.stars) 0 && (is_none p.name && nat_eq n 0))) (length-map p.dims (where_given bare_expr))
+void_bare p = ap (λ n. is_void_list p.specs && (nat_eq (length p.stars) 0 && (is_none p.name && nat_eq n 0))) (length-map p.dims (option_map bare_expr))
 
 not_void : (p d : Param) → bare_param p ≡ bare_param d → (IsVoidAlone d → ⊥) → is_void_alone p ≡ false
 not_void p d e f =

@@ -1,11 +1,11 @@
 -- Specifiers, stars and dimensions, one behind another, in any machine that reads them.
-use Rattle.std.proofs.Common.{ℕ, ◌≡◌, ◌+◌, ◌≤◌, Bool, true, false, IsTrue, All, List, [], ◌∷◌, ◌++◌, Option, Some, None, sym, ap, ◌∙◌, subst, refl, arith, append_assoc, append-nil}
+use Rattle.std.proofs.Common.{ℕ, ◌≡◌, ◌+◌, ◌≤◌, Bool, true, false, IsTrue, All, List, [], ◌∷◌, ◌++◌, Option, Some, None, sym, ap, ◌∙◌, subst, refl, arith, append_assoc, append-nil, option_map}
 use Rattle.std.proofs.lemmas.List.Elements.{All-head, All-tail}
 use Rattle.k_parse_steps.specs.Types.{Token, Place, Word, Expr, Stars, Reading}
 use Rattle.k_tree.specs.declared.tokens.TokenKind.TheVariants as token
 use Rattle.k_tree.specs.declared.tokens.mark.Mark.TheVariants as mark
 use Rattle.k_tree.specs.declared.tokens.word.Word.TheVariants as word
-use Rattle.k_tree.specs.Bare.{bare_expr, bare_dims, where_given}
+use Rattle.k_tree.specs.Bare.{bare_expr, bare_dims}
 use Rattle.k_tree.specs.Nesting.{expr_depth, dims_depth}
 use Rattle.k_tree.specs.Ranked.{Ranked, IfGiven, RankedDims, is_spec}
 use Rattle.k_tree.specs.Spelling.{spell_expr, spell_specs, spell_stars, spell_dims, the_mark}
@@ -84,11 +84,11 @@ record InSize {S : Type 0} (sizes : List (Option Expr) → Reading → S) (done 
   read : Whole 2 e reading
 
 sized_more : {S : Type 0} (named : List (Option Expr) → S) (done : List (Option Expr)) (made size : Option Expr) (dims : List (Option Expr)) (r : S)
-    → where_given bare_expr made ≡ where_given bare_expr size → Sized named (done ++ made ∷ []) dims r → Sized named done (size ∷ dims) r
+    → option_map bare_expr made ≡ option_map bare_expr size → Sized named (done ++ made ∷ []) dims r → Sized named done (size ∷ dims) r
 sized_more named done made size dims r e h = record {
   made = made ∷ h.made;
   at = h.at ∙ ap named (append_assoc done (made ∷ []) h.made);
-  same = ap (λ d. d ∷ bare_dims h.made) e ∙ ap (λ ds. where_given bare_expr size ∷ ds) h.same;
+  same = ap (λ d. d ∷ bare_dims h.made) e ∙ ap (λ ds. option_map bare_expr size ∷ ds) h.same;
 }
 
 pub dims_lead : {S : Type 0} (M : Moves S) (named : List (Option Expr) → S) (sizes : List (Option Expr) → Reading → S) (level bound : ℕ) → Sizes M named sizes level

@@ -1,11 +1,11 @@
 -- Statements: what one is read as, and those without statements in them.
-use Rattle.std.proofs.Common.{ℕ, ◌≡◌, ◌≢◌, ◌+◌, ◌<◌, ◌≤◌, true, false, [], ◌∷◌, ◌++◌, length, Option, Some, None, sym, ap, ◌∙◌, subst, refl, arith}
+use Rattle.std.proofs.Common.{ℕ, ◌≡◌, ◌≢◌, ◌+◌, ◌<◌, ◌≤◌, true, false, [], ◌∷◌, ◌++◌, length, Option, Some, None, sym, ap, ◌∙◌, subst, refl, arith, option_map}
 use Rattle.k_parse_steps.specs.Types.{Place, Token, TokenKind, Mark, Expr, Stmt, Part, Reading, BlockStage, Body, Stepped}
 use Rattle.k_tree.specs.declared.tokens.TokenKind.TheVariants as token
 use Rattle.k_tree.specs.declared.tokens.mark.Mark.TheVariants as mark
 use Rattle.k_tree.specs.declared.tokens.word.Word.TheVariants as word
 use Rattle.k_tree.specs.declared.tree.statement.Stmt.TheVariants as stmt
-use Rattle.k_tree.specs.Bare.{bare_expr, bare_stmt, bare_part_step, bare_stmt_step, where_given, nowhere}
+use Rattle.k_tree.specs.Bare.{bare_expr, bare_stmt, bare_part_step, bare_stmt_step, nowhere}
 use Rattle.k_tree.specs.Begins.{Begins, begins_expr}
 use Rattle.k_tree.proofs.Folds.{stmt_Expr, stmt_Empty, stmt_Break, stmt_Continue, stmt_Return}
 use Rattle.k_tree.specs.Nesting.{expr_depth, option_depth, stmt_depth, part_depth_step, stmt_depth_step}
@@ -197,7 +197,7 @@ continue_reads p =
 pub record Given {S : Type 0} (after : Option Expr → S) (e : Option Expr) (z : S) : Type 0 where
   pub made : Option Expr
   pub at : z ≡ after made
-  pub same : where_given bare_expr made ≡ where_given bare_expr e
+  pub same : option_map bare_expr made ≡ option_map bare_expr e
 
 record InPart {S : Type 0} (f : Reading → S) (e : Expr) (z : S) : Type 0 where
   reading : Reading

@@ -47,5 +47,5 @@ abbrev pub placed : Within → TExpr → State → Outcome Given
 placed w e s = ((means w e).place >>= gives_target) s
 
 -- a condition, what depends on it, and the control source as before
-abbrev pub tested : Within → TExpr → BranchTask → State → Outcome Given
-tested w e t s = follow (follow (valued w e true s) (branch_task w t)) (branch_task w (branch.Settle false s.world.control))
+abbrev pub branched : Within → TExpr → BranchTask → State → Outcome Given
+branched w e t s = follow (follow (valued w e true s) (branch_task w t)) (branch_task w (branch.Settle false s.world.control))

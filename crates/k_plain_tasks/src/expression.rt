@@ -8,7 +8,7 @@ ghost use Rattle.k_plain_direct.specs.Forms.{designated as designated_meant, lea
 ghost use Rattle.k_plain_state.specs.Arounds.{program_of, within_of};
 ghost use Rattle.k_plain_state.specs.Comes.{Comes};
 ghost use Rattle.k_plain_tasks.specs.Givens.{gives_operand, gives_target, start};
-ghost use Rattle.k_plain_tasks.specs.Leads.{Leads, placed, tested as tested_meant, valued};
+ghost use Rattle.k_plain_tasks.specs.Leads.{Leads, placed, branched, valued};
 ghost use Rattle.k_plain_tasks.specs.Tasks.{assignment_task, works};
 
 use crate::given::{Given, give};
@@ -152,7 +152,7 @@ fn test_first<'a>(
     around: &Around<'a>,
     tasks: &mut Stack<Task<'a>>,
 ) -> Result<Given, Stop>
-    ensures { Leads (within_of around.now) result (tested_meant (within_of around.now) e.now task.entry state.old) tasks.old tasks.new state.new }
+    ensures { Leads (within_of around.now) result (branched (within_of around.now) e.now task.entry state.old) tasks.old tasks.new state.new }
 {
     let control = state.control();
     two_behind(

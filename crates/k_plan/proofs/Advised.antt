@@ -39,29 +39,29 @@ can_sum limits root inner can sp = record {
     within : (a : ℕ) → a < length inner + 1 → a < suc (length inner)
     within a lt = omega arith
 
-    fits : (a : ℕ) → a < length inner + 1 → given (best limits root.work) inner 1 a < 2 ^ 64
+    fits : (a : ℕ) → a < length inner + 1 → given (λ _. best limits root.work) inner 1 a < 2 ^ 64
     fits a lt =
         let d : Context = get_or (root ∷ inner) a root in
         let at : slice_get (root ∷ inner) a ≡ Some d = slice_get-get_or (root ∷ inner) a root (within a lt) in
-        small_enough (given (best limits root.work) inner 1 a) (works_under a inner) d.work
+        small_enough (given (λ _. best limits root.work) inner 1 a) (works_under a inner) d.work
         (given_within limits root.work (root ∷ inner) can.works inner 1 a (all_marked limits root inner can.parents) (λ b. omega arith))
         (can.works a d at) (can.small a d at)
 
 -- where the root and the contexts behind it are known
 advice_at : (limits : Limits) (root : Context) (inner : List Context) (below : List ℕ) (advice : Advice) → CanPlan (root ∷ inner)
     → advice.picks ≡ picks_from 0 (best_choice limits (root ∷ inner)) (root ∷ inner) → AreBest limits root.work inner below
-    → advice.total ≡ best limits root.work 0 root (get_or below 0 0) → IsAdvice limits (root ∷ inner) advice
+    → advice.total ≡ best limits root.work root (get_or below 0 0) → IsAdvice limits (root ∷ inner) advice
 advice_at limits root inner below advice can picks are total = record {
   plan = best_choice limits (root ∷ inner);
   is_plan = best_is_plan limits (root ∷ inner) can;
   picks = picks;
-  total = total ∙ ap (best limits root.work 0 root) (are.totals 0 (omega arith)) ∙ sym (total_of_best limits root inner can);
+  total = total ∙ ap (best limits root.work root) (are.totals 0 (omega arith)) ∙ sym (total_of_best limits root inner can);
 }
 
 -- the picks and the best total at the root are the plan's
 pub advised : (limits : Limits) (contexts : List Context) (root : Context) (inner : List Context) (below : List ℕ) (advice : Advice) → contexts ≡ root ∷ inner
     → CanPlan contexts → advice.picks ≡ picks_from 0 (best_choice limits contexts) contexts → AreBest limits root.work inner below
-    → advice.total ≡ best limits root.work 0 root (get_or below 0 0) → IsAdvice limits contexts advice
+    → advice.total ≡ best limits root.work root (get_or below 0 0) → IsAdvice limits contexts advice
 advised limits contexts root inner below advice is can picks are total =
     subst (λ l. IsAdvice limits l advice) (sym is)
     (advice_at limits root inner below advice (subst CanPlan is can)

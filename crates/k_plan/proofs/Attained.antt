@@ -26,7 +26,7 @@ both_given false v g = refl
 
 -- what is saved at a context that is taken or not, with one above it that is taken or none
 node_value : (limits : Limits) (root : ℕ) (c : Context) (s : ℕ) (u b : Bool) → u ≡ takes limits root c s
-    → (if u && not b then saving c else 0) + (if u || b then 0 else s) ≡ (if b then 0 else best limits root 0 c s)
+    → (if u && not b then saving c else 0) + (if u || b then 0 else s) ≡ (if b then 0 else best limits root c s)
 node_value limits root c s true true is = refl
 node_value limits root c s false true is = refl
 node_value limits root c s true false is =
@@ -54,44 +54,44 @@ module _ (limits : Limits) (contexts : List Context) (behind : AreBehind context
   -- below a context that is taken, or has one above it that is, nothing is saved; below another, the best total
   pub attained : (more : List Context) (k a : ℕ) → Marked limits contexts k more
       → given (sums (best_choice limits contexts)) more k a
-      ≡ (if taken limits contexts a || covered (taken limits contexts) contexts a then 0 else given (best limits (root_work contexts)) more k a)
+      ≡ (if taken limits contexts a || covered (taken limits contexts) contexts a then 0 else given (λ _. best limits (root_work contexts)) more k a)
   attained [] k a marked = either (taken limits contexts a || covered (taken limits contexts) contexts a) 0
   attained (c ∷ more) k a marked = elim (cases_eq c.parent a) [
     | inl same ↦
         let t : ℕ → Bool = taken limits contexts in
         let cov : ℕ → Bool = covered (taken limits contexts) contexts in
-        let under : ℕ = given (best limits (root_work contexts)) more (k + 1) k in
+        let under : ℕ = given (λ _. best limits (root_work contexts)) more (k + 1) k in
         let less : c.parent < k = marked.0.behind in
         let blocked : cov k ≡ (t a || cov a) =
         covered_by_parent (taken limits contexts) contexts behind k c (omega arith) marked.0.at ∙ ap (λ p. t p || cov p) same in
         given_child (sums (best_choice limits contexts)) c more k a same
         ∙ ap (λ x. (saved (best_choice limits contexts) k c + x) + given (sums (best_choice limits contexts)) more (k + 1) a) (attained more (k + 1) k marked.1)
         ∙ ap (λ x. x + given (sums (best_choice limits contexts)) more (k + 1) a) (node_value limits (root_work contexts) c under (t k) (cov k) marked.0.its)
-        ∙ ap (λ x. (if cov k then 0 else best limits (root_work contexts) 0 c under) + x) (attained more (k + 1) a marked.1)
-        ∙ ap (λ b. (if b then 0 else best limits (root_work contexts) 0 c under)
-        + (if t a || cov a then 0 else given (best limits (root_work contexts)) more (k + 1) a)) blocked
-        ∙ both_given (t a || cov a) (best limits (root_work contexts) 0 c under) (given (best limits (root_work contexts)) more (k + 1) a)
-        ∙ ap (λ x. if t a || cov a then 0 else x) (sym (given_child (best limits (root_work contexts)) c more k a same))
+        ∙ ap (λ x. (if cov k then 0 else best limits (root_work contexts) c under) + x) (attained more (k + 1) a marked.1)
+        ∙ ap (λ b. (if b then 0 else best limits (root_work contexts) c under)
+        + (if t a || cov a then 0 else given (λ _. best limits (root_work contexts)) more (k + 1) a)) blocked
+        ∙ both_given (t a || cov a) (best limits (root_work contexts) c under) (given (λ _. best limits (root_work contexts)) more (k + 1) a)
+        ∙ ap (λ x. if t a || cov a then 0 else x) (sym (given_child (λ _. best limits (root_work contexts)) c more k a same))
     | inr other ↦
         given_other (sums (best_choice limits contexts)) c more k a other
         ∙ attained more (k + 1) a marked.1
         ∙ ap (λ x. if taken limits contexts a || covered (taken limits contexts) contexts a then 0 else x)
-        (sym (given_other (best limits (root_work contexts)) c more k a other))
+        (sym (given_other (λ _. best limits (root_work contexts)) c more k a other))
   ]
 
 -- that choice saves the best total at the root
 pub total_of_best : (limits : Limits) (root : Context) (inner : List Context) → CanPlan (root ∷ inner)
-    → total (root ∷ inner) (best_choice limits (root ∷ inner)) ≡ best limits root.work 0 root (given (best limits root.work) inner 1 0)
+    → total (root ∷ inner) (best_choice limits (root ∷ inner)) ≡ best limits root.work root (given (λ _. best limits root.work) inner 1 0)
 total_of_best limits root inner can =
     let contexts : List Context = root ∷ inner in
     let t : ℕ → Bool = taken limits (root ∷ inner) in
     let cov : ℕ → Bool = covered (taken limits (root ∷ inner)) (root ∷ inner) in
-    let under : ℕ = given (best limits root.work) inner 1 0 in
+    let under : ℕ = given (λ _. best limits root.work) inner 1 0 in
     total_at_root (best_choice limits (root ∷ inner)) root inner can.parents.1
     ∙ ap (λ x. saved (best_choice limits (root ∷ inner)) 0 root + x)
     (attained limits (root ∷ inner) (are_behind (root ∷ inner) can.parents) inner 1 0 (all_marked limits root inner can.parents))
     ∙ node_value limits root.work root under (t 0) (cov 0) refl
-    ∙ ap (λ b. if b then 0 else best limits root.work 0 root under) (first_is_free (taken limits (root ∷ inner)) (root ∷ inner))
+    ∙ ap (λ b. if b then 0 else best limits root.work root under) (first_is_free (taken limits (root ∷ inner)) (root ∷ inner))
 
 module _ (limits : Limits) (contexts : List Context) (behind : AreBehind contexts) (choice : Choice) (top : ℕ) where
   -- those of a choice that are below one context

@@ -55,7 +55,7 @@ module _ (limits : Limits) (contexts : List Context) (choice : Choice) (is : IsC
 
   -- the chosen ones at a context and below it save at most the best total there
   at_most_best : (k : ℕ) (c : Context) (under below : ℕ) → slice_get contexts k ≡ Some c → under ≤ below → (choice k ≡ true → under ≡ 0)
-      → sums choice k c under ≤ best limits (root_work contexts) k c below
+      → sums choice k c under ≤ best limits (root_work contexts) c below
   at_most_best k c under below at le alone = elim (cases_Bool (choice k)) [
     | inl chosen ↦
         let found = is.passing k chosen in
@@ -73,18 +73,18 @@ module _ (limits : Limits) (contexts : List Context) (choice : Choice) (is : IsC
       left_here x o u b e le = omega arith
 
   given_at_most : (more : List Context) (k a : ℕ) → Marked limits contexts k more
-      → given (sums choice) more k a ≤ given (best limits (root_work contexts)) more k a
+      → given (sums choice) more k a ≤ given (λ _. best limits (root_work contexts)) more k a
   given_at_most [] k a marked = omega arith
   given_at_most (c ∷ more) k a marked =
       let rest = given_at_most more (k + 1) a marked.1 in
       elim (cases_eq c.parent a) [
         | inl same ↦
-            both _ _ _ _ _ _ (given_child (sums choice) c more k a same) (given_child (best limits (root_work contexts)) c more k a same)
-            (at_most_best k c (given (sums choice) more (k + 1) k) (given (best limits (root_work contexts)) more (k + 1) k) marked.0.at
+            both _ _ _ _ _ _ (given_child (sums choice) c more k a same) (given_child (λ _. best limits (root_work contexts)) c more k a same)
+            (at_most_best k c (given (sums choice) more (k + 1) k) (given (λ _. best limits (root_work contexts)) more (k + 1) k) marked.0.at
             (given_at_most more (k + 1) k marked.1) (λ chosen. nothing_below more (k + 1) k marked.1 (λ i h up. is.apart k i chosen h up)))
             rest
         | inr other ↦
-            only _ _ _ _ (given_other (sums choice) c more k a other) (given_other (best limits (root_work contexts)) c more k a other) rest
+            only _ _ _ _ (given_other (sums choice) c more k a other) (given_other (λ _. best limits (root_work contexts)) c more k a other) rest
       ]
     where
       both : (x y v w g h : ℕ) → x ≡ v + g → y ≡ w + h → v ≤ w → g ≤ h → x ≤ y
@@ -95,11 +95,11 @@ module _ (limits : Limits) (contexts : List Context) (choice : Choice) (is : IsC
 
 -- no choice saves more than the best total at the root
 pub total_at_most : (limits : Limits) (root : Context) (inner : List Context) (choice : Choice) → CanPlan (root ∷ inner) → IsChoice limits (root ∷ inner) choice
-    → total (root ∷ inner) choice ≤ best limits root.work 0 root (given (best limits root.work) inner 1 0)
+    → total (root ∷ inner) choice ≤ best limits root.work root (given (λ _. best limits root.work) inner 1 0)
 total_at_most limits root inner choice can is =
     let marked = all_marked limits root inner can.parents in
-    subst (λ t. t ≤ best limits root.work 0 root (given (best limits root.work) inner 1 0)) (sym (total_at_root choice root inner can.parents.1))
-    (at_most_best limits (root ∷ inner) choice is 0 root (given (sums choice) inner 1 0) (given (best limits root.work) inner 1 0) refl
+    subst (λ t. t ≤ best limits root.work root (given (λ _. best limits root.work) inner 1 0)) (sym (total_at_root choice root inner can.parents.1))
+    (at_most_best limits (root ∷ inner) choice is 0 root (given (sums choice) inner 1 0) (given (λ _. best limits root.work) inner 1 0) refl
     (given_at_most limits (root ∷ inner) choice is inner 1 0 marked)
     (λ chosen. nothing_below limits (root ∷ inner) choice is inner 1 0 marked (λ i h up. is.apart 0 i chosen h up)))
 
@@ -107,18 +107,18 @@ module _ (limits : Limits) (root : ℕ) (contexts : List Context)
     (works : (k : ℕ) (c : Context) → slice_get contexts k ≡ Some c → works_under k (behind_root contexts) ≤ c.work) where
   -- what contexts give is at most their works together
   pub given_within : (more : List Context) (k a : ℕ) → Marked limits contexts k more
-      → ((b : ℕ) → works_under b more ≤ works_under b (behind_root contexts)) → given (best limits root) more k a ≤ works_under a more
+      → ((b : ℕ) → works_under b more ≤ works_under b (behind_root contexts)) → given (λ _. best limits root) more k a ≤ works_under a more
   given_within [] k a marked part = omega arith
   given_within (c ∷ more) k a marked part =
       let later : (b : ℕ) → works_under b more ≤ works_under b (behind_root contexts) = λ b. (let h = part b in omega arith) in
       let rest = given_within more (k + 1) a marked.1 later in
       elim (cases_eq c.parent a) [
         | inl same ↦
-            let under : given (best limits root) more (k + 1) k ≤ c.work =
+            let under : given (λ _. best limits root) more (k + 1) k ≤ c.work =
             through (given_within more (k + 1) k marked.1 later) (later k) (works k c marked.0.at) in
-            both _ _ _ _ _ _ (given_child (best limits root) c more k a same) (work_child a c more same)
-            (best_within (own limits root c) (given (best limits root) more (k + 1) k) c.work (own_within limits root c) under) rest
-        | inr other ↦ only _ _ _ _ (given_other (best limits root) c more k a other) (work_other a c more other) rest
+            both _ _ _ _ _ _ (given_child (λ _. best limits root) c more k a same) (work_child a c more same)
+            (best_within (own limits root c) (given (λ _. best limits root) more (k + 1) k) c.work (own_within limits root c) under) rest
+        | inr other ↦ only _ _ _ _ (given_other (λ _. best limits root) c more k a other) (work_other a c more other) rest
       ]
     where
       through : {x y z w : ℕ} → x ≤ y → y ≤ z → z ≤ w → x ≤ w
@@ -140,9 +140,9 @@ module _ (limits : Limits) (root : ℕ) (contexts : List Context)
 
 -- the best total at the root is at most its work
 pub best_at_root : (limits : Limits) (root : Context) (inner : List Context) → CanPlan (root ∷ inner)
-    → best limits root.work 0 root (given (best limits root.work) inner 1 0) ≤ root.work
+    → best limits root.work root (given (λ _. best limits root.work) inner 1 0) ≤ root.work
 best_at_root limits root inner can =
-    best_within (own limits root.work root) (given (best limits root.work) inner 1 0) root.work (own_within limits root.work root)
+    best_within (own limits root.work root) (given (λ _. best limits root.work) inner 1 0) root.work (own_within limits root.work root)
     (both (given_within limits root.work (root ∷ inner) can.works inner 1 0 (all_marked limits root inner can.parents) (λ b. omega arith)) (can.works 0 root refl))
   where
     both : {x y z : ℕ} → x ≤ y → y ≤ z → x ≤ z

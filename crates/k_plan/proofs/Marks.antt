@@ -12,7 +12,7 @@ use Rattle.k_plan.proofs.Given.{given_other}
 pub record IsMarked (limits : Limits) (contexts : List Context) (k : ℕ) (c : Context) (more : List Context) : Type 0 where
   pub at : slice_get contexts k ≡ Some c
   pub behind : c.parent < k
-  pub its : taken limits contexts k ≡ takes limits (root_work contexts) c (given (best limits (root_work contexts)) more (k + 1) k)
+  pub its : taken limits contexts k ≡ takes limits (root_work contexts) c (given (λ _. best limits (root_work contexts)) more (k + 1) k)
 
 module _ (limits : Limits) (contexts : List Context) where
   -- that holds of each of these contexts
@@ -30,18 +30,18 @@ module _ (limits : Limits) (contexts : List Context) where
 
   mark : (inner more : List Context) (k : ℕ) → inner ≡ behind_root contexts → StandBehindParents k more
       → ((n : ℕ) → slice_get more n ≡ slice_get contexts (k + n))
-      → ((a : ℕ) → k ≤ a + 1 → given (best limits (root_work contexts)) inner 1 a ≡ given (best limits (root_work contexts)) more k a) → Marked k more
+      → ((a : ℕ) → k ≤ a + 1 → given (λ _. best limits (root_work contexts)) inner 1 a ≡ given (λ _. best limits (root_work contexts)) more k a) → Marked k more
   mark inner [] k is stand places late = tt
   mark inner (c ∷ more) k is stand places late =
       let none : k ≡ k + 0 = omega arith in
       let at : slice_get contexts k ≡ Some c = ap (λ n. slice_get contexts n) none ∙ sym (places 0) in
-      let later : (a : ℕ) → k + 1 ≤ a + 1 → given (best limits (root_work contexts)) inner 1 a ≡ given (best limits (root_work contexts)) more (k + 1) a =
-      λ a h. late a (omega arith) ∙ given_other (best limits (root_work contexts)) c more k a (λ same. absurd (earlier a same stand.0 h)) in (
+      let later : (a : ℕ) → k + 1 ≤ a + 1 → given (λ _. best limits (root_work contexts)) inner 1 a ≡ given (λ _. best limits (root_work contexts)) more (k + 1) a =
+      λ a h. late a (omega arith) ∙ given_other (λ _. best limits (root_work contexts)) c more k a (λ same. absurd (earlier a same stand.0 h)) in (
         record {
           at = at;
           behind = stand.0;
-          its = ap (takes_some limits (root_work contexts) (given (best limits (root_work contexts)) (behind_root contexts) 1 k)) at
-              ∙ ap (λ l. takes limits (root_work contexts) c (given (best limits (root_work contexts)) l 1 k)) (sym is)
+          its = ap (takes_some limits (root_work contexts) (given (λ _. best limits (root_work contexts)) (behind_root contexts) 1 k)) at
+              ∙ ap (λ l. takes limits (root_work contexts) c (given (λ _. best limits (root_work contexts)) l 1 k)) (sym is)
               ∙ ap (takes limits (root_work contexts) c) (later k (omega arith));
         },
         mark inner more (k + 1) is stand.1 (λ n. places (suc n) ∙ ap (λ m. slice_get contexts m) (one_on n)) later,

@@ -63,13 +63,13 @@ module _ (limits : Limits) (contexts : List Context) (behind : AreBehind context
   -- a loop that passes, with no pick above it, and below which no choice saves more, is a pick
   module _ (before more : List Context) (k : ℕ) (c : Context) (cut : contexts ≡ (before ++ c ∷ []) ++ more) (place : length before ≡ k)
       (marked : Marked limits contexts (k + 1) more)
-      (its : t k ≡ takes limits (root_work contexts) c (given (best limits (root_work contexts)) more (k + 1) k))
+      (its : t k ≡ takes limits (root_work contexts) c (given (λ _. best limits (root_work contexts)) more (k + 1) k))
       (pass : passes limits (root_work contexts) c ≡ true) where
     -- a loop that passes and isn't taken saves less than some choice below it
     not_taken : t k ≡ false → cov k ≡ false
         → ((below : Choice) → IsChoice limits contexts below → ((b : ℕ) → below b ≡ true → IsAbove contexts k b) → total contexts below ≤ saving c) → ⊥
     not_taken out free most =
-        let under : ℕ = given (best limits (root_work contexts)) more (k + 1) k in
+        let under : ℕ = given (λ _. best limits (root_work contexts)) more (k + 1) k in
         let less : saving c < under = by (and_cases (passes limits (root_work contexts) c) (leb under (saving c)) (sym its ∙ out)) in
         let part : Choice = part_below limits contexts behind (best_choice limits contexts) k in
         let is_more : given (sums part) more (k + 1) k ≤ total contexts part =
@@ -85,10 +85,10 @@ module _ (limits : Limits) (contexts : List Context) (behind : AreBehind context
         let at_most : total contexts part ≤ saving c = most part (part_is_choice k) (part_is_below k) in
         contradiction (given (sums part) more (k + 1) k) (total contexts part) under (saving c) less is_more same at_most
       where
-        by : (passes limits (root_work contexts) c ≡ false) ⊎ (leb (given (best limits (root_work contexts)) more (k + 1) k) (saving c) ≡ false)
-            → saving c < given (best limits (root_work contexts)) more (k + 1) k
+        by : (passes limits (root_work contexts) c ≡ false) ⊎ (leb (given (λ _. best limits (root_work contexts)) more (k + 1) k) (saving c) ≡ false)
+            → saving c < given (λ _. best limits (root_work contexts)) more (k + 1) k
         by (inl fails) = absurd (true≢false (sym pass ∙ fails))
-        by (inr h) = leb-false (given (best limits (root_work contexts)) more (k + 1) k) (saving c) h
+        by (inr h) = leb-false (given (λ _. best limits (root_work contexts)) more (k + 1) k) (saving c) h
 
         count : k + 1 ≡ length (before ++ c ∷ [])
         count = let e = length-append before (c ∷ []) in omega arith

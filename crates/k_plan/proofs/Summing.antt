@@ -15,7 +15,7 @@ pub record Summed (limits : Limits) (root : ℕ) (inner rest : List Context) (be
   pub later : List Context
   pub parts : inner ≡ rest ++ later
   pub count : length below ≡ length inner + 1
-  pub totals : (a : ℕ) → a < length inner + 1 → get_or below a 0 ≡ given (best limits root) later (length rest + 1) a
+  pub totals : (a : ℕ) → a < length inner + 1 → get_or below a 0 ≡ given (λ _. best limits root) later (length rest + 1) a
 
 pub none_summed : (limits : Limits) (root : ℕ) (inner : List Context) (below : List ℕ) → below ≡ replicate (length inner + 1) 0 → Summed limits root inner inner below
 none_summed limits root inner below is = record {
@@ -36,8 +36,8 @@ all_summed limits root inner rest below is h = record {
   count = h.count;
   totals = λ a lt.
       h.totals a lt
-      ∙ ap (λ (l : List Context). given (best limits root) h.later (length l + 1) a) is
-      ∙ ap (λ l. given (best limits root) l 1 a) (sym (h.parts ∙ ap (λ l. l ++ h.later) is));
+      ∙ ap (λ (l : List Context). given (λ _. best limits root) h.later (length l + 1) a) is
+      ∙ ap (λ l. given (λ _. best limits root) l 1 a) (sym (h.parts ∙ ap (λ l. l ++ h.later) is));
 }
 
 parent_before : (before later : List Context) (c : Context) (k : ℕ) → StandBehindParents k (before ++ c ∷ later) → c.parent < k + length before
@@ -72,16 +72,16 @@ module _ (limits : Limits) (root : ℕ) (inner rest before : List Context) (c : 
   work_small = sum.small (length before) c (subst (λ l. slice_get l (length before) ≡ Some c) (sym whole) (place_behind before h.later c))
 
   -- what the contexts behind this one give to it and to those before it
-  below_is : (a : ℕ) → a < length inner + 1 → get_or below a 0 ≡ given (best limits root) h.later ((length before + 1) + 1) a
-  below_is a lt = h.totals a lt ∙ ap (λ n. given (best limits root) h.later (n + 1) a) length_rest
+  below_is : (a : ℕ) → a < length inner + 1 → get_or below a 0 ≡ given (λ _. best limits root) h.later ((length before + 1) + 1) a
+  below_is a lt = h.totals a lt ∙ ap (λ n. given (λ _. best limits root) h.later (n + 1) a) length_rest
 
-  module _ (total : ℕ) (is : total ≡ best limits root 0 c (get_or below (length before + 1) 0)) where
-    given_now : (a : ℕ) → a ≡ c.parent → given (best limits root) (c ∷ h.later) (length before + 1) a ≡ get_or below c.parent 0 + total
+  module _ (total : ℕ) (is : total ≡ best limits root c (get_or below (length before + 1) 0)) where
+    given_now : (a : ℕ) → a ≡ c.parent → given (λ _. best limits root) (c ∷ h.later) (length before + 1) a ≡ get_or below c.parent 0 + total
     given_now a same =
         let count = h.count in let in_number = number_within in let in_parent = parent_within in
-        given_child (best limits root) c h.later (length before + 1) a (sym same)
+        given_child (λ _. best limits root) c h.later (length before + 1) a (sym same)
         ∙ sums_up _ _ _ _
-        (is ∙ ap (best limits root 0 c) (below_is (length before + 1) (omega arith)))
+        (is ∙ ap (best limits root c) (below_is (length before + 1) (omega arith)))
         (ap (λ n. get_or below n 0) (sym same) ∙ below_is a (omega arith))
       where
         sums_up : (v g t b : ℕ) → t ≡ v → b ≡ g → v + g ≡ b + t
@@ -91,8 +91,8 @@ module _ (limits : Limits) (root : ℕ) (inner rest before : List Context) (c : 
     sum_fits =
         let count = h.count in let in_number = number_within in let in_parent = parent_within in
         fits _ _ _ (given_now c.parent refl)
-        (subst (λ l. given (best limits root) (c ∷ h.later) (length before + 1) c.parent ≤ given (best limits root) l 1 c.parent) (sym whole)
-        (given_part (best limits root) before (c ∷ h.later) 1 (length before + 1) c.parent (omega arith)))
+        (subst (λ l. given (λ _. best limits root) (c ∷ h.later) (length before + 1) c.parent ≤ given (λ _. best limits root) l 1 c.parent) (sym whole)
+        (given_part (λ _. best limits root) before (c ∷ h.later) 1 (length before + 1) c.parent (omega arith)))
         (sum.fits c.parent (omega arith))
       where
         fits : (g s w : ℕ) → g ≡ s → g ≤ w → w < 2 ^ 64 → s < 2 ^ 64
@@ -115,6 +115,6 @@ module _ (limits : Limits) (root : ℕ) (inner rest before : List Context) (c : 
             ap (λ l. get_or l a 0) put
             ∙ get_or-set_other below c.parent a (get_or below c.parent 0 + total) 0 (λ e. other (sym e))
             ∙ below_is a lt
-            ∙ sym (given_other (best limits root) c h.later (length before + 1) a other)
+            ∙ sym (given_other (λ _. best limits root) c h.later (length before + 1) a other)
       ];
     }

@@ -15,8 +15,8 @@ given f [] k a = 0
 given f (c ∷ contexts) k a = (if c.parent == a then f k c (given f contexts (k + 1) k) else 0) + given f contexts (k + 1) a
 
 -- the best total at a context and below it, where that of the choices below it is `below`
-abbrev pub best : Limits → ℕ → ℕ → Context → ℕ → ℕ
-best limits root k c below = max (if passes limits root c then saving c else 0) below
+abbrev pub best : Limits → ℕ → Context → ℕ → ℕ
+best limits root c below = max (if passes limits root c then saving c else 0) below
 
 -- a context is taken: it is a passing loop, and no choice below it saves more
 abbrev pub takes : Limits → ℕ → Context → ℕ → Bool
@@ -25,11 +25,11 @@ takes limits root c below = passes limits root c && nat_le below (saving c)
 -- these numbers are the best totals below the contexts
 pub record AreBest (limits : Limits) (root : ℕ) (contexts : List Context) (below : List ℕ) : Type 0 where
   pub count : length below ≡ length contexts + 1
-  pub totals : (a : ℕ) → a < length contexts + 1 → slice_index_or below a 0 ≡ given (best limits root) contexts 1 a
+  pub totals : (a : ℕ) → a < length contexts + 1 → slice_index_or below a 0 ≡ given (λ _. best limits root) contexts 1 a
 
 -- the best total of the choices below context k
 abbrev pub best_below : Limits → List Context → ℕ → ℕ
-best_below limits contexts k = given (best limits (root_work contexts)) (behind_root contexts) 1 k
+best_below limits contexts k = given (λ _. best limits (root_work contexts)) (behind_root contexts) 1 k
 
 -- a context that is there is taken
 abbrev pub takes_some : Limits → ℕ → ℕ → Option Context → Bool
@@ -66,7 +66,7 @@ pub record CanSum (limits : Limits) (root : ℕ) (contexts : List Context) : Typ
   pub parents : StandBehindParents 1 contexts
   pub small : (k : ℕ) (c : Context) → slice_get contexts k ≡ Some c → c.work < 2 ^ 50
   pub few : length contexts < 65536
-  pub fits : (a : ℕ) → a < length contexts + 1 → given (best limits root) contexts 1 a < 2 ^ 64
+  pub fits : (a : ℕ) → a < length contexts + 1 → given (λ _. best limits root) contexts 1 a < 2 ^ 64
 
 -- one pick more, where the context is picked
 abbrev pub with_pick : Bool → ℕ → Context → List Pick → List Pick

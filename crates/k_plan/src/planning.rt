@@ -16,7 +16,7 @@ fn best_total(context: &Context, limits: &Limits, run_work: u64, below: u64) -> 
     requires work { context.now.work < 2 ^ 50 }
     requires run_work { run_work < 2 ^ 50 }
     requires sp { limits.now.sp < 2 ^ 62 }
-    ensures { result ≡ best limits.now run_work 0 context.now below }
+    ensures { result ≡ best limits.now run_work context.now below }
 {
     if passes(context, limits, run_work) {
         saving(context).max(below)

@@ -1,6 +1,6 @@
 -- Believed with the theorem on the top call.
 -- Which loops may be marked, and with which lines.
-use Rattle.std.specs.Prelude.{ℕ, ◌+◌, ◌*◌, nat_eq, Bool, false, ◌&&◌, if◌then◌else◌, List, [], ◌∷◌, ◌++◌, length, slice_get, Option, Some, None}
+use Rattle.std.specs.Prelude.{ℕ, ◌+◌, ◌*◌, nat_eq, Bool, false, ◌&&◌, if◌then◌else◌, List, [], ◌∷◌, ◌++◌, length, slice_get, unwrap_or}
 use Rattle.std.specs.List.{flat_map, list_any}
 use Rattle.k_tree.specs.declared.tokens.Token.{Token}
 use Rattle.k_types_meaning.specs.declared.tree.unit.TFunc.{TFunc}
@@ -32,20 +32,12 @@ abbrev pub region_of_loop : ℕ → ℕ → ℕ
 region_of_loop function loop = function + 1 + 2 * loop
 
 -- THE SECOND CONDITION: the loop of this number is counted
-abbrev pub is_there_and_so : Option Bool → Bool
-is_there_and_so None = false
-is_there_and_so (Some b) = b
-
 abbrev pub is_counted : List Bool → ℕ → Bool
-is_counted counted loop = is_there_and_so (slice_get counted loop)
-
--- a region is among these
-abbrev pub is_among : List ℕ → ℕ → Bool
-is_among among region = list_any (λ r. nat_eq r region) among
+is_counted counted loop = unwrap_or (slice_get counted loop) false
 
 -- the loop of a region in a function with these variables meets all conditions but that the source spells `for`
 abbrev pub is_ready : List ℕ → List Bool → ℕ → List TVariable → List Occurrence → List Setter → LoopText → Bool
-is_ready among counted region vs occurs setters l = is_among among region && (is_counted counted l.number && shares_nothing occurs setters l vs)
+is_ready among counted region vs occurs setters l = list_any (λ r. nat_eq r region) among && (is_counted counted l.number && shares_nothing occurs setters l vs)
 
 -- the line of a loop of the function of this number, where it does
 abbrev pub pragma_by : List ℕ → List Bool → List Token → ℕ → List TVariable → List Occurrence → List Setter → LoopText → List Pragma

@@ -1,5 +1,6 @@
 //! The OpenMP lines of the loops that may be marked.
-ghost use Rattle.std.specs.Prelude.{◌≡◌, ◌<◌, ◌^◌, ◌++◌, IfOk, OnOk};
+ghost use Rattle.std.specs.Prelude.{◌≡◌, ◌<◌, ◌^◌, ◌++◌, IfOk, OnOk, nat_eq};
+ghost use Rattle.std.specs.List.{list_any};
 ghost use Rattle.k_pragma.specs.Marked as spec;
 
 use crate::clauses::pragma_text;
@@ -52,7 +53,7 @@ pub(crate) fn candidates(
 
 /// Whether a region is among these.
 fn is_among(among: &[u32], region: u64) -> bool
-    ensures { result ≡ spec.is_among among.now region }
+    ensures { result ≡ list_any (λ r. nat_eq r region) among.now }
 {
     among.iter().any(|other| u64::from(*other) == region)
 }

@@ -14,6 +14,7 @@ pub record IsWritten (p : Play) (count : ℕ) : Type 0 where
   pub below : (k : ℕ) (s : Step) → slice_get p.tape.steps k ≡ Some s → writes s.act ≡ true → k < count → is_fired p.values k ≡ true
   pub above : (k : ℕ) (s : Step) → slice_get p.tape.steps k ≡ Some s → writes s.act ≡ true → count ≤ k → is_fired p.values k ≡ false
 
+-- a play keeps this: what was fired had its sources and gave the serial run's value, and what was written is the output's front
 pub record IsSound (p : Play) : Type 0 where
   pub tape : IsRecord p.tape
   pub lengths : length p.values ≡ length p.tape.steps

@@ -1,10 +1,12 @@
 -- Names are text.
-use Rattle.std.proofs.Common.{◌≡◌, ℕ, zero, suc, ◌<◌, ◌≤◌, true, false, not, List, [], ◌∷◌, leb, sym, ◌∙◌, inl, inr, arith}
+use Rattle.std.proofs.Common.{◌≡◌, ℕ, zero, suc, ◌<◌, ◌≤◌, true, false, not, nat_eq, List, [], ◌∷◌, leb, sym, ◌∙◌, inl, inr, arith}
+use Rattle.std.specs.Cmp.Lexicographic.{pointwise}
+use Rattle.std.specs.List.{list_any}
 use Rattle.std.specs.Prelude.{IsAscii, IsUtf8}
 use Rattle.std.proofs.lemmas.Bool.{and_parts, and_right, and_from, or_left, or_from, lt-leb, false≢true, cases_lt}
 use Rattle.std.proofs.lemmas.Bool.Decides.{nat_tests}
 use Rattle.std.proofs.lemmas.Str.{IsUtf8-from_ascii}
-use Rattle.k_scan.specs.Names.{are_in_name, in_name, is_among, is_letter, is_name, is_word, keywords}
+use Rattle.k_scan.specs.Names.{are_in_name, in_name, is_letter, is_name, is_word, keywords}
 
 high_fails : (b : ℕ) → 128 ≤ b → in_name b ≡ false
 high_fails b le = or_from _ _ (or_from _ _ (and_right (leb 97 b) (leb b 122) (lt-leb b 122 (omega arith)))
@@ -32,7 +34,7 @@ word_bytes (b ∷ text) h =
 -- all bytes of a name may stand in one
 pub name_bytes : (text : List ℕ) → is_name text ≡ true → are_in_name text ≡ true
 unfolding is_name
-name_bytes text h = word_bytes text (and_parts (is_word text) (not (is_among keywords text)) h).0
+name_bytes text h = word_bytes text (and_parts (is_word text) (not (list_any (λ word. pointwise nat_eq word text) keywords)) h).0
 
 -- a name is text
 pub name_utf8 : (text : List ℕ) → is_name text ≡ true → IsUtf8 text

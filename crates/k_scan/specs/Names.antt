@@ -2,6 +2,7 @@
 -- Names at the front of a text (C17 6.4.2.1), which are no keywords (C17 6.4.1).
 use Rattle.std.specs.Prelude.{ℕ, suc, ◌≡◌, Bool, true, false, ◌&&◌, ◌||◌, not, List, [], ◌∷◌, Option, Some, None, nat_eq, nat_le, ◌==◌, if◌then◌else◌, take, drop, codes}
 use Rattle.std.specs.Cmp.Lexicographic.{pointwise}
+use Rattle.std.specs.List.{list_any}
 use Rattle.k_scan.specs.Numbers.{is_digit}
 
 -- a letter or `_`
@@ -22,11 +23,6 @@ keywords =
     ∷ codes "volatile" ∷ codes "while" ∷ codes "_Alignas" ∷ codes "_Alignof" ∷ codes "_Atomic" ∷ codes "_Bool" ∷ codes "_Complex"
     ∷ codes "_Generic" ∷ codes "_Imaginary" ∷ codes "_Noreturn" ∷ codes "_Static_assert" ∷ codes "_Thread_local" ∷ []
 
--- a text is among these
-abbrev pub is_among : List (List ℕ) → List ℕ → Bool
-is_among [] text = false
-is_among (word ∷ words) text = pointwise nat_eq word text || is_among words text
-
 -- all bytes may stand in a name
 abbrev pub are_in_name : List ℕ → Bool
 are_in_name [] = true
@@ -39,7 +35,7 @@ is_word (b ∷ text) = is_letter b && are_in_name text
 
 -- whether a text is a name
 unfoldable pub is_name : List ℕ → Bool
-is_name text = is_word text && not (is_among keywords text)
+is_name text = is_word text && not (list_any (λ word. pointwise nat_eq word text) keywords)
 
 -- no byte of a name stands first
 abbrev pub NoNameByte : List ℕ → Type 0

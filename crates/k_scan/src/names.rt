@@ -1,5 +1,7 @@
 //! Names of C.
-ghost use Rattle.std.specs.Prelude.{◌≡◌, ◌≤◌, true, length, map};
+ghost use Rattle.std.specs.Prelude.{◌≡◌, ◌≤◌, true, length, map, nat_eq};
+ghost use Rattle.std.specs.Cmp.Lexicographic.{pointwise};
+ghost use Rattle.std.specs.List.{list_any};
 ghost use Rattle.k_scan.specs.Names as spec;
 ghost use Rattle.k_scan.specs.Names.{name_at};
 ghost use Rattle.k_scan.specs.Pieces.{Finds};
@@ -68,7 +70,7 @@ fn in_name(byte: u8) -> bool
 
 /// Whether a text is among these words.
 fn is_among(words: &[&str], text: &[u8]) -> bool
-    ensures { result ≡ spec.is_among (map (λ word. word.now) words.now) text.now }
+    ensures { result ≡ list_any (λ word. pointwise nat_eq word text.now) (map (λ word. word.now) words.now) }
 {
     for word in words {
         if word.as_bytes() == text {

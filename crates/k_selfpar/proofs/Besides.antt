@@ -2,7 +2,7 @@
 use Rattle.std.proofs.Common.{◌≡◌, ℕ, ◌+◌, ◌-◌, ◌<◌, ◌≤◌, Bool, true, false, ◌==◌, max, refl, sym, ap, ◌∙◌, subst, arith, if◌then◌else◌}
 use Rattle.k_dict.specs.Trees.{Alike, Forest, Label, bare, both, exchanged, further, grown, height, neither, size}
 use Rattle.k_dict.proofs.Forests.{Alike-refl, Alike-sym, beside, beside_left, beside_right, beside_front}
-use Rattle.k_selfpar.specs.Contexts.{NoneBelow, children_of, chosen, others, with_beside}
+use Rattle.k_selfpar.specs.Contexts.{NoneBelow, inner_forest, chosen, others, with_beside}
 use Rattle.k_selfpar.specs.Sums.{one, outer, outer_paths, outer_works, path, serial_in, work}
 
 -- forests side by side, as the dictionary's proofs have them
@@ -32,13 +32,13 @@ with_beside_exchanged (grown x i l) g h =
     (Alike-sym (with_beside g (grown x i (with_beside l h))) (grown x i (with_beside g (with_beside l h))) (with_beside_front g x i (with_beside l h)))
 
 -- children of alike forests are alike
-pub children_alike : (f g : Forest) → Alike f g → Alike (children_of f) (children_of g)
+pub children_alike : (f g : Forest) → Alike f g → Alike (inner_forest f) (inner_forest g)
 children_alike _ _ neither = neither
 children_alike _ _ (both x i i' l l' inner later) =
-    further (with_beside i (children_of l)) (with_beside i' (children_of l)) (with_beside i' (children_of l'))
-    (with_beside_left i i' (children_of l) inner) (with_beside_right i' (children_of l) (children_of l') (children_alike l l' later))
-children_alike _ _ (exchanged x y i j l) = with_beside_exchanged i j (children_of l)
-children_alike _ _ (further f g h first second) = further (children_of f) (children_of g) (children_of h) (children_alike f g first) (children_alike g h second)
+    further (with_beside i (inner_forest l)) (with_beside i' (inner_forest l)) (with_beside i' (inner_forest l'))
+    (with_beside_left i i' (inner_forest l) inner) (with_beside_right i' (inner_forest l) (inner_forest l') (children_alike l l' later))
+children_alike _ _ (exchanged x y i j l) = with_beside_exchanged i j (inner_forest l)
+children_alike _ _ (further f g h first second) = further (inner_forest f) (inner_forest g) (inner_forest h) (children_alike f g first) (children_alike g h second)
 
 -- an instance is among those of a region, or not
 put_alike : (b : Bool) (x : Label) (i i' f f' : Forest) → Alike i i' → Alike f f' → Alike (if b then grown x i f else f) (if b then grown x i' f' else f')
@@ -130,9 +130,9 @@ pub size-beside : (f g : Forest) → size (with_beside f g) ≡ size f + size g
 size-beside bare g = omega arith
 size-beside (grown x i l) g = let rest = size-beside l g in omega arith
 
-pub size-children : (f : Forest) → size (children_of f) + outer one f ≡ size f
+pub size-children : (f : Forest) → size (inner_forest f) + outer one f ≡ size f
 size-children bare = refl
-size-children (grown x i l) = let a = size-beside i (children_of l) in let b = size-children l in omega arith
+size-children (grown x i l) = let a = size-beside i (inner_forest l) in let b = size-children l in omega arith
 
 pub size-parts : (region : ℕ) (f : Forest) → size (chosen region f) + size (others region f) ≡ size f
 size-parts region bare = refl
@@ -150,12 +150,12 @@ pub height-beside : (f g : Forest) → height (with_beside f g) ≡ max (height 
 height-beside bare g = omega arith
 height-beside (grown x i l) g = let rest = height-beside l g in omega arith
 
-pub height-children : (f : Forest) → 0 < outer one f → height (children_of f) + 1 ≤ height f
+pub height-children : (f : Forest) → 0 < outer one f → height (inner_forest f) + 1 ≤ height f
 height-children bare some = absurd (omega arith)
 height-children (grown x i bare) some = let e = height-beside i bare in omega arith
 height-children (grown x i (grown y j l)) some =
-    let e = height-beside i (children_of (grown y j l)) in
-    let rest : height (children_of (grown y j l)) + 1 ≤ height (grown y j l) = height-children (grown y j l) (omega arith) in
+    let e = height-beside i (inner_forest (grown y j l)) in
+    let rest : height (inner_forest (grown y j l)) + 1 ≤ height (grown y j l) = height-children (grown y j l) (omega arith) in
     omega arith
 
 -- works

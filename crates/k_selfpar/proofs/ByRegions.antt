@@ -5,7 +5,7 @@ use Rattle.k_optab.specs.declared.region.Region.{Region}
 use Rattle.k_optab.specs.Tree.{EachWith}
 use Rattle.k_dict.specs.Trees.{Forest, Tree, alone, bare, grown}
 use Rattle.k_dict.proofs.Lists.{same_tree}
-use Rattle.k_selfpar.specs.Contexts.{AreUnder, IsContext, children_of, chosen, group, none, others}
+use Rattle.k_selfpar.specs.Contexts.{AreUnder, IsContext, inner_forest, chosen, group, none, others}
 use Rattle.k_selfpar.specs.Laws.{AreApart, AreByRegions, ContextsAreByRegions, IsAmong, at_regions, last_of}
 use Rattle.k_selfpar.specs.Sums.{one, outer}
 use Rattle.k_selfpar.specs.declared.context.Context.{Context}
@@ -47,11 +47,11 @@ chosen-others-same s region (grown x i l) ne = elim (cases_eq x.region region) [
 
 at-others-same : (region s : ℕ) (regions : List ℕ) (f : Forest) → ¬ (s ≡ region) → at_regions s regions (others region f) ≡ at_regions s regions f
 at-others-same region s [] f ne = chosen-others-same s region f ne
-at-others-same region s (next ∷ regions) f ne = ap (λ g. at_regions next regions (children_of g)) (chosen-others-same s region f ne)
+at-others-same region s (next ∷ regions) f ne = ap (λ g. at_regions next regions (inner_forest g)) (chosen-others-same s region f ne)
 
 at-others-none : (region : ℕ) (regions : List ℕ) (f : Forest) → at_regions region regions (others region f) ≡ bare
 at-others-none region [] f = chosen-others-none region f
-at-others-none region (next ∷ regions) f = ap (λ g. at_regions next regions (children_of g)) (chosen-others-none region f) ∙ at_bare next regions
+at-others-none region (next ∷ regions) f = ap (λ g. at_regions next regions (inner_forest g)) (chosen-others-none region f) ∙ at_bare next regions
 
 -- an instance of other regions than one has another region
 first_other : (region s : ℕ) (regions : List ℕ) (f : Forest) → 0 < outer one (at_regions s regions (others region f)) → ¬ (s ≡ region)
@@ -118,7 +118,7 @@ each-append R [] qs (c ∷ cs) ds one_each other_each = absurd one_each
 each-append R (p ∷ ps) qs [] ds one_each other_each = absurd one_each
 each-append R (p ∷ ps) qs (c ∷ cs) ds one_each other_each = (one_each.0, each-append R ps qs cs ds one_each.1 other_each)
 
-each-inside : (regions : List Region) (region : ℕ) (f : Forest) (paths : List Path) (cs : List Context) → EachWith (Tells regions (children_of (chosen region f))) paths cs
+each-inside : (regions : List Region) (region : ℕ) (f : Forest) (paths : List Path) (cs : List Context) → EachWith (Tells regions (inner_forest (chosen region f))) paths cs
     → EachWith (Tells regions f) (map (inside region) paths) cs
 each-inside regions region f [] [] each = tt
 each-inside regions region f [] (c ∷ cs) each = absurd each
@@ -146,10 +146,10 @@ by_regions regions parent number _ _ (none _ _ _) = record {
   apart = tt;
 }
 by_regions regions parent number f _ (group _ _ _ region _ c below later some least is under behind) =
-    joined (by_regions regions number (number + 1) (children_of (chosen region f)) below under)
+    joined (by_regions regions number (number + 1) (inner_forest (chosen region f)) below under)
     (by_regions regions parent ((number + 1) + length below) (others region f) later behind)
   where
-    joined : AreByRegions regions (children_of (chosen region f)) below → AreByRegions regions (others region f) later → AreByRegions regions f (c ∷ (below ++ later))
+    joined : AreByRegions regions (inner_forest (chosen region f)) below → AreByRegions regions (others region f) later → AreByRegions regions f (c ∷ (below ++ later))
     joined inner rest = record {
       paths = (region, []) ∷ (map (inside region) inner.paths ++ rest.paths);
       each = (
@@ -186,7 +186,7 @@ by_regions regions parent number f _ (group _ _ _ region _ c below later some le
             here s (next ∷ l) at some_here =
                 inr (subst (λ r. IsAmong (map (inside region) inner.paths ++ rest.paths) (r, next ∷ l)) (sym at)
                 (among-left (map (inside region) inner.paths) rest.paths (region, next ∷ l)
-                (among-map region inner.paths (next, l) (inner.whole next l (subst (λ r. 0 < outer one (at_regions next l (children_of (chosen r f)))) at some_here)))))
+                (among-map region inner.paths (next, l) (inner.whole next l (subst (λ r. 0 < outer one (at_regions next l (inner_forest (chosen r f)))) at some_here)))))
 
         there_some : (s : ℕ) (l : List ℕ) → IsAmong ((region, []) ∷ (map (inside region) inner.paths ++ rest.paths)) (s, l) → 0 < outer one (at_regions s l f)
         there_some s l (inl is_first) = subst (λ (p : Path). 0 < outer one (at_regions p.0 p.1 f)) is_first some
@@ -198,7 +198,7 @@ by_regions regions parent number f _ (group _ _ _ region _ c below later some le
             inside_some : (l : List ℕ) → IsAmong (map (inside region) inner.paths) (s, l) → (s ≡ region) × (l ≡ [] → ⊥) → 0 < outer one (at_regions s l f)
             inside_some [] left begins = absurd (begins.1 refl)
             inside_some (next ∷ l) left begins =
-                subst (λ r. 0 < outer one (at_regions next l (children_of (chosen r f)))) (sym begins.0)
+                subst (λ r. 0 < outer one (at_regions next l (inner_forest (chosen r f)))) (sym begins.0)
                 (inner.some next l (among-unmap region inner.paths (next, l)
                 (subst (λ r. IsAmong (map (inside region) inner.paths) (r, next ∷ l)) begins.0 left)))
 

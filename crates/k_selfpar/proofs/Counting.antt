@@ -13,14 +13,14 @@ use Rattle.k_selfpar.specs.Counts.{Adds, AreCounts, CanCount, dot, weighed, with
 abbrev pub mixed : ℕ → (ℕ → ℕ) → (ℕ → ℕ) → ℕ → ℕ
 mixed n own f m = if nat_lt m n then f m else own m
 
-dot_same : (counts : List ℕ) (k : ℕ) (g h : ℕ → ℕ) → ((m : ℕ) → k ≤ m → g m ≡ h m) → dot k counts g ≡ dot k counts h
+pub dot_same : (counts : List ℕ) (k : ℕ) (g h : ℕ → ℕ) → ((m : ℕ) → k ≤ m → g m ≡ h m) → dot k counts g ≡ dot k counts h
 dot_same [] k g h same = refl
 dot_same (c ∷ counts) k g h same =
     ap (λ x. c * x + dot (k + 1) counts g) (same k (omega arith))
     ∙ ap (λ x. c * h k + x) (dot_same counts (k + 1) g h (λ m le. same m (omega arith)))
 
 -- one more of an entry
-dot_set : (counts : List ℕ) (k i n x : ℕ) (g : ℕ → ℕ) → n ≡ k + i → i < length counts
+pub dot_set : (counts : List ℕ) (k i n x : ℕ) (g : ℕ → ℕ) → n ≡ k + i → i < length counts
     → dot k (set counts i (get_or counts i 0 + x)) g ≡ dot k counts g + x * g n
 dot_set [] k i n x g is within = absurd (omega arith)
 dot_set (c ∷ counts) k zero n x g is within =
@@ -59,7 +59,7 @@ dot_change (c ∷ counts) k (suc i) n g h is within same =
     joined : (a b d d' x y : ℕ) → a ≡ b → d + x ≡ d' + y → (a + d) + x ≡ (b + d') + y
     joined a b d d' x y e f = omega arith
 
-dot_none : (n k : ℕ) (g : ℕ → ℕ) → dot k (replicate n 0) g ≡ 0
+pub dot_none : (n k : ℕ) (g : ℕ → ℕ) → dot k (replicate n 0) g ≡ 0
 dot_none zero k g = refl
 dot_none (suc n) k g = nothing (0 * g k) (dot (k + 1) (replicate n 0) g) (omega arith) (dot_none n (k + 1) g)
   where
@@ -74,20 +74,20 @@ dot_has (c ∷ counts) k zero n g is within =
 dot_has (c ∷ counts) k (suc i) n g is within =
     let h : get_or counts i 0 * g n ≤ dot (k + 1) counts g = dot_has counts (k + 1) i n g (omega arith) (omega arith) in omega arith
 
-weighed_same : (g h : ℕ → ℕ) (low high : ℕ) (runs : List Run) → AreRuns low high runs → ((m : ℕ) → m < high → g m ≡ h m) → weighed g runs ≡ weighed h runs
+pub weighed_same : (g h : ℕ → ℕ) (low high : ℕ) (runs : List Run) → AreRuns low high runs → ((m : ℕ) → m < high → g m ≡ h m) → weighed g runs ≡ weighed h runs
 weighed_same g h low high [] are same = refl
 weighed_same g h low high (run ∷ runs) are same =
     ap (λ x. run.count * x + weighed g runs) (same run.entry are.1)
     ∙ ap (λ x. run.count * h run.entry + x) (weighed_same g h (run.entry + 1) high runs are.3 same)
 
-length-children : (count : ℕ) (counts : List ℕ) (runs : List Run) → length (with_children count counts runs) ≡ length counts
+pub length-children : (count : ℕ) (counts : List ℕ) (runs : List Run) → length (with_children count counts runs) ≡ length counts
 length-children count counts [] = refl
 length-children count counts (run ∷ runs) =
     length-children count (set counts run.entry (get_or counts run.entry 0 + count * run.count)) runs
     ∙ length-set counts run.entry (get_or counts run.entry 0 + count * run.count)
 
 -- counting children adds what they give
-dot_children : (count : ℕ) (counts : List ℕ) (low high : ℕ) (runs : List Run) (g : ℕ → ℕ) → AreRuns low high runs → high ≤ length counts
+pub dot_children : (count : ℕ) (counts : List ℕ) (low high : ℕ) (runs : List Run) (g : ℕ → ℕ) → AreRuns low high runs → high ≤ length counts
     → dot 0 (with_children count counts runs) g ≡ dot 0 counts g + count * weighed g runs
 dot_children count counts low high [] g are within = none (dot 0 counts g) count
   where
@@ -105,7 +105,7 @@ dot_children count counts low high (run ∷ runs) g are within =
     spread d c n x w = omega (arith, mul-add c (n * x) w, mul_assoc c n x)
 
 -- children can be counted where all that is given stays small
-can_count : (count : ℕ) (counts : List ℕ) (low high : ℕ) (runs : List Run) (g : ℕ → ℕ) → AreRuns low high runs → high ≤ length counts
+pub can_count : (count : ℕ) (counts : List ℕ) (low high : ℕ) (runs : List Run) (g : ℕ → ℕ) → AreRuns low high runs → high ≤ length counts
     → ((m : ℕ) → m < high → 1 ≤ g m) → dot 0 counts g + count * weighed g runs ≤ 2 ^ 59 → CanCount count counts runs
 can_count count counts low high [] g are within some small = tt
 can_count count counts low high (run ∷ runs) g are within some small =
@@ -141,10 +141,10 @@ pub record Counted (entries : List Entry) (root n : ℕ) (counts : List ℕ) : T
   pub low : n ≤ root + 1
   pub adds : (own f : ℕ → ℕ) → Adds entries own f → dot 0 counts (mixed n own f) ≡ f root
 
-mixed_below : (n m : ℕ) (own f : ℕ → ℕ) → m < n → mixed n own f m ≡ f m
+pub mixed_below : (n m : ℕ) (own f : ℕ → ℕ) → m < n → mixed n own f m ≡ f m
 mixed_below n m own f lt = cond-true (nat_lt m n) (f m) (own m) (lt-ltb m n lt)
 
-mixed_from : (n m : ℕ) (own f : ℕ → ℕ) → n ≤ m → mixed n own f m ≡ own m
+pub mixed_from : (n m : ℕ) (own f : ℕ → ℕ) → n ≤ m → mixed n own f m ≡ own m
 mixed_from n m own f le = cond-false (nat_lt m n) (f m) (own m) (le-ltb m n le)
 
 -- at first the root alone is counted
@@ -174,7 +174,7 @@ root_counted entries root zeros counts none is = record {
     once x = omega arith
 
 -- one entry more is done: its children are counted, and what is left of it is its own part
-entry_done : (entries : List Entry) (root n : ℕ) (counts : List ℕ) (e : Entry) (own f : ℕ → ℕ) → Counted entries root (n + 1) counts → slice_get entries n ≡ Some e
+pub entry_done : (entries : List Entry) (root n : ℕ) (counts : List ℕ) (e : Entry) (own f : ℕ → ℕ) → Counted entries root (n + 1) counts → slice_get entries n ≡ Some e
     → AreRuns 0 n e.runs → Adds entries own f → dot 0 counts (mixed n own f) + get_or counts n 0 * weighed (mixed n own f) e.runs ≡ f root
 entry_done entries root n counts e own f done at runs add =
     let g : ℕ → ℕ = mixed n own f in

@@ -5,7 +5,7 @@ use Rattle.k_dict.specs.Trees.{Forest, alone}
 use Rattle.k_dict.specs.Entries.{expansion, tree_at}
 use Rattle.k_dict.specs.declared.entry.Entry.{Entry}
 use Rattle.k_dict.specs.declared.entry.Run.{Run}
-use Rattle.k_selfpar.specs.Contexts.{children_of, chosen, count_in}
+use Rattle.k_selfpar.specs.Contexts.{inner_forest, chosen, count_in}
 use Rattle.k_selfpar.specs.Rows.{of_region}
 use Rattle.k_selfpar.specs.Sums.{one, outer, outer_paths, outer_works, serial_in}
 
@@ -37,7 +37,7 @@ turns_path : paths (of_region 2 (expansion odd_sum 3)) ≡ 15
 turns_path = refl
 
 -- the loop's context has six turns
-loop_turns : count_in 2 (children_of (chosen 1 (children_of (alone (tree_at odd_sum 3))))) ≡ 6
+loop_turns : count_in 2 (inner_forest (chosen 1 (inner_forest (alone (tree_at odd_sum 3))))) ≡ 6
 loop_turns = refl
 
 -- a function that calls itself, with its two outermost calls
@@ -59,10 +59,10 @@ calls_path = refl
 
 -- and two contexts: that of the outer call, which stands in main's, and that of the inner one
 abbrev outer_call : Forest
-outer_call = chosen 0 (children_of (alone (tree_at recursion 2)))
+outer_call = chosen 0 (inner_forest (alone (tree_at recursion 2)))
 
 abbrev inner_call : Forest
-inner_call = chosen 0 (children_of outer_call)
+inner_call = chosen 0 (inner_forest outer_call)
 
 outer_count : outer one outer_call ≡ 1
 outer_count = refl

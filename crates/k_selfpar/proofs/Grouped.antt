@@ -19,7 +19,7 @@ use Rattle.k_selfpar.specs.declared.context.Context.{Context}
 use Rattle.k_selfpar.specs.declared.context.ContextFault.{ContextFault}
 use Rattle.k_selfpar.specs.declared.context.ContextFault.TheVariants.{Wide, Memory}
 use Rattle.k_selfpar.specs.declared.item.Item.{Item}
-use Rattle.k_selfpar.specs.Contexts.{AreUnder, IsContext, NoneBelow, children_of, chosen, count_in, group, has_turns, none as nothing, others, with_beside}
+use Rattle.k_selfpar.specs.Contexts.{AreUnder, IsContext, NoneBelow, inner_forest, chosen, count_in, group, has_turns, none as nothing, others, with_beside}
 use Rattle.k_selfpar.specs.Grouping.{AddsContexts, AreChildren, Fits, IsContextOf, item_for, standing, tallied}
 use Rattle.k_selfpar.specs.Items.{AreItems, BeginsElsewhere, IsItem, Rise, item_of, items_in, total, totals}
 use Rattle.k_selfpar.specs.Ratio.{IsRatio}
@@ -35,43 +35,43 @@ use Rattle.k_selfpar.proofs.Under.{has_contexts, names_region, opened, under_ali
 pub record Tallying (entries : List Entry) (items rest : List Item) (tally : List Run) : Type 0 where
   pub left : AreItems entries rest
   pub runs : AreRuns 0 (length entries) tally
-  pub stand : Alike (with_beside (laid (trees_of entries) tally) (children_of (standing entries rest))) (children_of (standing entries items))
+  pub stand : Alike (with_beside (laid (trees_of entries) tally) (inner_forest (standing entries rest))) (inner_forest (standing entries items))
 
 pub none_tallied : (entries : List Entry) (items : List Item) (tally : List Run) → AreItems entries items → tally ≡ [] → Tallying entries items items tally
 none_tallied entries items tally are none =
     subst (λ (l : List Run). Tallying entries items items l) (sym none)
-    (record { left = are; runs = tt; stand = Alike-refl (children_of (standing entries items)) })
+    (record { left = are; runs = tt; stand = Alike-refl (inner_forest (standing entries items)) })
 
 module _ (entries : List Entry) (earlier : NameEarlier entries) (items rest : List Item) (tally : List Run) (h : Tallying entries items rest tally) (i : Item)
     (later : List Item) (first : rest ≡ i ∷ later) (e : Entry) (at : slice_get entries i.run.entry ≡ Some e) where
   is_item : IsItem entries i
   is_item = All-head (IsItem entries) i later (subst (AreItems entries) first h.left)
 
-  rest_children : children_of (standing entries rest) ≡ repeated i.run.count (laid (trees_of entries) e.runs) (children_of (standing entries later))
+  rest_children : inner_forest (standing entries rest) ≡ repeated i.run.count (laid (trees_of entries) e.runs) (inner_forest (standing entries later))
   rest_children =
-      ap (λ l. children_of (standing entries l)) first
+      ap (λ l. inner_forest (standing entries l)) first
       ∙ children-copies i.run.count (tree_at entries i.run.entry) (standing entries later)
-      ∙ ap (λ (t : Tree). repeated i.run.count t.inner (children_of (standing entries later))) (tree_is entries i.run.entry e at (earlier i.run.entry e at))
+      ∙ ap (λ (t : Tree). repeated i.run.count t.inner (inner_forest (standing entries later))) (tree_is entries i.run.entry e at (earlier i.run.entry e at))
 
   pub can_tally : size (standing entries items) ≤ 2 ^ 59 → count_all tally + i.run.count * count_all e.runs < 2 ^ 64
   can_tally few =
-      let a = count_alike (with_beside (laid (trees_of entries) tally) (children_of (standing entries rest))) (children_of (standing entries items)) h.stand in
-      let b = count-beside (laid (trees_of entries) tally) (children_of (standing entries rest)) in
+      let a = count_alike (with_beside (laid (trees_of entries) tally) (inner_forest (standing entries rest))) (inner_forest (standing entries items)) h.stand in
+      let b = count-beside (laid (trees_of entries) tally) (inner_forest (standing entries rest)) in
       let c = count-laid (trees_of entries) tally in
-      let d : outer one (children_of (standing entries rest)) ≡ outer one (repeated i.run.count (laid (trees_of entries) e.runs) (children_of (standing entries later))) =
+      let d : outer one (inner_forest (standing entries rest)) ≡ outer one (repeated i.run.count (laid (trees_of entries) e.runs) (inner_forest (standing entries later))) =
       ap (outer one) rest_children in
-      let f = count-repeated i.run.count (laid (trees_of entries) e.runs) (children_of (standing entries later)) in
+      let f = count-repeated i.run.count (laid (trees_of entries) e.runs) (inner_forest (standing entries later)) in
       let g : i.run.count * outer one (laid (trees_of entries) e.runs) ≡ i.run.count * count_all e.runs =
       ap (λ x. i.run.count * x) (count-laid (trees_of entries) e.runs) in
-      let k = count-below-size (children_of (standing entries items)) in
+      let k = count-below-size (inner_forest (standing entries items)) in
       let l = size-children (standing entries items) in
       omega arith
 
   pub more_tallied : (new : List Run) → new ≡ tallied i.run.count e.runs tally → Tallying entries items later new
   more_tallied new is =
       let trees : List Tree = trees_of entries in
-      let c : Forest = children_of (standing entries later) in
-      let s : Forest = children_of (standing entries items) in
+      let c : Forest = inner_forest (standing entries later) in
+      let s : Forest = inner_forest (standing entries items) in
       let once : Forest = laid trees e.runs in
       let known : Forest = laid trees tally in
       let within : i.run.entry < length entries = is_item.entry in
@@ -93,12 +93,12 @@ pub all_tallied : (entries : List Entry) (items rest : List Item) (tally runs : 
 all_tallied entries items rest tally runs listed children h none told listed_is same rise = record {
   are = All-permutation (IsItem entries) listed children same (subst (AreItems entries) (sym is) (items-runs entries 0 tally h.runs));
   rise = rise;
-  stand = further (standing entries children) (standing entries listed) (children_of (standing entries items))
+  stand = further (standing entries children) (standing entries listed) (inner_forest (standing entries items))
       (standing-permutation entries listed children same)
-      (subst (λ l. Alike (standing entries l) (children_of (standing entries items))) (sym is)
-      (subst (λ x. Alike x (children_of (standing entries items))) (sym (standing-runs entries tally))
-      (subst (λ x. Alike x (children_of (standing entries items))) (beside-bare (laid (trees_of entries) tally))
-      (subst (λ l. Alike (with_beside (laid (trees_of entries) tally) (children_of (standing entries l))) (children_of (standing entries items))) none h.stand))));
+      (subst (λ l. Alike (standing entries l) (inner_forest (standing entries items))) (sym is)
+      (subst (λ x. Alike x (inner_forest (standing entries items))) (sym (standing-runs entries tally))
+      (subst (λ x. Alike x (inner_forest (standing entries items))) (beside-bare (laid (trees_of entries) tally))
+      (subst (λ l. Alike (with_beside (laid (trees_of entries) tally) (inner_forest (standing entries l))) (inner_forest (standing entries items))) none h.stand))));
 }
   where
     is : listed ≡ map (item_for entries) tally
@@ -137,10 +137,10 @@ module _ (entries : List Entry) (front back : List Item) where
     few = let a = sizes_are in let b = fits.few in omega arith;
   }
 
-works_of_children : (f : Forest) → Bounded f → outer_works (children_of f) ≤ outer_works f
+works_of_children : (f : Forest) → Bounded f → outer_works (inner_forest f) ≤ outer_works f
 works_of_children bare bounded = omega arith
 works_of_children (grown x i l) bounded =
-    let a = works-beside i (children_of l) in let b : outer_works i ≤ x.work = bounded.0.part in let c = works_of_children l bounded.2 in omega arith
+    let a = works-beside i (inner_forest l) in let b : outer_works i ≤ x.work = bounded.0.part in let c = works_of_children l bounded.2 in omega arith
 
 serial_within : (f : Forest) → Bounded f → outer serial_in f ≤ outer_works f
 serial_within bare bounded = omega arith
@@ -164,9 +164,9 @@ module _ (entries : List Entry) (profile : AreProfile entries) (items : List Ite
   module _ (children : List Item) (of : AreChildren entries items children) where
     pub children_fit : Fits entries children
     children_fit = record {
-      works = let a = works_alike (standing entries children) (children_of (standing entries items)) of.stand in
+      works = let a = works_alike (standing entries children) (inner_forest (standing entries items)) of.stand in
           let b = works_of_children (standing entries items) bounded in let c = fits.works in omega arith;
-      few = let a = Alike-size (standing entries children) (children_of (standing entries items)) of.stand in
+      few = let a = Alike-size (standing entries children) (inner_forest (standing entries items)) of.stand in
           let b = size-children (standing entries items) in let c = fits.few in omega arith;
     }
 
@@ -191,12 +191,12 @@ context_is regions entries parent region items children c are of is = record {
       (subst (λ n. IsRatio (total (own_of serial_in entries) items) n c.sp.0 c.sp.1) (sym (outer-standing path entries items)) is.sp);
 }
   where
-    turns : total (λ n. 1) (items_in (region + 1) children) ≡ count_in (region + 1) (children_of (standing entries items))
+    turns : total (λ n. 1) (items_in (region + 1) children) ≡ count_in (region + 1) (inner_forest (standing entries items))
     turns =
         sym (outer-standing one entries (items_in (region + 1) children))
         ∙ ap (outer one) (sym (chosen-standing entries (region + 1) children of.are))
-        ∙ count_alike (chosen (region + 1) (standing entries children)) (chosen (region + 1) (children_of (standing entries items)))
-        (chosen_alike (region + 1) (standing entries children) (children_of (standing entries items)) of.stand)
+        ∙ count_alike (chosen (region + 1) (standing entries children)) (chosen (region + 1) (inner_forest (standing entries items)))
+        (chosen_alike (region + 1) (standing entries children) (inner_forest (standing entries items)) of.stand)
 
 -- the contexts listed so far, of the items before the rest
 pub record Listing (regions : List Region) (entries : List Entry) (parent : ℕ) (items rest : List Item) (old contexts : List Context) : Type 0 where
@@ -307,7 +307,7 @@ module _ (regions : List Region) (entries : List Entry) (parent : ℕ) (items re
     -- the children have a level less than all items
     pub children_lower : height (standing entries children) < height (standing entries items)
     children_lower =
-        let a = height_alike (standing entries children) (children_of (standing entries front)) of.stand in
+        let a = height_alike (standing entries children) (inner_forest (standing entries front)) of.stand in
         let b = height-children (standing entries front) front_count in
         let c = heights in let d = h.lower in omega arith
 
@@ -325,8 +325,8 @@ module _ (regions : List Region) (entries : List Entry) (parent : ℕ) (items re
       joined below more under behind =
           h.leads (c ∷ (below ++ more))
           (group regions parent (length contexts) first.region (standing entries rest) c below more some_here none_lower context_here
-          (subst (λ f. AreUnder regions (length contexts) (length contexts + 1) (children_of f) below) (sym chosen_is)
-          (under_alike regions (length contexts) (length contexts + 1) (standing entries children) (children_of (standing entries front)) below under of.stand))
+          (subst (λ f. AreUnder regions (length contexts) (length contexts + 1) (inner_forest f) below) (sym chosen_is)
+          (under_alike regions (length contexts) (length contexts + 1) (standing entries children) (inner_forest (standing entries front)) below under of.stand))
           (subst (λ f. AreUnder regions parent ((length contexts + 1) + length below) f more) (sym others_is) behind))
 
       pub more_listed : (pushed new below : List Context) → pushed ≡ contexts ++ c ∷ [] → new ≡ pushed ++ below

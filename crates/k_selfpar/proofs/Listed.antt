@@ -10,7 +10,7 @@ use Rattle.k_selfpar.specs.Rows.{of_region}
 use Rattle.k_selfpar.specs.Sums.{one, outer_paths, outer_works, path, serial_in, sum_of, within, work}
 
 -- what the instances of a region give together, one after the other
-abbrev gross : ℕ → (Node → ℕ) → List Node → ℕ
+abbrev pub gross : ℕ → (Node → ℕ) → List Node → ℕ
 gross region value [] = 0
 gross region value (n ∷ nodes) = (if n.region == region then value n else 0) + gross region value nodes
 
@@ -19,7 +19,7 @@ sum_with : (b : Bool) (value : Node → ℕ) (n : Node) (chosen : List Node) (to
 sum_with true value n chosen total same = sum_by-cons value n chosen ∙ ap (λ t. value n + t) same
 sum_with false value n chosen total same = omega arith
 
-sum_is_gross : (region : ℕ) (value : Node → ℕ) (nodes : List Node) → sum_by value (of_region region nodes) ≡ gross region value nodes
+pub sum_is_gross : (region : ℕ) (value : Node → ℕ) (nodes : List Node) → sum_by value (of_region region nodes) ≡ gross region value nodes
 sum_is_gross region value [] = refl
 sum_is_gross region value (n ∷ nodes) =
     sum_with (n.region == region) value n (of_region region nodes) (gross region value nodes) (sum_is_gross region value nodes)
@@ -28,7 +28,7 @@ length_with : (b : Bool) (n : Node) (chosen : List Node) (total : ℕ) → lengt
 length_with true n chosen total same = omega arith
 length_with false n chosen total same = omega arith
 
-length_is_gross : (region : ℕ) (nodes : List Node) → length (of_region region nodes) ≡ gross region (λ n. 1) nodes
+pub length_is_gross : (region : ℕ) (nodes : List Node) → length (of_region region nodes) ≡ gross region (λ n. 1) nodes
 length_is_gross region [] = refl
 length_is_gross region (n ∷ nodes) =
     length_with (n.region == region) n (of_region region nodes) (gross region (λ m. 1) nodes) (length_is_gross region nodes)
@@ -37,7 +37,7 @@ gross-append : (region : ℕ) (value : Node → ℕ) (xs ys : List Node) → gro
 gross-append region value [] ys = omega arith
 gross-append region value (n ∷ xs) ys = let e = gross-append region value xs ys in omega arith
 
-gross_is_sum : (region : ℕ) (value : Node → ℕ) (v : Label → ℕ) → ((depth : ℕ) (l : Label) → value (node_at depth l) ≡ v l) → (f : Forest) (depth : ℕ)
+pub gross_is_sum : (region : ℕ) (value : Node → ℕ) (v : Label → ℕ) → ((depth : ℕ) (l : Label) → value (node_at depth l) ≡ v l) → (f : Forest) (depth : ℕ)
     → gross region value (nodes_of depth f) ≡ sum_of (within region (λ l i. v l)) f
 gross_is_sum region value v same bare depth = refl
 gross_is_sum region value v same (grown label inner later) depth =
@@ -60,7 +60,7 @@ paths_are region t =
     sum_is_gross region (λ n. n.path) (list_of t) ∙ gross_is_sum region (λ n. n.path) (λ l. l.path) (λ d l. refl) (alone t) 0
 
 -- a list begins with no node of this depth or deeper
-abbrev Stops : ℕ → List Node → Type 0
+abbrev pub Stops : ℕ → List Node → Type 0
 Stops depth [] = Unit {0}
 Stops depth (n ∷ nodes) = n.depth < depth
 
@@ -141,7 +141,7 @@ serial_is depth label inner tail stops =
     ∙ ap (λ x. x + (label.work - works (outermost (depth + 1) inner))) (outer_paths_are (depth + 1) inner)
     ∙ ap (λ x. outer_paths inner + (label.work - x)) (outer_works_are (depth + 1) inner)
 
-serial_of_forest : (region : ℕ) (f : Forest) (depth : ℕ) (tail : List Node) → Stops depth tail
+pub serial_of_forest : (region : ℕ) (f : Forest) (depth : ℕ) (tail : List Node) → Stops depth tail
     → serial_of region (nodes_of depth f ++ tail) ≡ sum_of (within region serial_in) f + serial_of region tail
 serial_of_forest region bare depth tail stops = omega arith
 serial_of_forest region (grown label inner later) depth tail stops =

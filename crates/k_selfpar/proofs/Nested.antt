@@ -7,7 +7,7 @@ use Rattle.k_dict.specs.Entries.{tree_at}
 use Rattle.k_dict.specs.Rules.{AreProfile}
 use Rattle.k_dict.specs.Trees.{Forest, Tree, alone, bare, grown}
 use Rattle.k_dict.specs.declared.entry.Entry.{Entry}
-use Rattle.k_selfpar.specs.Contexts.{AreUnder, children_of, chosen, count_in, group, none, others}
+use Rattle.k_selfpar.specs.Contexts.{AreUnder, inner_forest, chosen, count_in, group, none, others}
 use Rattle.k_selfpar.specs.Nested.{CanPlan, ParentsComeFirst, StandBehindParents, behind_root, works_under}
 use Rattle.k_selfpar.specs.Sums.{one, outer, outer_works}
 use Rattle.k_selfpar.specs.declared.context.Context.{Context}
@@ -33,7 +33,7 @@ parents_first regions parent number _ _ (none _ _ _) lt = tt
 parents_first regions parent number f _ (group _ _ _ region _ c below later some least is under behind) lt = (
   let e = is.parent_is in omega arith,
   behind_append (number + 1) below later
-      (parents_first regions number (number + 1) (children_of (chosen region f)) below under (omega arith))
+      (parents_first regions number (number + 1) (inner_forest (chosen region f)) below under (omega arith))
       (parents_first regions parent ((number + 1) + length below) (others region f) later behind (omega arith)),
 )
 
@@ -57,7 +57,7 @@ none_before p regions parent number _ _ (none _ _ _) ne lt = refl
 none_before p regions parent number f _ (group _ _ _ region _ c below later some least is under behind) ne lt =
     let a = under-other p c (below ++ later) (λ at. ne (sym at ∙ is.parent_is)) in
     let b = under-append p below later in
-    let d = none_before p regions number (number + 1) (children_of (chosen region f)) below under (λ at. absurd (omega arith)) (omega arith) in
+    let d = none_before p regions number (number + 1) (inner_forest (chosen region f)) below under (λ at. absurd (omega arith)) (omega arith) in
     let e = none_before p regions parent ((number + 1) + length below) (others region f) later behind ne (omega arith) in
     omega arith
 
@@ -68,7 +68,7 @@ none_behind p regions parent number f _ (group _ _ _ region _ c below later some
     let size : length (below ++ later) ≡ length below + length later = length-append below later in
     let a = under-other p c (below ++ later) (λ at. ne (sym at ∙ is.parent_is)) in
     let b = under-append p below later in
-    let d = none_behind p regions number (number + 1) (children_of (chosen region f)) below under (λ at. absurd (omega arith)) (omega arith) in
+    let d = none_behind p regions number (number + 1) (inner_forest (chosen region f)) below under (λ at. absurd (omega arith)) (omega arith) in
     let e = none_behind p regions parent ((number + 1) + length below) (others region f) later behind ne (omega arith) in
     omega arith
 
@@ -82,10 +82,10 @@ works_parts region (grown x i l) = by (x.region == region) (chosen region l) (ot
     by false c o e = omega arith
 
 -- the children's works are part of the works
-works_of_children : (f : Forest) → Bounded f → outer_works (children_of f) ≤ outer_works f
+works_of_children : (f : Forest) → Bounded f → outer_works (inner_forest f) ≤ outer_works f
 works_of_children bare bounded = omega arith
 works_of_children (grown x i l) bounded =
-    let a = works-beside i (children_of l) in let b : outer_works i ≤ x.work = bounded.0.part in let c = works_of_children l bounded.2 in omega arith
+    let a = works-beside i (inner_forest l) in let b : outer_works i ≤ x.work = bounded.0.part in let c = works_of_children l bounded.2 in omega arith
 
 -- those of one parent have the works of its instances' children
 works_whole : (regions : List Region) (parent number : ℕ) (f : Forest) (cs : List Context) → AreUnder regions parent number f cs → parent < number
@@ -94,7 +94,7 @@ works_whole regions parent number _ _ (none _ _ _) lt = refl
 works_whole regions parent number f _ (group _ _ _ region _ c below later some least is under behind) lt =
     let a = under-here parent c (below ++ later) is.parent_is in
     let b = under-append parent below later in
-    let d = none_before parent regions number (number + 1) (children_of (chosen region f)) below under (λ at. absurd (omega arith)) (omega arith) in
+    let d = none_before parent regions number (number + 1) (inner_forest (chosen region f)) below under (λ at. absurd (omega arith)) (omega arith) in
     let e = works_whole regions parent ((number + 1) + length below) (others region f) later behind (omega arith) in
     let g = works_parts region f in
     let h = is.work in
@@ -120,7 +120,7 @@ works_within regions parent number f _ (group _ _ _ region _ c below later some 
     let e = is.parent_is in
     let a = under-other number c (below ++ later) (λ is_number. absurd (omega arith)) in
     let b = under-append number below later in
-    let g = works_whole regions number (number + 1) (children_of (chosen region f)) below under (omega arith) in
+    let g = works_whole regions number (number + 1) (inner_forest (chosen region f)) below under (omega arith) in
     let h = none_before number regions parent ((number + 1) + length below) (others region f) later behind (λ is_parent. absurd (omega arith)) (omega arith) in
     let k = works_of_children (chosen region f) (bounded_chosen region f bounded) in
     let w = is.work in
@@ -131,7 +131,7 @@ works_within regions parent number f _ (group _ _ _ region _ c below later some 
     let b = under-append (number + suc j) below later in
     elim (place_either below later j d at) [
       | inl left ↦
-          let g = works_within regions number (number + 1) (children_of (chosen region f)) below under (omega arith)
+          let g = works_within regions number (number + 1) (inner_forest (chosen region f)) below under (omega arith)
           (bounded_children (chosen region f) (bounded_chosen region f bounded)) j d left in
           let on : works_under (number + suc j) below ≡ works_under ((number + 1) + j) below = ap (λ n. works_under n below) (more number j) in
           let short = slice_get_within below j d left in
@@ -142,7 +142,7 @@ works_within regions parent number f _ (group _ _ _ region _ c below later some 
           let g = works_within regions parent ((number + 1) + length below) (others region f) later behind (omega arith) (bounded_others region f bounded) right.0 d right.2 in
           let on : works_under (number + suc j) later ≡ works_under (((number + 1) + length below) + right.0) later =
           ap (λ n. works_under n later) (further number j (length below) right.0 place) in
-          let h = none_behind (number + suc j) regions number (number + 1) (children_of (chosen region f)) below under (λ is_number. absurd (omega arith)) (omega arith) in
+          let h = none_behind (number + suc j) regions number (number + 1) (inner_forest (chosen region f)) below under (λ is_number. absurd (omega arith)) (omega arith) in
           omega arith
     ]
   where
@@ -163,7 +163,7 @@ works_small most regions parent number f _ (group _ _ _ region _ c below later s
     let parts = works_parts region f in
     let k = works_of_children (chosen region f) (bounded_chosen region f bounded) in
     elim (place_either below later j d at) [
-      | inl left ↦ works_small most regions number (number + 1) (children_of (chosen region f)) below under
+      | inl left ↦ works_small most regions number (number + 1) (inner_forest (chosen region f)) below under
           (bounded_children (chosen region f) (bounded_chosen region f bounded)) (omega arith) j d left
       | inr right ↦ works_small most regions parent ((number + 1) + length below) (others region f) later behind (bounded_others region f bounded) (omega arith)
           right.0 d right.2
@@ -185,44 +185,42 @@ root_alone region t some = elim (cases_eq t.label.region region) [
     count_all : Forest → ℕ
     count_all f = outer one f
 
-pub contexts_can_be_planned : (regions : List Region) (entries : List Entry) (root : ℕ) (contexts : List Context) → AreProfile entries → root < length entries
-    → AreUnder regions 0 0 (alone (tree_at entries root)) contexts → length contexts ≤ 65536 → CanPlan contexts
-contexts_can_be_planned regions entries root contexts profile lt whole few =
-    let t : Tree = tree_at entries root in
-    let bounded : Bounded (alone t) = bounded_tree entries profile.interned.earlier profile.numbers root lt in
-    let o = opened regions 0 0 (alone t) contexts whole (omega arith) in
-    let empty : o.later ≡ [] = no_contexts regions 0 ((0 + 1) + length o.below) (others o.region (alone t)) o.later (root_alone o.region t o.some) o.behind in
-    let mine : Forest = chosen o.region (alone t) in
-    let inner_bounded : Bounded (children_of mine) = bounded_children mine (bounded_chosen o.region (alone t) bounded) in
-    let most = work_small entries profile root lt in
+-- the contexts of instances side by side that are of one region have a plan
+pub forest_can_be_planned : (regions : List Region) (f : Forest) (contexts : List Context) → Bounded f → outer_works f ≤ 2 ^ 44 → 0 < outer one f
+    → ((region : ℕ) → 0 < count_in region f → others region f ≡ bare) → AreUnder regions 0 0 f contexts → length contexts ≤ 65536 → CanPlan contexts
+forest_can_be_planned regions f contexts bounded most some_there alone_there whole few =
+    let o = opened regions 0 0 f contexts whole some_there in
+    let empty : o.later ≡ [] = no_contexts regions 0 ((0 + 1) + length o.below) (others o.region f) o.later (alone_there o.region o.some) o.behind in
+    let mine : Forest = chosen o.region f in
+    let inner_bounded : Bounded (inner_forest mine) = bounded_children mine (bounded_chosen o.region f bounded) in
     record {
       few = few;
       parents = subst ParentsComeFirst (sym o.whole) (
         o.is.parent_is,
-        behind_append 1 o.below o.later (parents_first regions 0 1 (children_of mine) o.below o.under (omega arith))
-            (parents_first regions 0 ((0 + 1) + length o.below) (others o.region (alone t)) o.later o.behind (omega arith)),
+        behind_append 1 o.below o.later (parents_first regions 0 1 (inner_forest mine) o.below o.under (omega arith))
+            (parents_first regions 0 ((0 + 1) + length o.below) (others o.region f) o.later o.behind (omega arith)),
       );
       small = λ k c at.
-          let small : c.work ≤ 2 ^ 44 = works_small (2 ^ 44) regions 0 0 (alone t) contexts whole bounded (omega arith) k c at in omega arith;
+          let small : c.work ≤ 2 ^ 44 = works_small (2 ^ 44) regions 0 0 f contexts whole bounded most k c at in omega arith;
       works = subst (λ (l : List Context). (k : ℕ) (c : Context) → slice_get l k ≡ Some c → works_under k (behind_root l) ≤ c.work) (sym o.whole)
-          (within o.below o.later (o.first) mine o.under inner_bounded (works_of_children mine (bounded_chosen o.region (alone t) bounded)) o.is.work empty);
+          (within o.below o.later (o.first) mine o.under inner_bounded (works_of_children mine (bounded_chosen o.region f bounded)) o.is.work empty);
     }
   where
-    within : (below later : List Context) (first : Context) (mine : Forest) → AreUnder regions 0 (0 + 1) (children_of mine) below → Bounded (children_of mine)
-        → outer_works (children_of mine) ≤ outer_works mine → first.work ≡ outer_works mine → later ≡ []
+    within : (below later : List Context) (first : Context) (mine : Forest) → AreUnder regions 0 (0 + 1) (inner_forest mine) below → Bounded (inner_forest mine)
+        → outer_works (inner_forest mine) ≤ outer_works mine → first.work ≡ outer_works mine → later ≡ []
         → (k : ℕ) (c : Context) → slice_get (first ∷ (below ++ later)) k ≡ Some c → works_under k (below ++ later) ≤ c.work
     within below later first mine under bounded le work empty zero c at =
         let is : first.work ≡ c.work = ap (λ (x : Context). x.work) (same_Some first c at) in
         let a = under-append 0 below later in
         let b : works_under 0 later ≡ 0 = ap (works_under 0) empty in
-        let d = works_whole regions 0 1 (children_of mine) below under (omega arith) in
+        let d = works_whole regions 0 1 (inner_forest mine) below under (omega arith) in
         omega arith
     within below later first mine under bounded le work empty (suc k) c at =
         let a = under-append (suc k) below later in
         let b : works_under (suc k) later ≡ 0 = ap (works_under (suc k)) empty in
         elim (place_either below later k c at) [
           | inl left ↦
-              let g = works_within regions 0 1 (children_of mine) below under (omega arith) bounded k c left in
+              let g = works_within regions 0 1 (inner_forest mine) below under (omega arith) bounded k c left in
               let on : works_under (suc k) below ≡ works_under (1 + k) below = ap (λ n. works_under n below) (one_more k) in
               omega arith
           | inr right ↦ absurd (none-some c (subst (λ (l : List Context). slice_get l right.0 ≡ Some c) empty right.2))
@@ -230,3 +228,11 @@ contexts_can_be_planned regions entries root contexts profile lt whole few =
       where
         one_more : (k : ℕ) → suc k ≡ 1 + k
         one_more k = omega arith
+
+pub contexts_can_be_planned : (regions : List Region) (entries : List Entry) (root : ℕ) (contexts : List Context) → AreProfile entries → root < length entries
+    → AreUnder regions 0 0 (alone (tree_at entries root)) contexts → length contexts ≤ 65536 → CanPlan contexts
+contexts_can_be_planned regions entries root contexts profile lt whole few =
+    let t : Tree = tree_at entries root in
+    let most = work_small entries profile root lt in
+    forest_can_be_planned regions (alone t) contexts (bounded_tree entries profile.interned.earlier profile.numbers root lt) (omega arith) (omega arith)
+    (λ region some. root_alone region t some) whole few

@@ -94,7 +94,7 @@ limit_step w ti tl wi wl hi hl h higher high one two three =
     omega (arith, a, b, c, d, mul-add h w wl)
 
 -- the works of all instances are at most those of the outermost ones for each level
-works_limit : (f : Forest) → Bounded f → sum_of work f ≤ height f * outer_works f
+pub works_limit : (f : Forest) → Bounded f → sum_of work f ≤ height f * outer_works f
 works_limit bare bounded = omega arith
 works_limit (grown label inner later) bounded =
     limit_step label.work (sum_of work inner) (sum_of work later) (outer_works inner) (outer_works later) (height inner) (height later)

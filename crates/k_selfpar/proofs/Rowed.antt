@@ -182,7 +182,7 @@ small_part entries items rest rows h group later split small = record {
         omega arith
 
 -- a region's paths together are at most the times with children one behind the other
-within_less : (region : ℕ) (f : Forest) → Bounded f → sum_of (within region path) f ≤ sum_of (within region serial_in) f
+pub within_less : (region : ℕ) (f : Forest) → Bounded f → sum_of (within region path) f ≤ sum_of (within region serial_in) f
 within_less region bare bounded = omega arith
 within_less region (grown label inner later) bounded =
     let here : within region path label inner ≤ within region serial_in label inner = by (label.region == region) in

@@ -19,7 +19,7 @@ use Rattle.k_dict.proofs.Counting.{AreRuns-counted}
 use Rattle.k_dict.proofs.EntryTrees.{tree_is}
 use Rattle.k_dict.proofs.Forests.{Alike-refl, Alike-same, SameShape-refl, copies_alike}
 use Rattle.k_selfpar.specs.declared.item.Item.{Item}
-use Rattle.k_selfpar.specs.Contexts.{NoneBelow, children_of, chosen, others, with_beside}
+use Rattle.k_selfpar.specs.Contexts.{NoneBelow, inner_forest, chosen, others, with_beside}
 use Rattle.k_selfpar.specs.Grouping.{item_for, standing, tallied}
 use Rattle.k_selfpar.specs.Items.{AreItems, IsItem, Rise, items_in, total}
 use Rattle.k_selfpar.specs.Sums.{one, outer, own_of}
@@ -128,7 +128,7 @@ beside-bare bare = refl
 beside-bare (grown x i l) = ap (grown x i) (beside-bare l)
 
 -- the children of copies
-pub children-copies : (n : ℕ) (t : Tree) (f : Forest) → children_of (copies n t f) ≡ repeated n t.inner (children_of f)
+pub children-copies : (n : ℕ) (t : Tree) (f : Forest) → inner_forest (copies n t f) ≡ repeated n t.inner (inner_forest f)
 children-copies zero t f = refl
 children-copies (suc n) t f = ap (with_beside t.inner) (children-copies n t f)
 

@@ -11,7 +11,7 @@ use Rattle.k_optab.specs.declared.region.Region.{Region}
 use Rattle.k_optab.specs.declared.region.RegionKind.TheVariants.{Func}
 use Rattle.k_dict.specs.Trees.{Alike, Forest, Label, bare, grown, size}
 use Rattle.k_dict.proofs.Forests.{Alike-size}
-use Rattle.k_selfpar.specs.Contexts.{AreUnder, ContextsAreAtLeastOne, IsContext, NoneBelow, children_of, chosen, count_in, group, has_turns, none, others, with_beside}
+use Rattle.k_selfpar.specs.Contexts.{AreUnder, ContextsAreAtLeastOne, IsContext, NoneBelow, inner_forest, chosen, count_in, group, has_turns, none, others, with_beside}
 use Rattle.k_selfpar.specs.Ratio.{IsRatio}
 use Rattle.k_selfpar.specs.Sums.{one, outer, outer_paths, outer_works, serial_in}
 use Rattle.k_selfpar.specs.declared.context.Context.{Context}
@@ -29,8 +29,8 @@ context_alike regions parent region f g c are is = record {
   kind = is.kind;
   instances = is.instances ∙ count_alike f g are;
   turns = is.turns ∙ ap (λ n. if has_turns regions region then n else 0)
-      (count_alike (chosen (region + 1) (children_of f)) (chosen (region + 1) (children_of g))
-      (chosen_alike (region + 1) (children_of f) (children_of g) (children_alike f g are)));
+      (count_alike (chosen (region + 1) (inner_forest f)) (chosen (region + 1) (inner_forest g))
+      (chosen_alike (region + 1) (inner_forest f) (inner_forest g) (children_alike f g are)));
   work = is.work ∙ works_alike f g are;
   path = is.path ∙ paths_alike f g are;
   sp = subst (λ n. IsRatio n (outer_paths g) c.sp.0 c.sp.1) (serial_alike f g are)
@@ -52,7 +52,7 @@ under_alike regions parent number f g _ (group _ _ _ region _ c below later some
     (subst (λ n. 0 < n) (count_alike (chosen region f) (chosen region g) same) some)
     (none_below_alike region f g are least)
     (context_alike regions parent region (chosen region f) (chosen region g) c same is)
-    (under_alike regions number (number + 1) (children_of (chosen region f)) (children_of (chosen region g)) below under
+    (under_alike regions number (number + 1) (inner_forest (chosen region f)) (inner_forest (chosen region g)) below under
     (children_alike (chosen region f) (chosen region g) same))
     (under_alike regions parent ((number + 1) + length below) (others region f) (others region g) later behind (others_alike region f g are))
 
@@ -66,7 +66,7 @@ pub record Opens (regions : List Region) (parent number : ℕ) (f : Forest) (con
   pub some : 0 < count_in region f
   pub least : NoneBelow region f
   pub is : IsContext regions parent region (chosen region f) first
-  pub under : AreUnder regions number (number + 1) (children_of (chosen region f)) below
+  pub under : AreUnder regions number (number + 1) (inner_forest (chosen region f)) below
   pub behind : AreUnder regions parent ((number + 1) + length below) (others region f) later
 
 count_within : (region : ℕ) (f : Forest) → count_in region f ≤ outer one f
@@ -129,8 +129,8 @@ one_list regions parent number f _ ds (group _ _ _ region _ c below later some l
     let first : c ≡ o.first =
     one_context regions parent region (chosen region f) c o.first is (subst (λ r. IsContext regions parent r (chosen r f) o.first) at o.is) in
     let inner : below ≡ o.below =
-    one_list regions number (number + 1) (children_of (chosen region f)) below o.below under
-    (subst (λ r. AreUnder regions number (number + 1) (children_of (chosen r f)) o.below) at o.under) in
+    one_list regions number (number + 1) (inner_forest (chosen region f)) below o.below under
+    (subst (λ r. AreUnder regions number (number + 1) (inner_forest (chosen r f)) o.below) at o.under) in
     let rest : later ≡ o.later =
     one_list regions parent ((number + 1) + length below) (others region f) later o.later behind
     (subst (λ (l : List Context). AreUnder regions parent ((number + 1) + length l) (others region f) o.later) (sym inner)
@@ -158,9 +158,9 @@ bounded_beside : (f g : Forest) → Bounded f → Bounded g → Bounded (with_be
 bounded_beside bare g one_is other_is = other_is
 bounded_beside (grown x i l) g one_is other_is = (one_is.0, one_is.1, bounded_beside l g one_is.2 other_is)
 
-pub bounded_children : (f : Forest) → Bounded f → Bounded (children_of f)
+pub bounded_children : (f : Forest) → Bounded f → Bounded (inner_forest f)
 bounded_children bare bounded = tt
-bounded_children (grown x i l) bounded = bounded_beside i (children_of l) bounded.1 (bounded_children l bounded.2)
+bounded_children (grown x i l) bounded = bounded_beside i (inner_forest l) bounded.1 (bounded_children l bounded.2)
 
 paths_below_serial : (f : Forest) → Bounded f → outer_paths f ≤ outer serial_in f
 paths_below_serial bare bounded = omega arith
@@ -176,7 +176,7 @@ under_at_least_one regions parent number f _ (group _ _ _ region _ c below later
     All-cons (λ (d : Context). d.sp.1 ≤ d.sp.0) c (below ++ later)
     (ratio_at_least_one (outer serial_in (chosen region f)) (outer_paths (chosen region f)) c.sp.0 c.sp.1 (paths_below_serial (chosen region f) here) is.sp)
     (All-append (λ (d : Context). d.sp.1 ≤ d.sp.0) below later
-    (under_at_least_one regions number (number + 1) (children_of (chosen region f)) below under (bounded_children (chosen region f) here))
+    (under_at_least_one regions number (number + 1) (inner_forest (chosen region f)) below under (bounded_children (chosen region f) here))
     (under_at_least_one regions parent ((number + 1) + length below) (others region f) later behind (bounded_others region f bounded)))
 
 -- each instance of a forest is of one of so many regions
@@ -204,9 +204,9 @@ names_beside : (count : ℕ) (f g : Forest) → Names count f → Names count g 
 names_beside count bare g one_is other_is = other_is
 names_beside count (grown x i l) g one_is other_is = (one_is.0, one_is.1, names_beside count l g one_is.2 other_is)
 
-names_children : (count : ℕ) (f : Forest) → Names count f → Names count (children_of f)
+names_children : (count : ℕ) (f : Forest) → Names count f → Names count (inner_forest f)
 names_children count bare names = tt
-names_children count (grown x i l) names = names_beside count i (children_of l) names.1 (names_children count l names.2)
+names_children count (grown x i l) names = names_beside count i (inner_forest l) names.1 (names_children count l names.2)
 
 pub names_region : (count region : ℕ) (f : Forest) → Names count f → 0 < count_in region f → region < count
 names_region count region bare names some = absurd (omega arith)
@@ -278,7 +278,7 @@ has_context regions parent region f lt =
         region = region;
         kind = r.kind;
         instances = outer one f;
-        turns = if has_turns regions region then count_in (region + 1) (children_of f) else 0;
+        turns = if has_turns regions region then count_in (region + 1) (inner_forest f) else 0;
         work = outer_works f;
         path = outer_paths f;
         sp = (sp.0, sp.1);
@@ -309,7 +309,7 @@ has_contexts regions (suc fuel) (grown x i l) lt names parent number =
     let some : 0 < outer one mine = low.some in
     let within_size = count-below-size mine in
     let c = has_context regions parent low.region mine (names_region (length regions) low.region f names low.some) in
-    let below = has_contexts regions fuel (children_of mine) (omega arith)
+    let below = has_contexts regions fuel (inner_forest mine) (omega arith)
     (names_children (length regions) mine (names_chosen (length regions) low.region f names)) number (number + 1) in
     let later = has_contexts regions fuel (others low.region f) (omega arith) (names_others (length regions) low.region f names) parent ((number + 1) + length below.0) in
     (c.0 ∷ (below.0 ++ later.0), group regions parent number low.region f c.0 below.0 later.0 low.some low.least c.1 below.1 later.1)

@@ -28,9 +28,9 @@ with_beside bare g = g
 with_beside (grown label inner later) g = grown label inner (with_beside later g)
 
 -- the children of a forest's outermost instances, each with those within it
-abbrev pub children_of : Forest → Forest
-children_of bare = bare
-children_of (grown label inner later) = with_beside inner (children_of later)
+abbrev pub inner_forest : Forest → Forest
+inner_forest bare = bare
+inner_forest (grown label inner later) = with_beside inner (inner_forest later)
 
 -- no outermost instance of a forest is of a lower region
 abbrev pub NoneBelow : ℕ → Forest → Type 0
@@ -58,7 +58,7 @@ pub record IsContext (regions : List Region) (parent region : ℕ) (group : Fore
   pub region_is : c.region ≡ region
   pub kind : option_map (λ (r : Region). r.kind) (slice_get regions region) ≡ Some c.kind
   pub instances : c.instances ≡ outer one group
-  pub turns : c.turns ≡ (if has_turns regions region then count_in (region + 1) (children_of group) else 0)
+  pub turns : c.turns ≡ (if has_turns regions region then count_in (region + 1) (inner_forest group) else 0)
   pub work : c.work ≡ outer_works group
   pub path : c.path ≡ outer_paths group
   pub sp : IsRatio (outer serial_in group) (outer_paths group) c.sp.0 c.sp.1
@@ -69,7 +69,7 @@ pub data AreUnder : List Region → ℕ → ℕ → Forest → List Context → 
   none : (regions : List Region) (parent number : ℕ) → AreUnder regions parent number bare []
   group : (regions : List Region) (parent number region : ℕ) (f : Forest) (c : Context) (below later : List Context)
       → 0 < count_in region f → NoneBelow region f → IsContext regions parent region (chosen region f) c
-      → AreUnder regions number (number + 1) (children_of (chosen region f)) below
+      → AreUnder regions number (number + 1) (inner_forest (chosen region f)) below
       → AreUnder regions parent ((number + 1) + length below) (others region f) later
       → AreUnder regions parent number f (c ∷ (below ++ later))
 

@@ -7,7 +7,7 @@ use Rattle.k_dict.specs.Entries.{copies, tree_at}
 use Rattle.k_dict.specs.Tallies.{counted}
 use Rattle.k_dict.specs.declared.entry.Entry.{Entry}
 use Rattle.k_dict.specs.declared.entry.Run.{Run}
-use Rattle.k_selfpar.specs.Contexts.{AreUnder, children_of, has_turns}
+use Rattle.k_selfpar.specs.Contexts.{AreUnder, inner_forest, has_turns}
 use Rattle.k_selfpar.specs.Items.{AreItems, Rise, item_of}
 use Rattle.k_selfpar.specs.Ratio.{IsRatio}
 use Rattle.k_selfpar.specs.Sums.{outer_works}
@@ -40,7 +40,7 @@ pub record Fits (entries : List Entry) (items : List Item) : Type 0 where
 pub record AreChildren (entries : List Entry) (items children : List Item) : Type 0 where
   pub are : AreItems entries children
   pub rise : Rise 0 children
-  pub stand : Alike (standing entries children) (children_of (standing entries items))
+  pub stand : Alike (standing entries children) (inner_forest (standing entries items))
 
 -- a context tells these sums of its region, and so many turns where the region has turns
 pub record IsContextOf (regions : List Region) (parent region : ℕ) (s : Sums) (turns : ℕ) (c : Context) : Type 0 where

@@ -6,7 +6,7 @@ use Rattle.k_optab.specs.declared.region.Region.{Region}
 use Rattle.k_optab.specs.Tree.{EachWith}
 use Rattle.k_dict.specs.Laws.{AreAlike}
 use Rattle.k_dict.specs.Trees.{Forest, Tree, alone, list_of}
-use Rattle.k_selfpar.specs.Contexts.{AreContexts, IsContext, children_of, chosen}
+use Rattle.k_selfpar.specs.Contexts.{AreContexts, IsContext, inner_forest, chosen}
 use Rattle.k_selfpar.specs.Rows.{AreRows}
 use Rattle.k_selfpar.specs.Sums.{one, outer}
 use Rattle.k_selfpar.specs.declared.context.Context.{Context}
@@ -34,7 +34,7 @@ RowsAreUnique = (nodes : List Node) (one other : List Row) → AreRows nodes one
 -- regions follow, those of their children with these
 abbrev pub at_regions : ℕ → List ℕ → Forest → Forest
 at_regions region [] f = chosen region f
-at_regions region (next ∷ regions) f = at_regions next regions (children_of (chosen region f))
+at_regions region (next ∷ regions) f = at_regions next regions (inner_forest (chosen region f))
 
 -- the last of a region and others behind it
 abbrev pub last_of : ℕ → List ℕ → ℕ

@@ -9,7 +9,7 @@ use k_num::NoMemory;
 use std::alloc::Global;
 
 /// Counts the children of so many instances that have these runs.
-fn count_children(counts: &mut [u64], runs: &[Run], count: u64)
+pub fn count_children(counts: &mut [u64], runs: &[Run], count: u64)
     requires { CanCount count counts.old runs.now }
     ensures { counts.new ≡ with_children count counts.old runs.now }
 {

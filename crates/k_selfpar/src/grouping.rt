@@ -36,7 +36,7 @@ fn count_runs(tally: &mut Tally, runs: &[Run], count: u64) -> Result<(), NoMemor
 }
 
 /// These runs with the regions of their entries.
-fn items_of(alloc: Global, dict: &Dict, runs: &[Run]) -> Result<Vec<Item>, NoMemory>
+pub fn items_of(alloc: Global, dict: &Dict, runs: &[Run]) -> Result<Vec<Item>, NoMemory>
     requires { AreRuns 0 (length dict.now) runs.now }
     ensures { IfOk result (λ items. items.items ≡ map (item_for dict.now) runs.now) }
 {
@@ -135,7 +135,7 @@ fn context_of(
 
 /// Adds the contexts of items whose parents are in one context: first that of the lowest region, behind it those of its
 /// instances' children, and then those of the others. It calls itself once for each level of the tree, of which there are at most 32.
-fn add_contexts(
+pub fn add_contexts(
     alloc: Global,
     dict: &Dict,
     regions: &[Region],

@@ -10,17 +10,13 @@ use std::alloc::Global;
 
 /// Instances of one entry, with its region.
 #[derive(Clone, Copy, Debug)]
-pub(crate) struct Item {
+pub struct Item {
     pub region: u32,
     pub run: Run,
 }
 
 /// The entries that occur, by their numbers, where each occurs as often as it is counted.
-pub(crate) fn occurring_entries(
-    alloc: Global,
-    dict: &Dict,
-    counts: &[u64],
-) -> Result<Vec<Item>, NoMemory>
+pub fn occurring_entries(alloc: Global, dict: &Dict, counts: &[u64]) -> Result<Vec<Item>, NoMemory>
     requires within { length counts.now ≤ length dict.now }
     requires interned { AreInterned dict.now }
     ensures { IfOk result (λ items. items.items ≡ occurring dict.now 0 counts.now) }
@@ -49,7 +45,7 @@ pub(crate) fn item_of(dict: &Dict, entry: u32, count: u64) -> Item
 }
 
 /// Brings items in order of their regions.
-pub(crate) fn sort_by_region(items: &mut Vec<Item>) -> Result<(), NoMemory>
+pub fn sort_by_region(items: &mut Vec<Item>) -> Result<(), NoMemory>
     ensures permutation { IsPermutation items.old.items items.new.items }
     ensures sorted { OnOk result (Rise 0 items.new.items) }
 {

@@ -14,7 +14,9 @@ mod sums;
 mod tree_rows;
 
 pub use context::{Context, ContextFault, ContextList, root_work};
+pub use counts::count_children;
 pub use fraction::Frac;
-pub use grouping::contexts;
+pub use grouping::{add_contexts, contexts, items_of};
+pub use item::{Item, occurring_entries, sort_by_region};
 pub use row::Row;
-pub use tree_rows::rows;
+pub use tree_rows::{rows, rows_of};

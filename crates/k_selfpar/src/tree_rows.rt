@@ -30,7 +30,7 @@ fn row_of(region: u32, sums: Sums) -> Row
 }
 
 /// The rows of items that stand in order of their regions.
-fn rows_of(alloc: Global, dict: &Dict, items: &[Item]) -> Result<Seq<Row>, NoMemory>
+pub fn rows_of(alloc: Global, dict: &Dict, items: &[Item]) -> Result<Seq<Row>, NoMemory>
     requires items { AreItems dict.now items.now }
     requires sorted { Rise 0 items.now }
     requires interned { AreInterned dict.now }

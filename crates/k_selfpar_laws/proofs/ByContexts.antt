@@ -8,7 +8,7 @@ use Rattle.k_optab.specs.Meaning.{serial_of}
 use Rattle.k_optab.specs.Tree.{EachWith}
 use Rattle.k_dict.specs.Trees.{Forest, Label, Tree, alone, bare, grown, list_of}
 use Rattle.k_dict.proofs.Lists.{same_tree}
-use Rattle.k_selfpar.specs.Contexts.{AreUnder, IsContext, NoneBelow, children_of, chosen, group, none, others, with_beside}
+use Rattle.k_selfpar.specs.Contexts.{AreUnder, IsContext, NoneBelow, inner_forest, chosen, group, none, others, with_beside}
 use Rattle.k_selfpar.specs.Laws.{at_regions}
 use Rattle.k_selfpar.specs.Ratio.{IsRatio}
 use Rattle.k_selfpar.specs.Rows.{IsRow}
@@ -25,14 +25,14 @@ sum-beside own (grown x i l) g = let e = sum-beside own l g in omega arith
 
 -- what a forest gives, in three parts: the outermost instances of a region, all within these, and those of other regions
 sum-parts : (own : Label → Forest → ℕ) (region : ℕ) (f : Forest)
-    → sum_of own f ≡ outer own (chosen region f) + (sum_of own (children_of (chosen region f)) + sum_of own (others region f))
+    → sum_of own f ≡ outer own (chosen region f) + (sum_of own (inner_forest (chosen region f)) + sum_of own (others region f))
 sum-parts own region bare = refl
 sum-parts own region (grown x i l) = by (x.region == region) (chosen region l) (others region l) (sum-parts own region l)
   where
-    by : (b : Bool) (c o : Forest) → sum_of own l ≡ outer own c + (sum_of own (children_of c) + sum_of own o)
+    by : (b : Bool) (c o : Forest) → sum_of own l ≡ outer own c + (sum_of own (inner_forest c) + sum_of own o)
         → own x i + (sum_of own i + sum_of own l)
-        ≡ outer own (if b then grown x i c else c) + (sum_of own (children_of (if b then grown x i c else c)) + sum_of own (if b then o else grown x i o))
-    by true c o e = let s = sum-beside own i (children_of c) in omega arith
+        ≡ outer own (if b then grown x i c else c) + (sum_of own (inner_forest (if b then grown x i c else c)) + sum_of own (if b then o else grown x i o))
+    by true c o e = let s = sum-beside own i (inner_forest c) in omega arith
     by false c o e = omega arith
 
 -- instances of one region give all or nothing for a region
@@ -68,15 +68,15 @@ given-append R own f r (p ∷ ps) qs (c ∷ cs) ds each = let e = given-append R
 
 -- by those within a region's instances
 given-inside : (regions : List Region) (own : Label → Forest → ℕ) (r region : ℕ) (f : Forest) (ps : List (List ℕ)) (cs : List Context)
-    → EachWith (Tells regions (children_of (chosen region f))) ps cs
-    → given_by own f r (map (λ p. region ∷ p) ps) cs ≡ given_by own (children_of (chosen region f)) r ps cs
+    → EachWith (Tells regions (inner_forest (chosen region f))) ps cs
+    → given_by own f r (map (λ p. region ∷ p) ps) cs ≡ given_by own (inner_forest (chosen region f)) r ps cs
 given-inside regions own r region f [] [] each = refl
 given-inside regions own r region f [] (c ∷ cs) each = absurd each
 given-inside regions own r region f (p ∷ ps) [] each = absurd each
 given-inside regions own r region f ([] ∷ ps) (c ∷ cs) each =
-    absurd (let some = some-path regions (children_of (chosen region f)) [] c each.0 in omega arith)
+    absurd (let some = some-path regions (inner_forest (chosen region f)) [] c each.0 in omega arith)
 given-inside regions own r region f ((s ∷ p) ∷ ps) (c ∷ cs) each =
-    ap (λ n. (if c.region == r then outer own (at_regions s p (children_of (chosen region f))) else 0) + n)
+    ap (λ n. (if c.region == r then outer own (at_regions s p (inner_forest (chosen region f))) else 0) + n)
     (given-inside regions own r region f ps cs each.1)
 
 -- by those of other regions
@@ -103,10 +103,10 @@ record Summed (regions : List Region) (f : Forest) (cs : List Context) : Type 0 
 summed : (regions : List Region) (parent number : ℕ) (f : Forest) (cs : List Context) → AreUnder regions parent number f cs → Summed regions f cs
 summed regions parent number _ _ (none _ _ _) = record { paths = []; each = tt; sums = λ own r. refl }
 summed regions parent number f _ (group _ _ _ region _ c below later some least is under behind) =
-    joined (summed regions number (number + 1) (children_of (chosen region f)) below under)
+    joined (summed regions number (number + 1) (inner_forest (chosen region f)) below under)
     (summed regions parent ((number + 1) + length below) (others region f) later behind)
   where
-    joined : Summed regions (children_of (chosen region f)) below → Summed regions (others region f) later → Summed regions f (c ∷ (below ++ later))
+    joined : Summed regions (inner_forest (chosen region f)) below → Summed regions (others region f) later → Summed regions f (c ∷ (below ++ later))
     joined inner rest = record {
       paths = (region ∷ []) ∷ (inside ++ rest.paths);
       each = tells;
@@ -120,7 +120,7 @@ summed regions parent number f _ (group _ _ _ region _ c below later some least 
         tells = tells-joined regions parent region f c inner.paths rest.paths below later some least is inner.each rest.each
 
         lengths : EachWith (λ (p : List ℕ) (d : Context). Unit {0}) inside below
-        lengths = each-map (Tells regions (children_of (chosen region f))) (λ (p : List ℕ) (d : Context). Unit {0}) (λ p. region ∷ p) (λ p d of. tt) inner.paths below inner.each
+        lengths = each-map (Tells regions (inner_forest (chosen region f))) (λ (p : List ℕ) (d : Context). Unit {0}) (λ p. region ∷ p) (λ p d of. tt) inner.paths below inner.each
 
         sums : (own : Label → Forest → ℕ) (r : ℕ)
             → (if c.region == r then outer own (chosen region f) else 0) + given_by own f r (inside ++ rest.paths) (below ++ later) ≡ sum_of (within r own) f
@@ -128,10 +128,10 @@ summed regions parent number f _ (group _ _ _ region _ c below later some least 
             let first : (if c.region == r then outer own (chosen region f) else 0) ≡ outer (within r own) (chosen region f) =
             ap (λ s. if s == r then outer own (chosen region f) else 0) is.region_is ∙ sym (chosen-within own r region f) in
             let more : given_by own f r (inside ++ rest.paths) (below ++ later)
-            ≡ sum_of (within r own) (children_of (chosen region f)) + sum_of (within r own) (others region f) =
+            ≡ sum_of (within r own) (inner_forest (chosen region f)) + sum_of (within r own) (others region f) =
             given-append (λ (p : List ℕ) (d : Context). Unit {0}) own f r inside rest.paths below later lengths
             ∙ ap (λ n. n + given_by own f r rest.paths later) (given-inside regions own r region f inner.paths below inner.each ∙ inner.sums own r)
-            ∙ ap (λ n. sum_of (within r own) (children_of (chosen region f)) + n)
+            ∙ ap (λ n. sum_of (within r own) (inner_forest (chosen region f)) + n)
             (given-others regions own r region f least rest.paths later rest.each ∙ rest.sums own r) in
             ap (λ n. n + given_by own f r (inside ++ rest.paths) (below ++ later)) first
             ∙ ap (λ n. outer (within r own) (chosen region f) + n) more

@@ -6,7 +6,7 @@ use Rattle.k_optab.specs.declared.region.Region.{Region}
 use Rattle.k_optab.specs.Tree.{EachWith}
 use Rattle.k_dict.specs.Trees.{Forest, Tree, alone, bare, grown}
 use Rattle.k_dict.proofs.Lists.{same_tree}
-use Rattle.k_selfpar.specs.Contexts.{AreUnder, IsContext, NoneBelow, children_of, chosen, count_in, group, none, others}
+use Rattle.k_selfpar.specs.Contexts.{AreUnder, IsContext, NoneBelow, inner_forest, chosen, count_in, group, none, others}
 use Rattle.k_selfpar.specs.Laws.{at_regions}
 use Rattle.k_selfpar.specs.Sums.{one, outer}
 use Rattle.k_selfpar.specs.declared.context.Context.{Context}
@@ -56,7 +56,7 @@ chosen-others region s f = elim (cases_eq s region) [
 
 at-chosen : (s : ℕ) (path : List ℕ) (f g : Forest) → chosen s f ≡ chosen s g → at_regions s path f ≡ at_regions s path g
 at-chosen s [] f g same = same
-at-chosen s (next ∷ path) f g same = ap (λ h. at_regions next path (children_of h)) same
+at-chosen s (next ∷ path) f g same = ap (λ h. at_regions next path (inner_forest h)) same
 
 pub at-others : (region s : ℕ) (path : List ℕ) (f : Forest) → ¬ (s ≡ region) → at_regions s path (others region f) ≡ at_regions s path f
 at-others region s path f ne =
@@ -157,9 +157,9 @@ before-others regions region f least p ((s ∷ q) ∷ ps) (c ∷ cs) each = (
 )
 
 -- what is told of the instances within those of a region, and of those of other regions
-tells-inside : (regions : List Region) (region : ℕ) (f : Forest) (p : List ℕ) (c : Context) → Tells regions (children_of (chosen region f)) p c
+tells-inside : (regions : List Region) (region : ℕ) (f : Forest) (p : List ℕ) (c : Context) → Tells regions (inner_forest (chosen region f)) p c
     → Tells regions f (region ∷ p) c
-tells-inside regions region f [] c tells = absurd (let some = some-path regions (children_of (chosen region f)) [] c tells in omega arith)
+tells-inside regions region f [] c tells = absurd (let some = some-path regions (inner_forest (chosen region f)) [] c tells in omega arith)
 tells-inside regions region f (s ∷ p) c tells = tells
 
 tells-others : (regions : List Region) (region : ℕ) (f : Forest) → NoneBelow region f → (p : List ℕ) (c : Context) → Tells regions (others region f) p c
@@ -173,7 +173,7 @@ tells-others regions region f least (s ∷ p) c tells =
 
 -- what is told of the lowest region's instances, of those within these, and of those of other regions
 pub tells-joined : (regions : List Region) (parent region : ℕ) (f : Forest) (c : Context) (ps qs : List (List ℕ)) (below later : List Context) → 0 < count_in region f
-    → NoneBelow region f → IsContext regions parent region (chosen region f) c → EachWith (Tells regions (children_of (chosen region f))) ps below
+    → NoneBelow region f → IsContext regions parent region (chosen region f) c → EachWith (Tells regions (inner_forest (chosen region f))) ps below
     → EachWith (Tells regions (others region f)) qs later
     → EachWith (Tells regions f) ((region ∷ []) ∷ (map (λ p. region ∷ p) ps ++ qs)) (c ∷ (below ++ later))
 tells-joined regions parent region f c ps qs below later some least is inner rest = (
@@ -183,7 +183,7 @@ tells-joined regions parent region f c ps qs below later some least is inner res
         (subst (λ r. IsContext regions parent r (chosen region f) c) (sym is.region_is) is),
   ),
   each-append (Tells regions f) (map (λ p. region ∷ p) ps) qs below later
-      (each-map (Tells regions (children_of (chosen region f))) (Tells regions f) (λ p. region ∷ p) (tells-inside regions region f) ps below inner)
+      (each-map (Tells regions (inner_forest (chosen region f))) (Tells regions f) (λ p. region ∷ p) (tells-inside regions region f) ps below inner)
       (each-weaker (Tells regions (others region f)) (Tells regions f) (tells-others regions region f least) qs later rest),
 )
 
@@ -214,10 +214,10 @@ by_paths regions parent number _ _ (none _ _ _) = record {
     nowhere [] some = absurd (omega arith)
     nowhere (s ∷ path) some = absurd (let e : outer one (at_regions s path bare) ≡ 0 = ap (outer one) (at_bare s path) in omega arith)
 by_paths regions parent number f _ (group _ _ _ region _ c below later some least is under behind) =
-    joined (by_paths regions number (number + 1) (children_of (chosen region f)) below under)
+    joined (by_paths regions number (number + 1) (inner_forest (chosen region f)) below under)
     (by_paths regions parent ((number + 1) + length below) (others region f) later behind)
   where
-    joined : ByPaths regions number (number + 1) (children_of (chosen region f)) below → ByPaths regions parent ((number + 1) + length below) (others region f) later
+    joined : ByPaths regions number (number + 1) (inner_forest (chosen region f)) below → ByPaths regions parent ((number + 1) + length below) (others region f) later
         → ByPaths regions parent number f (c ∷ (below ++ later))
     joined inner rest = record {
       paths = all;
@@ -230,7 +230,7 @@ by_paths regions parent number f _ (group _ _ _ region _ c below later some leas
             (each-weaker (Linked parent ((number + 1) + length below) rest.paths) (Linked parent number all) link-behind rest.paths later rest.linked),
       );
       rise = (
-        before-append (region ∷ []) within rest.paths (before-inside region [] inner.paths (before-more regions (children_of (chosen region f)) inner.paths below inner.each))
+        before-append (region ∷ []) within rest.paths (before-inside region [] inner.paths (before-more regions (inner_forest (chosen region f)) inner.paths below inner.each))
             (before-others regions region f least [] rest.paths later rest.each),
         rise-inside region inner.paths rest.paths inner.rise rest.rise (λ p. before-others regions region f least p rest.paths later rest.each),
       );
@@ -243,7 +243,7 @@ by_paths regions parent number f _ (group _ _ _ region _ c below later some leas
         all = (region ∷ []) ∷ (within ++ rest.paths)
 
         counted : length within ≡ length below
-        counted = length-map-each (Tells regions (children_of (chosen region f))) (λ p. region ∷ p) inner.paths below inner.each
+        counted = length-map-each (Tells regions (inner_forest (chosen region f))) (λ p. region ∷ p) inner.paths below inner.each
 
         link-inside : (p : List ℕ) (d : Context) → Linked number (number + 1) inner.paths p d → Linked parent number all (region ∷ p) d
         link-inside p d (inl first) = inr (0, region ∷ [], (let e : d.parent ≡ number = first.0 in omega arith), refl, ap (λ q. region ∷ q) first.1)

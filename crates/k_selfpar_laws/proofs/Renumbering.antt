@@ -20,7 +20,7 @@ use Rattle.k_dict.proofs.Unique.{one_dictionary}
 use Rattle.k_dict.proofs.Walking.{EachWith-at, EachWith-back, none_seen, tree_there, walk, walk_is, walks_well}
 use Rattle.k_dict_saved.specs.Formats.{IsNamedBy, Names}
 use Rattle.k_dict_saved.proofs.Shapes.{at_back, at_front}
-use Rattle.k_selfpar_laws.specs.Renumbered.{AreRenumbered, EntriesAreGatheredAgain, IsRenumbered, MeetRules, children_of}
+use Rattle.k_selfpar_laws.specs.Renumbered.{AreRenumbered, EntriesAreGatheredAgain, IsRenumbered, MeetRules, times_named}
 
 -- ---- each entry's tree occurs in the root's
 
@@ -180,30 +180,30 @@ code-renumbered other trees high (run ∷ runs) are =
     ∙ ap (counted (number_in other t) run.count) (code-renumbered other trees high runs are.2)
 
 -- how many children of an entry there are with more of one
-children-counted : (k n count : ℕ) (runs : List Run) → children_of k (counted n count runs) ≡ (if n == k then count else 0) + children_of k runs
+children-counted : (k n count : ℕ) (runs : List Run) → times_named k (counted n count runs) ≡ (if n == k then count else 0) + times_named k runs
 children-counted k n count [] = refl
 children-counted k n count (run ∷ runs) = elim (cases_order n run.entry) [
-  | inl at ↦ ap (children_of k) (counted-at n count run runs at)
-      ∙ one_more (run.entry == k) ∙ ap (λ e. (if e == k then count else 0) + children_of k (run ∷ runs)) (sym at)
+  | inl at ↦ ap (times_named k) (counted-at n count run runs at)
+      ∙ one_more (run.entry == k) ∙ ap (λ e. (if e == k then count else 0) + times_named k (run ∷ runs)) (sym at)
   | inr order ↦ elim order [
-    | inl before ↦ ap (children_of k) (counted-before n count run runs before)
-    | inr behind ↦ ap (children_of k) (counted-behind n count run runs behind)
+    | inl before ↦ ap (times_named k) (counted-before n count run runs before)
+    | inr behind ↦ ap (times_named k) (counted-behind n count run runs behind)
         ∙ (let e = children-counted k n count runs in omega arith)
   ]
 ]
   where
-    one_more : (b : Bool) → (if b then count + run.count else 0) + children_of k runs ≡ (if b then count else 0) + ((if b then run.count else 0) + children_of k runs)
+    one_more : (b : Bool) → (if b then count + run.count else 0) + times_named k runs ≡ (if b then count else 0) + ((if b then run.count else 0) + times_named k runs)
     one_more true = omega arith
     one_more false = omega arith
 
 -- there are as many where numbers differ
 children-renumbered : (to from : ℕ → ℕ) (count k high : ℕ) (runs : List Run) → ((n : ℕ) → n < count → from (to n) ≡ n) → k < count → high ≤ count
-    → NameBelow high runs → children_of (to k) (renumbered_runs to runs) ≡ children_of k runs
+    → NameBelow high runs → times_named (to k) (renumbered_runs to runs) ≡ times_named k runs
 children-renumbered to from count k high [] inverse within few are = refl
 children-renumbered to from count k high (run ∷ runs) inverse within few are =
     let below : run.entry < high = are.0 in
     children-counted (to k) (to run.entry) run.count (renumbered_runs to runs)
-    ∙ ap (λ b. (if b then run.count else 0) + children_of (to k) (renumbered_runs to runs)) (alike (inverse run.entry (omega arith)))
+    ∙ ap (λ b. (if b then run.count else 0) + times_named (to k) (renumbered_runs to runs)) (alike (inverse run.entry (omega arith)))
     ∙ ap (λ n. (if run.entry == k then run.count else 0) + n) (children-renumbered to from count k high runs inverse within few are.2)
   where
     alike : from (to run.entry) ≡ run.entry → (to run.entry == to k) ≡ (run.entry == k)
@@ -296,7 +296,7 @@ module _ (entries other : List Entry) (root : ℕ) (rules : MeetRules entries ro
         region = ap (λ (x : Label). x.region) (sym shape.label);
         work = ap (λ (x : Label). x.work) (sym shape.label);
         path = ap (λ (x : Label). x.path) (sym shape.label);
-        children = λ k few. ap (children_of (to k)) runs
+        children = λ k few. ap (times_named (to k)) runs
             ∙ children-renumbered to from (length entries) k n e.runs (λ j lt. (there j lt).1) few (omega arith) (below_bound 0 n e.runs earlier);
       }
 

@@ -15,16 +15,16 @@ pub record MeetRules (entries : List Entry) (root : ℕ) : Type 0 where
   pub named : AreNamed entries
 
 -- how many children of an entry these runs tell of
-abbrev pub children_of : ℕ → List Run → ℕ
-children_of n [] = 0
-children_of n (run ∷ runs) = (if run.entry == n then run.count else 0) + children_of n runs
+abbrev pub times_named : ℕ → List Run → ℕ
+times_named n [] = 0
+times_named n (run ∷ runs) = (if run.entry == n then run.count else 0) + times_named n runs
 
 -- the one entry is the other, where so many entries have other numbers: its instances are alike, with as many children of each of these
 pub record IsRenumbered (to : ℕ → ℕ) (count : ℕ) (one other : Entry) : Type 0 where
   pub region : other.region ≡ one.region
   pub work : other.work ≡ one.work
   pub path : other.path ≡ one.path
-  pub children : (k : ℕ) → k < count → children_of (to k) other.runs ≡ children_of k one.runs
+  pub children : (k : ℕ) → k < count → times_named (to k) other.runs ≡ times_named k one.runs
 
 -- one list of entries is the other with other numbers: `to` and `from` are inverse to each other, and an entry is that of its other number
 pub record AreRenumbered (one other : List Entry) : Type 0 where

@@ -2,7 +2,7 @@
 use Rattle.std.proofs.Common.{◌≡◌, ℕ, ◌+◌, ◌<◌, ◌≤◌, ◌≢◌, List, length, ap, sym, ◌∙◌, arith}
 use Rattle.std.specs.Prelude.{slice_index}
 use Rattle.k_shadow.specs.declared.row.Row.{Row}
-use Rattle.k_shadow.specs.Content.{depth, time_at, at_levels, entered, left, written, written_by, cleared}
+use Rattle.k_shadow.specs.Content.{depth, time_at, at_levels, entered, level_dropped, written, written_by, cleared}
 use Rattle.k_shadow.specs.Numbers.{Numbers, number_given, number_left, WereGiven}
 use Rattle.k_shadow.specs.Rows.{row_time, content_of}
 use Rattle.k_shadow.proofs.Levels.{length-at_levels, get_or-at_levels}
@@ -20,7 +20,7 @@ time_at_row rows v limit level loc h = time_from_rows rows v.live level loc h
 pub content-entered : (rows : ℕ → Row) (v : Numbers) (limit : ℕ) → ((loc : ℕ) → (rows loc).stamp ≤ v.given) → content_of rows (number_given v) limit ≡ entered (content_of rows v limit)
 content-entered rows v limit h = λ i. record { levels = levels-entered rows v.live v.given h i; entries = v.given + 1; limit = limit }
 
-pub content-left : (rows : ℕ → Row) (v : Numbers) (limit : ℕ) → content_of rows (number_left v) limit ≡ left (content_of rows v limit)
+pub content-left : (rows : ℕ → Row) (v : Numbers) (limit : ℕ) → content_of rows (number_left v) limit ≡ level_dropped (content_of rows v limit)
 content-left rows v limit = λ i. record { levels = levels-left rows v.live i; entries = v.given; limit = limit }
 
 pub content_same : (rows others : ℕ → Row) (v : Numbers) (limit : ℕ) → ((loc : ℕ) → others loc ≡ rows loc) → content_of others v limit ≡ content_of rows v limit

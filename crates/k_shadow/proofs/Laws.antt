@@ -3,12 +3,12 @@
 use Rattle.std.proofs.Common.{◌≡◌, ℕ, ◌+◌, ◌-◌, ◌<◌, zero, suc, List, [], ◌∷◌, length, get_or, ◌==◌, ◌&&◌, nat_le, nat_lt, refl, ap, arith, length-append}
 use Rattle.std.specs.Prelude.{slice_index, if◌then◌else◌}
 use Rattle.std.proofs.lemmas.List.{length-map, length-take, get_or_append_left, get_or_push, get_or-take, get_or-map}
-use Rattle.k_shadow.specs.Content.{Content, depth, time_at, entered, left, with_time, set_times, written, without, cleared}
+use Rattle.k_shadow.specs.Content.{Content, depth, time_at, entered, level_dropped, with_time, set_times, written, without, cleared}
 
 pub depth_entered : (c : Content) → depth (entered c) ≡ depth c + 1
 depth_entered c = omega (arith, length-append c.levels ((λ _. 0) ∷ []))
 
-pub depth_left : (c : Content) → 0 < depth c → depth (left c) + 1 ≡ depth c
+pub depth_left : (c : Content) → 0 < depth c → depth (level_dropped c) + 1 ≡ depth c
 depth_left c h = omega (arith, length-take (length c.levels - 1) c.levels)
 
 length-set_times : (loc : ℕ) (times : List ℕ) (levels : List (ℕ → ℕ)) → length (set_times loc times levels) ≡ length levels
@@ -31,7 +31,7 @@ pub time_at_entered : (c : Content) (level loc : ℕ) → level < depth c → ti
 time_at_entered c level loc h = ap (λ (m : ℕ → ℕ). m loc) (get_or_append_left c.levels ((λ _. 0) ∷ []) (λ _. 0) level h)
 
 -- so do the levels around one that was left
-pub time_at_left : (c : Content) (level loc : ℕ) → level + 1 < depth c → time_at (left c) level loc ≡ time_at c level loc
+pub time_at_left : (c : Content) (level loc : ℕ) → level + 1 < depth c → time_at (level_dropped c) level loc ≡ time_at c level loc
 time_at_left c level loc h = ap (λ (m : ℕ → ℕ). m loc) (get_or-take (length c.levels - 1) c.levels level (λ _. 0) (omega arith))
 
 get_or-set_times : (loc : ℕ) (times : List ℕ) (levels : List (ℕ → ℕ)) (level : ℕ) (d : ℕ → ℕ) → length times ≡ length levels → level < length levels → get_or (set_times loc times levels) level d ≡ with_time loc (slice_index times level) (get_or levels level d)

@@ -26,8 +26,8 @@ abbrev pub entered : Content → Content
 entered c = record c { levels = c.levels ++ (λ _. 0) ∷ []; entries = c.entries + 1 }
 
 -- the last map is taken away
-abbrev pub left : Content → Content
-left c = record c { levels = take (length c.levels - 1) c.levels }
+abbrev pub level_dropped : Content → Content
+level_dropped c = record c { levels = take (length c.levels - 1) c.levels }
 
 -- a map with that time at that location
 abbrev pub with_time : ℕ → ℕ → (ℕ → ℕ) → ℕ → ℕ

@@ -1,6 +1,6 @@
 //! The contract of shadow storage.
 ghost use Rattle.std.specs.Prelude.{◌≡◌, ℕ, ◌+◌, ◌*◌, ◌^◌, ◌<◌, ◌≤◌, length, max, slice_index, OnOk};
-ghost use Rattle.k_shadow.specs.Content.{Content, depth, time_at, after_none, after_one, after_two, entered, left, written, written_by, cleared};
+ghost use Rattle.k_shadow.specs.Content.{Content, depth, time_at, after_none, after_one, after_two, entered, level_dropped, written, written_by, cleared};
 
 use crate::lists::no_times;
 use crate::{Steps, Times, raise_each, times_after};
@@ -32,7 +32,7 @@ pub trait Shadow: Drop {
     /// Leaves the innermost level. Room for locations is lost.
     fn leave(&mut self)
         requires { 0 < depth (content self.old) }
-        ensures content { content self.new ≡ left (content self.old) };
+        ensures content { content self.new ≡ level_dropped (content self.old) };
 
     /// Makes room for the `count` locations from `first` on, which lasts until a level is entered or left. A refusal
     /// may have made room for some of them.

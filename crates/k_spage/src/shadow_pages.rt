@@ -51,7 +51,7 @@ impl ShadowPages {
 
 impl Shadow for ShadowPages {
     ghost use Rattle.std.specs.Prelude.{◌+◌, ◌<◌, ◌^◌, length, OnOk, true};
-    ghost use Rattle.k_shadow.specs.Content.{depth, time_at, entered, left, written, cleared};
+    ghost use Rattle.k_shadow.specs.Content.{depth, time_at, entered, level_dropped, written, cleared};
     ghost use Rattle.k_spage.specs.ShadowPages.{pages_content, has_room, has_page, HasSamePages, IsTouched};
 
     ghost content = { pages_content };
@@ -76,7 +76,7 @@ impl Shadow for ShadowPages {
     #[inline]
     fn leave(&mut self)
         requires { 0 < depth (pages_content self.old) }
-        ensures content { pages_content self.new ≡ left (pages_content self.old) }
+        ensures content { pages_content self.new ≡ level_dropped (pages_content self.old) }
         ensures pages { HasSamePages self.old self.new }
     {
         self.versions.leave();

@@ -13,7 +13,7 @@ use Rattle.k_dict.proofs.Sound.{AreRuns-wider}
 use Rattle.k_dict_saved.specs.Migration.{HaveFewChildren, renumbered}
 use Rattle.k_dict_saved.specs.Profile.{IsSaved}
 use Rattle.k_dict_saved.specs.declared.saved.Saved.{Saved}
-use Rattle.k_dict_saved.proofs.Sums.{size-copies}
+use Rattle.k_dict_saved.proofs.RunSums.{size-copies}
 use Rattle.k_sum.specs.Exits.{with_exits}
 use Rattle.k_sum.specs.Exits as ends
 use Rattle.k_sum.specs.Joining.{Joined, counted_all, joined}

@@ -23,7 +23,7 @@ use Rattle.k_dict_saved.specs.declared.format.Format.{Format}
 use Rattle.k_dict_saved.specs.declared.format.Format.TheVariants.{One, Two}
 use Rattle.k_dict_saved.proofs.EntrySteps.{next_is}
 use Rattle.k_dict_saved.proofs.Marks.{marks_tell}
-use Rattle.k_dict_saved.proofs.Sums.{rules_within, within_rules}
+use Rattle.k_dict_saved.proofs.RunSums.{rules_within, within_rules}
 use Rattle.k_dict_saved.proofs.Visiting.{Visiting, fails_at, more_at, order_is, visited_before, visiting_done, visiting_from, visiting_lower, visiting_wrong}
 
 -- it holds or not

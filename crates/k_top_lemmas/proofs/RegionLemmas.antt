@@ -5,7 +5,7 @@ use Rattle.std.proofs.lemmas.Bool.Decides.{nat_tests}
 use Rattle.std.proofs.lemmas.Slice.Eq.{slice_eq-Decides}
 use Rattle.std.specs.Cmp.{unsigned_Decides}
 use Rattle.std.specs.Cmp.Lexicographic.{pointwise}
-use Rattle.std.specs.List.{AllByRecursion}
+use Rattle.std.specs.List.{AllByRecursion, list_any}
 use Rattle.std.proofs.lemmas.List.Elements.{recursion_from_All}
 use Rattle.std.proofs.lemmas.Option.{none-some, same_Some}
 use Rattle.k_scan.specs.Names as scanned
@@ -64,20 +64,20 @@ no_key true c word later follows none = absurd (let wrong : true ≡ false = ap 
 no_key false false word later follows none = (none, refl)
 no_key false true word later follows none = absurd (let wrong : false ≡ true = follows refl in cc)
 
-not_among : (rows : List (List ℕ × Word)) (text : List ℕ) → look_up rows text ≡ None → scanned.is_among (map (λ (row : List ℕ × Word). row.0) rows) text ≡ false
+not_among : (rows : List (List ℕ × Word)) (text : List ℕ) → look_up rows text ≡ None → list_any (λ (word : List ℕ). pointwise nat_eq word text) (map (λ (row : List ℕ × Word). row.0) rows) ≡ false
 not_among [] text none = refl
 not_among (row ∷ rows) text none =
     let equal : pointwise nat_eq row.0 text ≡ true → same row.0 text ≡ true =
     λ is. subst (λ t. same row.0 t ≡ true) ((slice_eq-Decides unsigned_Decides row.0 text (pointwise nat_eq row.0 text) refl).0 is) (same_itself row.0) in
     let parts = no_key (same row.0 text) (pointwise nat_eq row.0 text) row.1 (look_up rows text) equal none in
-    or_from (pointwise nat_eq row.0 text) (scanned.is_among (map (λ (row : List ℕ × Word). row.0) rows) text) parts.1 (not_among rows text parts.0)
+    or_from (pointwise nat_eq row.0 text) (list_any (λ (word : List ℕ). pointwise nat_eq word text) (map (λ (row : List ℕ × Word). row.0) rows)) parts.1 (not_among rows text parts.0)
 
 -- a name of a source is one of a saved profile
 named : (text : List ℕ) → IsNamed text → scanned.is_name text ≡ true
 unfolding scanned.is_name
 named text is =
-    let no_keyword : scanned.is_among scanned.keywords text ≡ false = not_among words text is.no_word in
-    and_from (scanned.is_word text) (not (scanned.is_among scanned.keywords text)) (is_word text is.name) (ap not no_keyword)
+    let no_keyword : list_any (λ (word : List ℕ). pointwise nat_eq word text) scanned.keywords ≡ false = not_among words text is.no_word in
+    and_from (scanned.is_word text) (not (list_any (λ (word : List ℕ). pointwise nat_eq word text) scanned.keywords)) (is_word text is.name) (ap not no_keyword)
 
 kind_right : (what : TokenKind) → IsRightKind what → saving.IsRightKind what
 kind_right (token.Name name) is = named name is

@@ -1,6 +1,6 @@
 -- Believed with the theorem on the top call.
 -- Trees without their places: two trees are equal up to places where these are equal.
-use Rattle.std.specs.Prelude.{List, map, Option, Some, None}
+use Rattle.std.specs.Prelude.{List, map, Option, Some, None, option_map}
 use Rattle.k_num.specs.declared.place.Place.{Place}
 use Rattle.k_tree.specs.declared.tree.expression.Expr.{Expr, fold-Expr}
 use Rattle.k_tree.specs.declared.tree.expression.Expr.TheOpen.{Expr-F}
@@ -28,11 +28,6 @@ use Rattle.k_tree.specs.declared.tree.unit.Unit as source
 abbrev pub nowhere : Place
 nowhere = record { line = 0; column = 0 }
 
--- what may be left out, changed where it is there
-abbrev pub where_given : {A B : Type 0} → (A → B) → Option A → Option B
-where_given f None = None
-where_given f (Some x) = Some (f x)
-
 -- C17 6.5: an expression without its own place, whose parts have none either
 abbrev pub bare_expr_step : Expr-F Expr → Expr
 bare_expr_step (Expr-F.Name place name) = expr.Name nowhere name
@@ -59,7 +54,7 @@ bare_expr = fold-Expr Expr bare_expr_step
 
 -- C17 6.7.6.2: the dimensions of an array without the places in their sizes
 abbrev pub bare_dims : List (Option Expr) → List (Option Expr)
-bare_dims dims = map (where_given bare_expr) dims
+bare_dims dims = map (option_map bare_expr) dims
 
 -- C17 6.7.9: an initialiser without its own place, whose items have none either
 abbrev pub bare_init_step : Init-F Init → Init
@@ -72,7 +67,7 @@ bare_init = fold-Init Init bare_init_step
 
 -- C17 6.7.6: a declarator, with its dimensions and initialiser, without the places in it
 abbrev pub bare_declarator : Declarator → Declarator
-bare_declarator d = record d { place = nowhere; dims = bare_dims d.dims; init = where_given bare_init d.init }
+bare_declarator d = record d { place = nowhere; dims = bare_dims d.dims; init = option_map bare_init d.init }
 
 -- C17 6.7.6.3: a parameter without the places in it
 abbrev pub bare_param : Param → Param
@@ -103,11 +98,11 @@ bare_stmt_step (Stmt-F.If place test chosen other) = stmt.If nowhere (bare_expr 
 bare_stmt_step (Stmt-F.While place test body) = stmt.While nowhere (bare_expr test) body
 bare_stmt_step (Stmt-F.DoWhile place body test) = stmt.DoWhile nowhere body (bare_expr test)
 bare_stmt_step (Stmt-F.For place start test step body) =
-    stmt.For nowhere (bare_first start) (where_given bare_expr test) (where_given bare_expr step) body
+    stmt.For nowhere (bare_first start) (option_map bare_expr test) (option_map bare_expr step) body
 bare_stmt_step (Stmt-F.Switch place on parts) = stmt.Switch nowhere (bare_expr on) parts
 bare_stmt_step (Stmt-F.Break place) = stmt.Break nowhere
 bare_stmt_step (Stmt-F.Continue place) = stmt.Continue nowhere
-bare_stmt_step (Stmt-F.Return place value) = stmt.Return nowhere (where_given bare_expr value)
+bare_stmt_step (Stmt-F.Return place value) = stmt.Return nowhere (option_map bare_expr value)
 bare_stmt_step (Stmt-F.Declare place specs list) = stmt.Declare nowhere specs (map bare_declarator list)
 
 -- C17 6.8.1, 6.8.4.2: a part of a `switch` without its own place, whose statement has none either

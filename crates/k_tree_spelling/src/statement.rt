@@ -1,7 +1,6 @@
 //! Statements as tokens.
-ghost use Rattle.std.specs.Prelude.{◌≡◌, ◌++◌, IfOk};
+ghost use Rattle.std.specs.Prelude.{◌≡◌, ◌++◌, IfOk, option_map};
 ghost use Rattle.k_tree.specs.Spelling.{spell_stmt, spell_stmts, spell_first, spell_for, spell_do, spell_else, spell_option, spell_part, spell_switched, spell_expr, in_braces, the_word, the_mark, in_parens};
-ghost use Rattle.k_tree.specs.Bare.{where_given};
 ghost use Rattle.k_tree.specs.declared.tokens.mark.Mark.TheVariants as mark;
 
 use crate::printer::Printer;
@@ -64,7 +63,7 @@ impl Printer {
     /// Writes the `else` of an `if`, if there is one.
     #[cycle(statements)]
     fn else_part(&mut self, other: &Option<Box<Stmt>>) -> Result<(), NoMemory>
-        ensures { IfOk result (λ _. self.new.tokens ≡ self.old.tokens ++ spell_else (where_given spell_stmt other.now)) }
+        ensures { IfOk result (λ _. self.new.tokens ≡ self.old.tokens ++ spell_else (option_map spell_stmt other.now)) }
     {
         match other {
             None => Ok(()),

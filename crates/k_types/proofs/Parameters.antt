@@ -14,7 +14,7 @@ use Rattle.k_types_meaning.specs.Names.{Names}
 use Rattle.k_types_meaning.specs.Statements.{Judged, Known, judged_before}
 use Rattle.k_types_rules.specs.Views.{Refuses}
 use Rattle.k_types_expressions.specs.Arguments.{made_before}
-use Rattle.k_types.specs.Parameters.{GoesAll, GoesOn, behind_variable, tested, type_with}
+use Rattle.k_types.specs.Parameters.{GoesAll, GoesOn, behind_variable, checked_type, type_with}
 use Rattle.k_types.specs.Results.{MakesOrRefuses}
 use Rattle.k_types.proofs.Faults.{refuses_first, refuses_behind}
 use Rattle.k_types.proofs.Rests.{rest_from, nothing_from}
@@ -53,13 +53,13 @@ module _ (defines : Bool) (known : Known) (p : Param) where
       → of ≡ type_or_int (type_with p (sizes_or_none (param_sizes sizes)))
       → twice ≡ option_twice known.names p.name → typed ≡ (is_some (type_with p []) && (not defines || is_some p.name)) → fits ≡ is_some (param_sizes sizes)
       → newer ≡ behind_variable (record known { taken = known.taken ++ taken }) p of
-      → ((a : CType) → MakesOrRefuses result a (tested twice typed fits p a))
+      → ((a : CType) → MakesOrRefuses result a (checked_type twice typed fits p a))
       → GoesOn result newer (param_judged defines known p)
   unfolding param_judged
   param_goes result newer sizes taken of twice typed fits judged of_is twice_is typed_is fits_is after makes =
       let found : Sizes = record { sizes = sizes; taken = taken } in
-      let made : tested twice typed fits p (type_by (Fine found)) ≡ made_by (Fine found) =
-      (λ i. tested (twice_is i) (typed_is i) (fits_is i) p (type_by (Fine found)))
+      let made : checked_type twice typed fits p (type_by (Fine found)) ≡ made_by (Fine found) =
+      (λ i. checked_type (twice_is i) (typed_is i) (fits_is i) p (type_by (Fine found)))
       ∙ ap (λ m. cond (option_twice known.names p.name) (refused (fault.Twice (name_or_nothing p.name) p.place))
       (cond (is_some (type_with p []) && (not defines || is_some p.name)) m (refused (fault.Kinds p.place)))) (sized_is p (type_by (Fine found)) (param_sizes sizes)) in
       subst (λ m. GoesOn result newer (record { made = made_by m; after = after_by m })) (sym judged)

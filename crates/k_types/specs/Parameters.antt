@@ -25,8 +25,8 @@ behind_variable known p of = record {
 }
 
 -- what is made of a parameter of this type, by whether its name stands there, it has a type and its sizes are right
-abbrev pub tested : Bool → Bool → Bool → Param → CType → Made CType
-tested twice typed fits p of =
+abbrev pub checked_type : Bool → Bool → Bool → Param → CType → Made CType
+checked_type twice typed fits p of =
     if twice then refused (fault.Twice (name_or_nothing p.name) p.place)
     else if typed then (if fits then Fine of else refused (fault.BadSize p.place))
     else refused (fault.Kinds p.place)

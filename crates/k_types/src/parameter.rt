@@ -5,7 +5,7 @@ ghost use Rattle.k_types_meaning.specs.declared.names.Meaning.TheVariants as mea
 ghost use Rattle.k_types_meaning.specs.declared.types.CType.{CType};
 ghost use Rattle.k_types_meaning.specs.Declarations.{object_fixed, object_type, type_or_int};
 ghost use Rattle.k_types_meaning.specs.Functions as rules;
-ghost use Rattle.k_types.specs.Parameters.{GoesAll, GoesOn, behind_variable, tested, type_with};
+ghost use Rattle.k_types.specs.Parameters.{GoesAll, GoesOn, behind_variable, checked_type, type_with};
 ghost use Rattle.k_types.specs.Results.{MakesOrRefuses};
 
 use crate::standing::twice;
@@ -247,7 +247,7 @@ fn test_param(
     typed: bool,
     fits: bool,
 ) -> Result<(), TypeFault>
-    ensures { (of : CType) → MakesOrRefuses result of (tested stands_there typed fits param.now of) }
+    ensures { (of : CType) → MakesOrRefuses result of (checked_type stands_there typed fits param.now of) }
 {
     if stands_there {
         return Err(twice(alloc, param.place, name_or_nothing(&param.name)));

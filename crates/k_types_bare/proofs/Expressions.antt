@@ -38,7 +38,7 @@ use Rattle.k_types_meaning.specs.Made.{Made, Fine, refused}
 use Rattle.k_types_meaning.specs.Names.{Names, meaning_of}
 use Rattle.k_types_meaning.specs.Operands as operands
 use Rattle.k_types_meaning.specs.Operands.{addressed, cast_number, cast_pointer, cast_rule, cast_to, char_rule, index_rule, indexed, name_rule, named, number_rule, of_number, plus_of, pointed_to, post_rule, pre_rule, size_named, size_number, sizeof_rule, sizeof_type_rule, step_change, stepped, string_rule, string_type, unary_kind, unary_of, unary_rule, value, variable_step, written}
-use Rattle.k_types_meaning.specs.Operators.{Operand, Nothing, ANumber, APointer, arms, assign_by, assign_rule, assigned, binary_rule, change_kind, changed, changed_by, comma_rule, common_of, compares, cond_rule, equal_pointers, moved, number_and_pointer, on_numbers, operand, operated, operated_by, pointer_and_number, right_kind, set_rule, shift_of, taken_in, taken_in_three, tested, two_pointers}
+use Rattle.k_types_meaning.specs.Operators.{Operand, Nothing, ANumber, APointer, arms, assign_by, assign_rule, assigned, binary_rule, change_kind, changed, changed_by, comma_rule, common_of, compares, cond_rule, equal_pointers, moved, number_and_pointer, on_numbers, operand, operated, operated_by, pointer_and_number, right_kind, set_rule, shift_of, taken_in, taken_in_three, cond_of_kind, two_pointers}
 use Rattle.k_types_meaning.specs.Specifiers.{type_named}
 use Rattle.k_types_meaning.specs.Types.{as_type, decayed, equal_element, number_kind, pointed, pointer_to, same_element, told}
 use Rattle.k_types_meaning.proofs.Elaborates.{sound}
@@ -250,7 +250,7 @@ module _ (p : Place) (t a b : Typed) (ht : IsBareTyped t) (ha : IsBareTyped a) (
   bare_arms (APointer e) Nothing = tt
   bare_arms (APointer e) (ANumber k) = tt
 
-  bare_tested : (k : Option Kind) → BareMade (tested p k t a b)
+  bare_tested : (k : Option Kind) → BareMade (cond_of_kind p k t a b)
   bare_tested None = tt
   bare_tested (Some kind) = bare_arms (operand a.of) (operand b.of)
 
@@ -386,11 +386,11 @@ bare_all_formatted (kind ∷ kinds) [] all = tt
 bare_all_formatted (kind ∷ kinds) (a ∷ args) all =
     bare_tree_before (formatted kind a (number_kind a.of)) (all_formatted kinds args) (bare_formatted kind a (number_kind a.of) all.0) (bare_all_formatted kinds args all.1)
 
-bare_print_trees : (p : Place) (marks : List formats.Mark) (taken : List ℕ) (o : Option (List TExpr)) → BareTrees o → BareMade (print_trees p marks taken o)
+bare_print_trees : (p : Place) (marks : List formats.FormatMark) (taken : List ℕ) (o : Option (List TExpr)) → BareTrees o → BareMade (print_trees p marks taken o)
 bare_print_trees p marks taken None h = tt
 bare_print_trees p marks taken (Some trees) h = bare_Printf p (ttype.Number I32) (pieces_of marks) trees h
 
-bare_print_marks : (p : Place) (taken : List ℕ) (args : List Typed) (o : Option (List formats.Mark)) → AllOf IsBareTyped args → BareMade (print_marks p taken args o)
+bare_print_marks : (p : Place) (taken : List ℕ) (args : List Typed) (o : Option (List formats.FormatMark)) → AllOf IsBareTyped args → BareMade (print_marks p taken args o)
 bare_print_marks p taken args None all = tt
 bare_print_marks p taken args (Some marks) all = bare_print_trees p marks taken (all_formatted (kinds_taken marks) args) (bare_all_formatted (kinds_taken marks) args all)
 

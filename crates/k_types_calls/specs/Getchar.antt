@@ -1,6 +1,6 @@
 -- Believed with the theorem on the top call.
 -- Whether a typed source calls the library's `getchar` (C17 7.21.7.6), be that call reached or not. The operand of a `sizeof` is no part of the typed tree.
-use Rattle.std.specs.Prelude.{Bool, true, false, ◌||◌, List, [], ◌∷◌, map, Option, Some, None}
+use Rattle.std.specs.Prelude.{Bool, true, false, ◌||◌, List, [], ◌∷◌, map, Option, Some, None, unwrap_or}
 use Rattle.k_types_meaning.specs.declared.tree.expression.TExpr.{TExpr, fold-TExpr}
 use Rattle.k_types_meaning.specs.declared.tree.expression.TExpr.TheOpen.{TExpr-F}
 use Rattle.k_types_meaning.specs.declared.tree.declaration.TDeclarator.{TDeclarator}
@@ -20,11 +20,6 @@ use Rattle.k_types_meaning.specs.declared.tree.unit.TUnit.{TUnit}
 abbrev pub any : List Bool → Bool
 any [] = false
 any (one ∷ others) = one || any others
-
--- one that may be left out holds a call
-abbrev pub if_there : Option Bool → Bool
-if_there None = false
-if_there (Some one) = one
 
 -- an expression holds a call, of whose operands it is known
 abbrev pub calls_step : TExpr-F Bool → Bool
@@ -98,7 +93,7 @@ abbrev pub stmt_step : TStmt-F Bool Bool → Bool
 stmt_step (TStmt-F.Expr spot e) = calls e
 stmt_step (TStmt-F.Empty spot) = false
 stmt_step (TStmt-F.Block spot parts) = any parts
-stmt_step (TStmt-F.If spot test a b) = calls test || (a || if_there b)
+stmt_step (TStmt-F.If spot test a b) = calls test || (a || unwrap_or b false)
 stmt_step (TStmt-F.While spot turns test body) = calls test || body
 stmt_step (TStmt-F.DoWhile spot turns body test) = calls test || body
 stmt_step (TStmt-F.For spot turns start test step body) = first_calls start || (calls_if_there test || (calls_if_there step || body))

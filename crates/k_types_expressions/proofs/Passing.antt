@@ -10,7 +10,7 @@ use Rattle.k_types_meaning.specs.declared.types.CType.TheVariants as ctype
 use Rattle.k_types_meaning.specs.declared.tree.expression.TExpr.{TExpr}
 use Rattle.k_types_meaning.specs.CallRules.{printf_called, print_bytes, print_marks, print_trees, bytes_in, Passing, Passes, WrongKind, WrongCount, passed_before, passing, tree_before, formatted, all_formatted, called_with, all_taken}
 use Rattle.k_types_meaning.specs.Conversions.{Typed, at, passed}
-use Rattle.k_types_meaning.specs.Formats.{Mark, marks_of, pieces_of, kinds_taken}
+use Rattle.k_types_meaning.specs.Formats.{FormatMark, marks_of, pieces_of, kinds_taken}
 use Rattle.k_types_meaning.specs.declared.fault.TypeFault.TheVariants as fault
 use Rattle.k_types_meaning.specs.declared.types.TType.TheVariants as ttype
 use Rattle.k_types_meaning.specs.declared.tree.expression.TExpr.TheVariants as trees
@@ -183,12 +183,12 @@ abbrev pub printed : Place → Format → List ℕ → Option (List TExpr) → M
 printed p f taken None = refused (fault.BadFormat p)
 printed p f taken (Some args) = Fine (number I32 (trees.Printf (at p (ttype.Number I32)) f.pieces args) taken)
 
-printed_marks : (p : Place) (marks : List Mark) (taken : List ℕ) (option : Option (List TExpr))
+printed_marks : (p : Place) (marks : List FormatMark) (taken : List ℕ) (option : Option (List TExpr))
     → print_trees p marks taken option ≡ printed p (record { pieces = pieces_of marks; kinds = kinds_taken marks }) taken option
 printed_marks p marks taken None = refl
 printed_marks p marks taken (Some args) = refl
 
-printed_by_marks : (p : Place) (taken : List ℕ) (js : List TypedExpr) (ts : List (List ℕ)) (f : Format) (m : Option (List Mark)) (option : Option (List TExpr))
+printed_by_marks : (p : Place) (taken : List ℕ) (js : List TypedExpr) (ts : List (List ℕ)) (f : Format) (m : Option (List FormatMark)) (option : Option (List TExpr))
     → format_of m ≡ Some f → all_formatted f.kinds (bare js) ≡ option → print_marks p taken (typed_all js ts) m ≡ printed p f taken option
 printed_by_marks p taken js ts f None option is all = cc
 printed_by_marks p taken js ts f (Some marks) option is all =

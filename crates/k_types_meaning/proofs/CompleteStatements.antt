@@ -26,7 +26,7 @@ use Rattle.k_types_meaning.specs.Conversions.{Typed, in_kind, passed}
 use Rattle.k_types_meaning.specs.Declarations.{saying}
 use Rattle.k_types_meaning.specs.Expressions.{judge}
 use Rattle.k_types_meaning.specs.Made.{Fine, then_made, refused}
-use Rattle.k_types_meaning.specs.Statements.{Known, Around, Labels, JudgedPart, Statement, SwitchPart, no_labels, spot, opened, left, inside_loop, inside_switch, is_among, judged_as, judged_before, part_before, behind, at_known, conditioned, in_order, each_in, parts_in_order, kind_or_int, promoted_or_int, option_judged, option_tree, first_judged, for_condition, for_judged, for_body, for_parts, for_behind, if_judged, else_judged, while_judged, do_judged, switch_judged, switched, return_made, return_nothing, case_made, case_labels, constant_labels, does_judged, expr_rule, empty_rule, block_rule, if_rule, while_rule, do_rule, for_rule, switch_rule, break_rule, continue_rule, return_rule, declare_rule, case_rule, default_rule, does_rule, stmt_step, part_step, judge_stmt}
+use Rattle.k_types_meaning.specs.Statements.{Known, Around, Labels, JudgedPart, Statement, SwitchPart, no_labels, spot, opened, scope_left, inside_loop, inside_switch, is_among, judged_as, judged_before, part_before, behind, at_known, conditioned, in_order, each_in, parts_in_order, kind_or_int, promoted_or_int, option_judged, option_tree, first_judged, for_condition, for_judged, for_body, for_parts, for_behind, if_judged, else_judged, while_judged, do_judged, switch_judged, switched, return_made, return_nothing, case_made, case_labels, constant_labels, does_judged, expr_rule, empty_rule, block_rule, if_rule, while_rule, do_rule, for_rule, switch_rule, break_rule, continue_rule, return_rule, declare_rule, case_rule, default_rule, does_rule, stmt_step, part_step, judge_stmt}
 use Rattle.k_types_meaning.specs.Types.{number_kind}
 use Rattle.k_types_meaning.proofs.Elaborates.{complete}
 use Rattle.k_types_meaning.specs.ElaboratedDeclarators.{ElabDeclared}
@@ -63,7 +63,7 @@ block_gives : (p : Place) (rules : List Statement) (around : Around) (known : Kn
     → in_order (opened known) (each_in around rules) ≡ comes trees inside
     → block_rule p rules around known ≡ comes (typed.Block (spot p) trees) (leaving known inside)
 unfolding block_rule
-block_gives p rules around known trees inside is = ap (λ j. left known (judged_as (typed.Block (spot p)) j)) is
+block_gives p rules around known trees inside is = ap (λ j. scope_left known (judged_as (typed.Block (spot p)) j)) is
 
 -- an `if` without an `else`
 if_alone_gives : (p : Place) (e : Expr) (rule : Statement) (around : Around) (known : Known) (v : Typed) (kind : Kind) (t : TStmt) (after : Known)
@@ -146,10 +146,10 @@ unfolding for_rule
 for_gives p start test step rule around known f a b t started tried went inside x y z body =
     let tests = test_gives started test a tried y in
     let steps = step_gives tried step b went z in
-    ap (λ j. left known (for_behind p test step rule around j)) (first_gives (opened known) start f started x)
-    ∙ ap (λ j. left known (for_parts p (comes f started) rule around j step)) tests.1
-    ∙ ap (λ j. left known (for_body p (comes f started) rule around (comes tests.0 tried) j)) steps.1
-    ∙ ap (λ j. left known (for_judged p (comes f started) (comes tests.0 tried) (comes steps.0 went) j)) body
+    ap (λ j. scope_left known (for_behind p test step rule around j)) (first_gives (opened known) start f started x)
+    ∙ ap (λ j. scope_left known (for_parts p (comes f started) rule around j step)) tests.1
+    ∙ ap (λ j. scope_left known (for_body p (comes f started) rule around (comes tests.0 tried) j)) steps.1
+    ∙ ap (λ j. scope_left known (for_judged p (comes f started) (comes tests.0 tried) (comes steps.0 went) j)) body
     ∙ ap (λ m. judged m (leaving known inside)) (tests.3 p (typed.For (spot p) 0 f (option_tree tests.0) (option_tree steps.0) t))
     ∙ ap (λ o. comes (typed.For (spot p) 0 f o (option_tree steps.0) t) (leaving known inside)) tests.2
     ∙ ap (λ o. comes (typed.For (spot p) 0 f a o t) (leaving known inside)) steps.2

@@ -14,7 +14,7 @@ use Rattle.k_types_meaning.specs.declared.tree.expression.TExpr.{TExpr, out-TExp
 use Rattle.k_types_meaning.specs.declared.tree.expression.TExpr.TheOpen.{TExpr-F}
 use Rattle.k_types_meaning.specs.declared.tree.expression.TExpr.TheVariants as typed
 use Rattle.k_types_meaning.specs.Conversions.{Typed, at, in_kind, passed}
-use Rattle.k_types_meaning.specs.Formats.{Mark, marks_of, pieces_of, kinds_taken}
+use Rattle.k_types_meaning.specs.Formats.{FormatMark, marks_of, pieces_of, kinds_taken}
 use Rattle.k_types_meaning.specs.Made.{Made, Fine, refused}
 use Rattle.k_types_meaning.specs.declared.names.Library.{Library}
 use Rattle.k_types_meaning.specs.declared.names.Library.TheVariants.{Getchar, Putchar, Puts, Printf}
@@ -124,13 +124,13 @@ all_formatted (kind ∷ kinds) [] = None
 all_formatted (kind ∷ kinds) (a ∷ args) = tree_before (formatted kind a (number_kind a.of)) (all_formatted kinds args)
 
 -- printf of marks, with its arguments as they are taken
-abbrev pub print_trees : Place → List Mark → List ℕ → Option (List TExpr) → Made Typed
+abbrev pub print_trees : Place → List FormatMark → List ℕ → Option (List TExpr) → Made Typed
 print_trees p marks taken None = refused (fault.BadFormat p)
 print_trees p marks taken (Some trees) =
     Fine (number I32 (typed.Printf (at p (ttype.Number I32)) (pieces_of marks) trees) taken)
 
 -- printf of what may be marks
-abbrev pub print_marks : Place → List ℕ → List Typed → Option (List Mark) → Made Typed
+abbrev pub print_marks : Place → List ℕ → List Typed → Option (List FormatMark) → Made Typed
 print_marks p taken args None = refused (fault.BadFormat p)
 print_marks p taken args (Some marks) = print_trees p marks taken (all_formatted (kinds_taken marks) args)
 

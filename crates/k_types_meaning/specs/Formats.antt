@@ -9,12 +9,12 @@ use Rattle.k_types_meaning.specs.declared.tree.expression.Written.{Written}
 use Rattle.k_types_meaning.specs.declared.tree.expression.Written.TheVariants.{Byte, Decimal, Hex}
 
 -- what stands in a format: a byte that is written, or the place of an argument of a kind
-pub data Mark : Type 0 where
-  Literal : ℕ → Mark
-  Takes : Written → Kind → Mark
+pub data FormatMark : Type 0 where
+  Literal : ℕ → FormatMark
+  Takes : Written → Kind → FormatMark
 
 -- the conversions, as they are spelled
-abbrev pub conversions : List (List ℕ × Mark)
+abbrev pub conversions : List (List ℕ × FormatMark)
 conversions =
     (codes "%%", Literal 37) ∷
     (codes "%c", Takes Byte I32) ∷
@@ -37,23 +37,23 @@ abbrev pub IsPlain : ℕ → Type 0
 IsPlain b = (b ≡ 0 → ⊥) × (b ≡ 37 → ⊥)
 
 -- Text spells marks: each conversion as the list says, and each other byte but `%` and 0 for itself.
-pub data Spells : List ℕ → List Mark → Type 0 where
+pub data Spells : List ℕ → List FormatMark → Type 0 where
   ends : Spells [] []
-  byte : (b : ℕ) (text : List ℕ) (marks : List Mark) → IsPlain b → Spells text marks → Spells (b ∷ text) (Literal b ∷ marks)
-  conversion : (spelled : List ℕ) (mark : Mark) (text : List ℕ) (marks : List Mark) → Contains conversions (spelled, mark) → Spells text marks → Spells (spelled ++ text) (mark ∷ marks)
+  byte : (b : ℕ) (text : List ℕ) (marks : List FormatMark) → IsPlain b → Spells text marks → Spells (b ∷ text) (Literal b ∷ marks)
+  conversion : (spelled : List ℕ) (mark : FormatMark) (text : List ℕ) (marks : List FormatMark) → Contains conversions (spelled, mark) → Spells text marks → Spells (spelled ++ text) (mark ∷ marks)
 
 -- how a number of 32 or of 64 bits is taken: behind `%` come no, one or two `l`
-abbrev pub takes : Written → Kind → Kind → ℕ → Option Mark
+abbrev pub takes : Written → Kind → Kind → ℕ → Option FormatMark
 takes written short long zero = Some (Takes written short)
 takes written short long (suc n) = Some (Takes written long)
 
 -- what stands behind `%` alone
-abbrev pub only_alone : Mark → ℕ → Option Mark
+abbrev pub only_alone : FormatMark → ℕ → Option FormatMark
 only_alone mark zero = Some mark
 only_alone mark (suc n) = None
 
 -- the mark that a byte ends behind `%` and so many `l`
-abbrev pub mark_ended : ℕ → ℕ → Option Mark
+abbrev pub mark_ended : ℕ → ℕ → Option FormatMark
 mark_ended n b =
     if b == 100 then takes Decimal I32 I64 n
     else if b == 105 then takes Decimal I32 I64 n
@@ -64,7 +64,7 @@ mark_ended n b =
     else None
 
 -- a mark before others, where there are both
-abbrev pub mark_before : Option Mark → Option (List Mark) → Option (List Mark)
+abbrev pub mark_before : Option FormatMark → Option (List FormatMark) → Option (List FormatMark)
 mark_before None marks = None
 mark_before (Some mark) None = None
 mark_before (Some mark) (Some marks) = Some (mark ∷ marks)
@@ -75,7 +75,7 @@ pub data Reading : Type 0 where
   Behind : ℕ → Reading
 
 -- The marks that a text spells, read from its start; none where it spells none: the text of `Spells`, from left to right.
-abbrev pub marks_from : Reading → List ℕ → Option (List Mark)
+abbrev pub marks_from : Reading → List ℕ → Option (List FormatMark)
 marks_from Outside [] = Some []
 marks_from Outside (b ∷ text) =
     if b == 37 then marks_from (Behind 0) text
@@ -87,7 +87,7 @@ marks_from (Behind n) (b ∷ text) =
     else mark_before (mark_ended n b) (marks_from Outside text)
 
 -- the marks of a format, or none where it is no format
-abbrev pub marks_of : List ℕ → Option (List Mark)
+abbrev pub marks_of : List ℕ → Option (List FormatMark)
 marks_of text = marks_from Outside text
 
 -- a byte before pieces: neighbouring bytes are one piece
@@ -97,13 +97,13 @@ byte_before b (piece.Bytes bytes ∷ pieces) = piece.Bytes (b ∷ bytes) ∷ pie
 byte_before b (piece.Argument written ∷ pieces) = piece.Bytes (b ∷ []) ∷ piece.Argument written ∷ pieces
 
 -- the pieces of a format
-abbrev pub pieces_of : List Mark → List Piece
+abbrev pub pieces_of : List FormatMark → List Piece
 pieces_of [] = []
 pieces_of (Literal b ∷ marks) = byte_before b (pieces_of marks)
 pieces_of (Takes written kind ∷ marks) = piece.Argument written ∷ pieces_of marks
 
 -- the kinds of the arguments that a format takes
-abbrev pub kinds_taken : List Mark → List Kind
+abbrev pub kinds_taken : List FormatMark → List Kind
 kinds_taken [] = []
 kinds_taken (Literal b ∷ marks) = kinds_taken marks
 kinds_taken (Takes written kind ∷ marks) = kind ∷ kinds_taken marks

@@ -140,13 +140,13 @@ arms p (APointer a) Nothing test first second = refused (fault.Kinds p)
 arms p (APointer a) (ANumber k) test first second = refused (fault.Kinds p)
 
 -- `?:`, by the kind of its test
-abbrev pub tested : Place → Option Kind → Typed → Typed → Typed → Made Typed
-tested p None test first second = refused (fault.Kinds p)
-tested p (Some kind) test first second = arms p (operand first.of) (operand second.of) test first second
+abbrev pub cond_of_kind : Place → Option Kind → Typed → Typed → Typed → Made Typed
+cond_of_kind p None test first second = refused (fault.Kinds p)
+cond_of_kind p (Some kind) test first second = arms p (operand first.of) (operand second.of) test first second
 
 -- C17 6.5.15: `?:` tests a number
 unfoldable pub cond_rule : Place → Typed → Typed → Typed → Made Typed
-cond_rule p test first second = tested p (number_kind test.of) test first second
+cond_rule p test first second = cond_of_kind p (number_kind test.of) test first second
 
 -- `=`, by what is passed
 abbrev pub assigned : Place → Typed → Typed → Option TExpr → Made Typed

@@ -163,8 +163,8 @@ unfoldable pub empty_rule : Place → Statement
 empty_rule p around known = record { made = Fine (typed.Empty (spot p)); after = known }
 
 -- C17 6.2.1p4: a statement is left: the names that were declared in it are known no more
-abbrev pub left : {A : Type 0} → Known → Judged A → Judged A
-left known s = record { made = s.made; after = record s.after { names = known.names } }
+abbrev pub scope_left : {A : Type 0} → Known → Judged A → Judged A
+scope_left known s = record { made = s.made; after = record s.after { names = known.names } }
 
 -- statements where this lies around each of them
 abbrev pub each_in : Around → List Statement → List (Known → Judged TStmt)
@@ -173,7 +173,7 @@ each_in around (s ∷ statements) = s around ∷ each_in around statements
 
 -- C17 6.8.2: a block, whose names are known in it alone
 unfoldable pub block_rule : Place → List Statement → Statement
-block_rule p parts around known = left known (judged_as (typed.Block (spot p)) (in_order (opened known) (each_in around parts)))
+block_rule p parts around known = scope_left known (judged_as (typed.Block (spot p)) (in_order (opened known) (each_in around parts)))
 
 -- C17 6.8.4.1: an `if` of which this is judged: its test is a number
 abbrev pub if_made : Place → Typed → TStmt → Option TStmt → Made TStmt
@@ -271,7 +271,7 @@ for_behind p test step body around start = for_parts p start body around (option
 
 -- C17 6.8.5.3, 6.8.5p5: a `for`, whose names are known in it alone
 unfoldable pub for_rule : Place → First → Option Expr → Option Expr → Statement → Statement
-for_rule p start test step body around known = left known (for_behind p test step body around (first_judged (opened known) start))
+for_rule p start test step body around known = scope_left known (for_behind p test step body around (first_judged (opened known) start))
 
 -- C17 6.8.6.3: a `break` stands in a loop or a switch
 unfoldable pub break_rule : Place → Statement

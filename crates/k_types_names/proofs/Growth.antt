@@ -2,7 +2,7 @@
 use Rattle.std.proofs.Common.{◌≡◌, ℕ, List, [], ◌∷◌, ◌++◌, Option, Some, None, refl, sym, ap, ◌∙◌, append_assoc}
 use Rattle.std.proofs.lemmas.List.{append-nil}
 use Rattle.k_num.specs.declared.numbers.Kind.{Kind}
-use Rattle.k_types_meaning.specs.Formats.{Mark, byte_before, kinds_taken, mark_before, pieces_of}
+use Rattle.k_types_meaning.specs.Formats.{FormatMark, byte_before, kinds_taken, mark_before, pieces_of}
 use Rattle.k_types_meaning.specs.declared.tree.expression.Piece.{Piece}
 use Rattle.k_types_meaning.specs.declared.tree.expression.Piece.TheVariants as piece
 use Rattle.k_types_meaning.specs.declared.tree.expression.Written.{Written}
@@ -30,9 +30,9 @@ a_growing pieces bytes kinds = record { pieces = pieces; bytes = bytes; kinds = 
 
 -- what is found goes before the marks to come
 abbrev pub Adds : Growing → Growing → FormatItem → Type 0
-Adds old new what = (marks : List Mark) → with_marks new marks ≡ with_marks old (mark_in what ∷ marks)
+Adds old new what = (marks : List FormatMark) → with_marks new marks ≡ with_marks old (mark_in what ∷ marks)
 
-module _ (growing : Growing) (what : FormatItem) (marks : List Mark) where
+module _ (growing : Growing) (what : FormatItem) (marks : List FormatMark) where
   -- a byte is found
   pub byte_added : (b : ℕ) (bytes : List ℕ) → what ≡ found.Literal b → bytes ≡ growing.bytes ++ b ∷ []
       → with_marks (a_growing growing.pieces bytes growing.kinds) marks ≡ with_marks growing (mark_in what ∷ marks)
@@ -71,12 +71,12 @@ ended growing pieces kinds end same =
     ∙ ap (a_format (growing.pieces ++ bytes_before growing.bytes [])) (same ∙ sym (append-nil growing.kinds))
 
 -- a format of which nothing is read
-pub formed_new : (o : Option (List Mark)) → formed (a_growing [] [] []) o ≡ format_of o
+pub formed_new : (o : Option (List FormatMark)) → formed (a_growing [] [] []) o ≡ format_of o
 formed_new None = refl
 formed_new (Some marks) = refl
 
 -- a mark is found before others
-pub formed_more : (old new : Growing) (what : FormatItem) → ((marks : List Mark) → with_marks new marks ≡ with_marks old (mark_in what ∷ marks)) → (o : Option (List Mark))
+pub formed_more : (old new : Growing) (what : FormatItem) → ((marks : List FormatMark) → with_marks new marks ≡ with_marks old (mark_in what ∷ marks)) → (o : Option (List FormatMark))
     → formed new o ≡ formed old (mark_before (Some (mark_in what)) o)
 formed_more old new what same None = refl
 formed_more old new what same (Some marks) = ap (λ (f : Format). Some f) (same marks)

@@ -1,7 +1,7 @@
 -- The marks of a text are those that it spells.
 use Rattle.std.proofs.Common.{◌≡◌, ℕ, zero, suc, ◌<◌, List, [], ◌∷◌, ◌++◌, length, Some, None, refl, ap, ◌∙◌, subst, arith, ne_eqb}
 use Rattle.std.specs.Prelude.{◌==◌, slice_index_or, if◌then◌else◌}
-use Rattle.k_types_meaning.specs.Formats.{Mark, Literal, Outside, Behind, Spells, ends, byte, conversion, conversions, mark_before, marks_from, marks_of}
+use Rattle.k_types_meaning.specs.Formats.{FormatMark, Literal, Outside, Behind, Spells, ends, byte, conversion, conversions, mark_before, marks_from, marks_of}
 
 -- all items have a property
 abbrev AllOf : {A : Type 0} → (A → Type 0) → List A → Type 0
@@ -14,7 +14,7 @@ item_of P (x ∷ xs) all zero d within = all.0
 item_of P (x ∷ xs) all (suc k) d within = item_of P xs all.1 k d (omega arith)
 
 -- a text that begins with a conversion has its mark, and then those of the rest
-abbrev IsRead : List ℕ × Mark → Type 0
+abbrev IsRead : List ℕ × FormatMark → Type 0
 IsRead entry = (text : List ℕ) → marks_from Outside (entry.0 ++ text) ≡ mark_before (Some entry.1) (marks_from Outside text)
 
 all_read : AllOf IsRead conversions
@@ -27,7 +27,7 @@ plain_read b text some other =
     ∙ ap (λ t. if t then None else mark_before (Some (Literal b)) (marks_from Outside text)) (ne_eqb b 0 some)
 
 -- what a text spells is read
-pub complete : (text : List ℕ) (marks : List Mark) → Spells text marks → marks_of text ≡ Some marks
+pub complete : (text : List ℕ) (marks : List FormatMark) → Spells text marks → marks_of text ≡ Some marks
 complete _ _ ends = refl
 complete _ _ (byte b text marks plain rest) =
     plain_read b text plain.0 plain.1 ∙ ap (mark_before (Some (Literal b))) (complete text marks rest)

@@ -6,7 +6,7 @@ use Rattle.k_num.specs.declared.numbers.Kind.{Kind}
 use Rattle.k_num.specs.declared.numbers.Kind.TheVariants.{I32, U32, I64, U64}
 use Rattle.k_types_meaning.specs.declared.tree.expression.Written.{Written}
 use Rattle.k_types_meaning.specs.declared.tree.expression.Written.TheVariants.{Byte, Decimal, Hex}
-use Rattle.k_types_meaning.specs.Formats.{Mark, Literal, Takes, Reading, Outside, Behind, Spells, ends, byte, conversion, conversions, mark_before, mark_ended, marks_from, marks_of, only_alone, takes}
+use Rattle.k_types_meaning.specs.Formats.{FormatMark, Literal, Takes, Reading, Outside, Behind, Spells, ends, byte, conversion, conversions, mark_before, mark_ended, marks_from, marks_of, only_alone, takes}
 use Rattle.k_types_names.proofs.Marks.{plain_read}
 
 -- so many `l`
@@ -39,41 +39,41 @@ or_later (inl p) f = inl p
 or_later (inr q) f = inr (f q)
 
 -- a conversion is listed
-abbrev IsListed : ℕ → ℕ → Mark → Type 0
+abbrev IsListed : ℕ → ℕ → FormatMark → Type 0
 IsListed n b m = Contains conversions (37 ∷ (longs n ++ b ∷ []), m)
 
-listed_as : (n b letter : ℕ) (m mark : Mark) → b ≡ letter → Some mark ≡ Some m → IsListed n letter mark → IsListed n b m
+listed_as : (n b letter : ℕ) (m mark : FormatMark) → b ≡ letter → Some mark ≡ Some m → IsListed n letter mark → IsListed n b m
 listed_as n b letter m mark same is listed =
     let e : mark ≡ m = cc in subst (λ x. IsListed n b x) e (subst (λ x. IsListed n x mark) (sym same) listed)
 
 module _ (written : Written) (short long : Kind) (letter : ℕ) where
   listed_taken : IsListed 0 letter (Takes written short) → IsListed 1 letter (Takes written long) → IsListed 2 letter (Takes written long)
-      → (n : ℕ) → n ≤ 2 → (b : ℕ) (m : Mark) → b ≡ letter → takes written short long n ≡ Some m → IsListed n b m
+      → (n : ℕ) → n ≤ 2 → (b : ℕ) (m : FormatMark) → b ≡ letter → takes written short long n ≡ Some m → IsListed n b m
   listed_taken none one two zero most b m same is = listed_as 0 b letter m (Takes written short) same is none
   listed_taken none one two (suc zero) most b m same is = listed_as 1 b letter m (Takes written long) same is one
   listed_taken none one two (suc (suc zero)) most b m same is = listed_as 2 b letter m (Takes written long) same is two
   listed_taken none one two (suc (suc (suc n))) most b m same is = absurd (omega arith)
 
-listed_alone : (mark : Mark) (letter : ℕ) → IsListed 0 letter mark → (n b : ℕ) (m : Mark) → b ≡ letter → only_alone mark n ≡ Some m → IsListed n b m
+listed_alone : (mark : FormatMark) (letter : ℕ) → IsListed 0 letter mark → (n b : ℕ) (m : FormatMark) → b ≡ letter → only_alone mark n ≡ Some m → IsListed n b m
 listed_alone mark letter none zero b m same is = listed_as 0 b letter m mark same is none
 listed_alone mark letter none (suc n) b m same is = let no : ⊥ = cc in absurd no
 
-abbrev chain5 : ℕ → ℕ → Option Mark
+abbrev chain5 : ℕ → ℕ → Option FormatMark
 chain5 n b = if b == 37 then only_alone (Literal 37) n else None
 
-abbrev chain4 : ℕ → ℕ → Option Mark
+abbrev chain4 : ℕ → ℕ → Option FormatMark
 chain4 n b = if b == 99 then only_alone (Takes Byte I32) n else chain5 n b
 
-abbrev chain3 : ℕ → ℕ → Option Mark
+abbrev chain3 : ℕ → ℕ → Option FormatMark
 chain3 n b = if b == 120 then takes Hex U32 U64 n else chain4 n b
 
-abbrev chain2 : ℕ → ℕ → Option Mark
+abbrev chain2 : ℕ → ℕ → Option FormatMark
 chain2 n b = if b == 117 then takes Decimal U32 U64 n else chain3 n b
 
-abbrev chain1 : ℕ → ℕ → Option Mark
+abbrev chain1 : ℕ → ℕ → Option FormatMark
 chain1 n b = if b == 105 then takes Decimal I32 I64 n else chain2 n b
 
-module _ (n b : ℕ) (m : Mark) (most : n ≤ 2) where
+module _ (n b : ℕ) (m : FormatMark) (most : n ≤ 2) where
   by_percent : chain5 n b ≡ Some m → IsListed n b m
   by_percent is = elim (by_test b 37 (only_alone (Literal 37) n) None (Some m) is) [
     | inl here ↦ listed_alone (Literal 37) 37 (0, lit< tt, refl) n b m here.0 here.1
@@ -111,26 +111,26 @@ module _ (n b : ℕ) (m : Mark) (most : n ≤ 2) where
   ]
 
 -- marks of which the first is known
-record Parts (o : Option Mark) (p : Option (List Mark)) (marks : List Mark) : Type 0 where
-  first : Mark
-  rest : List Mark
+record Parts (o : Option FormatMark) (p : Option (List FormatMark)) (marks : List FormatMark) : Type 0 where
+  first : FormatMark
+  rest : List FormatMark
   one : o ≡ Some first
   others : p ≡ Some rest
   all : first ∷ rest ≡ marks
 
-parts_of : (o : Option Mark) (p : Option (List Mark)) (marks : List Mark) → mark_before o p ≡ Some marks → Parts o p marks
+parts_of : (o : Option FormatMark) (p : Option (List FormatMark)) (marks : List FormatMark) → mark_before o p ≡ Some marks → Parts o p marks
 parts_of None p marks is = let no : ⊥ = cc in absurd no
 parts_of (Some mark) None marks is = let no : ⊥ = cc in absurd no
 parts_of (Some mark) (Some rest) marks is =
     let e : mark ∷ rest ≡ marks = cc in record { first = mark; rest = rest; one = refl; others = refl; all = e }
 
-plain_spelled : (b : ℕ) (text : List ℕ) (marks : List Mark) → (b ≡ 0 → ⊥) → (b ≡ 37 → ⊥) → (parts : Parts (Some (Literal b)) (marks_from Outside text) marks)
+plain_spelled : (b : ℕ) (text : List ℕ) (marks : List FormatMark) → (b ≡ 0 → ⊥) → (b ≡ 37 → ⊥) → (parts : Parts (Some (Literal b)) (marks_from Outside text) marks)
     → Spells text parts.rest → Spells (b ∷ text) marks
 plain_spelled b text marks some other parts rest =
     let e : Literal b ≡ parts.first = (let is : Some (Literal b) ≡ Some parts.first = parts.one in cc) in
     subst (Spells (b ∷ text)) (ap (λ m. m ∷ parts.rest) e ∙ parts.all) (byte b text parts.rest (some, other) rest)
 
-ended_spelled : (n b : ℕ) (text : List ℕ) (marks : List Mark) → n ≤ 2 → (parts : Parts (mark_ended n b) (marks_from Outside text) marks)
+ended_spelled : (n b : ℕ) (text : List ℕ) (marks : List FormatMark) → n ≤ 2 → (parts : Parts (mark_ended n b) (marks_from Outside text) marks)
     → Spells text parts.rest → Spells (37 ∷ (longs n ++ b ∷ text)) marks
 ended_spelled n b text marks most parts rest =
     let whole : Spells ((37 ∷ (longs n ++ b ∷ [])) ++ text) (parts.first ∷ parts.rest) =
@@ -139,7 +139,7 @@ ended_spelled n b text marks most parts rest =
     (subst (λ t. Spells t (parts.first ∷ parts.rest)) (ap (λ t. 37 ∷ t) (append_assoc (longs n) (b ∷ []) text)) whole)
 
 -- what is read behind what was read before is spelled
-sound : (text : List ℕ) (r : Reading) (marks : List Mark) → AtMostTwo r → marks_from r text ≡ Some marks → Spells (before r ++ text) marks
+sound : (text : List ℕ) (r : Reading) (marks : List FormatMark) → AtMostTwo r → marks_from r text ≡ Some marks → Spells (before r ++ text) marks
 sound [] Outside marks most is = let none : [] ≡ marks = cc in subst (Spells []) none ends
 sound [] (Behind n) marks most is = let no : ⊥ = cc in absurd no
 sound (b ∷ text) Outside marks most is = elim (cases_eq b 37) [
@@ -170,5 +170,5 @@ sound (b ∷ text) (Behind n) marks most is = elim (cases_Bool (b == 108 && nat_
 ]
 
 -- the marks that are read of a text are spelled
-pub spelled : (text : List ℕ) (marks : List Mark) → marks_of text ≡ Some marks → Spells text marks
+pub spelled : (text : List ℕ) (marks : List FormatMark) → marks_of text ≡ Some marks → Spells text marks
 spelled text marks is = sound text Outside marks tt is

@@ -1,6 +1,6 @@
 //! The formats of `printf` (C17 7.21.6.1).
 ghost use Rattle.std.specs.Prelude.{◌≡◌, ◌++◌, [], ◌∷◌, List, ℕ, Some, None, IfOk, OnOk, option_map};
-ghost use Rattle.k_types_meaning.specs.Formats.{Mark, Literal, Takes, takes, only_alone, mark_ended, marks_from};
+ghost use Rattle.k_types_meaning.specs.Formats.{FormatMark, Literal, Takes, takes, only_alone, mark_ended, marks_from};
 ghost use Rattle.k_types_meaning.specs.Formats as formats;
 ghost use Rattle.k_types_names.specs.Forms.{continued, format_of, formed, mark_in, read_from, reading_in, run_of, unread, with_marks};
 
@@ -156,7 +156,7 @@ impl Growing {
 
     /// Adds what was found.
     fn add(&mut self, alloc: Global, found: FormatItem) -> Result<(), NoMemory>
-        ensures { OnOk result ((marks : List Mark) → with_marks self.new marks ≡ with_marks self.old (mark_in found ∷ marks)) }
+        ensures { OnOk result ((marks : List FormatMark) → with_marks self.new marks ≡ with_marks self.old (mark_in found ∷ marks)) }
     {
         match found {
             FormatItem::Literal(byte) => self.bytes.push(byte),

@@ -7,7 +7,7 @@ use Rattle.k_types_meaning.specs.declared.tree.declaration.TDeclarator.{TDeclara
 use Rattle.k_types_meaning.specs.Declarations.{Saying, entered}
 use Rattle.k_types_meaning.specs.Made.{Made, Fine, Faulty, both, two, then_made, Finds}
 use Rattle.k_types_meaning.specs.Names.{Names}
-use Rattle.k_types_meaning.specs.Statements.{Known, Judged, judged_as, declare, declare_all, left, opened}
+use Rattle.k_types_meaning.specs.Statements.{Known, Judged, judged_as, declare, declare_all, scope_left, opened}
 use Rattle.k_types_rules.specs.Views.{Refuses}
 use Rattle.k_types_names.specs.Scoping.{outside}
 use Rattle.k_types_declarations.specs.Results.{Goes}
@@ -83,7 +83,7 @@ pair_runs {A} {B} a b older middle newer first second runs more =
 
 -- a scope is left
 pub left_runs : {A : Type 0} (result : Result A TypeFault) (older inner newer : Known) (j : Judged A)
-    → Runs result (opened older) inner j → newer ≡ closed inner → Runs result older newer (left older j)
+    → Runs result (opened older) inner j → newer ≡ closed inner → Runs result older newer (scope_left older j)
 left_runs (Ok x) older inner newer j (made, after, kept) closes = (
   made,
   closes ∙ (ap (λ n. record inner { names = n }) kept ∙ ap (λ (k : Known). record k { names = older.names }) after),

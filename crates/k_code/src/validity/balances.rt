@@ -1,7 +1,7 @@
 //! Whether a function is balanced. What is open before an instruction is known once an earlier one leads to it, and each later one
 //! that leads to it has to agree, so that one pass decides.
 ghost use Rattle.std.specs.Prelude.{ℕ, ◌≡◌, ◌+◌, ◌-◌, ◌∷◌, ◌<◌, ◌≤◌, ◌^◌, ◌↔◌, length, replicate, slice_get, true, IsTrue, IfOk, None, Some};
-ghost use Rattle.k_code.specs.Balances.{IsBelow, jumps_to, left, nothing_open};
+ghost use Rattle.k_code.specs.Balances.{IsBelow, jumps_to, left_open, nothing_open};
 ghost use Rattle.k_code.specs.Decides.{Adds, Agrees, Follows, HasBalance, IsOpen, JumpsAreWithin, Knows, Settles};
 
 use super::ranges::goes_on;
@@ -85,7 +85,7 @@ fn jumps_agree(entry: usize, act: &Do, balance: Balance, before: &mut [Option<Ba
 /// Whether the next instruction agrees with what this one leaves, if it goes on.
 fn next_agrees(k: usize, act: &Do, balance: Balance, before: &mut [Option<Balance>]) -> bool
     requires place { k + 1 < length before.old }
-    requires below { IsBelow (2 ^ 64) (left act.now balance) }
+    requires below { IsBelow (2 ^ 64) (left_open act.now balance) }
     ensures { Follows result k act.now balance before.old before.new }
 {
     if goes_on(act) {

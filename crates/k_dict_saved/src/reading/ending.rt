@@ -12,7 +12,7 @@ use k_optab::{Region, RegionKind};
 use std::alloc::Global;
 
 /// Whether a region is the function main.
-fn is_main(region: &Region) -> bool
+pub fn is_main(region: &Region) -> bool
     ensures { IsTrue result ↔ ((region.now.kind ≡ Func) × (region.now.func ≡ codes "main")) }
 {
     match region.kind {
@@ -33,7 +33,7 @@ pub(crate) fn ends_in_main(regions: &[Region], entries: &[Entry]) -> bool
 }
 
 /// Marks the entries that runs name.
-fn mark(marks: &mut [bool], runs: &[Run])
+pub fn mark(marks: &mut [bool], runs: &[Run])
     requires { NameBelow (length marks.old) runs.now }
     ensures { marks.new ≡ spec.marked marks.old runs.now }
 {
@@ -45,7 +45,7 @@ fn mark(marks: &mut [bool], runs: &[Run])
 }
 
 /// Marks the entries that others name.
-fn mark_all(marks: &mut [bool], entries: &[Entry])
+pub fn mark_all(marks: &mut [bool], entries: &[Entry])
     requires { spec.AllNameBelow (length marks.old) entries.now }
     ensures { marks.new ≡ spec.marked_all marks.old entries.now }
 {

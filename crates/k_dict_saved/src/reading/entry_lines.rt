@@ -16,7 +16,7 @@ use k_num::{NoMemory, Seq};
 use std::alloc::Global;
 
 /// Whether runs name entries below a number, by rising number, each once, with counts of at least 1.
-fn are_rising(high: u32, runs: &[Run]) -> bool
+pub fn are_rising(high: u32, runs: &[Run]) -> bool
     requires { high ≤ 1048576 }
     ensures { IsTrue result ↔ AreRuns 0 high runs.now }
 {
@@ -122,7 +122,7 @@ fn add(table: &mut EntryTable, extents: &mut Seq<Extent>, entry: Entry) -> Resul
 }
 
 /// The line of an entry that may stand behind those that are there. It is added to them.
-fn next_entry<'a>(
+pub fn next_entry<'a>(
     alloc: Global,
     format: Format,
     regions: u32,

@@ -8,14 +8,14 @@ use k_dict::{Entry, Run};
 
 /// The levels and the instances of a tree.
 #[derive(Clone, Copy, Debug, PartialEq, Eq)]
-pub(crate) struct Extent {
+pub struct Extent {
     pub levels: u64,
     pub instances: u64,
 }
 
 /// What the children of an entry have together: sums that stop at the greatest number.
 #[derive(Clone, Copy, Debug, PartialEq, Eq)]
-pub(crate) struct Sums {
+pub struct Sums {
     pub works: u64,
     pub paths: u64,
     pub longest: u64,
@@ -47,7 +47,7 @@ fn add_run(sums: Sums, run: Run, entry: &Entry, extent: Extent) -> Sums
 }
 
 /// What the children of these runs have together.
-pub(crate) fn sums_of(entries: &[Entry], extents: &[Extent], runs: &[Run]) -> Sums
+pub fn sums_of(entries: &[Entry], extents: &[Extent], runs: &[Run]) -> Sums
     requires below { NameBelow (length entries.now) runs.now }
     requires each { length extents.now ≡ length entries.now }
     ensures { result ≡ spec.sums_from entries.now extents.now no_sums runs.now }

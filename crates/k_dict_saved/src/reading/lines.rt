@@ -25,7 +25,7 @@ fn number_then(byte: u8, text: &[u8]) -> Option<(u64, &[u8])>
 
 /// The line of a name and a number within these limits.
 #[tactic(auto, unfolding(crate::specs::Syntax::named_at))]
-pub(crate) fn named<'a>(name: &[u8], low: u64, high: u64, text: &'a [u8]) -> Option<(u64, &'a [u8])>
+pub fn named<'a>(name: &[u8], low: u64, high: u64, text: &'a [u8]) -> Option<(u64, &'a [u8])>
     ensures value { Finds (λ found. (found.0, found.1.now)) result (named_at name.now low high text.now) }
     ensures most { IfSome result (λ found. found.0 ≤ high) }
 {
@@ -118,7 +118,7 @@ fn run(high: u32, text: &[u8]) -> Option<(Run, &[u8])>
 }
 
 /// The runs at the end of a line.
-fn runs(alloc: Global, high: u32, text: &[u8]) -> Result<(Seq<Run>, &[u8]), Stop>
+pub fn runs(alloc: Global, high: u32, text: &[u8]) -> Result<(Seq<Run>, &[u8]), Stop>
     ensures { Gives (λ found. (found.0, found.1.now)) result (runs_at high 1048576 text.now) }
 {
     let mut runs = Seq::new(alloc);

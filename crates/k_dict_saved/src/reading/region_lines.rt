@@ -49,7 +49,7 @@ pub(crate) fn are_closed(regions: &[Region]) -> bool
 }
 
 /// The line of a region that may stand behind these.
-fn next_region<'a>(
+pub fn next_region<'a>(
     alloc: Global,
     before: &[Region],
     text: &'a [u8],

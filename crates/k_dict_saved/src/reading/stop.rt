@@ -6,7 +6,7 @@ use k_num::NoMemory;
 
 /// Why a line is not read.
 #[derive(Clone, Copy, Debug, PartialEq, Eq)]
-pub(crate) enum Stop {
+pub enum Stop {
     /// No right line stands there.
     Wrong,
     /// No memory was found.
@@ -23,7 +23,7 @@ impl From<NoMemory> for Stop {
 
 /// Why the lines of a part of the file are not read.
 #[derive(Clone, Copy, Debug, PartialEq, Eq)]
-pub(crate) enum Halt {
+pub enum Halt {
     /// A wrong line begins where so many bytes are left.
     Wrong(usize),
     /// No memory was found.

@@ -2,7 +2,7 @@
 ghost use Rattle.std.specs.Prelude.{◌≡◌, ◌^◌, ◌<◌, length, slice_get, IfOk};
 ghost use Rattle.k_code.specs.Valid.{IsValid};
 ghost use Rattle.k_hcpa_store.specs.Leads.{Starts};
-ghost use Rattle.k_hcpa_store.specs.Opening.{Makes, OpensAll, begins};
+ghost use Rattle.k_hcpa_store.specs.Opening.{MakesObject, OpensAll, begins};
 ghost use Rattle.k_code.specs.Runs.{begun_with, place_of, with_object};
 ghost use Rattle.k_world.specs.Changes.{object_made, string_made};
 ghost use Rattle.k_mem.specs.declared.start.Start.TheVariants.{Zero};
@@ -100,7 +100,7 @@ fn open_objects(world: &mut RunState<'_>, objects: &[CodeObject]) -> Result<(), 
 /// An object of a program is made.
 #[tactic(auto, unfolding(k_code::specs::Runs::with_object))]
 fn open_one(world: &mut RunState<'_>, object: &CodeObject) -> Result<(), Stop>
-    ensures { Makes (place_of object.now) (with_object object.now world.old) world.old result world.new }
+    ensures { MakesObject (place_of object.now) (with_object object.now world.old) world.old result world.new }
 {
     match object {
         CodeObject::Plain {
@@ -119,7 +119,7 @@ fn open_plain(
     first: &[Initial],
     place: Place,
 ) -> Result<(), Stop>
-    ensures { Makes place (begun_with first.now world.old.memory.made (object_made world.old Zero elements)) world.old result world.new }
+    ensures { MakesObject place (begun_with first.now world.old.memory.made (object_made world.old Zero elements)) world.old result world.new }
 {
     match world.push_object(elements, Start::Zero) {
         Ok(object) => match world.fill_object(object, first) {
@@ -133,7 +133,7 @@ fn open_plain(
 
 /// The object of a string is made.
 fn open_string(world: &mut RunState<'_>, bytes: &[u8], place: Place) -> Result<(), Stop>
-    ensures { Makes place (string_made world.old bytes.now) world.old result world.new }
+    ensures { MakesObject place (string_made world.old bytes.now) world.old result world.new }
 {
     match u32::try_from(bytes.len()) {
         Ok(elements) => open_bytes(world, bytes, elements, place),
@@ -149,7 +149,7 @@ fn open_bytes(
     place: Place,
 ) -> Result<(), Stop>
     requires { length bytes.now ≡ elements }
-    ensures { Makes place (string_made world.old bytes.now) world.old result world.new }
+    ensures { MakesObject place (string_made world.old bytes.now) world.old result world.new }
 {
     match world.push_object(elements, Start::Literal(bytes)) {
         Ok(_) => Ok(()),

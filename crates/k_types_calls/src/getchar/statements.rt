@@ -1,6 +1,6 @@
 //! Calls in statements and in whole sources.
-ghost use Rattle.std.specs.Prelude.{◌≡◌, map, option_map};
-ghost use Rattle.k_types_calls.specs.Getchar.{any, calls_getchar, function_calls, if_there, part_calls, stmt_calls};
+ghost use Rattle.std.specs.Prelude.{◌≡◌, false, map, option_map, unwrap_or};
+ghost use Rattle.k_types_calls.specs.Getchar.{any, calls_getchar, function_calls, part_calls, stmt_calls};
 
 use super::expressions::{declared_call, expr_calls, first_calls, option_calls};
 use k_num::{Box, Seq};
@@ -55,7 +55,7 @@ fn stmts_call(stmts: &Seq<TStmt>) -> bool
 /// Whether a statement that may be left out holds a call.
 #[cycle(statements)]
 fn else_calls(stmt: &Option<Box<TStmt>>) -> bool
-    ensures { result ≡ if_there (option_map stmt_calls stmt.now) }
+    ensures { result ≡ unwrap_or (option_map stmt_calls stmt.now) false }
 {
     match stmt {
         None => false,

@@ -15,7 +15,7 @@ use Rattle.k_plain_direct.specs.Makings.{made_on_two}
 use Rattle.k_plain_state.specs.Arounds.{within_of}
 use Rattle.k_plain_tasks.specs.declared.task.BranchTask.TheVariants as branch
 use Rattle.k_plain_tasks.specs.Givens.{gives_operand}
-use Rattle.k_plain_tasks.specs.Leads.{tested, valued}
+use Rattle.k_plain_tasks.specs.Leads.{branched, valued}
 use Rattle.k_plain_tasks.specs.Tasks.{branch_task, works}
 use Rattle.k_plain_tasks.proofs.Begun.{as_part, begun_behind, on_operand, on_target, pushed}
 use Rattle.k_plain_tasks.proofs.EarlyRows.{evaluated}
@@ -168,7 +168,7 @@ test_first-returns t c =
     let w = within_of c.args.around.now in
     let s = c.args.state.now in
     let o = follow (valued w c.args.e.now true s) (branch_task w c.args.task) in
-    as_part w c.two_behind.result _ (tested w c.args.e.now c.args.task s) c.args.tasks.now c.two_behind.new.tasks c.two_behind.new.state
+    as_part w c.two_behind.result _ (branched w c.args.e.now c.args.task s) c.args.tasks.now c.two_behind.new.tasks c.two_behind.new.state
     (ap (λ (k : Option ℕ). follow o (branch_task w (branch.Settle false k))) (sym c.control-control.ensures))
     c.two_behind.ensures
 

@@ -28,8 +28,8 @@ returns-clause-plan c =
     subst (λ (l : List Context). c.in_ok-picks.picks ≡ picks_from 0 (best_choice c.args.limits.now l) l) c.as_slice-contexts.ensures c.in_ok-picks.ensures in
     let count : length c.in_ok-below.below.items ≡ length c.in-Some.inner.now + 1 = c.in_ok-below.ensures.count in
     let within : 0 < length c.in_ok-below.below.items = omega arith in
-    let total : c.best_total-total.result ≡ best c.args.limits.now root.work 0 root (get_or c.in_ok-below.below.items 0 0) =
-    c.best_total-total.ensures ∙ ap (best c.args.limits.now root.work 0 root) (get_or_read c.in_ok-below.below.items 0 c.index.result.now within c.index.ensures 0) in
+    let total : c.best_total-total.result ≡ best c.args.limits.now root.work root (get_or c.in_ok-below.below.items 0 0) =
+    c.best_total-total.ensures ∙ ap (best c.args.limits.now root.work root) (get_or_read c.in_ok-below.below.items 0 c.index.result.now within c.index.ensures 0) in
     advised c.args.limits.now c.args.contexts.now root c.in-Some.inner.now c.in_ok-below.below.items advice is c.requires.contexts picks c.in_ok-below.ensures total
 
 pub returns-in_default-clause-named : goal.returns-in_default-clause-named

@@ -1,6 +1,6 @@
 use Rattle.std.proofs.Common.{get_or, sym, ◌+◌}
 use Rattle.std.proofs.lemmas.Option.{slice_get-get_or}
-use Rattle.k_code.specs.Balances.{left}
+use Rattle.k_code.specs.Balances.{left_open}
 use Rattle.k_code.proofs.Passing.{left_below, small_below, small_sum}
 use Rattle.k_code.proofs.Settling.{settles, settles_no_jump, settles_not, targets_within}
 use Rattle.k_code.proofs.validity.balances.settle.Goals as goal
@@ -23,7 +23,7 @@ returns-then-not-jumps_agree c =
 
 pub next_agrees-requires-clause-below : goal.next_agrees-requires-clause-below
 next_agrees-requires-clause-below c =
-    small_below (c.args.k + 1) (left (get_or c.args.instrs.now c.args.k c.index-instrs-k.result).act c.in-Some.balance) (small_sum _ c.args.k c.requires.place c.requires.few)
+    small_below (c.args.k + 1) (left_open (get_or c.args.instrs.now c.args.k c.index-instrs-k.result).act c.in-Some.balance) (small_sum _ c.args.k c.requires.place c.requires.few)
     (left_below (c.args.k + 1) (get_or c.args.instrs.now c.args.k c.index-instrs-k.result).act c.in-Some.balance (c.requires.known.below c.args.k c.in-Some.balance c.in-Some.ensures))
 
 pub returns : goal.returns

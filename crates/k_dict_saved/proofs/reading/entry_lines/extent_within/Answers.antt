@@ -5,7 +5,7 @@ use Rattle.k_dict.specs.Entries.{NameBelow, trees_of}
 use Rattle.k_dict_saved.specs.Extents.{extent_of, extent_over, extents_of, is_within, no_sums, sums_from}
 use Rattle.k_dict.specs.declared.entry.Run.{Run}
 use Rattle.k_dict.proofs.EntryTrees.{length-trees}
-use Rattle.k_dict_saved.proofs.Sums.{extent_is, rules_within, within_rules}
+use Rattle.k_dict_saved.proofs.RunSums.{extent_is, rules_within, within_rules}
 use Rattle.k_dict_saved.proofs.reading.entry_lines.extent_within.Goals as goal
 
 pub sums_of-sums-requires-clause-below : goal.sums_of-sums-requires-clause-below

@@ -48,18 +48,20 @@ capped-more : (a b : ℕ) → capped (capped a + b) ≡ capped (a + b)
 capped-more a b = omega arith
 
 -- the sums of these runs behind others
-record AreSums (entries : List Entry) (extents : List Extent) (s : Sums) (runs : List Run) : Type 0 where
-  works : (sums_from entries extents s runs).works ≡ capped (s.works + child_works entries runs)
-  paths : (sums_from entries extents s runs).paths ≡ capped (s.paths + child_paths entries runs)
-  levels : (sums_from entries extents s runs).levels ≡ max s.levels (child_levels extents runs)
-  instances : (sums_from entries extents s runs).instances ≡ capped (s.instances + child_instances extents runs)
+pub record AreSums (entries : List Entry) (extents : List Extent) (s : Sums) (runs : List Run) : Type 0 where
+  pub works : (sums_from entries extents s runs).works ≡ capped (s.works + child_works entries runs)
+  pub paths : (sums_from entries extents s runs).paths ≡ capped (s.paths + child_paths entries runs)
+  pub levels : (sums_from entries extents s runs).levels ≡ max s.levels (child_levels extents runs)
+  pub instances : (sums_from entries extents s runs).instances ≡ capped (s.instances + child_instances extents runs)
 
-record AreCapped (s : Sums) : Type 0 where
-  works : s.works ≤ 18446744073709551615
-  paths : s.paths ≤ 18446744073709551615
-  instances : s.instances ≤ 18446744073709551615
+-- the sums are numbers of 64 bits
+pub record AreCapped (s : Sums) : Type 0 where
+  pub works : s.works ≤ 18446744073709551615
+  pub paths : s.paths ≤ 18446744073709551615
+  pub instances : s.instances ≤ 18446744073709551615
 
-sums_are : (entries : List Entry) (extents : List Extent) (s : Sums) (runs : List Run) → AreCapped s → AreSums entries extents s runs
+-- the sums from others on
+pub sums_are : (entries : List Entry) (extents : List Extent) (s : Sums) (runs : List Run) → AreCapped s → AreSums entries extents s runs
 sums_are entries extents s [] cap = record {
   works = let low = cap.works in omega arith;
   paths = let low = cap.paths in omega arith;
