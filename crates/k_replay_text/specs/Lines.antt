@@ -1,4 +1,4 @@
--- For contracts between crates: nobody has to believe it.
+-- Believed with the theorem on the top call.
 -- How a schedule of workers is written behind a program's output.
 use Rattle.std.specs.Prelude.{ℕ, ℤ, ◌+◌, ◌==◌, Bool, true, if◌then◌else◌, List, [], ◌∷◌, ◌++◌, codes}
 use Rattle.std.specs.Fmt.{decimal, signed_decimal}
