@@ -1,18 +1,16 @@
 -- For contracts between crates: nobody has to believe it.
 -- What the replay of a program's run comes to.
 use Rattle.std.specs.Prelude.{ℕ, ℤ, ◌≡◌, List, [], length}
-use Rattle.k_optab.specs.Events.{operations}
 use Rattle.k_ending.specs.declared.ending.End.{End}
 use Rattle.k_ending.specs.declared.ending.End.TheVariants.{OutOfSteps, Returned, Trapped}
-use Rattle.k_evaluation.specs.Runs.{run}
-use Rattle.k_evaluation.specs.States.{Program}
+use Rattle.k_evaluation.specs.Runs.{Run}
 use Rattle.k_replay_record.specs.declared.record.Record.{Record}
 use Rattle.k_replay.specs.declared.rounds.Schedule.{Schedule}
 use Rattle.k_replay.specs.Plays.{Play, started}
 use Rattle.k_replay.specs.Rounds.{IsSchedule}
 use Rattle.k_replay_text.specs.Lines.{replay_text}
+use Rattle.k_replay_laws.specs.Texts.{IsReplayText}
 use Rattle.k_replay_run.specs.declared.replay.Replay.{Replay}
-use Rattle.k_replay_run.specs.Recorded.{IsRecordOfRun}
 
 -- the text of a record: its output, and the counts of *Rounds* over its steps
 pub record TextOfRecord (seed workers : ℕ) (tape : Record) (exit : ℤ) (text : List ℕ) : Type 0 where
@@ -32,22 +30,13 @@ pub record ReplaysRecord (seed workers : ℕ) (tape : Record) (r : Replay) : Typ
   pub end : r.end ≡ tape.end
   pub text : TextBehind seed workers tape tape.end r.text
 
--- the text of a run whose main returned this: the run's output, how many operations it made, and the counts of *Rounds* over a record of it
-pub record TextOfRun (program : Program) (input : List ℕ) (budget workers seed : ℕ) (exit : ℤ) (text : List ℕ) : Type 0 where
-  pub tape : Record
-  pub is_record : IsRecordOfRun program input budget tape
-  pub after : Play
-  pub schedule : Schedule
-  pub rounds : IsSchedule seed workers (started tape workers) after schedule
-  pub is : text ≡ replay_text (run program input budget).output (length (operations (run program input budget).events)) exit schedule
-
--- the text of a run that ended so
-abbrev pub TextAtEnd : Program → List ℕ → ℕ → ℕ → ℕ → End → List ℕ → Type 0
-TextAtEnd program input budget workers seed (Returned exit) text = TextOfRun program input budget workers seed exit text
-TextAtEnd program input budget workers seed (Trapped trap place) text = text ≡ []
-TextAtEnd program input budget workers seed OutOfSteps text = text ≡ []
+-- the text of a run that ended so: there is none unless main returned
+abbrev pub TextAtEnd : ℕ → ℕ → Run → End → List ℕ → Type 0
+TextAtEnd workers seed ran (Returned exit) text = IsReplayText workers seed exit ran.output ran.events text
+TextAtEnd workers seed ran (Trapped trap place) text = text ≡ []
+TextAtEnd workers seed ran OutOfSteps text = text ≡ []
 
 -- THE REPLAY of a run by so many workers, whose rounds follow from this seed
-pub record IsReplayOf (program : Program) (input : List ℕ) (budget workers seed : ℕ) (r : Replay) : Type 0 where
-  pub end : r.end ≡ (run program input budget).end
-  pub text : TextAtEnd program input budget workers seed (run program input budget).end r.text
+pub record IsReplayOf (ran : Run) (workers seed : ℕ) (r : Replay) : Type 0 where
+  pub end : r.end ≡ ran.end
+  pub text : TextAtEnd workers seed ran ran.end r.text

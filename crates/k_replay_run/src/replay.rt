@@ -1,5 +1,6 @@
 //! The replay of a run: it is recorded, and workers fire its operations.
 ghost use Rattle.std.specs.Prelude.{◌≡◌, ◌≤◌, IfOk};
+ghost use Rattle.k_evaluation.specs.Runs.{run};
 ghost use Rattle.k_lower.specs.Promises.{WhereAccepted};
 ghost use Rattle.k_replay_record.specs.Records.{IsRecord};
 ghost use Rattle.k_replay_run.specs.Replayed.{IsReplayOf, ReplaysRecord, TextOfRecord};
@@ -75,7 +76,7 @@ pub fn replay_run(
 ) -> Result<Replay, NoMemory>
     requires some { 1 ≤ workers }
     requires few { workers ≤ 16 }
-    ensures { IfOk result (λ replay. WhereAccepted (record { unit = unit.now; marks = marks.now; latencies = latencies.now }) (IsReplayOf (record { unit = unit.now; marks = marks.now; latencies = latencies.now }) input.now budget workers seed replay)) }
+    ensures { IfOk result (λ replay. WhereAccepted (record { unit = unit.now; marks = marks.now; latencies = latencies.now }) (IsReplayOf (run (record { unit = unit.now; marks = marks.now; latencies = latencies.now }) input.now budget) workers seed replay)) }
 {
     let tape = record_run(alloc, unit, marks, latencies, input, budget)?;
     replayed(alloc, &tape, workers, seed)

@@ -134,7 +134,7 @@ fn outputs(alloc: Global) -> Result<Record, Fail>
 
 /// A call of a worker, and what it answers.
 #[derive(Clone, Copy)]
-enum Call {
+pub(crate) enum Call {
     Take(u32, Deal),
     Fire(u32, Result<u64, FireFault>),
 }
@@ -151,23 +151,23 @@ static CALLS: [Call; 8] = [
     Call::Take(0, Deal::Idle),
 ];
 
-/// Whether a call answers this.
-fn answers(core: &mut Core<'_>, call: Call) -> bool
-    requires { length core.old.held ≡ 2 }
-    ensures { length core.new.held ≡ 2 }
+/// Whether a call answers this, where there are so many workers.
+fn answers(core: &mut Core<'_>, workers: u32, call: Call) -> bool
+    requires { length core.old.held ≡ workers }
+    ensures { length core.new.held ≡ workers }
 {
     match call {
-        Call::Take(worker, deal) => worker < 2 && core.take(worker) == deal,
-        Call::Fire(worker, answer) => worker < 2 && core.fire(worker) == answer,
+        Call::Take(worker, deal) => worker < workers && core.take(worker) == deal,
+        Call::Fire(worker, answer) => worker < workers && core.fire(worker) == answer,
     }
 }
 
 /// Whether these calls, one behind the other, answer so.
-fn all_answer(core: &mut Core<'_>, calls: &[Call]) -> bool
-    requires { length core.old.held ≡ 2 }
+pub(crate) fn all_answer(core: &mut Core<'_>, workers: u32, calls: &[Call]) -> bool
+    requires { length core.old.held ≡ workers }
 {
     for call in calls {
-        if !answers(core, *call) {
+        if !answers(core, workers, *call) {
             return false;
         }
     }
@@ -200,7 +200,7 @@ fn one_worker_fires_a_sum_in_rounds(rt: HostRuntime) -> Result<(), Fail> {
 fn calls_answer_what_stands(rt: HostRuntime) -> Result<(), Fail> {
     let tape = sum(rt.alloc())?;
     let mut core = Core::new(rt.alloc(), &tape, 2)?;
-    assert!(rt; all_answer(&mut core, CALLS.as_slice()));
+    assert!(rt; all_answer(&mut core, 2, CALLS.as_slice()));
     assert_eq!(rt; core.left(), 0);
     Ok(())
 }

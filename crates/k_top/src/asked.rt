@@ -1,7 +1,7 @@
 //! What the words ask for, and the answer to it.
 ghost use Rattle.std.specs.Prelude.{◌≡◌, None, IfOk, map, string_bytes};
 ghost use Rattle.k_words.specs.About.{asked_for};
-ghost use Rattle.k_words.specs.Within.{IsJobWithin, IsRunWithin};
+ghost use Rattle.k_words.specs.Within.{IsJobWithin, IsReplayWithin, IsRunWithin};
 ghost use Rattle.k_words.specs.declared.job.Job.TheVariants as job;
 ghost use Rattle.k_top_answers.specs.Answers.{done};
 ghost use Rattle.k_top_lemmas.specs.Parts.{GivesText, IsFresh};
@@ -14,7 +14,7 @@ use k_shadow::Shadow;
 use k_top_answers::{Answer, Failure};
 use k_top_commands::{
     annotate_answer, carried_answer, check_answer, demo_answer, graph_answer, page_answer,
-    run_answer, show_answer,
+    replay_answer, run_answer, show_answer,
 };
 use k_top_programs::make_ready;
 use k_words::{Asked, Job, asked_for, help, version, words};
@@ -96,6 +96,27 @@ fn carried_job<F: Files, S: Source>(
 {
     let ready = make_ready(alloc, files, input, file, latency, steps)?;
     let answer = carried_answer(alloc, &ready, depth)?;
+    Ok(answer)
+}
+
+/// The answer of `replay` with its options.
+fn replay_job<F: Files, S: Source>(
+    alloc: Global,
+    files: &mut F,
+    input: &mut S,
+    file: Text,
+    steps: u64,
+    depth: u32,
+    latency: Option<Text>,
+    workers: u32,
+    seed: u64,
+) -> Result<Answer, Failure>
+    requires { IsReplayWithin steps depth workers seed }
+    ensures { FindsJob result (job.Replay file steps depth latency workers seed)
+        (record { files = F.seen files.old; input = S.seen input.old }) (record { files = F.seen files.new; input = S.seen input.new }) }
+{
+    let ready = make_ready(alloc, files, input, file, latency, steps)?;
+    let answer = replay_answer(alloc, &ready, workers, seed)?;
     Ok(answer)
 }
 
@@ -194,6 +215,20 @@ fn job_answer<F: Files, S: Source, K: Sink, R: Shadow, P: Shadow>(
             drop(regs);
             drop(pages);
             carried_job(alloc, files, input, file, steps, depth, latency)
+        }
+        Job::Replay {
+            file,
+            steps,
+            depth,
+            latency,
+            workers,
+            seed,
+        } => {
+            drop(regs);
+            drop(pages);
+            replay_job(
+                alloc, files, input, file, steps, depth, latency, workers, seed,
+            )
         }
         Job::Page {
             file,

@@ -21,6 +21,7 @@ use Rattle.k_carry_pairs.specs.Carried.{AreCarried}
 use Rattle.k_carry_pairs.specs.declared.pairs.LoopPairs.{LoopPairs}
 use Rattle.k_carry_text.specs.Lines.{carried_text}
 use Rattle.k_report.specs.Graph.{IsGraphText}
+use Rattle.k_replay_laws.specs.Texts.{IsReplayText}
 use Rattle.k_dict_saved.specs.Profile.{Reads}
 use Rattle.k_dict_saved.specs.SavedText.{saved_text}
 use Rattle.k_dict_saved.specs.declared.saved.Saved.{Saved}
@@ -102,6 +103,12 @@ abbrev pub AnswersCarried : ℕ → Answer → Running → End → Type 0
 AnswersCarried depth answer r (Returned exit) = ToldCarried r depth answer
 AnswersCarried depth answer r end = answer ≡ ended [] r.steps end
 
+-- REPLAY, by how the run ended: where main returned, its output, and how so many workers fire its operations; and else nothing
+abbrev pub AnswersReplayed : ℕ → ℕ → Answer → Running → End → Type 0
+AnswersReplayed workers seed answer r (Returned exit) =
+    (text : List ℕ) × IsReplayText workers seed exit (run_of r).output (run_of r).events text × (answer ≡ done text)
+AnswersReplayed workers seed answer r end = answer ≡ ended [] r.steps end
+
 -- PAGE, by how the run of a source in a file of this name ended: the page of the run where main returned, and else nothing
 abbrev pub AnswersPage : List ℕ → List ℕ → ℕ → Bool → Answer → Running → End → Type 0
 AnswersPage file source depth dict answer r (Returned exit) = (text : List ℕ) × IsRunPage file source (ran_of r exit depth) dict text × (answer ≡ done text)
@@ -165,6 +172,8 @@ AnswersJob outside answer (job.Graph file steps depth latency) =
     AnswersRunning (λ failure. answer ≡ refusal failure) outside file latency steps (IsListed depth answer)
 AnswersJob outside answer (job.Carried file steps depth latency) =
     AnswersRunning (λ failure. answer ≡ refusal failure) outside file latency steps (λ r. AnswersCarried depth answer r (run_of r).end)
+AnswersJob outside answer (job.Replay file steps depth latency workers seed) =
+    AnswersRunning (λ failure. answer ≡ refusal failure) outside file latency steps (λ r. AnswersReplayed workers seed answer r (run_of r).end)
 AnswersJob outside answer (job.Page file steps depth latency dict) =
     AnswersRunning (λ failure. answer ≡ refusal failure) outside file latency steps (IsPaged outside file depth dict answer)
 AnswersJob outside answer (job.Annotate file steps depth latency) =
@@ -201,6 +210,7 @@ abbrev pub JobCalls : Outside → Job → Type 0
 JobCalls outside (job.Run file steps depth latency dict save) = FilesCall outside file latency
 JobCalls outside (job.Graph file steps depth latency) = FilesCall outside file latency
 JobCalls outside (job.Carried file steps depth latency) = FilesCall outside file latency
+JobCalls outside (job.Replay file steps depth latency workers seed) = FilesCall outside file latency
 JobCalls outside (job.Page file steps depth latency dict) = FilesCall outside file latency
 JobCalls outside (job.Annotate file steps depth latency) = FilesCall outside file latency
 JobCalls outside (job.Show file form) = ⊥
@@ -216,6 +226,7 @@ abbrev pub JobLoads : Job → Type 0
 JobLoads (job.Run file steps depth latency dict save) = Unit {0}
 JobLoads (job.Graph file steps depth latency) = Unit {0}
 JobLoads (job.Carried file steps depth latency) = Unit {0}
+JobLoads (job.Replay file steps depth latency workers seed) = Unit {0}
 JobLoads (job.Page file steps depth latency dict) = Unit {0}
 JobLoads (job.Annotate file steps depth latency) = Unit {0}
 JobLoads (job.Show file form) = Unit {0}

@@ -27,6 +27,7 @@ abbrev pub loads_of : Job → List Request
 loads_of (job.Run file steps depth latency dict save) = files_of file latency
 loads_of (job.Graph file steps depth latency) = files_of file latency
 loads_of (job.Carried file steps depth latency) = files_of file latency
+loads_of (job.Replay file steps depth latency workers seed) = files_of file latency
 loads_of (job.Page file steps depth latency dict) = files_of file latency
 loads_of (job.Annotate file steps depth latency) = files_of file latency
 loads_of (job.Show file form) = Load file ∷ []

@@ -1,6 +1,6 @@
 -- Believed with the theorem on the top call.
 -- What goes to out beside reports and listings: a report behind a program's output, and the summary of a made program.
-use Rattle.std.specs.Prelude.{ℕ, ℤ, ◌≡◌, ◌==◌, Bool, true, if◌then◌else◌, List, [], ◌∷◌, ◌++◌, length, Option, Some, None, codes}
+use Rattle.std.specs.Prelude.{ℕ, ℤ, ◌≡◌, List, [], ◌∷◌, ◌++◌, length, Option, Some, None, codes}
 use Rattle.std.specs.Fmt.{decimal}
 use Rattle.k_optab.specs.declared.node.Node.{Node}
 use Rattle.k_optab.specs.Tree.{IsTree}
@@ -9,6 +9,7 @@ use Rattle.k_plan.specs.declared.advice.Advice.{Advice}
 use Rattle.k_report_profile.specs.Report.{IsPlanned}
 use Rattle.k_report_profile.specs.RunReport.{IsLarge, IsProfileOf, Ran, ops_of}
 use Rattle.k_text.specs.Texts.{head_text, named_line}
+pub use Rattle.k_replay_text.specs.Lines.{ends_line, with_report}
 use Rattle.k_report.specs.PlanLines.{wide_line}
 use Rattle.k_report.specs.Report.{large_line}
 use Rattle.k_dict_saved.specs.declared.saved.Saved.{Saved}
@@ -16,16 +17,6 @@ use Rattle.k_selfpar.specs.Contexts.{AreContexts}
 use Rattle.k_selfpar.specs.Rows.{AreRows}
 use Rattle.k_selfpar.specs.declared.context.Context.{Context}
 use Rattle.k_selfpar.specs.declared.row.Row.{Row}
-
--- a text is empty or ends in a newline
-abbrev pub ends_line : List ℕ → Bool
-ends_line [] = true
-ends_line (byte ∷ []) = byte == 10
-ends_line (byte ∷ next ∷ bytes) = ends_line (next ∷ bytes)
-
--- a report on a line of its own behind a program's output
-abbrev pub with_report : List ℕ → List ℕ → List ℕ
-with_report output report = if ends_line output then output ++ report else output ++ 10 ∷ report
 
 -- the first line of a summary
 abbrev pub demo_line : ℕ → ℕ → List ℕ

@@ -6,7 +6,6 @@ ghost use Rattle.k_top_answers.specs.Answers.{AnswersRun, IsReported, ran_of, sa
 ghost use Rattle.k_top_lemmas.specs.Parts.{IsFit, IsFresh, IsProfileOfRun, running_of};
 ghost use Rattle.k_top_lemmas.specs.Streams.{IsSplit, StreamsRun, behind};
 ghost use Rattle.k_top_answers.specs.Steps.{run_of};
-ghost use Rattle.k_top_answers.specs.Texts.{ends_line, with_report};
 
 use k_dict::Dict;
 use k_dict_saved::{Saved, write};
@@ -15,34 +14,13 @@ use k_ending::End;
 use k_hcpa::Profile;
 use k_num::{NoMemory, Seq, Text};
 use k_regions::regions;
+use k_replay_text::with_report;
 use k_report_profile::summary_report;
 use k_shadow::Shadow;
 use k_top_answers::{Answer, Failure, SavedFile};
 use k_top_lemmas::Ready;
 use k_top_programs::{dict_of, run_program};
 use std::alloc::Global;
-
-/// Whether a text is empty or ends in a newline.
-fn ends_line(text: &[u8]) -> bool
-    ensures { result ≡ ends_line text.now }
-{
-    match text.split_last() {
-        Some((byte, _)) => *byte == b'\n',
-        None => true,
-    }
-}
-
-/// A report on a line of its own behind a program's output.
-fn with_report(alloc: Global, output: &[u8], report: &[u8]) -> Result<Vec<u8>, NoMemory>
-    ensures { IfOk result (λ text. text.items ≡ with_report output.now report.now) }
-{
-    let mut text = Vec::from_slice(alloc, output)?;
-    if !ends_line(output) {
-        text.push(b'\n')?;
-    }
-    text.extend_from_slice(report)?;
-    Ok(text)
-}
 
 /// The file that is saved, where one is asked for and there is a profile.
 fn saved_file(

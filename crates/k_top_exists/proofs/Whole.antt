@@ -7,6 +7,8 @@ use Rattle.k_optab.specs.Tree.{IsTree}
 use Rattle.k_ending.specs.declared.ending.End.{End}
 use Rattle.k_ending.specs.declared.ending.End.TheVariants as end
 use Rattle.k_gen.specs.Text.{program}
+use Rattle.k_replay_laws.specs.Texts.{IsReplayText}
+use Rattle.k_replay_laws.proofs.Made.{texts_exist}
 use Rattle.k_graph.specs.Listings.{IsListing}
 use Rattle.k_graph.specs.declared.tree.Instance.{Instance}
 use Rattle.k_report.specs.Report.{large_line}
@@ -34,7 +36,7 @@ use Rattle.k_words.specs.declared.usage.Usage.TheVariants as usage
 use Rattle.k_words.proofs.Within.{jobs_are_within}
 use Rattle.k_top_answers.specs.declared.failure.Failure.TheVariants as why
 use Rattle.k_evaluation.specs.Runs.{listing_of}
-use Rattle.k_top_answers.specs.Answers.{AnswersAnnotated, AnswersAsked, AnswersCarried, AnswersChecked, AnswersJob, AnswersMade, AnswersPage, AnswersProfile, AnswersRun, AnswersWords, IsAnnotated, IsAnswer, IsListed, IsPaged, IsShown, checked, done, ended, made_running, ran_of, refusal, saved_file}
+use Rattle.k_top_answers.specs.Answers.{AnswersAnnotated, AnswersAsked, AnswersCarried, AnswersChecked, AnswersJob, AnswersMade, AnswersPage, AnswersProfile, AnswersReplayed, AnswersRun, AnswersWords, IsAnnotated, IsAnswer, IsListed, IsPaged, IsShown, checked, done, ended, made_running, ran_of, refusal, saved_file}
 use Rattle.k_top_answers.specs.Checks.{told}
 use Rattle.k_top_answers.specs.Steps.{Outside, Running, file_limit, profile_limit, run_of}
 use Rattle.k_top_answers.specs.Texts.{AreProfileLines, demo_line, plan_line, run_lines, tree_lines, with_report}
@@ -107,6 +109,17 @@ carried_answers : (depth : ℕ) (r : Running) (how : End) → Answered (λ a. An
 carried_answers depth r (end.Returned exit) = carried_told depth r exit (carried_exist (regions_of r.typed) depth (run_of r).events)
 carried_answers depth r (end.Trapped trap place) = (ended [] r.steps (end.Trapped trap place), refl)
 carried_answers depth r end.OutOfSteps = (ended [] r.steps end.OutOfSteps, refl)
+
+-- REPLAY
+replay_told : (workers seed : ℕ) (r : Running) (exit : ℤ) → (text : List ℕ) × IsReplayText workers seed exit (run_of r).output (run_of r).events text
+    → Answered (λ a. AnswersReplayed workers seed a r (end.Returned exit))
+replay_told workers seed r exit (text, is) = (done text, (text, is, refl))
+
+replay_answers : (workers seed : ℕ) (r : Running) → IsSound r → 1 ≤ workers → workers ≤ 16 → (how : End) → Answered (λ a. AnswersReplayed workers seed a r how)
+replay_answers workers seed r sound some few (end.Returned exit) =
+    replay_told workers seed r exit (texts_exist workers seed exit (run_of r).output (run_of r).events (run_sources r sound) some few)
+replay_answers workers seed r sound some few (end.Trapped trap place) = (ended [] r.steps (end.Trapped trap place), refl)
+replay_answers workers seed r sound some few end.OutOfSteps = (ended [] r.steps end.OutOfSteps, refl)
 
 -- PAGE
 page_answers : (file source : List ℕ) (depth : ℕ) (dict : Bool) (r : Running) → IsSound r → 1 ≤ depth → depth ≤ 32 → (how : End) → (run_of r).end ≡ how
@@ -198,6 +211,10 @@ job_answers outside (job.Graph file steps depth latency) within =
     running_answers outside steps (omega (arith, most)) (λ a r. IsListed depth a r) (listed depth) file latency
 job_answers outside (job.Carried file steps depth latency) within =
     running_answers outside steps within.steps.at_most (λ a r. AnswersCarried depth a r (run_of r).end) (λ r sound. carried_answers depth r (run_of r).end) file latency
+job_answers outside (job.Replay file steps depth latency workers seed) within =
+    let most : steps ≤ 200000 = within.run.steps.at_most in
+    running_answers outside steps (omega (arith, most)) (λ a r. AnswersReplayed workers seed a r (run_of r).end)
+    (λ r sound. replay_answers workers seed r sound within.workers.at_least within.workers.at_most (run_of r).end) file latency
 job_answers outside (job.Page file steps depth latency dict) within =
     paged_answers outside file latency steps depth dict within.steps.at_most within.depth.at_least within.depth.at_most (outside.files file) refl
 job_answers outside (job.Annotate file steps depth latency) within =

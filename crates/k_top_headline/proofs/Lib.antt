@@ -3,6 +3,7 @@ pub mod Checked
 pub mod Given
 pub mod OtherRuns
 pub mod Paged
+pub mod Replayed
 pub mod Ready
 pub mod Runs
 pub mod Shown

@@ -1,2 +1,3 @@
 pub mod Headline
 pub mod OtherCommands
+pub mod Replay

@@ -1,6 +1,7 @@
 //! What each command writes: each function's contract is a law, and its body does nothing.
 ghost use Rattle.k_top_headline.specs.Headline.{RunIsTold};
 ghost use Rattle.k_top_headline.specs.OtherCommands.{AcceptedIsTold, AnnotateIsTold, CarriedIsTold, DemoIsTold, GraphIsTold, PageIsTold, RefusalIsTold, ShowIsTold};
+ghost use Rattle.k_top_headline.specs.Replay.{ReplayIsTold};
 
 /// `run` of an accepted source writes the program's output and, where main returned, the report of the tree of that run.
 pub fn run_is_told()
@@ -15,6 +16,11 @@ pub fn graph_is_told()
 /// `carried` of an accepted source writes, where main returned, the pairs of places between which each loop of the run carries dependences.
 pub fn carried_is_told()
     ensures { CarriedIsTold }
+{}
+
+/// `replay` of an accepted source writes, where main returned, the program's output and in how many rounds so many workers fire the operations of the run.
+pub fn replay_is_told()
+    ensures { ReplayIsTold }
 {}
 
 /// `show` of a saved profile, of either format, writes the report of that file's own tree, or its document or table.

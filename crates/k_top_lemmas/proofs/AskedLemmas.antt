@@ -44,7 +44,7 @@ module _ (F G : Failure → Type 0) (on_failure : (failure : Failure) → F fail
   input_maps P Q on_input true bytes holds = read_maps P Q on_input bytes holds
   input_maps P Q on_input false bytes holds = on_input [] holds
 
-  running_maps : (P Q : Running → Type 0) → ((r : Running) → P r → Q r) → (outside : Outside) (file : List ℕ) (latency : Option (List ℕ)) (steps : ℕ)
+  pub running_maps : (P Q : Running → Type 0) → ((r : Running) → P r → Q r) → (outside : Outside) (file : List ℕ) (latency : Option (List ℕ)) (steps : ℕ)
       → AnswersRunning F outside file latency steps P → AnswersRunning G outside file latency steps Q
   running_maps P Q on_running outside file latency steps holds =
       program_maps F G
@@ -57,7 +57,7 @@ module _ (F G : Failure → Type 0) (on_failure : (failure : Failure) → F fail
       outside latency file holds
 
 -- no memory was found behind the input
-behind_input : (loads : Type 0) (all : List Request) (calls : Outside → Type 0) (view : View) (old new : Around) → loads → new.files ≡ after all old.files
+pub behind_input : (loads : Type 0) (all : List Request) (calls : Outside → Type 0) (view : View) (old new : Around) → loads → new.files ≡ after all old.files
     → InputDone calls view old.input new.input → FailsBefore why.NoMemory loads (λ named. named ≡ all) calls view old new
 behind_input loads all calls view old new loaded same (inl (input, calls_not)) =
     inl (loaded, (all, refl, (all, front_same all all refl, same)), input)

@@ -1,6 +1,5 @@
 mod Requesting
 pub mod Growing
-pub mod TextLemmas
 pub mod LatencyLemmas
 pub mod RegionLemmas
 pub mod SourceLemmas
@@ -22,6 +21,7 @@ mod OnePage
 mod OneAnnotation
 mod OneReport
 pub mod AskedLemmas
+pub mod ReplayLemmas
 pub mod FileLemmas
 mod Sounding
 mod OneSummary

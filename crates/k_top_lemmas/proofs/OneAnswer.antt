@@ -30,7 +30,7 @@ use Rattle.k_words.specs.declared.usage.Usage.TheVariants as usage
 use Rattle.k_top_answers.specs.declared.answer.Answer.{Answer}
 use Rattle.k_top_answers.specs.declared.failure.Failure.{Failure}
 use Rattle.k_top_answers.specs.declared.failure.Failure.TheVariants as why
-use Rattle.k_top_answers.specs.Answers.{AnswersAsked, AnswersCarried, AnswersChecked, AnswersJob, AnswersProfile, AnswersRun, AnswersWords, IsAnnotated, IsListed, IsPaged, IsShown, checked, done, refusal}
+use Rattle.k_top_answers.specs.Answers.{AnswersAsked, AnswersCarried, AnswersChecked, AnswersJob, AnswersProfile, AnswersReplayed, AnswersRun, AnswersWords, IsAnnotated, IsListed, IsPaged, IsShown, checked, done, refusal}
 use Rattle.k_top_answers.specs.Checks.{told}
 use Rattle.k_top_answers.specs.Laws.{AnswersAreUnique}
 use Rattle.k_top_answers.specs.Steps.{Outside, Running, file_limit, profile_limit, run_of}
@@ -40,6 +40,7 @@ use Rattle.k_top_lemmas.proofs.OnePage.{by_paged}
 use Rattle.k_top_lemmas.proofs.OneAnnotation.{by_annotated}
 use Rattle.k_top_lemmas.proofs.OneReport.{one_reported}
 use Rattle.k_top_lemmas.proofs.OneSummary.{one_demo}
+use Rattle.k_top_lemmas.proofs.ReplayLemmas.{one_replayed}
 use Rattle.k_top_lemmas.proofs.RunLemmas.{IsSound, run_gives_int}
 use Rattle.k_top_lemmas.proofs.Sounding.{running_sound}
 
@@ -127,6 +128,10 @@ one_job outside one other (job.Graph file steps depth latency) within a b =
 one_job outside one other (job.Carried file steps depth latency) within a b =
     by_run one other (λ r. AnswersCarried depth one r (run_of r).end) (λ r. AnswersCarried depth other r (run_of r).end)
     (λ r p q. one_carried depth one other r (run_of r).end p q)
+    (running_agrees (λ failure. one ≡ refusal failure) (λ failure. other ≡ refusal failure) _ _ outside steps file latency a b)
+one_job outside one other (job.Replay file steps depth latency workers seed) within a b =
+    by_run one other (λ r. AnswersReplayed workers seed one r (run_of r).end) (λ r. AnswersReplayed workers seed other r (run_of r).end)
+    (λ r p q. one_replayed workers seed one other r (run_of r).end p q)
     (running_agrees (λ failure. one ≡ refusal failure) (λ failure. other ≡ refusal failure) _ _ outside steps file latency a b)
 one_job outside one other (job.Page file steps depth latency dict) within a b =
     by_paged outside file depth dict one other within.depth.at_least within.depth.at_most

@@ -7,5 +7,5 @@ returns c =
     IfOk-weaker c.replayed.result _ _
     (λ replay told unit accepted marks.
     replays (record { unit = c.args.unit.now; marks = c.args.marks.now; latencies = c.args.latencies.now }) c.args.input.now c.args.budget c.args.workers c.args.seed
-    c.in_ok-tape.tape replay (c.in_ok-tape.ensures.run unit accepted marks) told)
+    c.in_ok-tape.tape (c.in_ok-tape.ensures.run unit accepted marks) replay told)
     c.replayed.ensures

@@ -18,6 +18,9 @@ graph_job-requires g c = subst IsJobWithin c.in-Graph.is c.requires.within
 pub carried_job-requires : goal.carried_job-requires
 carried_job-requires g c = subst IsJobWithin c.in-Carried.is c.requires.within
 
+pub replay_job-requires : goal.replay_job-requires
+replay_job-requires g c = subst IsJobWithin c.in-Replay.is c.requires.within
+
 pub page_job-requires-clause-within : goal.page_job-requires-clause-within
 page_job-requires-clause-within g c = subst IsJobWithin c.in-Page.is c.requires.within
 
@@ -39,6 +42,15 @@ returns-in-Carried g c =
     let out = g.K.Sink.seen c.args.out.now in
     subst (λ (j : Job). StreamsJob c.carried_job.result j old new out out) (sym c.in-Carried.is)
     (nothing_first c.carried_job.result (job.Carried c.in-Carried.file c.in-Carried.steps c.in-Carried.depth c.in-Carried.latency) old new out out refl c.carried_job.ensures)
+
+pub returns-in-Replay : goal.returns-in-Replay
+returns-in-Replay g c =
+    let old : Around = record { files = g.F.Files.seen c.args.files.now; input = g.S.Source.seen c.args.input.now } in
+    let new : Around = record { files = g.F.Files.seen c.replay_job.new.files; input = g.S.Source.seen c.replay_job.new.input } in
+    let out = g.K.Sink.seen c.args.out.now in
+    subst (λ (j : Job). StreamsJob c.replay_job.result j old new out out) (sym c.in-Replay.is)
+    (nothing_first c.replay_job.result
+    (job.Replay c.in-Replay.file c.in-Replay.steps c.in-Replay.depth c.in-Replay.latency c.in-Replay.workers c.in-Replay.seed) old new out out refl c.replay_job.ensures)
 
 pub returns-in-Page : goal.returns-in-Page
 returns-in-Page g c =
