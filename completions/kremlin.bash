@@ -17,6 +17,7 @@ _kremlin_options() {
         *" ${typed%%=*}= "*)
             case ${typed%%=*} in
                 --depth) mapfile -t COMPREPLY < <(compgen -P --depth= -W "$(echo {1..32})" -- "${typed#*=}") ;;
+                --workers) mapfile -t COMPREPLY < <(compgen -P --workers= -W "$(echo {1..16})" -- "${typed#*=}") ;;
                 --latency) _kremlin_files '*.toml' "${typed#*=}" --latency= ;;
                 --save) _kremlin_files '*' "${typed#*=}" --save= ;;
             esac
@@ -43,12 +44,15 @@ _kremlin() {
     done
     typed=${words[-1]}
     case ${#words[@]}:${words[0]} in
-        1:*) mapfile -t COMPREPLY < <(compgen -W 'run graph carried page annotate show check demo --help -h --version -V' -- "$typed") ;;
-        2:run | 2:graph | 2:carried | 2:page | 2:annotate | 2:check) _kremlin_files '*.c' "$typed" ;;
+        1:*) mapfile -t COMPREPLY < <(compgen -W 'run graph carried replay page annotate show check demo --help -h --version -V' -- "$typed") ;;
+        2:run | 2:graph | 2:carried | 2:replay | 2:page | 2:annotate | 2:check) _kremlin_files '*.c' "$typed" ;;
         2:show) _kremlin_files '*' "$typed" ;;
         2:*) ;;
         *:run) options='--steps= --depth= --latency= --dict --save=' ;;
-        *:graph | *:carried | *:annotate) options='--steps= --depth= --latency=' ;;
+        *:graph) options='--steps= --depth= --latency=' ;;
+        *:carried) options='--steps= --depth= --latency= --storage' ;;
+        *:replay) options='--steps= --depth= --latency= --workers= --seed=' ;;
+        *:annotate) options='--steps= --depth= --latency= --strict' ;;
         *:page) options='--steps= --depth= --latency= --dict' ;;
         *:show) options='--dict --json --csv' ;;
     esac

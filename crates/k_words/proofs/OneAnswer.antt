@@ -6,13 +6,13 @@ use Rattle.std.proofs.lemmas.Option.{none-some, same_Some, slice_get_past}
 use Rattle.k_words.specs.declared.job.Job.{Job}
 use Rattle.k_words.specs.declared.job.Job.TheVariants as job
 use Rattle.k_words.specs.declared.option.Command.{Command}
-use Rattle.k_words.specs.declared.option.Command.TheVariants.{Run, Graph, Carried, Page, Annotate, Show, Check, Demo}
+use Rattle.k_words.specs.declared.option.Command.TheVariants.{Run, Graph, Carried, Replay, Page, Annotate, Show, Check, Demo}
 use Rattle.k_words.specs.declared.option.Setting.{Setting}
 use Rattle.k_words.specs.declared.usage.Usage.{Usage}
 use Rattle.k_words.specs.declared.usage.Usage.TheVariants.{NoCommand, UnknownWord, BadNumber, Twice, NoFile, Memory}
 use Rattle.k_words.specs.Setting.{is_value, option_of}
 use Rattle.k_words.specs.Settings.{IsFirst, bars, fault_if_there, given, option_fault, settings_fault}
-use Rattle.k_words.specs.Words.{Answers, AreRight, IsAnswer, annotate_of, carried_of, command_fault, command_of, demo_fault, demo_job, demo_loops, demo_number, fault_at, fault_behind, file_fault, graph_of, is_no_file, job_of, job_with, loops_fault, one_too_many, page_of, run_of, show_of}
+use Rattle.k_words.specs.Words.{Answers, AreRight, IsAnswer, annotate_of, carried_of, command_fault, command_of, demo_fault, demo_job, demo_loops, demo_number, fault_at, fault_behind, file_fault, graph_of, is_no_file, job_of, job_with, loops_fault, one_too_many, page_of, replay_of, run_of, show_of}
 
 -- what is wrong with a word is no want of memory
 IsNoMemory : Option Usage → Type 0
@@ -72,6 +72,7 @@ behind_other None arguments k = tt
 behind_other (Some Run) arguments k = file_other Run arguments k
 behind_other (Some Graph) arguments k = file_other Graph arguments k
 behind_other (Some Carried) arguments k = file_other Carried arguments k
+behind_other (Some Replay) arguments k = file_other Replay arguments k
 behind_other (Some Page) arguments k = file_other Page arguments k
 behind_other (Some Annotate) arguments k = file_other Annotate arguments k
 behind_other (Some Show) arguments k = file_other Show arguments k
@@ -117,6 +118,7 @@ behind_past None arguments k past = refl
 behind_past (Some Run) arguments k past = file_past Run arguments k past
 behind_past (Some Graph) arguments k past = file_past Graph arguments k past
 behind_past (Some Carried) arguments k past = file_past Carried arguments k past
+behind_past (Some Replay) arguments k past = file_past Replay arguments k past
 behind_past (Some Page) arguments k past = file_past Page arguments k past
 behind_past (Some Annotate) arguments k past = file_past Annotate arguments k past
 behind_past (Some Show) arguments k past = file_past Show arguments k past
@@ -150,6 +152,8 @@ job_behind (Some Graph) [] known right = absurd (none-some _ (sym (right 0)))
 job_behind (Some Graph) (file ∷ words) known right = (graph_of file (given Graph words), refl)
 job_behind (Some Carried) [] known right = absurd (none-some _ (sym (right 0)))
 job_behind (Some Carried) (file ∷ words) known right = (carried_of file (given Carried words), refl)
+job_behind (Some Replay) [] known right = absurd (none-some _ (sym (right 0)))
+job_behind (Some Replay) (file ∷ words) known right = (replay_of file (given Replay words), refl)
 job_behind (Some Page) [] known right = absurd (none-some _ (sym (right 0)))
 job_behind (Some Page) (file ∷ words) known right = (page_of file (given Page words), refl)
 job_behind (Some Annotate) [] known right = absurd (none-some _ (sym (right 0)))

@@ -7,13 +7,13 @@ use Rattle.std.specs.Str.Parse.{digits_value}
 use Rattle.k_words.specs.declared.job.Job.{Job}
 use Rattle.k_words.specs.declared.job.Job.TheVariants as job
 use Rattle.k_words.specs.declared.option.Command.{Command}
-use Rattle.k_words.specs.declared.option.Command.TheVariants.{Run, Graph, Carried, Page, Annotate, Show, Check, Demo}
-use Rattle.k_words.specs.declared.option.Setting.TheVariants.{Steps, Depth}
+use Rattle.k_words.specs.declared.option.Command.TheVariants.{Run, Graph, Carried, Replay, Page, Annotate, Show, Check, Demo}
+use Rattle.k_words.specs.declared.option.Setting.TheVariants.{Steps, Depth, Workers, Seed}
 use Rattle.k_words.specs.Number.{is_numeral, number_within, within}
-use Rattle.k_words.specs.Setting.{most_depth, most_steps, or_else}
-use Rattle.k_words.specs.Settings.{depth_in, first_of, given, steps_in, text_in}
-use Rattle.k_words.specs.Within.{IsJobWithin, IsRunWithin, IsWithin, JobsAreWithin}
-use Rattle.k_words.specs.Words.{annotate_of, carried_of, command_of, demo_loops, demo_number, graph_of, job_with, page_of, run_of}
+use Rattle.k_words.specs.Setting.{most_depth, most_seed, most_steps, most_workers, or_else}
+use Rattle.k_words.specs.Settings.{depth_in, first_of, given, seed_in, steps_in, text_in, workers_in}
+use Rattle.k_words.specs.Within.{IsJobWithin, IsReplayWithin, IsRunWithin, IsWithin, JobsAreWithin}
+use Rattle.k_words.specs.Words.{annotate_of, carried_of, command_of, demo_loops, demo_number, graph_of, job_with, page_of, replay_of, run_of}
 use Rattle.k_words.proofs.Given.{mapped, some_inner}
 
 -- nothing is something
@@ -71,6 +71,16 @@ module _ (command : Command) where
       let (value, text, number) = then_some (number_within 1 most_depth) (text_in command Depth word) n is in
       number_is_within 1 most_depth value n number
 
+  workers_word : (word : List ℕ) (n : ℕ) → workers_in command word ≡ Some n → IsWithin 1 16 n
+  workers_word word n is =
+      let (value, text, number) = then_some (number_within 1 most_workers) (text_in command Workers word) n is in
+      number_is_within 1 most_workers value n number
+
+  seed_word : (word : List ℕ) (n : ℕ) → seed_in command word ≡ Some n → IsWithin 0 most_seed n
+  seed_word word n is =
+      let (value, text, number) = then_some (number_within 0 most_seed) (text_in command Seed word) n is in
+      number_is_within 0 most_seed value n number
+
   -- the numbers of a command's options
   options_within : (words : List (List ℕ)) (standard : ℕ) → IsWithin 1 (most_steps command) standard
       → IsRunWithin (most_steps command) (unwrap_or (given command words).steps standard) (unwrap_or (given command words).depth 24)
@@ -80,6 +90,18 @@ module _ (command : Command) where
     depth = default_within 1 32 24 (first_of (depth_in command) words) (first_within 1 32 (depth_in command) depth_word words)
         (record { at_least = omega arith; at_most = omega arith });
   }
+
+-- the numbers of the options of `replay`
+replay_within : (words : List (List ℕ))
+    → IsReplayWithin (unwrap_or (given Replay words).steps 200000) (unwrap_or (given Replay words).depth 24)
+    (unwrap_or (given Replay words).workers 4) (unwrap_or (given Replay words).seed 1)
+replay_within words = record {
+  run = options_within Replay words 200000 (record { at_least = omega arith; at_most = omega arith });
+  workers = default_within 1 16 4 (first_of (workers_in Replay) words) (first_within 1 16 (workers_in Replay) (workers_word Replay) words)
+      (record { at_least = omega arith; at_most = omega arith });
+  seed = default_within 0 most_seed 1 (first_of (seed_in Replay) words) (first_within 0 most_seed (seed_in Replay) (seed_word Replay) words)
+      (record { at_least = omega arith; at_most = omega arith });
+}
 
 -- a command with its arguments
 command_within : (command : Command) (words : List (List ℕ)) (asked : Job) → job_with words command ≡ Some asked → IsJobWithin asked
@@ -95,6 +117,8 @@ command_within Carried [] asked is = no_some asked is
 command_within Carried (file ∷ words) asked is =
     subst IsJobWithin (some_inner (carried_of file (given Carried words)) asked is)
     (options_within Carried words 100000000 (record { at_least = omega arith; at_most = omega arith }))
+command_within Replay [] asked is = no_some asked is
+command_within Replay (file ∷ words) asked is = subst IsJobWithin (some_inner (replay_of file (given Replay words)) asked is) (replay_within words)
 command_within Page [] asked is = no_some asked is
 command_within Page (file ∷ words) asked is =
     subst IsJobWithin (some_inner (page_of file (given Page words)) asked is)

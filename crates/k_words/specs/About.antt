@@ -34,6 +34,7 @@ help_text = concat (
     codes "kremlin run FILE [OPTION ..]       runs a C program and writes its output, its profile and a plan\n" ∷
     codes "kremlin graph FILE [OPTION ..]     lists the events of the run and a heaviest path for each region instance\n" ∷
     codes "kremlin carried FILE [OPTION ..]   lists for each loop which places use what other places gave in an earlier turn\n" ∷
+    codes "kremlin replay FILE [OPTION ..]    lets workers fire the operations of the run in any order and counts their rounds\n" ∷
     codes "kremlin page FILE [OPTION ..]      runs a C program and writes one page of HTML: its profile, its plan and its source\n" ∷
     codes "kremlin annotate FILE [OPTION ..]  runs a C program and writes its source with the numbers of each loop and OpenMP lines\n" ∷
     codes "kremlin show FILE [OPTION ..]      writes a saved profile: its report, a JSON document, or its rows as CSV\n" ∷
@@ -42,11 +43,15 @@ help_text = concat (
     codes "kremlin --help, -h                 writes this text\n" ∷
     codes "kremlin --version, -V              writes the product and its number\n" ∷
     codes "\n" ∷
-    codes "--steps=N       at most N operations; run, carried, page, annotate: 1 to 1000000000, default 100000000; graph: 1 to 200000, default 200000\n" ∷
-    codes "--depth=N       levels of regions that are tracked; run, graph, carried, page, annotate: 1 to 32, default 24\n" ∷
-    codes "--latency=FILE  a table of latencies in TOML; run, graph, carried, page, annotate; default the standard latencies\n" ∷
+    codes "--steps=N       at most N operations; run, carried, page, annotate: 1 to 1000000000, default 100000000; graph, replay: 1 to 200000, default 200000\n" ∷
+    codes "--depth=N       levels of regions that are tracked; run, graph, carried, replay, page, annotate: 1 to 32, default 24\n" ∷
+    codes "--latency=FILE  a table of latencies in TOML; run, graph, carried, replay, page, annotate; default the standard latencies\n" ∷
     codes "--dict          lists the dictionary of summaries; run, page, show; default no list\n" ∷
     codes "--save=FILE     saves the profile; run; default not saved\n" ∷
+    codes "--storage       lists for each loop also which places share storage between turns and hand nothing on; carried; default no list\n" ∷
+    codes "--strict        marks only loops whose turns share no storage besides; annotate; default loops that hand nothing on\n" ∷
+    codes "--workers=P     how many workers there are; replay: 1 to 16, default 4\n" ∷
+    codes "--seed=S        the number that their order is drawn from; replay: 0 to 18446744073709551615, default 1\n" ∷
     codes "--json          writes a JSON document, with the dictionary by --dict; show; default the report\n" ∷
     codes "--csv           writes the rows as CSV, and takes neither --dict nor --json; show; default the report\n" ∷
     codes "\n" ∷

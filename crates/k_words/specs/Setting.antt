@@ -1,12 +1,12 @@
 -- Believed with the theorem on the top call.
 -- *Options*: what a word is by itself behind a command's file.
-use Rattle.std.specs.Prelude.{ℕ, Bool, true, false, ◌==◌, nat_eq, if◌then◌else◌, List, [], length, drop, codes, Option, Some, None, is_some, option_map, option_and_then}
+use Rattle.std.specs.Prelude.{ℕ, Bool, true, false, ◌==◌, ◌||◌, nat_eq, if◌then◌else◌, List, [], ◌∷◌, length, drop, codes, Option, Some, None, is_some, option_map, option_and_then}
 use Rattle.std.specs.List.{starts_with}
 use Rattle.std.specs.Cmp.Lexicographic.{pointwise}
 use Rattle.k_words.specs.declared.option.Command.{Command}
-use Rattle.k_words.specs.declared.option.Command.TheVariants.{Run, Graph, Carried, Page, Annotate, Show, Check, Demo}
+use Rattle.k_words.specs.declared.option.Command.TheVariants.{Run, Graph, Carried, Replay, Page, Annotate, Show, Check, Demo}
 use Rattle.k_words.specs.declared.option.Setting.{Setting}
-use Rattle.k_words.specs.declared.option.Setting.TheVariants.{Steps, Depth, Latency, Dict, Save, Json, Csv}
+use Rattle.k_words.specs.declared.option.Setting.TheVariants.{Steps, Depth, Latency, Dict, Save, Storage, Strict, Workers, Seed, Json, Csv}
 use Rattle.k_words.specs.Number.{number_within}
 
 -- what follows a text at the front of a word
@@ -26,6 +26,15 @@ or_else (Some one) other = Some one
 abbrev pub begun_with : List ℕ → Setting → List ℕ → Option (Setting × List ℕ)
 begun_with front setting word = option_map (λ value. (setting, value)) (after front word)
 
+-- which option without a value a word is, whatever the command
+abbrev pub flag_of : List ℕ → Option Setting
+flag_of word =
+    if pointwise nat_eq word (codes "--dict") then Some Dict
+    else if pointwise nat_eq word (codes "--storage") then Some Storage
+    else if pointwise nat_eq word (codes "--strict") then Some Strict
+    else if pointwise nat_eq word (codes "--json") then Some Json
+    else if pointwise nat_eq word (codes "--csv") then Some Csv else None
+
 -- which option a word is, whatever the command, and its value
 abbrev pub written_as : List ℕ → Option (Setting × List ℕ)
 written_as word =
@@ -33,56 +42,44 @@ written_as word =
     else if is_some (after (codes "--depth=") word) then begun_with (codes "--depth=") Depth word
     else if is_some (after (codes "--latency=") word) then option_and_then (named Latency) (after (codes "--latency=") word)
     else if is_some (after (codes "--save=") word) then option_and_then (named Save) (after (codes "--save=") word)
-    else if pointwise nat_eq word (codes "--dict") then Some (Dict, [])
-    else if pointwise nat_eq word (codes "--json") then Some (Json, [])
-    else if pointwise nat_eq word (codes "--csv") then Some (Csv, []) else None
+    else if is_some (after (codes "--workers=") word) then begun_with (codes "--workers=") Workers word
+    else if is_some (after (codes "--seed=") word) then begun_with (codes "--seed=") Seed word
+    else option_map (λ setting. (setting, [])) (flag_of word)
+
+-- a number for each option, which tells them apart
+abbrev pub rank : Setting → ℕ
+rank Steps = 0
+rank Depth = 1
+rank Latency = 2
+rank Dict = 3
+rank Save = 4
+rank Storage = 5
+rank Strict = 6
+rank Workers = 7
+rank Seed = 8
+rank Json = 9
+rank Csv = 10
 
 -- the options of each command
+abbrev pub options : Command → List Setting
+options Run = Steps ∷ Depth ∷ Latency ∷ Dict ∷ Save ∷ []
+options Graph = Steps ∷ Depth ∷ Latency ∷ []
+options Carried = Steps ∷ Depth ∷ Latency ∷ Storage ∷ []
+options Replay = Steps ∷ Depth ∷ Latency ∷ Workers ∷ Seed ∷ []
+options Page = Steps ∷ Depth ∷ Latency ∷ Dict ∷ []
+options Annotate = Steps ∷ Depth ∷ Latency ∷ Strict ∷ []
+options Show = Dict ∷ Json ∷ Csv ∷ []
+options Check = []
+options Demo = []
+
+-- this option is among those
+abbrev pub is_among : List Setting → Setting → Bool
+is_among [] setting = false
+is_among (o ∷ others) setting = rank setting == rank o || is_among others setting
+
+-- the command has this option
 abbrev pub is_taken : Command → Setting → Bool
-is_taken Run Steps = true
-is_taken Run Depth = true
-is_taken Run Latency = true
-is_taken Run Dict = true
-is_taken Run Save = true
-is_taken Run Json = false
-is_taken Run Csv = false
-is_taken Graph Steps = true
-is_taken Graph Depth = true
-is_taken Graph Latency = true
-is_taken Graph Dict = false
-is_taken Graph Save = false
-is_taken Graph Json = false
-is_taken Graph Csv = false
-is_taken Carried Steps = true
-is_taken Carried Depth = true
-is_taken Carried Latency = true
-is_taken Carried Dict = false
-is_taken Carried Save = false
-is_taken Carried Json = false
-is_taken Carried Csv = false
-is_taken Page Steps = true
-is_taken Page Depth = true
-is_taken Page Latency = true
-is_taken Page Dict = true
-is_taken Page Save = false
-is_taken Page Json = false
-is_taken Page Csv = false
-is_taken Annotate Steps = true
-is_taken Annotate Depth = true
-is_taken Annotate Latency = true
-is_taken Annotate Dict = false
-is_taken Annotate Save = false
-is_taken Annotate Json = false
-is_taken Annotate Csv = false
-is_taken Show Steps = false
-is_taken Show Depth = false
-is_taken Show Latency = false
-is_taken Show Dict = true
-is_taken Show Save = false
-is_taken Show Json = true
-is_taken Show Csv = true
-is_taken Check setting = false
-is_taken Demo setting = false
+is_taken command setting = is_among (options command) setting
 
 -- an option that the command takes
 abbrev pub taken_by : Command → (Setting × List ℕ) → Option (Setting × List ℕ)
@@ -97,6 +94,7 @@ abbrev pub most_steps : Command → ℕ
 most_steps Run = 1000000000
 most_steps Graph = 200000
 most_steps Carried = 1000000000
+most_steps Replay = 200000
 most_steps Page = 1000000000
 most_steps Annotate = 1000000000
 most_steps Show = 1000000000
@@ -107,6 +105,14 @@ most_steps Demo = 1000000000
 abbrev pub most_depth : ℕ
 most_depth = 32
 
+-- the greatest number of workers
+abbrev pub most_workers : ℕ
+most_workers = 16
+
+-- the greatest number that an order is drawn from: the greatest of 64 bits
+abbrev pub most_seed : ℕ
+most_seed = 18446744073709551615
+
 -- how many operations `run`, `carried`, `page` and `annotate` make at most where they are not told, and `demo`
 abbrev pub standard_steps : ℕ
 standard_steps = 100000000
@@ -115,6 +121,14 @@ standard_steps = 100000000
 abbrev pub standard_depth : ℕ
 standard_depth = 24
 
+-- how many workers there are where `replay` is not told
+abbrev pub standard_workers : ℕ
+standard_workers = 4
+
+-- the number that their order is drawn from where it is not told
+abbrev pub standard_seed : ℕ
+standard_seed = 1
+
 -- the value is one that the option may have
 abbrev pub is_value : Command → Setting → List ℕ → Bool
 is_value command Steps value = is_some (number_within 1 (most_steps command) value)
@@ -122,5 +136,9 @@ is_value command Depth value = is_some (number_within 1 most_depth value)
 is_value command Latency value = true
 is_value command Dict value = true
 is_value command Save value = true
+is_value command Storage value = true
+is_value command Strict value = true
+is_value command Workers value = is_some (number_within 1 most_workers value)
+is_value command Seed value = is_some (number_within 0 most_seed value)
 is_value command Json value = true
 is_value command Csv value = true

@@ -4,12 +4,12 @@ use Rattle.std.specs.Prelude.{ℕ, ◌+◌, ◌<◌, ◌≡◌, ◌==◌, ◌||�
 use Rattle.std.specs.declared.alloc.Global.{Global}
 use Rattle.k_words.specs.declared.option.Command.{Command}
 use Rattle.k_words.specs.declared.option.Setting.{Setting}
-use Rattle.k_words.specs.declared.option.Setting.TheVariants.{Steps, Depth, Latency, Dict, Save, Json, Csv}
+use Rattle.k_words.specs.declared.option.Setting.TheVariants.{Steps, Depth, Latency, Dict, Save, Storage, Strict, Workers, Seed, Json, Csv}
 use Rattle.k_words.specs.declared.settings.Settings.{Settings}
 use Rattle.k_words.specs.declared.usage.Usage.{Usage}
 use Rattle.k_words.specs.declared.usage.Usage.TheVariants.{UnknownWord, BadNumber, Twice}
 use Rattle.k_words.specs.Number.{number_within}
-use Rattle.k_words.specs.Setting.{is_value, most_depth, most_steps, option_of, or_else}
+use Rattle.k_words.specs.Setting.{is_value, most_depth, most_seed, most_steps, most_workers, option_of, or_else, rank}
 
 -- what the options of a command are
 pub record Given : Type 0 where
@@ -18,26 +18,32 @@ pub record Given : Type 0 where
   pub latency : Option (List ℕ)
   pub dict : Bool
   pub save : Option (List ℕ)
+  pub storage : Bool
+  pub strict : Bool
+  pub workers : Option ℕ
+  pub seed : Option ℕ
   pub json : Bool
   pub csv : Bool
 
 -- the settings of the code as such
 abbrev pub seen : Settings → Given
-seen s = record { steps = s.steps; depth = s.depth; latency = option_map (λ file. file.now) s.latency; dict = s.dict; save = option_map (λ file. file.now) s.save; json = s.json; csv = s.csv }
+seen s = record {
+  steps = s.steps;
+  depth = s.depth;
+  latency = option_map (λ file. file.now) s.latency;
+  dict = s.dict;
+  save = option_map (λ file. file.now) s.save;
+  storage = s.storage;
+  strict = s.strict;
+  workers = s.workers;
+  seed = s.seed;
+  json = s.json;
+  csv = s.csv;
+}
 
 -- the words as lists of bytes
 abbrev pub seen_words : List (String Global) → List (List ℕ)
 seen_words words = map string_bytes words
-
--- a number for each option, which tells them apart
-abbrev pub rank : Setting → ℕ
-rank Steps = 0
-rank Depth = 1
-rank Latency = 2
-rank Dict = 3
-rank Save = 4
-rank Json = 5
-rank Csv = 6
 
 -- the value, where it is that of this option
 abbrev pub value_in : Setting → Option (Setting × List ℕ) → Option (List ℕ)
@@ -56,6 +62,14 @@ steps_in command word = option_and_then (number_within 1 (most_steps command)) (
 abbrev pub depth_in : Command → List ℕ → Option ℕ
 depth_in command word = option_and_then (number_within 1 most_depth) (text_in command Depth word)
 
+-- the number of workers that a word gives
+abbrev pub workers_in : Command → List ℕ → Option ℕ
+workers_in command word = option_and_then (number_within 1 most_workers) (text_in command Workers word)
+
+-- the number that a word gives for the order to be drawn from
+abbrev pub seed_in : Command → List ℕ → Option ℕ
+seed_in command word = option_and_then (number_within 0 most_seed) (text_in command Seed word)
+
 -- what the first word gives that gives anything
 abbrev pub first_of : {A : Type 0} → (List ℕ → Option A) → List (List ℕ) → Option A
 first_of f [] = None
@@ -69,6 +83,10 @@ given command words = record {
   latency = first_of (text_in command Latency) words;
   dict = is_some (first_of (text_in command Dict) words);
   save = first_of (text_in command Save) words;
+  storage = is_some (first_of (text_in command Storage) words);
+  strict = is_some (first_of (text_in command Strict) words);
+  workers = first_of (workers_in command) words;
+  seed = first_of (seed_in command) words;
   json = is_some (first_of (text_in command Json) words);
   csv = is_some (first_of (text_in command Csv) words);
 }
@@ -80,6 +98,10 @@ bars g Depth = is_some g.depth
 bars g Latency = is_some g.latency
 bars g Dict = g.dict || g.csv
 bars g Save = is_some g.save
+bars g Storage = g.storage
+bars g Strict = g.strict
+bars g Workers = is_some g.workers
+bars g Seed = is_some g.seed
 bars g Json = g.json || g.csv
 bars g Csv = (g.csv || g.json) || g.dict
 
@@ -120,6 +142,10 @@ set command g Depth value = option_map (λ n. record g { depth = Some n }) (numb
 set command g Latency value = Some (record g { latency = Some value })
 set command g Dict value = Some (record g { dict = true })
 set command g Save value = Some (record g { save = Some value })
+set command g Storage value = Some (record g { storage = true })
+set command g Strict value = Some (record g { strict = true })
+set command g Workers value = option_map (λ n. record g { workers = Some n }) (number_within 1 most_workers value)
+set command g Seed value = option_map (λ n. record g { seed = Some n }) (number_within 0 most_seed value)
 set command g Json value = Some (record g { json = true })
 set command g Csv value = Some (record g { csv = true })
 
@@ -140,4 +166,5 @@ one false = 0
 -- how many options were given
 abbrev pub count : Given → ℕ
 count g =
-    one (is_some g.steps) + one (is_some g.depth) + one (is_some g.latency) + one g.dict + one (is_some g.save) + one g.json + one g.csv
+    one (is_some g.steps) + one (is_some g.depth) + one (is_some g.latency) + one g.dict + one (is_some g.save) + one g.storage + one g.strict
+    + one (is_some g.workers) + one (is_some g.seed) + one g.json + one g.csv

@@ -15,13 +15,20 @@ pub record IsRunWithin (most operations levels : ℕ) : Type 0 where
   pub steps : IsWithin 1 most operations
   pub depth : IsWithin 1 32 levels
 
+-- the same, and how many workers there are and what their order is drawn from
+pub record IsReplayWithin (operations levels count number : ℕ) : Type 0 where
+  pub run : IsRunWithin 200000 operations levels
+  pub workers : IsWithin 1 16 count
+  pub seed : IsWithin 0 18446744073709551615 number
+
 -- the numbers of a job lie within their limits
 abbrev pub IsJobWithin : Job → Type 0
 IsJobWithin (job.Run file steps depth latency dict save) = IsRunWithin 1000000000 steps depth
 IsJobWithin (job.Graph file steps depth latency) = IsRunWithin 200000 steps depth
-IsJobWithin (job.Carried file steps depth latency) = IsRunWithin 1000000000 steps depth
+IsJobWithin (job.Carried file steps depth latency storage) = IsRunWithin 1000000000 steps depth
+IsJobWithin (job.Replay file steps depth latency workers seed) = IsReplayWithin steps depth workers seed
 IsJobWithin (job.Page file steps depth latency dict) = IsRunWithin 1000000000 steps depth
-IsJobWithin (job.Annotate file steps depth latency) = IsRunWithin 1000000000 steps depth
+IsJobWithin (job.Annotate file steps depth latency strict) = IsRunWithin 1000000000 steps depth
 IsJobWithin (job.Show file form) = Unit {0}
 IsJobWithin (job.Check file) = Unit {0}
 IsJobWithin (job.Demo number loops) = IsWithin 1 2000 loops

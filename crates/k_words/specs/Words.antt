@@ -8,11 +8,11 @@ use Rattle.k_words.specs.declared.job.Job.TheVariants as job
 use Rattle.k_words.specs.declared.job.Form.{Form}
 use Rattle.k_words.specs.declared.job.Form.TheVariants as form
 use Rattle.k_words.specs.declared.option.Command.{Command}
-use Rattle.k_words.specs.declared.option.Command.TheVariants.{Run, Graph, Carried, Page, Annotate, Show, Check, Demo}
+use Rattle.k_words.specs.declared.option.Command.TheVariants.{Run, Graph, Carried, Replay, Page, Annotate, Show, Check, Demo}
 use Rattle.k_words.specs.declared.usage.Usage.{Usage}
 use Rattle.k_words.specs.declared.usage.Usage.TheVariants.{NoCommand, UnknownWord, BadNumber, Twice, NoFile, Memory}
 use Rattle.k_words.specs.Number.{number_within}
-use Rattle.k_words.specs.Setting.{standard_depth, standard_steps}
+use Rattle.k_words.specs.Setting.{standard_depth, standard_seed, standard_steps, standard_workers}
 use Rattle.k_words.specs.Settings.{Given, IsFirst, given, settings_fault}
 
 -- the word can't name a file: it is empty or begins with --
@@ -62,7 +62,8 @@ is word text = pointwise nat_eq word text
 unfoldable pub command_of : List ℕ → Option Command
 command_of word =
     if is word (codes "run") then Some Run else if is word (codes "graph") then Some Graph
-    else if is word (codes "carried") then Some Carried else if is word (codes "page") then Some Page
+    else if is word (codes "carried") then Some Carried else if is word (codes "replay") then Some Replay
+    else if is word (codes "page") then Some Page
     else if is word (codes "annotate") then Some Annotate else if is word (codes "show") then Some Show
     else if is word (codes "check") then Some Check else if is word (codes "demo") then Some Demo else None
 
@@ -76,6 +77,7 @@ abbrev pub argument_fault : Command → List (List ℕ) → ℕ → Option Usage
 argument_fault Run words k = file_fault Run words k
 argument_fault Graph words k = file_fault Graph words k
 argument_fault Carried words k = file_fault Carried words k
+argument_fault Replay words k = file_fault Replay words k
 argument_fault Page words k = file_fault Page words k
 argument_fault Annotate words k = file_fault Annotate words k
 argument_fault Show words k = file_fault Show words k
@@ -104,7 +106,12 @@ graph_of file g = job.Graph file (unwrap_or g.steps 200000) (unwrap_or g.depth s
 
 -- what `carried` with this file and these options asks for
 abbrev pub carried_of : List ℕ → Given → Job
-carried_of file g = job.Carried file (unwrap_or g.steps standard_steps) (unwrap_or g.depth standard_depth) g.latency
+carried_of file g = job.Carried file (unwrap_or g.steps standard_steps) (unwrap_or g.depth standard_depth) g.latency g.storage
+
+-- what `replay` with this file and these options asks for
+abbrev pub replay_of : List ℕ → Given → Job
+replay_of file g =
+    job.Replay file (unwrap_or g.steps 200000) (unwrap_or g.depth standard_depth) g.latency (unwrap_or g.workers standard_workers) (unwrap_or g.seed standard_seed)
 
 -- what `page` with this file and these options asks for
 abbrev pub page_of : List ℕ → Given → Job
@@ -112,7 +119,7 @@ page_of file g = job.Page file (unwrap_or g.steps standard_steps) (unwrap_or g.d
 
 -- what `annotate` with this file and these options asks for
 abbrev pub annotate_of : List ℕ → Given → Job
-annotate_of file g = job.Annotate file (unwrap_or g.steps standard_steps) (unwrap_or g.depth standard_depth) g.latency
+annotate_of file g = job.Annotate file (unwrap_or g.steps standard_steps) (unwrap_or g.depth standard_depth) g.latency g.strict
 
 -- how `show` with these options shows a profile
 abbrev pub form_of : Given → Form
@@ -136,6 +143,11 @@ graph_job (file ∷ words) = Some (graph_of file (given Graph words))
 abbrev pub carried_job : List (List ℕ) → Option Job
 carried_job [] = None
 carried_job (file ∷ words) = Some (carried_of file (given Carried words))
+
+-- what `replay` with these arguments asks for
+abbrev pub replay_job : List (List ℕ) → Option Job
+replay_job [] = None
+replay_job (file ∷ words) = Some (replay_of file (given Replay words))
 
 -- what `page` with these arguments asks for
 abbrev pub page_job : List (List ℕ) → Option Job
@@ -168,6 +180,7 @@ abbrev pub job_with : List (List ℕ) → Command → Option Job
 job_with words Run = run_job words
 job_with words Graph = graph_job words
 job_with words Carried = carried_job words
+job_with words Replay = replay_job words
 job_with words Page = page_job words
 job_with words Annotate = annotate_job words
 job_with words Show = show_job words

@@ -48,6 +48,7 @@ kremlin: which loops of a serial C program are worth making parallel
 kremlin run FILE [OPTION ..]       runs a C program and writes its output, its profile and a plan
 kremlin graph FILE [OPTION ..]     lists the events of the run and a heaviest path for each region instance
 kremlin carried FILE [OPTION ..]   lists for each loop which places use what other places gave in an earlier turn
+kremlin replay FILE [OPTION ..]    lets workers fire the operations of the run in any order and counts their rounds
 kremlin page FILE [OPTION ..]      runs a C program and writes one page of HTML: its profile, its plan and its source
 kremlin annotate FILE [OPTION ..]  runs a C program and writes its source with the numbers of each loop and OpenMP lines
 kremlin show FILE [OPTION ..]      writes a saved profile: its report, a JSON document, or its rows as CSV
@@ -56,11 +57,15 @@ kremlin demo NUMBER LOOPS          makes a program of LOOPS loops (1 to 2000) fr
 kremlin --help, -h                 writes this text
 kremlin --version, -V              writes the product and its number
 
---steps=N       at most N operations; run, carried, page, annotate: 1 to 1000000000, default 100000000; graph: 1 to 200000, default 200000
---depth=N       levels of regions that are tracked; run, graph, carried, page, annotate: 1 to 32, default 24
---latency=FILE  a table of latencies in TOML; run, graph, carried, page, annotate; default the standard latencies
+--steps=N       at most N operations; run, carried, page, annotate: 1 to 1000000000, default 100000000; graph, replay: 1 to 200000, default 200000
+--depth=N       levels of regions that are tracked; run, graph, carried, replay, page, annotate: 1 to 32, default 24
+--latency=FILE  a table of latencies in TOML; run, graph, carried, replay, page, annotate; default the standard latencies
 --dict          lists the dictionary of summaries; run, page, show; default no list
 --save=FILE     saves the profile; run; default not saved
+--storage       lists for each loop also which places share storage between turns and hand nothing on; carried; default no list
+--strict        marks only loops whose turns share no storage besides; annotate; default loops that hand nothing on
+--workers=P     how many workers there are; replay: 1 to 16, default 4
+--seed=S        the number that their order is drawn from; replay: 0 to 18446744073709551615, default 1
 --json          writes a JSON document, with the dictionary by --dict; show; default the report
 --csv           writes the rows as CSV, and takes neither --dict nor --json; show; default the report
 

@@ -1,10 +1,12 @@
 //! What the words of the command line ask for.
 ghost use Rattle.std.specs.Prelude.{◌≡◌, MatchResult, IfOk, option_map};
 ghost use Rattle.k_words.specs.Settings.{IsFirst, seen, seen_words};
-ghost use Rattle.k_words.specs.Words.{Answers, IsAnswer, ReadsFile, annotate_job, carried_job, check_job, command_of, demo_fault, demo_job, file_fault, graph_job, is_no_file, page_job, run_job, show_job, form_of};
+ghost use Rattle.k_words.specs.Words.{Answers, IsAnswer, ReadsFile, annotate_job, carried_job, check_job, command_of, demo_fault, demo_job, file_fault, graph_job, is_no_file, page_job, replay_job, run_job, show_job, form_of};
 
 use crate::number::number_within;
-use crate::option::{Command, STANDARD_DEPTH, STANDARD_STEPS};
+use crate::option::{
+    Command, LISTED_STEPS, STANDARD_DEPTH, STANDARD_SEED, STANDARD_STEPS, STANDARD_WORKERS,
+};
 use crate::settings::{Settings, read_settings};
 use crate::usage::Usage;
 use k_num::{NoMemory, Text};
@@ -41,12 +43,22 @@ pub enum Job {
         depth: u32,
         latency: Option<Text>,
     },
-    /// What the loops of a program's run carry from turn to turn is listed.
+    /// What the loops of a program's run carry from turn to turn is listed, and what their turns share in storage where this is asked for.
     Carried {
         file: Text,
         steps: u64,
         depth: u32,
         latency: Option<Text>,
+        storage: bool,
+    },
+    /// So many workers fire the operations of a program's run in an order that is drawn from a number.
+    Replay {
+        file: Text,
+        steps: u64,
+        depth: u32,
+        latency: Option<Text>,
+        workers: u32,
+        seed: u64,
     },
     /// A program is run as by `run`, and its profile is written as one page of HTML, with the dictionary where this is asked for.
     Page {
@@ -57,12 +69,13 @@ pub enum Job {
         dict: bool,
     },
     /// A program is run as by `run`, and its source is written with what its functions and loops took, and with an OpenMP line before each loop that may be
-    /// marked.
+    /// marked; none before a loop whose turns share storage, where this is asked for.
     Annotate {
         file: Text,
         steps: u64,
         depth: u32,
         latency: Option<Text>,
+        strict: bool,
     },
     /// A saved profile is shown.
     Show {
@@ -91,6 +104,7 @@ pub fn words(alloc: Global, list: &[String]) -> Result<Job, Usage>
         Some(Command::Run) => run_job(alloc, arguments),
         Some(Command::Graph) => graph_job(alloc, arguments),
         Some(Command::Carried) => carried_job(alloc, arguments),
+        Some(Command::Replay) => replay_job(alloc, arguments),
         Some(Command::Page) => page_job(alloc, arguments),
         Some(Command::Annotate) => annotate_job(alloc, arguments),
         Some(Command::Show) => show_job(alloc, arguments),
@@ -111,6 +125,8 @@ fn command_of(word: &str) -> Option<Command>
         Some(Command::Graph)
     } else if word == "carried" {
         Some(Command::Carried)
+    } else if word == "replay" {
+        Some(Command::Replay)
     } else if word == "page" {
         Some(Command::Page)
     } else if word == "annotate" {
@@ -154,7 +170,7 @@ fn graph_job(alloc: Global, arguments: &[String]) -> Result<Job, Usage>
     };
     Ok(Job::Graph {
         file: Text::copy_of(alloc, file)?,
-        steps: settings.steps.unwrap_or(200_000),
+        steps: settings.steps.unwrap_or(LISTED_STEPS),
         depth: settings.depth.unwrap_or(STANDARD_DEPTH),
         latency: copy_of_name(alloc, settings.latency)?,
     })
@@ -173,6 +189,25 @@ fn carried_job(alloc: Global, arguments: &[String]) -> Result<Job, Usage>
         steps: settings.steps.unwrap_or(STANDARD_STEPS),
         depth: settings.depth.unwrap_or(STANDARD_DEPTH),
         latency: copy_of_name(alloc, settings.latency)?,
+        storage: settings.storage,
+    })
+}
+
+/// What `replay` with these arguments asks for.
+fn replay_job(alloc: Global, arguments: &[String]) -> Result<Job, Usage>
+    ensures { Answers (file_fault Command.Replay (seen_words arguments.now)) (replay_job (seen_words arguments.now)) result }
+{
+    let (file, settings) = match file_and_settings(Command::Replay, arguments) {
+        Ok(read) => read,
+        Err(fault) => return Err(fault),
+    };
+    Ok(Job::Replay {
+        file: Text::copy_of(alloc, file)?,
+        steps: settings.steps.unwrap_or(LISTED_STEPS),
+        depth: settings.depth.unwrap_or(STANDARD_DEPTH),
+        latency: copy_of_name(alloc, settings.latency)?,
+        workers: settings.workers.unwrap_or(STANDARD_WORKERS),
+        seed: settings.seed.unwrap_or(STANDARD_SEED),
     })
 }
 
@@ -206,6 +241,7 @@ fn annotate_job(alloc: Global, arguments: &[String]) -> Result<Job, Usage>
         steps: settings.steps.unwrap_or(STANDARD_STEPS),
         depth: settings.depth.unwrap_or(STANDARD_DEPTH),
         latency: copy_of_name(alloc, settings.latency)?,
+        strict: settings.strict,
     })
 }
 

@@ -11,5 +11,5 @@ mod usage;
 
 pub use about::{Asked, asked_for, help, version};
 pub use job::{Form, Job, words};
-pub use option::{STANDARD_DEPTH, STANDARD_STEPS};
+pub use option::{LISTED_STEPS, STANDARD_DEPTH, STANDARD_SEED, STANDARD_STEPS, STANDARD_WORKERS};
 pub use usage::Usage;

@@ -1,6 +1,6 @@
 //! The options of the commands, each by itself.
 ghost use Rattle.std.specs.Prelude.{◌≡◌, option_map};
-ghost use Rattle.k_words.specs.Setting.{after, is_taken, most_steps, named, option_of, written_as};
+ghost use Rattle.k_words.specs.Setting.{after, flag_of, is_among, is_taken, most_steps, named, option_of, options, written_as};
 
 /// What the first word asks for.
 #[derive(Clone, Copy, Debug, PartialEq, Eq)]
@@ -8,6 +8,7 @@ pub enum Command {
     Run,
     Graph,
     Carried,
+    Replay,
     Page,
     Annotate,
     Show,
@@ -28,6 +29,14 @@ pub enum Setting {
     Dict,
     /// The file that the profile is saved in.
     Save,
+    /// What loops share in storage is listed too.
+    Storage,
+    /// A loop is marked only where its turns share nothing in storage.
+    Strict,
+    /// How many workers there are.
+    Workers,
+    /// The number that their order is drawn from.
+    Seed,
     /// The profile is written as a JSON document.
     Json,
     /// The rows are written as CSV.
@@ -61,16 +70,35 @@ fn written_as(word: &str) -> Option<(Setting, &str)>
     if let Some(value) = after("--save=", word) {
         return named(Setting::Save, value);
     }
+    if let Some(value) = after("--workers=", word) {
+        return Some((Setting::Workers, value));
+    }
+    if let Some(value) = after("--seed=", word) {
+        return Some((Setting::Seed, value));
+    }
+    match flag_of(word) {
+        Some(setting) => Some((setting, "")),
+        None => None,
+    }
+}
+
+/// Which option without a value a word is, whatever the command.
+fn flag_of(word: &str) -> Option<Setting>
+    ensures { result ≡ flag_of word.now }
+{
     if word == "--dict" {
-        return Some((Setting::Dict, ""));
+        Some(Setting::Dict)
+    } else if word == "--storage" {
+        Some(Setting::Storage)
+    } else if word == "--strict" {
+        Some(Setting::Strict)
+    } else if word == "--json" {
+        Some(Setting::Json)
+    } else if word == "--csv" {
+        Some(Setting::Csv)
+    } else {
+        None
     }
-    if word == "--json" {
-        return Some((Setting::Json, ""));
-    }
-    if word == "--csv" {
-        return Some((Setting::Csv, ""));
-    }
-    None
 }
 
 /// A file as an option's value, where it has a name.
@@ -97,27 +125,45 @@ fn is_taken(command: Command, setting: Setting) -> bool
     ensures { result ≡ is_taken command setting }
 {
     match command {
-        Command::Run => !matches!(setting, Setting::Json | Setting::Csv),
-        Command::Graph | Command::Carried | Command::Annotate => {
-            matches!(setting, Setting::Steps | Setting::Depth | Setting::Latency)
-        }
-        Command::Page => !matches!(setting, Setting::Save | Setting::Json | Setting::Csv),
+        Command::Run => is_of_run(setting) || matches!(setting, Setting::Dict | Setting::Save),
+        Command::Graph => is_of_run(setting),
+        Command::Carried => is_of_run(setting) || matches!(setting, Setting::Storage),
+        Command::Replay => is_of_run(setting)
+            || matches!(setting, Setting::Workers | Setting::Seed),
+        Command::Page => is_of_run(setting) || matches!(setting, Setting::Dict),
+        Command::Annotate => is_of_run(setting) || matches!(setting, Setting::Strict),
         Command::Show => matches!(setting, Setting::Dict | Setting::Json | Setting::Csv),
         Command::Check | Command::Demo => false,
     }
 }
 
+/// Whether each command that runs a program takes an option.
+fn is_of_run(setting: Setting) -> bool
+    ensures { result ≡ is_among (options Command.Graph) setting }
+{
+    matches!(setting, Setting::Steps | Setting::Depth | Setting::Latency)
+}
+
 /// How many operations `run`, `carried`, `page` and `annotate` make at most where they are not told, and `demo`.
 pub const STANDARD_STEPS: u64 = 100_000_000;
 
+/// How many operations `graph` and `replay`, which keep them all, make at most where they are not told.
+pub const LISTED_STEPS: u64 = 200_000;
+
 /// Instances of depths below this are tracked where a command is not told.
 pub const STANDARD_DEPTH: u32 = 24;
+
+/// How many workers there are where `replay` is not told.
+pub const STANDARD_WORKERS: u32 = 4;
+
+/// The number that their order is drawn from where `replay` is not told.
+pub const STANDARD_SEED: u64 = 1;
 
 /// How many operations a command's run may make at most.
 pub(crate) fn most_steps(command: Command) -> u64
     ensures { result ≡ most_steps command }
 {
-    if matches!(command, Command::Graph) {
+    if matches!(command, Command::Graph | Command::Replay) {
         200_000
     } else {
         1_000_000_000

@@ -14,6 +14,10 @@ pub(crate) struct Settings<'a> {
     pub(crate) latency: Option<&'a str>,
     pub(crate) dict: bool,
     pub(crate) save: Option<&'a str>,
+    pub(crate) storage: bool,
+    pub(crate) strict: bool,
+    pub(crate) workers: Option<u32>,
+    pub(crate) seed: Option<u64>,
     pub(crate) json: bool,
     pub(crate) csv: bool,
 }
@@ -28,6 +32,10 @@ pub(crate) fn read_settings(command: Command, words: &[String]) -> Result<Settin
         latency: None,
         dict: false,
         save: None,
+        storage: false,
+        strict: false,
+        workers: None,
+        seed: None,
         json: false,
         csv: false,
     };
@@ -74,6 +82,10 @@ fn bars(settings: &Settings<'_>, setting: Setting) -> bool
         Setting::Latency => settings.latency.is_some(),
         Setting::Dict => settings.dict || settings.csv,
         Setting::Save => settings.save.is_some(),
+        Setting::Storage => settings.storage,
+        Setting::Strict => settings.strict,
+        Setting::Workers => settings.workers.is_some(),
+        Setting::Seed => settings.seed.is_some(),
         Setting::Json => settings.json || settings.csv,
         Setting::Csv => settings.csv || settings.json || settings.dict,
     }
@@ -88,40 +100,19 @@ fn with<'a>(
 ) -> Option<Settings<'a>>
     ensures { option_map seen result ≡ set command (seen settings.entry) setting value.now }
 {
+    let mut settings = settings;
     match setting {
-        Setting::Steps => match number_within(value, 1, most_steps(command)) {
-            Some(steps) => Some(Settings {
-                steps: Some(steps),
-                ..settings
-            }),
-            None => None,
-        },
-        Setting::Depth => match number_within(value, 1, 32) {
-            Some(depth) => Some(Settings {
-                depth: Some(depth as u32),
-                ..settings
-            }),
-            None => None,
-        },
-        Setting::Latency => Some(Settings {
-            latency: Some(value),
-            ..settings
-        }),
-        Setting::Dict => Some(Settings {
-            dict: true,
-            ..settings
-        }),
-        Setting::Save => Some(Settings {
-            save: Some(value),
-            ..settings
-        }),
-        Setting::Json => Some(Settings {
-            json: true,
-            ..settings
-        }),
-        Setting::Csv => Some(Settings {
-            csv: true,
-            ..settings
-        }),
+        Setting::Steps => settings.steps = Some(number_within(value, 1, most_steps(command))?),
+        Setting::Depth => settings.depth = Some(number_within(value, 1, 32)? as u32),
+        Setting::Latency => settings.latency = Some(value),
+        Setting::Dict => settings.dict = true,
+        Setting::Save => settings.save = Some(value),
+        Setting::Storage => settings.storage = true,
+        Setting::Strict => settings.strict = true,
+        Setting::Workers => settings.workers = Some(number_within(value, 1, 16)? as u32),
+        Setting::Seed => settings.seed = Some(number_within(value, 0, u64::MAX)?),
+        Setting::Json => settings.json = true,
+        Setting::Csv => settings.csv = true,
     }
+    Some(settings)
 }

@@ -31,7 +31,7 @@ fn parts(fault: Usage) -> (&'static str, u32) {
 }
 
 /// Lines of words that are refused, each with its fault and the fault's index.
-static REFUSED: [(&str, &str, u32); 95] = [
+static REFUSED: [(&str, &str, u32); 121] = [
     ("", "NoCommand", 0),
     ("ruN", "UnknownWord", 0),
     ("--help", "UnknownWord", 0),
@@ -39,6 +39,7 @@ static REFUSED: [(&str, &str, u32); 95] = [
     ("run", "NoFile", 0),
     ("graph", "NoFile", 0),
     ("carried", "NoFile", 0),
+    ("replay", "NoFile", 0),
     ("page", "NoFile", 0),
     ("annotate", "NoFile", 0),
     ("show", "NoFile", 0),
@@ -75,6 +76,31 @@ static REFUSED: [(&str, &str, u32); 95] = [
     ("carry a.c", "UnknownWord", 0),
     ("carried a.c --steps=1000000001", "BadNumber", 2),
     ("carried a.c --depth=2 --depth=2", "Twice", 3),
+    ("carried a.c --strict", "UnknownWord", 2),
+    ("carried a.c --storage=1", "UnknownWord", 2),
+    ("carried a.c --storage --storage", "Twice", 3),
+    ("annotate a.c --storage", "UnknownWord", 2),
+    ("annotate a.c --stricts", "UnknownWord", 2),
+    ("annotate a.c --strict --depth=2 --strict", "Twice", 4),
+    ("run a.c --storage", "UnknownWord", 2),
+    ("page a.c --strict", "UnknownWord", 2),
+    ("graph a.c --workers=2", "UnknownWord", 2),
+    ("carried a.c --seed=2", "UnknownWord", 2),
+    ("replays a.c", "UnknownWord", 0),
+    ("replay a.c --dict", "UnknownWord", 2),
+    ("replay a.c --storage", "UnknownWord", 2),
+    ("replay a.c --workers", "UnknownWord", 2),
+    ("replay a.c --steps=200001", "BadNumber", 2),
+    ("replay a.c --depth=33", "BadNumber", 2),
+    ("replay a.c --workers=", "BadNumber", 2),
+    ("replay a.c --workers=0", "BadNumber", 2),
+    ("replay a.c --workers=17", "BadNumber", 2),
+    ("replay a.c --workers=4294967297", "BadNumber", 2),
+    ("replay a.c --seed=18446744073709551616", "BadNumber", 2),
+    ("replay a.c --seed=01", "BadNumber", 2),
+    ("replay a.c --seed=-1", "BadNumber", 2),
+    ("replay a.c --workers=2 --workers=2", "Twice", 3),
+    ("replay a.c --seed=2 --latency=l --seed=x", "Twice", 4),
     ("page a.c --save=x", "UnknownWord", 2),
     ("page a.c --json", "UnknownWord", 2),
     ("page a.c --csv", "UnknownWord", 2),
@@ -180,7 +206,7 @@ fn lists_dict(form: &Form) -> bool {
     }
 }
 
-/// A job in a line: its file and names, its numbers, and whether the dictionary is listed.
+/// A job in a line: its file and names, its numbers, and whether what it has an option for besides is asked for.
 fn job_parts(job: &Job) -> ([&str; 4], [u64; 2], bool) {
     match job {
         Job::Run {
@@ -210,8 +236,20 @@ fn job_parts(job: &Job) -> ([&str; 4], [u64; 2], bool) {
             steps,
             depth,
             latency,
+            storage,
         } => (
             ["carried", file.as_str(), name_of(latency), ""],
+            [*steps, u64::from(*depth)],
+            *storage,
+        ),
+        Job::Replay {
+            file,
+            steps,
+            depth,
+            latency,
+            ..
+        } => (
+            ["replay", file.as_str(), name_of(latency), ""],
             [*steps, u64::from(*depth)],
             false,
         ),
@@ -231,10 +269,11 @@ fn job_parts(job: &Job) -> ([&str; 4], [u64; 2], bool) {
             steps,
             depth,
             latency,
+            strict,
         } => (
             ["annotate", file.as_str(), name_of(latency), ""],
             [*steps, u64::from(*depth)],
-            false,
+            *strict,
         ),
         Job::Show { file, form } => (
             ["show", file.as_str(), form_name(form), ""],
@@ -246,8 +285,8 @@ fn job_parts(job: &Job) -> ([&str; 4], [u64; 2], bool) {
     }
 }
 
-/// Lines of words, each with its job's names, numbers and whether the dictionary is listed.
-static ACCEPTED: [(&str, [&str; 4], [u64; 2], bool); 27] = [
+/// Lines of words, each with its job's names, numbers and whether the dictionary, the storage pairs or strictness are asked for.
+static ACCEPTED: [(&str, [&str; 4], [u64; 2], bool); 31] = [
     ("run a.c", ["run", "a.c", "", ""], [100_000_000, 24], false),
     ("run -", ["run", "-", "", ""], [100_000_000, 24], false),
     ("run -x", ["run", "-x", "", ""], [100_000_000, 24], false),
@@ -305,6 +344,30 @@ static ACCEPTED: [(&str, [&str; 4], [u64; 2], bool); 27] = [
         "carried a.c --latency=l --steps=1000000000 --depth=1",
         ["carried", "a.c", "l", ""],
         [1_000_000_000, 1],
+        false,
+    ),
+    (
+        "carried a.c --storage --depth=2",
+        ["carried", "a.c", "", ""],
+        [100_000_000, 2],
+        true,
+    ),
+    (
+        "annotate a.c --latency=l --strict",
+        ["annotate", "a.c", "l", ""],
+        [100_000_000, 24],
+        true,
+    ),
+    (
+        "replay a.c",
+        ["replay", "a.c", "", ""],
+        [200_000, 24],
+        false,
+    ),
+    (
+        "replay a.c --seed=0 --latency=l --workers=16 --steps=200000 --depth=3",
+        ["replay", "a.c", "l", ""],
+        [200_000, 3],
         false,
     ),
     (
@@ -378,6 +441,37 @@ fn assert_accepted(
 fn jobs_are_read(rt: HostRuntime) -> Result<(), Fail> {
     for row in &ACCEPTED {
         assert_accepted(&rt, rt.alloc(), row)?;
+    }
+    Ok(())
+}
+
+/// How many workers a job has, and what their order is drawn from.
+fn drawn(job: &Job) -> (u32, u64) {
+    match job {
+        Job::Replay { workers, seed, .. } => (*workers, *seed),
+        _ => (0, 0),
+    }
+}
+
+/// Lines of words, each with how many workers there are, and the number that their order is drawn from.
+static DRAWN: [(&str, (u32, u64)); 4] = [
+    ("replay a.c", (4, 1)),
+    ("replay a.c --workers=1 --seed=0", (1, 0)),
+    ("replay a.c --seed=18446744073709551615", (4, u64::MAX)),
+    ("replay a.c --depth=1 --workers=16", (16, 1)),
+];
+
+#[test]
+fn workers_are_read(rt: HostRuntime) -> Result<(), Fail> {
+    for row in &DRAWN {
+        let list = list_of(rt.alloc(), row.0)?;
+        match words(rt.alloc(), list.as_slice()) {
+            Ok(job) => {
+                assert_eq!(rt; drawn(&job), row.1);
+                drop(job);
+            }
+            Err(_) => assert!(rt; false),
+        }
     }
     Ok(())
 }

@@ -1,5 +1,5 @@
 use Rattle.std.proofs.Common.{◌∙◌, Some, ap, string_bytes, sym}
-use Rattle.k_words.specs.declared.option.Command.TheVariants.{Run, Graph, Carried, Page, Annotate, Show, Check, Demo}
+use Rattle.k_words.specs.declared.option.Command.TheVariants.{Run, Graph, Carried, Replay, Page, Annotate, Show, Check, Demo}
 use Rattle.k_words.specs.Settings.{seen_words}
 use Rattle.k_words.specs.Words.{command_of}
 use Rattle.k_words.proofs.Answering.{of_arguments}
@@ -22,6 +22,12 @@ returns-in-Some-Carried c =
     of_arguments (seen_words c.args.list.now) (string_bytes c.in-Some.command.now) (seen_words c.in-Some.arguments.now) Carried c.carried_job.result
     (ap seen_words c.in-Some.ensures.cases.0)
     (ap command_of (sym c.as_str.ensures.value) ∙ sym c.command_of.ensures ∙ c.in-Some-Carried.is ∙ ap Some c.in-Some-Carried.field-0-is) c.carried_job.ensures
+
+pub returns-in-Some-Replay : goal.returns-in-Some-Replay
+returns-in-Some-Replay c =
+    of_arguments (seen_words c.args.list.now) (string_bytes c.in-Some.command.now) (seen_words c.in-Some.arguments.now) Replay c.replay_job.result
+    (ap seen_words c.in-Some.ensures.cases.0)
+    (ap command_of (sym c.as_str.ensures.value) ∙ sym c.command_of.ensures ∙ c.in-Some-Replay.is ∙ ap Some c.in-Some-Replay.field-0-is) c.replay_job.ensures
 
 pub returns-in-Some-Page : goal.returns-in-Some-Page
 returns-in-Some-Page c =
