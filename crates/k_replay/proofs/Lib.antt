@@ -1,12 +1,12 @@
 mod Noted
 mod Renewed
-mod Firing
+pub mod Firing
 mod Chains
 mod Outputs
-mod Keeping
-mod Going
-mod Ordering
+pub mod Keeping
+pub mod Going
+pub mod Ordering
 mod Stays
-mod Advancing
+pub mod Advancing
 pub mod Calling
 mod Reading

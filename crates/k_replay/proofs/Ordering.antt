@@ -28,13 +28,13 @@ holder_within (x ∷ held) zero k at = omega arith
 holder_within (x ∷ held) (suc w) k at = let low = holder_within held w k at in omega arith
 
 -- the play behind a call
-abbrev after : Call → Play → Play
+abbrev pub after : Call → Play → Play
 after (Took w (Given k)) p = with_held w (Some k) p
 after (Took w deal) p = p
 after (Fired w (Ok k)) p = fired_by w k p
 after (Fired w answer) p = p
 
-does_is : (c : Call) (p r : Play) → Does c p r → r ≡ after c p
+pub does_is : (c : Call) (p r : Play) → Does c p r → r ≡ after c p
 does_is (Took w (Given k)) p r d = d.1.2
 does_is (Took w (Held k)) p r d = d.1.1
 does_is (Took w Idle) p r d = d.1.2
@@ -42,7 +42,7 @@ does_is (Fired w (Ok k)) p r d = d.1.1
 does_is (Fired w (Err NoneHeld)) p r d = d.1.1
 does_is (Fired w (Err Memory)) p r d = d.1.1
 
-sound_after : (c : Call) (p r : Play) → IsSound p → Does c p r → IsSound (after c p)
+pub sound_after : (c : Call) (p r : Play) → IsSound p → Does c p r → IsSound (after c p)
 sound_after (Took w (Given k)) p r s d = given_sound p w k s d.0 d.1.0 d.1.1.ready
 sound_after (Took w (Held k)) p r s d = s
 sound_after (Took w Idle) p r s d = s
@@ -50,7 +50,7 @@ sound_after (Fired w (Ok k)) p r s d = fired_sound p w k s d.0 d.1.0
 sound_after (Fired w (Err NoneHeld)) p r s d = s
 sound_after (Fired w (Err Memory)) p r s d = s
 
-tape_after : (c : Call) (p : Play) → (after c p).tape ≡ p.tape
+pub tape_after : (c : Call) (p : Play) → (after c p).tape ≡ p.tape
 tape_after (Took w (Given k)) p = refl
 tape_after (Took w (Held k)) p = refl
 tape_after (Took w Idle) p = refl
