@@ -46,6 +46,7 @@ one_word None j is = none-some j is
 one_word (Some command.Run) j is = none-some j is
 one_word (Some command.Graph) j is = none-some j is
 one_word (Some command.Carried) j is = none-some j is
+one_word (Some command.Replay) j is = none-some j is
 one_word (Some command.Page) j is = none-some j is
 one_word (Some command.Annotate) j is = none-some j is
 one_word (Some command.Show) j is = none-some j is

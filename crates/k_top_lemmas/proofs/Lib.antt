@@ -21,6 +21,7 @@ mod OneListing
 mod OnePage
 mod OneAnnotation
 mod OneReport
+mod OneStorage
 pub mod AskedLemmas
 pub mod FileLemmas
 mod Sounding
