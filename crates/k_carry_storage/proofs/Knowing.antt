@@ -1,7 +1,6 @@
 -- What is kept of elements, and what is gathered, behind the events of an instruction.
-use Rattle.std.proofs.Common.{ℕ, zero, suc, ◌≡◌, ◌≢◌, ◌⊎◌, nat_eq, Bool, true, false, List, [], ◌∷◌, ◌++◌, length, Option, Some, None, min, take, refl, sym, subst, ap, inl, inr, ◌∙◌}
+use Rattle.std.proofs.Common.{ℕ, zero, suc, ◌≡◌, ◌≢◌, ◌⊎◌, Bool, true, false, List, [], ◌∷◌, ◌++◌, length, Option, Some, None, min, take, refl, sym, subst, ap, inl, inr, ◌∙◌}
 use Rattle.std.specs.Prelude.{replicate}
-use Rattle.std.proofs.lemmas.Bool.Decides.{eqb_tells}
 use Rattle.std.proofs.lemmas.List.{append_assoc, append-nil}
 use Rattle.k_num.specs.declared.place.Place.{Place}
 use Rattle.k_optab.specs.declared.class.Class.{Class}
@@ -20,25 +19,12 @@ use Rattle.k_carry_storage_pairs.specs.Kept.{Keeps, Kept, Knows, both_left}
 use Rattle.k_carry_storage_pairs.specs.Storage.{Makes, access}
 use Rattle.k_carry_storage_pairs.proofs.Going.{access_here, knows_on}
 use Rattle.k_carry_storage_pairs.proofs.Keeping.{AreFirsts, keeps_entered, keeps_left, keeps_operation}
-use Rattle.k_carry_storage_pairs.proofs.Knowing.{first_listed, listed_first, noted_knows, tracked_starts}
+use Rattle.k_carry_storage_pairs.proofs.Known.{access_is, known_firsts, no_firsts, same_pointer}
+use Rattle.k_carry_storage_pairs.proofs.Knowing.{noted_knows, tracked_starts}
 use Rattle.k_carry_storage.specs.declared.table.Table.{Table}
 use Rattle.k_carry_storage.specs.Noting.{IsAccessed, IsNotedIf, IsStill, all_left, entered_if, starts_in}
 use Rattle.k_carry_storage.specs.Running.{KnowsAll}
 use Rattle.k_carry_storage.specs.Tables.{kept_at}
-
--- two elements are one, or are not
-same_pointer : (p q : Pointer) → (p ≡ q) ⊎ (p ≢ q)
-same_pointer p q = by (eqb_tells p.object q.object) (eqb_tells p.offset q.offset)
-  where
-    by : ((nat_eq p.object q.object ≡ true) × (p.object ≡ q.object)) ⊎ ((nat_eq p.object q.object ≡ false) × (p.object ≢ q.object))
-        → ((nat_eq p.offset q.offset ≡ true) × (p.offset ≡ q.offset)) ⊎ ((nat_eq p.offset q.offset ≡ false) × (p.offset ≢ q.offset)) → (p ≡ q) ⊎ (p ≢ q)
-    by (inl one) (inl two) = inl (λ i. record { object = one.1 i; offset = two.1 i })
-    by (inl one) (inr two) = inr (λ same. two.1 (ap (λ (r : Pointer). r.offset) same))
-    by (inr one) two = inr (λ same. one.1 (ap (λ (r : Pointer). r.object) same))
-
--- the accesses of one instruction, if its operation was made
-access_is : (a b : Access) → Some a ≡ Some b → a ≡ b
-access_is a b is = cc is
 
 -- two accesses of different sorts are not one
 other_sort : (v w : Bool) (p q : Pointer) → v ≢ w → Some (access v p) ≡ Some (access w q) → ⊥
@@ -103,43 +89,16 @@ module _ (regions : List Region) (depth : ℕ) (events : List Event) (accesses :
         knows_on events (Op class latency sources place) accesses (made ∷ []) numbered depth a origins
         (λ op it. differs (access_here events (Op class latency sources place) accesses (made ∷ []) numbered made refl op a it)) known
 
-    -- it shares nothing where it does not store
-    no_firsts : (writes : Bool) (made : Option Access) → ((element : Pointer) → made ≡ Some (access true element) → ⊥) → AreFirsts writes depth events accesses made []
-    no_firsts writes made none = record {
-      sound = λ x among. absurd among;
-      complete = λ element o at op stores_is alive shallow lies makes first. absurd (none element stores_is);
-    }
-
     keeps_still : (made : Option Access) → ((element : Pointer) → made ≡ Some (access true element) → ⊥) → Keeps regions depth behind (accesses ++ made ∷ []) g
     keeps_still made none =
-        keeps_operation regions depth events accesses g is.keeps class latency sources place made [] [] (no_firsts false made none) (no_firsts true made none)
+        keeps_operation regions depth events accesses g is.keeps class latency sources place made [] [] (no_firsts depth events accesses false made none) (no_firsts depth events accesses true made none)
 
     -- what it shares where it stores to an element
     all_firsts : (writes : Bool) (element : Pointer) (origins : List Origin) → Knows depth events accesses (access writes element) origins
         → AreFirsts writes depth events accesses (Some (access true element)) (listed (starts_in g) origins [])
     all_firsts writes element origins known =
-        subst (λ (starts : List ℕ). AreFirsts writes depth events accesses (Some (access true element)) (listed starts origins [])) (sym same_starts) (record {
-          sound = λ x among.
-              (let found = listed_first depth events accesses (access writes element) origins g.starts is.keeps.starts known x among in
-              record {
-                element = element;
-                stores = refl;
-                at = found.of.at;
-                op = found.of.op;
-                made = found.of.made;
-                number = found.of.number;
-                place = found.of.place;
-                o = found.o;
-                alive = found.alive;
-                lies = found.lies;
-                first = found.first;
-              });
-          complete = λ other o at op stores_is alive shallow lies makes first.
-              (let same : other ≡ element = sym (ap (λ (a : Access). a.element) (access_is (access true element) (access true other) stores_is)) in
-              first_listed depth events accesses (access writes element) origins g.starts is.keeps.starts known o at op alive shallow lies
-              (subst (λ (p : Pointer). Makes events accesses at op (access writes p)) same makes)
-              (λ i x before within made. first i x before within (subst (λ (p : Pointer). Makes events accesses i x (access writes p)) (sym same) made)));
-        })
+        subst (λ (starts : List ℕ). AreFirsts writes depth events accesses (Some (access true element)) (listed starts origins [])) (sym same_starts)
+        (known_firsts depth events accesses g.starts is.keeps.starts writes element origins known)
 
     -- what is known of the access that it makes, and of the others of its sort
     knows_noted : (writes : Bool) (element other : Pointer) (origins new : List Origin) → Knows depth events accesses (access writes other) origins

@@ -1,3 +1,4 @@
 pub mod Knowing
 pub mod Moving
+pub mod OneRun
 pub mod Placing

@@ -52,7 +52,8 @@ abbrev told : Option Made → Option Access → List (Option Access)
 told None made = []
 told (Some m) made = made ∷ []
 
-accesses_next : (code : Code) (input : List ℕ) (budget n : ℕ)
+-- the accesses of one step more
+pub accesses_next : (code : Code) (input : List ℕ) (budget n : ℕ)
     → accesses_of code input budget (suc n) ≡ accesses_of code input budget n ++ next_access code (run_of code input budget n)
 unfolding accesses_of
 accesses_next code input budget n = refl

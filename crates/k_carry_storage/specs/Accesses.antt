@@ -1,15 +1,17 @@
 -- For contracts between crates: nobody has to believe it.
 -- The accesses of a run: for each of its operations, by its number, the load or the store of an element that it makes, if it makes one.
-use Rattle.std.specs.Prelude.{ℕ, zero, suc, nat_lt, Bool, true, false, if◌then◌else◌, List, [], ◌∷◌, ◌++◌, slice_get, Option, Some, None}
+use Rattle.std.specs.Prelude.{ℕ, zero, suc, ◌≡◌, nat_lt, Bool, true, false, if◌then◌else◌, List, [], ◌∷◌, ◌++◌, slice_get, Option, Some, None}
+use Rattle.k_ending.specs.declared.ending.End.{End}
 use Rattle.k_mem.specs.declared.pointer.Pointer.{Pointer}
 use Rattle.k_world.specs.declared.value.Read.{Read}
 use Rattle.k_world.specs.Acts.{in_one, pointer_of}
 use Rattle.k_world.specs.Operands.{value_in}
+use Rattle.k_world.specs.Worlds.{World}
 use Rattle.k_code.specs.declared.code.Code.{Code}
 use Rattle.k_code.specs.declared.instruction.Do.{Do}
 use Rattle.k_code.specs.declared.instruction.Do.TheVariants as act
 use Rattle.k_code.specs.declared.instruction.Instr.{Instr}
-use Rattle.k_code.specs.Runs.{run_of, world_of}
+use Rattle.k_code.specs.Runs.{EndsAfter, run_of, world_of}
 use Rattle.k_code.specs.Steps.{Configuration, Run, Going, Over, reads_of, step}
 use Rattle.k_carry_storage_pairs.specs.declared.access.Access.{Access}
 use Rattle.k_carry_storage_pairs.specs.Storage.{access}
@@ -57,3 +59,11 @@ next_access code (Over end w) = []
 unfoldable pub accesses_of : Code → List ℕ → ℕ → ℕ → List (Option Access)
 accesses_of code input budget zero = []
 accesses_of code input budget (suc n) = accesses_of code input budget n ++ next_access code (run_of code input budget n)
+
+-- THE ACCESSES OF A RUN that ends: those after as many steps as it takes
+pub record HasAccesses (code : Code) (input : List ℕ) (budget : ℕ) (accesses : List (Option Access)) : Type 0 where
+  pub count : ℕ
+  pub end : End
+  pub world : World
+  pub ends : EndsAfter code input budget count end world
+  pub are : accesses_of code input budget count ≡ accesses

@@ -1,9 +1,11 @@
 pub mod Alike
 pub mod Answer
+pub mod Existing
 pub mod Firsting
 pub mod Going
 pub mod Joined
 pub mod Keeping
 pub mod Knowing
+pub mod Known
 pub mod Relisted
 pub mod Within

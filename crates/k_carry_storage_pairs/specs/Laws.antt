@@ -1,5 +1,5 @@
 -- Believed with a public law.
--- That there is one answer: the statement of the law.
+-- That there is one answer: the statements of the laws.
 use Rattle.std.specs.Prelude.{ℕ, ◌≡◌, List, Option}
 use Rattle.k_optab.specs.declared.event.Event.{Event}
 use Rattle.k_optab.specs.declared.region.Region.{Region}
@@ -11,3 +11,8 @@ use Rattle.k_carry_storage_pairs.specs.Storage.{AreShared}
 abbrev pub OneAnswer : Type 0
 OneAnswer = (regions : List Region) (depth : ℕ) (events : List Event) (accesses : List (Option Access)) (a b : List LoopStorage)
     → AreShared regions depth events accesses a → AreShared regions depth events accesses b → a ≡ b
+
+-- and some list does, whatever accesses the operations make
+abbrev pub SomeAnswer : Type 0
+SomeAnswer = (regions : List Region) (depth : ℕ) (events : List Event) (accesses : List (Option Access))
+    → (loops : List LoopStorage) × AreShared regions depth events accesses loops

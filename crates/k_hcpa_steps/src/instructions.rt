@@ -26,6 +26,7 @@ pub enum Kind {
 
 /// The kind of an instruction.
 #[tactic(auto, unfolding(crate::specs::Kinds::kind_of))]
+#[inline(always)]
 pub(crate) fn kind_of(what: &Do) -> Kind
     ensures { result ≡ kind_meant what.now }
 {
@@ -51,6 +52,7 @@ pub(crate) fn kind_of(what: &Do) -> Kind
 
 /// The register that an instruction sets, if it does.
 #[tactic(auto, unfolding(k_code::specs::Named::register_set))]
+#[inline(always)]
 pub(crate) fn register_of(what: &Do) -> Option<u32>
     ensures { result ≡ register_set what.now }
 {
@@ -75,6 +77,7 @@ pub(crate) fn register_of(what: &Do) -> Option<u32>
 }
 
 /// The region that is entered.
+#[inline(always)]
 pub(crate) fn region_of(what: &Do) -> u32
     ensures { (region : ℕ) → what.now ≡ act.Enter region → result ≡ region }
 {
@@ -115,6 +118,7 @@ pub(crate) fn value_of(what: &Do) -> Option<Arg>
 }
 
 /// Whether an instruction writes output.
+#[inline(always)]
 pub(crate) fn writes(what: &Do) -> bool
     ensures { result ≡ writes_meant what.now }
 {

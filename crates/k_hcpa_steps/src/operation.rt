@@ -20,6 +20,7 @@ use k_world::Stop;
 use std::sync::ledger::Ledger;
 
 /// Makes room for what an operation gives: for a register of the call, whose registers are numbered from `first` on, and for an element.
+#[inline(always)]
 pub(crate) fn reserve_result<T: Timed>(
     times: &mut T,
     first: u32,
@@ -44,6 +45,7 @@ pub(crate) fn reserve_result<T: Timed>(
 
 impl<'a, T: Timed> Parts<'a, T> {
     /// Makes the operation of an instruction by which the call goes on. The run may end in its place, as is told.
+    #[inline(always)]
     pub(crate) fn operate<L: Ledger>(
         &mut self,
         instr: &'a Instr,

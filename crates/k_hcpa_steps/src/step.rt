@@ -17,6 +17,7 @@ use k_shadow::Steps;
 use std::sync::ledger::Ledger;
 
 /// What an instruction has come to, where it ended the run or didn't.
+#[inline(always)]
 fn turn_of(act: &Do, ended: Option<End>) -> Turn
     ensures { IsTurn act.now ended result }
 {
@@ -28,6 +29,7 @@ fn turn_of(act: &Do, ended: Option<End>) -> Turn
 
 impl<'a, T: Timed> Parts<'a, T> {
     /// Does an instruction by its kind.
+    #[inline(always)]
     fn go<L: Ledger>(
         &mut self,
         instr: &'a Instr,
@@ -53,6 +55,7 @@ impl<'a, T: Timed> Parts<'a, T> {
     }
 
     /// Does the next instruction. Nothing has changed where no memory is found.
+    #[inline(always)]
     pub fn step<L: Ledger>(&mut self, steps: &mut Steps<L>) -> Result<Turn, NoMemory>
         requires running { IsRunning self.old.depth (keeping self.old.store (T.seen self.old.times) self.old.summaries) }
         ensures depth { self.new.depth ≡ self.old.depth }

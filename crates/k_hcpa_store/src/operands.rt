@@ -18,6 +18,7 @@ pub enum Operands<'a> {
 
 /// The act of an instruction that makes an operation and goes on in its call.
 #[tactic(auto, unfolding(crate::specs::Parts::plain_act))]
+#[inline(always)]
 pub fn act_in(what: &Do) -> Option<ActRef<'_>>
     ensures { option_map act_of result ≡ plain_act what.now }
 {
@@ -43,6 +44,7 @@ pub fn act_in(what: &Do) -> Option<ActRef<'_>>
 
 /// The operands of an instruction.
 #[tactic(auto, unfolding(k_code::specs::Named::operands))]
+#[inline(always)]
 pub fn operands_in(what: &Do) -> Operands<'_>
     ensures { listed result ≡ operands_named what.now }
 {
@@ -65,6 +67,7 @@ pub fn operands_in(what: &Do) -> Operands<'_>
 }
 
 /// The operand of a return.
+#[inline(always)]
 fn returned(value: &Option<Arg>) -> Operands<'_>
     ensures { listed result ≡ returned_operands value.now }
 {
@@ -76,6 +79,7 @@ fn returned(value: &Option<Arg>) -> Operands<'_>
 
 /// The register that an instruction sets or clears.
 #[tactic(auto, unfolding(k_code::specs::Named::register_set))]
+#[inline(always)]
 pub fn register_in(what: &Do) -> Option<u32>
     ensures { result ≡ register_named what.now }
 {

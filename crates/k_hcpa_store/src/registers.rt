@@ -10,6 +10,7 @@ use k_num::NoMemory;
 use k_world::{Held, Read, Value};
 
 /// What an operand reads.
+#[inline(always)]
 pub fn read(registers: &[Option<Held>], first: usize, arg: &Arg) -> Read
     requires { first ≤ length registers.now }
     ensures { result ≡ read_of (window registers.now first) arg.now }
@@ -41,6 +42,7 @@ pub fn read_all(
 }
 
 /// What a register of the call holds.
+#[inline(always)]
 fn held_in(registers: &[Option<Held>], first: usize, r: u32) -> Option<Held>
     requires { first ≤ length registers.now }
     ensures { result ≡ window registers.now first r }
@@ -52,6 +54,7 @@ fn held_in(registers: &[Option<Held>], first: usize, r: u32) -> Option<Held>
 }
 
 /// What a constant reads.
+#[inline(always)]
 fn constant(number: &i128) -> Read
     ensures { (registers : ℕ → Option Held) → result ≡ read_of registers (Number number.now) }
 {

@@ -47,6 +47,7 @@ impl<'a> Model for State<'a> {
 
 impl<'a> State<'a> {
     /// A register of the newest call holds this from now on, or nothing, and the run goes on at an instruction.
+    #[inline(always)]
     fn set_and_on(&mut self, to: Option<u32>, slot: Option<Held>, pc: usize)
         requires { IsWithin self.old.call.first to self.old.registers }
         ensures { self.new ≡ set_and_on to slot pc self.old }

@@ -57,6 +57,7 @@ impl<'a> Store<'a> {
     }
 
     /// The code that is run.
+    #[inline(always)]
     pub fn code(&self) -> &'a Code
         ensures { result.now ≡ self.now.code }
     {
@@ -64,6 +65,7 @@ impl<'a> Store<'a> {
     }
 
     /// The instruction that is next.
+    #[inline(always)]
     pub fn instruction(&self) -> &'a Instr
         requires { Finds self.now.code (configuration_of self.now) }
         ensures { IsNext self.now result.now }
@@ -72,6 +74,7 @@ impl<'a> Store<'a> {
     }
 
     /// Does an instruction that makes an operation and goes on in its call.
+    #[inline(always)]
     pub fn operate(&mut self, instr: &'a Instr) -> Result<Done, Stop>
         requires { IsNext self.old instr.now }
         ensures { (o : Class × Act) → goes_by instr.now.act ≡ Some o → Operates self.old instr.now o result self.new }
@@ -80,6 +83,7 @@ impl<'a> Store<'a> {
     }
 
     /// The same, where what is told of the operation itself is needed too: the value that it gives.
+    #[inline(always)]
     pub fn make(&mut self, instr: &'a Instr) -> Result<Done, Stop>
         requires { IsNext self.old instr.now }
         ensures operates { (o : Class × Act) → goes_by instr.now.act ≡ Some o → Operates self.old instr.now o result self.new }
@@ -139,6 +143,7 @@ impl<'a> Store<'a> {
     }
 
     /// The operation that gave what an operand of the newest call reads, if one did.
+    #[inline(always)]
     pub fn source(&self, arg: &Arg) -> Option<u64>
         ensures { result ≡ source_read (configuration_of self.now) arg.now }
     {
@@ -147,6 +152,7 @@ impl<'a> Store<'a> {
 
     /// The current control source.
     #[tactic(auto, unfolding(crate::specs::Kept::configuration_of))]
+    #[inline(always)]
     pub fn control(&self) -> Option<u64>
         ensures { result ≡ (configuration_of self.now).world.control }
     {
@@ -172,6 +178,7 @@ impl<'a> Store<'a> {
 
     /// How many regions a return leaves.
     #[tactic(auto, unfolding(crate::specs::Kept::configuration_of))]
+    #[inline(always)]
     pub fn regions(&self) -> u64
         ensures { result ≡ (configuration_of self.now).frame.regions + 1 }
     {
@@ -180,6 +187,7 @@ impl<'a> Store<'a> {
 
     /// How many operations were made.
     #[tactic(auto, unfolding(crate::specs::Kept::configuration_of))]
+    #[inline(always)]
     pub fn made(&self) -> u64
         ensures { result ≡ (configuration_of self.now).world.made }
     {
@@ -188,6 +196,7 @@ impl<'a> Store<'a> {
 
     /// The output that was not yet taken.
     #[tactic(auto, unfolding(crate::specs::Kept::configuration_of))]
+    #[inline(always)]
     pub fn pending(&self) -> &[u8]
         ensures { result.now ≡ (configuration_of self.now).world.output }
     {
@@ -226,6 +235,7 @@ impl<'a> Store<'a> {
     }
 
     /// The number of the first register behind the newest call's.
+    #[inline(always)]
     pub fn next_register(&self) -> u32
         ensures next { result ≡ widths self.now.code (frames_of (configuration_of self.now)) }
         ensures few { result ≤ 2 ^ 21 }
@@ -234,6 +244,7 @@ impl<'a> Store<'a> {
     }
 
     /// The number of the newest call's first register.
+    #[inline(always)]
     pub fn first_register(&self) -> u32
         ensures first { result ≡ first_meant self.now.code (configuration_of self.now) }
         ensures few { result + width self.now.code (configuration_of self.now).frame.func ≤ 2 ^ 21 }

@@ -1,6 +1,6 @@
 //! Jumps out of statements, by those of their parts.
 ghost use Rattle.std.specs.Prelude.{◌≡◌};
-ghost use Rattle.k_marks_meaning.specs.Jumps.{is_left, jumps_of_both, no_jumps, out_of_loop, out_of_switch};
+ghost use Rattle.k_marks_meaning.specs.Jumps.{a_break, a_continue, a_return, is_left, jumps_of_both, no_jumps, out_of_loop, out_of_switch};
 
 use k_marks_meaning::Jumps;
 
@@ -12,6 +12,36 @@ pub(crate) fn no_jumps() -> Jumps
         breaks: false,
         continues: false,
         returns: false,
+    }
+}
+
+/// That of a `break`.
+pub(crate) fn a_break() -> Jumps
+    ensures { result ≡ a_break }
+{
+    Jumps {
+        breaks: true,
+        ..no_jumps()
+    }
+}
+
+/// That of a `continue`.
+pub(crate) fn a_continue() -> Jumps
+    ensures { result ≡ a_continue }
+{
+    Jumps {
+        continues: true,
+        ..no_jumps()
+    }
+}
+
+/// That of a `return`.
+pub(crate) fn a_return() -> Jumps
+    ensures { result ≡ a_return }
+{
+    Jumps {
+        returns: true,
+        ..no_jumps()
     }
 }
 

@@ -3,7 +3,9 @@ ghost use Rattle.std.specs.Prelude.{◌≡◌, ◌++◌, ◌∷◌, [], map, IfO
 ghost use Rattle.k_marks_meaning.specs.Contents.{inside, nothing, part_inside, row, with_jumps};
 ghost use Rattle.k_marks_meaning.specs.Marking.{statements_in};
 
-use crate::jumps::{jumps_of_both, no_jumps, out_of_loop, out_of_switch};
+use crate::jumps::{
+    a_break, a_continue, a_return, jumps_of_both, no_jumps, out_of_loop, out_of_switch,
+};
 use k_marks_meaning::{Jumps, StatementJumps};
 use k_num::{Box, NoMemory, Seq};
 use k_types_meaning::{Spot, TFunc, TPart, TStmt};
@@ -62,27 +64,9 @@ fn list_stmt(stmt: &TStmt, found: &mut Vec<StatementJumps>) -> Result<Jumps, NoM
             let jumps = list_parts(parts, found)?;
             list(spot, jumps, out_of_switch(jumps), found)
         }
-        TStmt::Break { spot } => {
-            let jumps = Jumps {
-                breaks: true,
-                ..no_jumps()
-            };
-            list(spot, no_jumps(), jumps, found)
-        }
-        TStmt::Continue { spot } => {
-            let jumps = Jumps {
-                continues: true,
-                ..no_jumps()
-            };
-            list(spot, no_jumps(), jumps, found)
-        }
-        TStmt::Return { spot, .. } => {
-            let jumps = Jumps {
-                returns: true,
-                ..no_jumps()
-            };
-            list(spot, no_jumps(), jumps, found)
-        }
+        TStmt::Break { spot } => list(spot, no_jumps(), a_break(), found),
+        TStmt::Continue { spot } => list(spot, no_jumps(), a_continue(), found),
+        TStmt::Return { spot, .. } => list(spot, no_jumps(), a_return(), found),
     }
 }
 

@@ -1,2 +1,3 @@
 pub mod Annotated
 pub mod Laws
+pub mod Strict

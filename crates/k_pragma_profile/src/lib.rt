@@ -4,5 +4,7 @@
 
 mod annotated;
 pub mod laws;
+mod strict;
 
 pub use annotated::run_annotation;
+pub use strict::unshared;

@@ -7,43 +7,47 @@ use Rattle.k_refusal.specs.declared.rule.Rule.{Rule}
 use Rattle.k_refusal.specs.declared.rule.Rule.TheVariants as rule
 use Rattle.k_refusal.specs.declared.sentence.Sentence.{Sentence}
 use Rattle.k_refusal.specs.declared.sentence.Sentence.TheVariants as says
+use Rattle.k_refusal.specs.declared.sentence.Directive.TheVariants as directive_says
+use Rattle.k_refusal.specs.declared.sentence.Limit.TheVariants as limit_says
+use Rattle.k_refusal.specs.declared.sentence.Name.TheVariants as name_says
+use Rattle.k_refusal.specs.declared.sentence.Token.TheVariants as token_says
+use Rattle.k_refusal.specs.declared.sentence.Usage.TheVariants as usage_says
 use Rattle.k_refusal.specs.Fronts.{behind_blanks, first_byte}
 use Rattle.k_refusal.specs.Lexical.{of_byte, of_directive, of_header, of_literal, of_number}
 use Rattle.k_refusal.specs.Lines.{line_of, shown_line}
 use Rattle.k_refusal.specs.Rules.{about_text, rule_name}
 use Rattle.k_refusal.specs.Sentences.{text}
 use Rattle.k_refusal.specs.Syntax.{of_syntax}
-use Rattle.k_refusal.specs.Tables.{library, look_up}
-use Rattle.k_refusal.specs.Typing.{of_kinds, of_no_place, of_unknown}
+use Rattle.k_refusal.specs.Typing.{of_format, of_kinds, of_no_place, of_unknown_behind}
 
 -- THE SENTENCE of a refusal that is about this, at a place behind so many bytes of this line
 unfoldable pub sentence_of : Rule → List ℕ → List ℕ → ℕ → Sentence
 sentence_of rule.BadByte about line before = of_byte (first_byte (drop before line))
-sentence_of rule.OpenComment about line before = says.OpenComment
+sentence_of rule.OpenComment about line before = says.Token token_says.OpenComment
 sentence_of rule.OpenLiteral about line before = of_literal (first_byte (drop before line))
-sentence_of rule.BadEscape about line before = says.BadEscape
+sentence_of rule.BadEscape about line before = says.Token token_says.BadEscape
 sentence_of rule.BadNumber about line before = of_number (drop before line)
 sentence_of rule.BadDirective about line before = of_directive (behind_blanks (drop 1 (drop before line)))
 sentence_of rule.UnknownHeader about line before = of_header (drop before line)
-sentence_of rule.MacroOrder about line before = says.MacroOrder
-sentence_of rule.MacroAgain about line before = says.MacroAgain
-sentence_of rule.SourceLong about line before = says.SourceLong
-sentence_of rule.TokensMany about line before = says.TokensMany
+sentence_of rule.MacroOrder about line before = says.Directive directive_says.MacroOrder
+sentence_of rule.MacroAgain about line before = says.Directive directive_says.MacroAgain
+sentence_of rule.SourceLong about line before = says.Limit limit_says.SourceLong
+sentence_of rule.TokensMany about line before = says.Limit limit_says.TokensMany
 sentence_of rule.Syntax about line before = of_syntax (first_byte (drop (before - 1) line)) (drop before line)
-sentence_of rule.TooDeep about line before = says.TooDeep
-sentence_of rule.NodesMany about line before = says.NodesMany
-sentence_of rule.Unknown about line before = of_unknown (look_up library about) about
-sentence_of rule.Twice about line before = says.DeclaredTwice
+sentence_of rule.TooDeep about line before = says.Limit limit_says.TooDeep
+sentence_of rule.NodesMany about line before = says.Limit limit_says.NodesMany
+sentence_of rule.Unknown about line before = of_unknown_behind (drop (before - 5) line) about
+sentence_of rule.Twice about line before = says.Name name_says.DeclaredTwice
 sentence_of rule.Kinds about line before = of_kinds (take before line) (drop before line)
 sentence_of rule.NotPlace about line before = of_no_place (first_byte (drop before line))
-sentence_of rule.ConstWrite about line before = says.ConstWrite
-sentence_of rule.Arity about line before = says.ArgumentCount
-sentence_of rule.BadSize about line before = says.BadSize
-sentence_of rule.BadFormat about line before = says.BadFormat
-sentence_of rule.NoMain about line before = says.NoMain
-sentence_of rule.NotDefined about line before = says.NoBody
-sentence_of rule.JumpOutside about line before = says.NothingToLeave
-sentence_of rule.CaseAgain about line before = says.CaseAgain
+sentence_of rule.ConstWrite about line before = says.Usage usage_says.ConstWrite
+sentence_of rule.Arity about line before = says.Usage usage_says.ArgumentCount
+sentence_of rule.BadSize about line before = says.Usage usage_says.BadSize
+sentence_of rule.BadFormat about line before = of_format (drop before line)
+sentence_of rule.NoMain about line before = says.Name name_says.NoMain
+sentence_of rule.NotDefined about line before = says.Name name_says.NoBody
+sentence_of rule.JumpOutside about line before = says.Usage usage_says.NothingToLeave
+sentence_of rule.CaseAgain about line before = says.Usage usage_says.CaseAgain
 
 -- the place, and that it is an error
 abbrev pub head_text : List ℕ → Place → List ℕ

@@ -3,7 +3,7 @@ ghost use Rattle.std.specs.Prelude.{◌≡◌, ◌≤◌, take, drop, length};
 ghost use Rattle.k_refusal.specs.Fronts as spec;
 
 /// Whether a byte may stand in a name or a number.
-fn in_word(byte: u8) -> bool
+pub(crate) fn in_word(byte: u8) -> bool
     ensures { result ≡ spec.in_word byte }
 {
     matches!(byte, b'a'..=b'z' | b'A'..=b'Z' | b'0'..=b'9' | b'_')

@@ -3,7 +3,7 @@ ghost use Rattle.std.specs.Prelude.{◌≡◌};
 ghost use Rattle.k_refusal.specs.Lexical as spec;
 
 use crate::front::{behind, behind_blanks, behind_word, first_byte, word_at};
-use crate::sentence::Sentence;
+use crate::sentence::{Directive, Header, Sentence, Token};
 use crate::tables::{directive, header};
 
 /// A byte that begins no token.
@@ -11,15 +11,15 @@ pub(crate) fn of_byte(byte: u8) -> Sentence
     ensures { result ≡ spec.of_byte byte }
 {
     if byte == b'.' {
-        Sentence::Member
+        Sentence::Token(Token::Member)
     } else if byte == b'\\' {
-        Sentence::Backslash
+        Sentence::Token(Token::Backslash)
     } else if byte == b'#' {
-        Sentence::LateHash
+        Sentence::Token(Token::LateHash)
     } else if byte >= 128 {
-        Sentence::NotAscii
+        Sentence::Token(Token::NotAscii)
     } else {
-        Sentence::StrayByte
+        Sentence::Token(Token::StrayByte)
     }
 }
 
@@ -28,9 +28,9 @@ pub(crate) fn of_literal(quote: u8) -> Sentence
     ensures { result ≡ spec.of_literal quote }
 {
     if quote == b'"' {
-        Sentence::OpenString
+        Sentence::Token(Token::OpenString)
     } else {
-        Sentence::NotOneCharacter
+        Sentence::Token(Token::NotOneCharacter)
     }
 }
 
@@ -60,9 +60,9 @@ pub(crate) fn of_number(rest: &[u8]) -> Sentence
     ensures { result ≡ spec.of_number rest.now }
 {
     if has_point(rest) {
-        Sentence::PointInNumber
+        Sentence::Token(Token::PointInNumber)
     } else {
-        Sentence::NoConstant
+        Sentence::Token(Token::NoConstant)
     }
 }
 
@@ -71,9 +71,9 @@ fn of_macro(behind: &[u8]) -> Sentence
     ensures { result ≡ spec.of_macro behind.now }
 {
     if first_byte(behind_word(behind_blanks(behind))) == b'(' {
-        Sentence::MacroParameters
+        Sentence::Directive(Directive::MacroParameters)
     } else {
-        Sentence::DefineForm
+        Sentence::Directive(Directive::DefineForm)
     }
 }
 
@@ -85,7 +85,7 @@ pub(crate) fn of_directive(behind: &[u8]) -> Sentence
     if word == b"define".as_slice() {
         return of_macro(behind_word(behind));
     }
-    directive(word).unwrap_or(Sentence::OtherDirective)
+    directive(word).unwrap_or(Sentence::Directive(Directive::OtherDirective))
 }
 
 /// A header.
@@ -93,7 +93,7 @@ pub(crate) fn of_header(rest: &[u8]) -> Sentence
     ensures { result ≡ spec.of_header rest.now }
 {
     if first_byte(rest) == b'"' {
-        return Sentence::OwnHeader;
+        return Sentence::Header(Header::OwnHeader);
     }
-    header(word_at(behind(rest, 1))).unwrap_or(Sentence::OtherHeader)
+    header(word_at(behind(rest, 1))).unwrap_or(Sentence::Header(Header::OtherHeader))
 }

@@ -14,4 +14,7 @@ mod typing;
 
 pub use refusal::refusal_text;
 pub use rule::Rule;
-pub use sentence::Sentence;
+pub use sentence::{
+    Directive, Header, Kinds, LeftOut, Library, Limit, Name, Sentence, StrayMark, StrayWord, Token,
+    Usage,
+};

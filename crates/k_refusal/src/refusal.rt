@@ -7,9 +7,9 @@ use crate::front::{behind, behind_blanks, first_byte, front};
 use crate::lexical::{of_byte, of_directive, of_header, of_literal, of_number};
 use crate::line::{line_of, push_line};
 use crate::rule::{Rule, rule_name};
-use crate::sentence::{Sentence, text};
+use crate::sentence::{Directive, Limit, Name, Sentence, Token, Usage, text};
 use crate::syntax::of_syntax;
-use crate::typing::{of_kinds, of_no_place, of_unknown};
+use crate::typing::{of_format, of_kinds, of_no_place, of_unknown_behind};
 use k_num::{NoMemory, Place};
 use k_text::{push, push_place};
 use std::alloc::Global;
@@ -22,31 +22,31 @@ fn sentence_of(rule: Rule, about: &[u8], line: &[u8], before: usize) -> Sentence
     let rest = behind(line, before);
     match rule {
         Rule::BadByte => of_byte(first_byte(rest)),
-        Rule::OpenComment => Sentence::OpenComment,
+        Rule::OpenComment => Sentence::Token(Token::OpenComment),
         Rule::OpenLiteral => of_literal(first_byte(rest)),
-        Rule::BadEscape => Sentence::BadEscape,
+        Rule::BadEscape => Sentence::Token(Token::BadEscape),
         Rule::BadNumber => of_number(rest),
         Rule::BadDirective => of_directive(behind_blanks(behind(rest, 1))),
         Rule::UnknownHeader => of_header(rest),
-        Rule::MacroOrder => Sentence::MacroOrder,
-        Rule::MacroAgain => Sentence::MacroAgain,
-        Rule::SourceLong => Sentence::SourceLong,
-        Rule::TokensMany => Sentence::TokensMany,
+        Rule::MacroOrder => Sentence::Directive(Directive::MacroOrder),
+        Rule::MacroAgain => Sentence::Directive(Directive::MacroAgain),
+        Rule::SourceLong => Sentence::Limit(Limit::SourceLong),
+        Rule::TokensMany => Sentence::Limit(Limit::TokensMany),
         Rule::Syntax => of_syntax(first_byte(behind(line, before.saturating_sub(1))), rest),
-        Rule::TooDeep => Sentence::TooDeep,
-        Rule::NodesMany => Sentence::NodesMany,
-        Rule::Unknown => of_unknown(about),
-        Rule::Twice => Sentence::DeclaredTwice,
+        Rule::TooDeep => Sentence::Limit(Limit::TooDeep),
+        Rule::NodesMany => Sentence::Limit(Limit::NodesMany),
+        Rule::Unknown => of_unknown_behind(behind(line, before.saturating_sub(5)), about),
+        Rule::Twice => Sentence::Name(Name::DeclaredTwice),
         Rule::Kinds => of_kinds(front(line, before), rest),
         Rule::NotPlace => of_no_place(first_byte(rest)),
-        Rule::ConstWrite => Sentence::ConstWrite,
-        Rule::Arity => Sentence::ArgumentCount,
-        Rule::BadSize => Sentence::BadSize,
-        Rule::BadFormat => Sentence::BadFormat,
-        Rule::NoMain => Sentence::NoMain,
-        Rule::NotDefined => Sentence::NoBody,
-        Rule::JumpOutside => Sentence::NothingToLeave,
-        Rule::CaseAgain => Sentence::CaseAgain,
+        Rule::ConstWrite => Sentence::Usage(Usage::ConstWrite),
+        Rule::Arity => Sentence::Usage(Usage::ArgumentCount),
+        Rule::BadSize => Sentence::Usage(Usage::BadSize),
+        Rule::BadFormat => of_format(rest),
+        Rule::NoMain => Sentence::Name(Name::NoMain),
+        Rule::NotDefined => Sentence::Name(Name::NoBody),
+        Rule::JumpOutside => Sentence::Usage(Usage::NothingToLeave),
+        Rule::CaseAgain => Sentence::Usage(Usage::CaseAgain),
     }
 }
 

@@ -4,7 +4,7 @@ ghost use Rattle.k_refusal.specs.Syntax as spec;
 ghost use Rattle.k_refusal.specs.Tables.{left_out_words, look_up};
 
 use crate::front::{first_byte, front, is_digit, word_at};
-use crate::sentence::Sentence;
+use crate::sentence::{Sentence, StrayMark, StrayWord};
 use crate::tables::{accepted_word, left_out_word, mark};
 
 /// A name or a number, by its first byte.
@@ -12,9 +12,9 @@ fn of_name(first: u8) -> Sentence
     ensures { result ≡ spec.of_name first }
 {
     if is_digit(first) {
-        Sentence::StrayNumber
+        Sentence::StrayWord(StrayWord::StrayNumber)
     } else {
-        Sentence::StrayName
+        Sentence::StrayWord(StrayWord::StrayName)
     }
 }
 
@@ -36,9 +36,9 @@ fn of_mark(before: u8, rest: &[u8]) -> Sentence
     ensures { result ≡ spec.of_mark before rest.now }
 {
     if before == b'-' && first_byte(rest) == b'>' {
-        return Sentence::Arrow;
+        return Sentence::StrayMark(StrayMark::Arrow);
     }
-    mark(front(rest, 1)).unwrap_or(Sentence::StrayToken)
+    mark(front(rest, 1)).unwrap_or(Sentence::StrayMark(StrayMark::StrayToken))
 }
 
 /// A token: a word, or else a mark or a literal behind this byte.
@@ -57,6 +57,6 @@ pub(crate) fn of_syntax(before: u8, rest: &[u8]) -> Sentence
 {
     match rest.split_first() {
         Some(_) => of_token(before, rest, word_at(rest)),
-        None => Sentence::EndsEarly,
+        None => Sentence::StrayWord(StrayWord::EndsEarly),
     }
 }

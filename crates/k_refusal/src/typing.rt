@@ -3,17 +3,28 @@ ghost use Rattle.std.specs.Prelude.{◌≡◌};
 ghost use Rattle.k_refusal.specs.Tables.{library, look_up};
 ghost use Rattle.k_refusal.specs.Typing as spec;
 
-use crate::front::{behind, behind_blanks, behind_word, first_byte, word_at};
-use crate::sentence::Sentence;
+use crate::front::{behind, behind_blanks, behind_word, first_byte, in_word, is_digit, word_at};
+use crate::sentence::{Kinds, Library, Name, Sentence, Usage};
 use crate::tables::{library_name, other_library_name, word_of_kinds};
 
 /// A name that the source does not declare.
-pub(crate) fn of_unknown(name: &[u8]) -> Sentence
+fn of_unknown(name: &[u8]) -> Sentence
     ensures { result ≡ spec.of_unknown (look_up library name.now) name.now }
 {
     match library_name(name) {
         Some(sentence) => sentence,
-        None => other_library_name(name).unwrap_or(Sentence::UnknownName),
+        None => other_library_name(name).unwrap_or(Sentence::Name(Name::UnknownName)),
+    }
+}
+
+/// The same, with the text from five bytes before it on: `NULL` within `time(NULL)` is told as the time.
+pub(crate) fn of_unknown_behind(call: &[u8], name: &[u8]) -> Sentence
+    ensures { result ≡ spec.of_unknown_behind call.now name.now }
+{
+    if name == b"NULL".as_slice() && word_at(call) == b"time".as_slice() {
+        Sentence::Library(Library::RandomOrTime)
+    } else {
+        of_unknown(name)
     }
 }
 
@@ -50,17 +61,62 @@ fn is_zero(behind_name: &[u8]) -> bool
         && word_at(behind_blanks(behind(behind_name, 1))) == b"0".as_slice()
 }
 
+/// Whether a byte stands directly behind the name of a declarator that is no array.
+fn is_behind_declarator(byte: u8) -> bool
+    ensures { result ≡ spec.is_behind_declarator byte }
+{
+    byte == b';' || byte == b',' || byte == b'='
+}
+
 /// A declarator behind one star, by what stands behind its name.
 fn of_pointer(behind_name: &[u8]) -> Sentence
     ensures { result ≡ spec.of_pointer behind_name.now }
 {
     if first_byte(behind_name) == b'[' {
-        Sentence::ArrayOfPointers
+        Sentence::Kinds(Kinds::ArrayOfPointers)
     } else if is_zero(behind_name) {
-        Sentence::NullPointer
+        Sentence::Library(Library::NullPointer)
+    } else if is_behind_declarator(first_byte(behind_name)) {
+        Sentence::Kinds(Kinds::PointerElsewhere)
     } else {
-        Sentence::KindsOther
+        Sentence::Kinds(Kinds::KindsOther)
     }
+}
+
+/// Whether a declaration may begin behind a byte.
+fn ends_before(byte: u8) -> bool
+    ensures { result ≡ spec.ends_before byte }
+{
+    byte == b';' || byte == b'{' || byte == b'}'
+}
+
+/// What stands behind the last byte of a text behind which a declaration may begin, or the text where it has none.
+fn behind_last(text: &[u8]) -> &[u8]
+    ensures { result.now ≡ spec.behind_last text.now text.now }
+{
+    let mut found = text;
+    let mut rest = text;
+    while let Some((byte, behind)) = rest.split_first() {
+        if ends_before(*byte) {
+            found = behind;
+        }
+        rest = behind;
+    }
+    found
+}
+
+/// Whether the declaration that is open at the end of a text begins with `static`.
+fn is_static(back: &[u8]) -> bool
+    ensures { result ≡ spec.is_static back.now }
+{
+    word_at(behind_blanks(behind_last(back))) == b"static".as_slice()
+}
+
+/// Whether a number or a character constant begins with a byte: types do not fit at one in braces alone.
+fn begins_item(byte: u8) -> bool
+    ensures { result ≡ spec.begins_item byte }
+{
+    is_digit(byte) || byte == b'\''
 }
 
 /// An operator, by its first byte and the next one.
@@ -68,31 +124,46 @@ fn of_operator(first: u8, next: u8) -> Sentence
     ensures { result ≡ spec.of_operator first next }
 {
     match first {
-        b'=' => Sentence::SidesDiffer,
-        b'!' if next == b'=' => Sentence::SidesDiffer,
-        b'!' => Sentence::NotOfPointer,
-        _ => Sentence::KindsOther,
+        b'=' => Sentence::Kinds(Kinds::SidesDiffer),
+        b'!' if next == b'=' => Sentence::Kinds(Kinds::SidesDiffer),
+        b'!' => Sentence::Kinds(Kinds::NotOfPointer),
+        _ => Sentence::Kinds(Kinds::KindsOther),
+    }
+}
+
+/// Types that do not fit at a place behind no star.
+fn of_place(back: &[u8], rest: &[u8]) -> Sentence
+    ensures { result ≡ spec.of_place back.now rest.now }
+{
+    let first = first_byte(rest);
+    if begins_item(first) {
+        Sentence::Kinds(Kinds::ItemOfBraces)
+    } else if in_word(first) && is_static(back) {
+        Sentence::Kinds(Kinds::StaticVariable)
+    } else {
+        of_operator(first, first_byte(behind(rest, 1)))
     }
 }
 
 /// Types that do not fit at a place behind so many stars.
-fn of_stars(stars: u8, rest: &[u8]) -> Sentence
-    ensures { result ≡ spec.of_stars stars rest.now }
+fn of_stars(stars: u8, back: &[u8], rest: &[u8]) -> Sentence
+    ensures { result ≡ spec.of_stars stars back.now rest.now }
 {
     match stars {
-        2 => Sentence::PointerToPointer,
+        2 => Sentence::Kinds(Kinds::PointerToPointer),
         1 => of_pointer(behind_blanks(behind_word(rest))),
-        _ => of_operator(first_byte(rest), first_byte(behind(rest, 1))),
+        _ => of_place(back, rest),
     }
 }
 
 /// Types that do not fit, by what stands before and at the place.
+#[tactic(auto, unfolding(crate::specs::Typing::of_kinds))]
 pub(crate) fn of_kinds(back: &[u8], rest: &[u8]) -> Sentence
     ensures { result ≡ spec.of_kinds back.now rest.now }
 {
     match word_of_kinds(word_at(rest)) {
         Some(sentence) => sentence,
-        None => of_stars(stars_at_end(back), rest),
+        None => of_stars(stars_at_end(back), back, rest),
     }
 }
 
@@ -101,8 +172,35 @@ pub(crate) fn of_no_place(first: u8) -> Sentence
     ensures { result ≡ spec.of_no_place first }
 {
     if first == b'&' {
-        Sentence::AddressOf
+        Sentence::Usage(Usage::AddressOf)
     } else {
-        Sentence::NotAPlace
+        Sentence::Usage(Usage::NotAPlace)
+    }
+}
+
+/// Whether `%s` stands in a text.
+fn has_text_piece(text: &[u8]) -> bool
+    ensures { result ≡ spec.has_text_piece text.now }
+{
+    let mut rest = text;
+    while let Some((byte, behind)) = rest.split_first() {
+        if *byte == b'%' && first_byte(behind) == b's' {
+            return true;
+        }
+        rest = behind;
+    }
+    false
+}
+
+/// A format that does not fit, or none, by what stands from the call's name on.
+pub(crate) fn of_format(rest: &[u8]) -> Sentence
+    ensures { result ≡ spec.of_format rest.now }
+{
+    if word_at(rest) == b"puts".as_slice() {
+        Sentence::Usage(Usage::PutsOfArray)
+    } else if has_text_piece(rest) {
+        Sentence::Usage(Usage::TextInFormat)
+    } else {
+        Sentence::Usage(Usage::BadFormat)
     }
 }

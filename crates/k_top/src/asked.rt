@@ -89,13 +89,14 @@ fn carried_job<F: Files, S: Source>(
     steps: u64,
     depth: u32,
     latency: Option<Text>,
+    storage: bool,
 ) -> Result<Answer, Failure>
     requires { IsRunWithin 1000000000 steps depth }
-    ensures { FindsJob result (job.Carried file steps depth latency)
+    ensures { FindsJob result (job.Carried file steps depth latency storage)
         (record { files = F.seen files.old; input = S.seen input.old }) (record { files = F.seen files.new; input = S.seen input.new }) }
 {
     let ready = make_ready(alloc, files, input, file, latency, steps)?;
-    let answer = carried_answer(alloc, &ready, depth)?;
+    let answer = carried_answer(alloc, &ready, depth, storage)?;
     Ok(answer)
 }
 
@@ -154,17 +155,18 @@ fn annotate_job<F: Files, S: Source, R: Shadow, P: Shadow>(
     steps: u64,
     depth: u32,
     latency: Option<Text>,
+    strict: bool,
     regs: R,
     pages: P,
 ) -> Result<Answer, Failure>
     requires within { IsRunWithin 1000000000 steps depth }
     requires registers { IsFresh 2097152 (R.content regs) }
     requires pages { IsFresh 4194304 (P.content pages) }
-    ensures { FindsJob result (job.Annotate file steps depth latency)
+    ensures { FindsJob result (job.Annotate file steps depth latency strict)
         (record { files = F.seen files.old; input = S.seen input.old }) (record { files = F.seen files.new; input = S.seen input.new }) }
 {
     let ready = make_ready(alloc, files, input, file, latency, steps)?;
-    let answer = annotate_answer(alloc, &ready, depth, regs, pages)?;
+    let answer = annotate_answer(alloc, &ready, depth, strict, regs, pages)?;
     Ok(answer)
 }
 
@@ -211,10 +213,11 @@ fn job_answer<F: Files, S: Source, K: Sink, R: Shadow, P: Shadow>(
             steps,
             depth,
             latency,
+            storage,
         } => {
             drop(regs);
             drop(pages);
-            carried_job(alloc, files, input, file, steps, depth, latency)
+            carried_job(alloc, files, input, file, steps, depth, latency, storage)
         }
         Job::Replay {
             file,
@@ -244,8 +247,9 @@ fn job_answer<F: Files, S: Source, K: Sink, R: Shadow, P: Shadow>(
             steps,
             depth,
             latency,
+            strict,
         } => annotate_job(
-            alloc, files, input, file, steps, depth, latency, regs, pages,
+            alloc, files, input, file, steps, depth, latency, strict, regs, pages,
         ),
         Job::Show { file, form } => {
             drop(regs);

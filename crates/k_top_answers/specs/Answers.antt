@@ -1,6 +1,6 @@
 -- Believed with the theorem on the top call.
 -- *Whole answer*: what `kremlin` answers to the words of its command line, where files and the input hold what they hold.
-use Rattle.std.specs.Prelude.{ℕ, ℤ, ◌≡◌, Bool, IsTrue, List, [], length, Option, Some, None, Result, Ok, Err}
+use Rattle.std.specs.Prelude.{ℕ, ℤ, ◌≡◌, ◌++◌, Bool, IsTrue, List, [], length, Option, Some, None, Result, Ok, Err}
 use Rattle.k_optab.specs.Latencies.{standard_latencies}
 use Rattle.k_ending.specs.declared.ending.End.{End}
 use Rattle.k_ending.specs.declared.ending.End.TheVariants.{Returned}
@@ -44,6 +44,7 @@ use Rattle.k_top_answers.specs.declared.failure.Failure.TheVariants as why
 use Rattle.k_top_answers.specs.Checks.{told}
 use Rattle.k_top_answers.specs.Failures.{failure_of_end}
 use Rattle.k_top_answers.specs.Steps.{AnswersFile, AnswersProgram, AnswersRunning, AnswersSource, Outside, Running, file_limit, profile_limit, run_of}
+use Rattle.k_top_answers.specs.Storage.{MayBeMarked, WritesStorage}
 use Rattle.k_top_answers.specs.Texts.{IsSummary, with_report}
 
 -- the call ran to its end, and saved nothing
@@ -92,16 +93,18 @@ pub record IsListed (depth : ℕ) (answer : Answer) (r : Running) : Type 0 where
   pub is_text : IsGraphText (listing_of (run_of r)) tree text
   pub is : answer ≡ ended text r.steps (run_of r).end
 
--- CARRIED, where main returned: what the loops of the run carry from turn to turn
-pub record ToldCarried (r : Running) (depth : ℕ) (answer : Answer) : Type 0 where
+-- CARRIED, where main returned: what the loops of the run carry from turn to turn, and behind it what their turns share, where it is asked for
+pub record ToldCarried (r : Running) (depth : ℕ) (storage : Bool) (answer : Answer) : Type 0 where
   pub loops : List LoopPairs
   pub are_carried : AreCarried (regions_of r.typed) depth (run_of r).events loops
-  pub is : answer ≡ done (carried_text (regions_of r.typed) loops)
+  pub shared : List ℕ
+  pub writes : WritesStorage storage r depth shared
+  pub is : answer ≡ done (carried_text (regions_of r.typed) loops ++ shared)
 
 -- CARRIED, by how the run ended: where main did not return, nothing
-abbrev pub AnswersCarried : ℕ → Answer → Running → End → Type 0
-AnswersCarried depth answer r (Returned exit) = ToldCarried r depth answer
-AnswersCarried depth answer r end = answer ≡ ended [] r.steps end
+abbrev pub AnswersCarried : ℕ → Bool → Answer → Running → End → Type 0
+AnswersCarried depth storage answer r (Returned exit) = ToldCarried r depth storage answer
+AnswersCarried depth storage answer r end = answer ≡ ended [] r.steps end
 
 -- REPLAY, by how the run ended: where main returned, its output, and how so many workers fire its operations; and else nothing
 abbrev pub AnswersReplayed : ℕ → ℕ → Answer → Running → End → Type 0
@@ -120,23 +123,25 @@ IsPaged outside file depth dict answer r =
     (source : List ℕ) × (outside.files file ≡ Some source) × AnswersPage file source depth dict answer r (run_of r).end
 
 -- ANNOTATE, where main returned: the source with what its functions and loops took, and a line before each loop that the plan picks, that carries nothing
--- from turn to turn, and that may run in parallel
-pub record ToldAnnotated (source : List ℕ) (r : Running) (exit : ℤ) (depth : ℕ) (answer : Answer) : Type 0 where
+-- from turn to turn, that shares nothing either where this is asked for, and that may run in parallel
+pub record ToldAnnotated (source : List ℕ) (r : Running) (exit : ℤ) (depth : ℕ) (strict : Bool) (answer : Answer) : Type 0 where
   pub loops : List LoopPairs
   pub are_carried : AreCarried (regions_of r.typed) depth (run_of r).events loops
+  pub found : List LoopPairs
+  pub may : MayBeMarked strict r depth loops found
   pub text : List ℕ
-  pub annotated : IsRunAnnotation source r.typed (marks_of r.typed) (ran_of r exit depth) loops text
+  pub annotated : IsRunAnnotation source r.typed (marks_of r.typed) (ran_of r exit depth) found text
   pub is : answer ≡ done text
 
 -- ANNOTATE, by how the run of a source ended: where main did not return, nothing
-abbrev pub AnswersAnnotated : List ℕ → ℕ → Answer → Running → End → Type 0
-AnswersAnnotated source depth answer r (Returned exit) = ToldAnnotated source r exit depth answer
-AnswersAnnotated source depth answer r end = answer ≡ ended [] r.steps end
+abbrev pub AnswersAnnotated : List ℕ → ℕ → Bool → Answer → Running → End → Type 0
+AnswersAnnotated source depth strict answer r (Returned exit) = ToldAnnotated source r exit depth strict answer
+AnswersAnnotated source depth strict answer r end = answer ≡ ended [] r.steps end
 
 -- ANNOTATE of a run: the source is what the file holds
-abbrev pub IsAnnotated : Outside → List ℕ → ℕ → Answer → Running → Type 0
-IsAnnotated outside file depth answer r =
-    (source : List ℕ) × (outside.files file ≡ Some source) × AnswersAnnotated source depth answer r (run_of r).end
+abbrev pub IsAnnotated : Outside → List ℕ → ℕ → Bool → Answer → Running → Type 0
+IsAnnotated outside file depth strict answer r =
+    (source : List ℕ) × (outside.files file ≡ Some source) × AnswersAnnotated source depth strict answer r (run_of r).end
 
 -- how a profile is shown: by its report, by a document, or by the table of its rows
 abbrev pub IsShown : Form → Saved → List ℕ → Type 0
@@ -170,14 +175,14 @@ AnswersJob outside answer (job.Run file steps depth latency dict save) =
     AnswersRunning (λ failure. answer ≡ refusal failure) outside file latency steps (λ r. AnswersRun depth dict save answer r (run_of r).end)
 AnswersJob outside answer (job.Graph file steps depth latency) =
     AnswersRunning (λ failure. answer ≡ refusal failure) outside file latency steps (IsListed depth answer)
-AnswersJob outside answer (job.Carried file steps depth latency) =
-    AnswersRunning (λ failure. answer ≡ refusal failure) outside file latency steps (λ r. AnswersCarried depth answer r (run_of r).end)
+AnswersJob outside answer (job.Carried file steps depth latency storage) =
+    AnswersRunning (λ failure. answer ≡ refusal failure) outside file latency steps (λ r. AnswersCarried depth storage answer r (run_of r).end)
 AnswersJob outside answer (job.Replay file steps depth latency workers seed) =
     AnswersRunning (λ failure. answer ≡ refusal failure) outside file latency steps (λ r. AnswersReplayed workers seed answer r (run_of r).end)
 AnswersJob outside answer (job.Page file steps depth latency dict) =
     AnswersRunning (λ failure. answer ≡ refusal failure) outside file latency steps (IsPaged outside file depth dict answer)
-AnswersJob outside answer (job.Annotate file steps depth latency) =
-    AnswersRunning (λ failure. answer ≡ refusal failure) outside file latency steps (IsAnnotated outside file depth answer)
+AnswersJob outside answer (job.Annotate file steps depth latency strict) =
+    AnswersRunning (λ failure. answer ≡ refusal failure) outside file latency steps (IsAnnotated outside file depth strict answer)
 AnswersJob outside answer (job.Show file form) =
     AnswersFile (λ failure. answer ≡ refusal failure) outside profile_limit file (λ bytes. (read : Result Saved ℕ) × AnswersProfile form answer bytes read)
 AnswersJob outside answer (job.Check file) = AnswersFile (λ failure. answer ≡ refusal failure) outside file_limit file (AnswersChecked file answer)
@@ -209,10 +214,10 @@ FilesCall outside file latency = AnswersProgram (λ failure. ⊥) outside file l
 abbrev pub JobCalls : Outside → Job → Type 0
 JobCalls outside (job.Run file steps depth latency dict save) = FilesCall outside file latency
 JobCalls outside (job.Graph file steps depth latency) = FilesCall outside file latency
-JobCalls outside (job.Carried file steps depth latency) = FilesCall outside file latency
+JobCalls outside (job.Carried file steps depth latency storage) = FilesCall outside file latency
 JobCalls outside (job.Replay file steps depth latency workers seed) = FilesCall outside file latency
 JobCalls outside (job.Page file steps depth latency dict) = FilesCall outside file latency
-JobCalls outside (job.Annotate file steps depth latency) = FilesCall outside file latency
+JobCalls outside (job.Annotate file steps depth latency strict) = FilesCall outside file latency
 JobCalls outside (job.Show file form) = ⊥
 JobCalls outside (job.Check file) = ⊥
 JobCalls outside (job.Demo number loops) = ⊥
@@ -225,10 +230,10 @@ CallsForInput list outside = (asked : Job) × words.IsAnswer list (Ok asked) × 
 abbrev pub JobLoads : Job → Type 0
 JobLoads (job.Run file steps depth latency dict save) = Unit {0}
 JobLoads (job.Graph file steps depth latency) = Unit {0}
-JobLoads (job.Carried file steps depth latency) = Unit {0}
+JobLoads (job.Carried file steps depth latency storage) = Unit {0}
 JobLoads (job.Replay file steps depth latency workers seed) = Unit {0}
 JobLoads (job.Page file steps depth latency dict) = Unit {0}
-JobLoads (job.Annotate file steps depth latency) = Unit {0}
+JobLoads (job.Annotate file steps depth latency strict) = Unit {0}
 JobLoads (job.Show file form) = Unit {0}
 JobLoads (job.Check file) = Unit {0}
 JobLoads (job.Demo number loops) = ⊥

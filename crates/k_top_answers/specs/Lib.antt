@@ -1,6 +1,7 @@
 pub mod Refusals
 pub mod Failures
 pub mod Steps
+pub mod Storage
 pub mod Texts
 pub mod Answers
 pub mod Requests

@@ -26,10 +26,10 @@ files_of file latency = Load file ∷ table_of file latency
 abbrev pub loads_of : Job → List Request
 loads_of (job.Run file steps depth latency dict save) = files_of file latency
 loads_of (job.Graph file steps depth latency) = files_of file latency
-loads_of (job.Carried file steps depth latency) = files_of file latency
+loads_of (job.Carried file steps depth latency storage) = files_of file latency
 loads_of (job.Replay file steps depth latency workers seed) = files_of file latency
 loads_of (job.Page file steps depth latency dict) = files_of file latency
-loads_of (job.Annotate file steps depth latency) = files_of file latency
+loads_of (job.Annotate file steps depth latency strict) = files_of file latency
 loads_of (job.Show file form) = Load file ∷ []
 loads_of (job.Check file) = Load file ∷ []
 loads_of (job.Demo number loops) = []

@@ -1,19 +1,20 @@
 //! The answer of `annotate`: the source of a program with what its run came to. What the program writes goes nowhere.
-ghost use Rattle.std.specs.Prelude.{ℕ, ◌≤◌, List, length, IfOk};
+ghost use Rattle.std.specs.Prelude.{ℕ, ◌≤◌, Bool, true, List, length, IfOk};
 ghost use Rattle.k_regions.specs.Regions.{regions_of};
 ghost use Rattle.k_report_profile.specs.Summed.{IsSummed};
 ghost use Rattle.k_pragma_profile.specs.Annotated.{IsRunAnnotation};
 ghost use Rattle.k_top_answers.specs.Answers.{AnswersAnnotated, ran_of};
 ghost use Rattle.k_top_answers.specs.Steps.{run_of};
-ghost use Rattle.k_top_lemmas.specs.Parts.{IsFit, IsFresh, IsProfileOfRun, TellsOfLoops, running_of};
+ghost use Rattle.k_top_answers.specs.Storage.{MayBeMarked};
+ghost use Rattle.k_top_lemmas.specs.Parts.{FindsMarkable, IsFit, IsFresh, IsProfileOfRun, running_of};
 
-use crate::carried::loops_of;
+use crate::carried::{loops_of, storage_of};
 use k_carry::CarriedPairs;
 use k_dict::Dict;
 use k_ending::End;
 use k_hcpa::Profile;
 use k_num::{NoMemory, Seq};
-use k_pragma_profile::run_annotation;
+use k_pragma_profile::{run_annotation, unshared};
 use k_regions::regions;
 use k_shadow::Shadow;
 use k_top_answers::Answer;
@@ -52,7 +53,39 @@ fn annotation_text(
     )
 }
 
-/// The answer of `annotate` on a program whose run came to this profile, and whose loops carry this.
+/// What is told of the loops of a program's run that share nothing, of those that are told with what they carry.
+fn strictly(
+    alloc: Global,
+    ready: &Ready,
+    depth: u32,
+    found: CarriedPairs,
+) -> Result<CarriedPairs, NoMemory>
+    requires { IsFit ready.now depth }
+    ensures { IfOk result (λ marked. MayBeMarked true (running_of ready.now) depth found.loops marked.loops) }
+{
+    let shared = storage_of(alloc, ready, depth)?;
+    Ok(unshared(shared.loops.as_slice(), found))
+}
+
+/// The same where it is asked for, and else all that is told.
+fn markable(
+    alloc: Global,
+    ready: &Ready,
+    depth: u32,
+    strict: bool,
+    found: CarriedPairs,
+) -> Result<CarriedPairs, NoMemory>
+    requires { IsFit ready.now depth }
+    ensures { IfOk result (λ marked. MayBeMarked strict (running_of ready.now) depth found.loops marked.loops) }
+{
+    if strict {
+        strictly(alloc, ready, depth, found)
+    } else {
+        Ok(found)
+    }
+}
+
+/// The answer of `annotate` on a program whose run came to this profile, and of whose loops these may be marked that carry nothing.
 fn profile_answer(
     alloc: Global,
     ready: &Ready,
@@ -60,9 +93,9 @@ fn profile_answer(
     found: &CarriedPairs,
 ) -> Result<Answer, NoMemory>
     requires { (depth : ℕ) × (first : List ℕ) × IsFit ready.now depth × IsProfileOfRun (running_of ready.now) depth first profile }
-    ensures { IfOk result (λ answer. (depth : ℕ) (first : List ℕ) → IsFit ready.now depth → IsProfileOfRun (running_of ready.now) depth first profile
-        → TellsOfLoops (running_of ready.now) depth found.now
-        → AnswersAnnotated ready.now.program.source depth answer (running_of ready.now) (run_of (running_of ready.now)).end) }
+    ensures { IfOk result (λ answer. (depth : ℕ) (first : List ℕ) (strict : Bool) → IsFit ready.now depth
+        → IsProfileOfRun (running_of ready.now) depth first profile → FindsMarkable (running_of ready.now) depth strict found.now.loops
+        → AnswersAnnotated ready.now.program.source depth strict answer (running_of ready.now) (run_of (running_of ready.now)).end) }
 {
     let Profile {
         end,
@@ -86,11 +119,12 @@ fn profile_answer(
 }
 
 /// The answer of `annotate` on a program that is ready to run, of whose instances those below a depth are tracked. The program is run twice: once for what
-/// its loops carry, and once on the machine.
+/// its loops carry, and once on the machine; and once more for what their turns share, where this is asked for.
 pub fn annotate_answer<R: Shadow, P: Shadow>(
     alloc: Global,
     ready: &Ready,
     depth: u32,
+    strict: bool,
     regs: R,
     pages: P,
 ) -> Result<Answer, NoMemory>
@@ -98,12 +132,13 @@ pub fn annotate_answer<R: Shadow, P: Shadow>(
     requires registers { IsFresh 2097152 (R.content regs) }
     requires pages { IsFresh 4194304 (P.content pages) }
     ensures { IfOk result (λ answer.
-        AnswersAnnotated ready.now.program.source depth answer (running_of ready.now) (run_of (running_of ready.now)).end) }
+        AnswersAnnotated ready.now.program.source depth strict answer (running_of ready.now) (run_of (running_of ready.now)).end) }
 {
     let found = loops_of(alloc, ready, depth)?;
+    let marked = markable(alloc, ready, depth, strict, found)?;
     let mut nowhere = Nowhere {};
     match run_program(alloc, ready, depth, regs, pages, &mut nowhere) {
-        Ok(profile) => profile_answer(alloc, ready, profile, &found),
+        Ok(profile) => profile_answer(alloc, ready, profile, &marked),
         Err(_) => Err(NoMemory),
     }
 }

@@ -13,6 +13,7 @@ use Rattle.k_types_meaning.specs.Bare.{IsTyped}
 use Rattle.k_types_meaning.specs.Units.{faults}
 use Rattle.k_types_meaning.specs.declared.fault.TypeFault.{TypeFault}
 use Rattle.k_types_meaning.specs.declared.tree.unit.TUnit.{TUnit}
+use Rattle.k_marks_meaning.specs.Marking.{marks_of}
 use Rattle.k_evaluation.specs.Laws.{AreAtMost}
 use Rattle.k_types_calls.specs.Getchar.{calls_getchar}
 use Rattle.k_top_answers.specs.declared.answer.Answer.{Answer}
@@ -21,7 +22,7 @@ use Rattle.k_top_answers.specs.declared.failure.Failure.TheVariants as why
 use Rattle.k_top_answers.specs.Answers.{refusal}
 use Rattle.k_top_answers.specs.Steps.{AnswersFound, AnswersInput, AnswersLatency, AnswersRead, AnswersRunning, AnswersSource, AnswersTable, AnswersTokens, AnswersTree, AnswersTyped, Outside, Running, file_limit, input_limit}
 use Rattle.k_top_lemmas.proofs.LatencyLemmas.{standard_bounded, told_bounded}
-use Rattle.k_top_lemmas.proofs.RegionLemmas.{source_regions}
+use Rattle.k_top_lemmas.proofs.RegionLemmas.{source_accepted, source_regions}
 use Rattle.k_top_lemmas.proofs.RunLemmas.{IsSound}
 use Rattle.k_top_exists.specs.Files.{TellsOrRefuses}
 use Rattle.k_top_exists.proofs.Parsed.{lists_are_read}
@@ -49,11 +50,8 @@ module _ (told : Failure → Answer) (P : Answer → TUnit → Type 0) (latencie
       let found : Answered (λ a. P a typed) =
       next typed (λ input. record {
         unit = unit;
-        typed = is_typed;
-        faultless = is;
-        few = parsed.1;
+        accepted = source_accepted bytes list unit (record { unit = typed; marks = marks_of typed; latencies = latencies }) lexed parsed is is_typed bounded;
         regions = source_regions bytes list unit typed lexed parsed is is_typed;
-        latencies = bounded;
         steps = limited;
       }) in
       (found.0, (typed, is_typed, found.1))

@@ -13,6 +13,7 @@ pub mod RowsOfTrees
 pub mod RunReports
 pub mod SavedFiles
 pub mod SavedLines
+pub mod Storage
 pub mod Tables
 pub mod TypedTrees
 pub mod Whole

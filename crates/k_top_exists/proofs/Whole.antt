@@ -39,6 +39,7 @@ use Rattle.k_evaluation.specs.Runs.{listing_of}
 use Rattle.k_top_answers.specs.Answers.{AnswersAnnotated, AnswersAsked, AnswersCarried, AnswersChecked, AnswersJob, AnswersMade, AnswersPage, AnswersProfile, AnswersReplayed, AnswersRun, AnswersWords, IsAnnotated, IsAnswer, IsListed, IsPaged, IsShown, checked, done, ended, made_running, ran_of, refusal, saved_file}
 use Rattle.k_top_answers.specs.Checks.{told}
 use Rattle.k_top_answers.specs.Steps.{Outside, Running, file_limit, profile_limit, run_of}
+use Rattle.k_top_answers.specs.Storage.{MayBeMarked, WritesStorage}
 use Rattle.k_top_answers.specs.Texts.{AreProfileLines, demo_line, plan_line, run_lines, tree_lines, with_report}
 use Rattle.k_top_answers.specs.Texts as texts
 use Rattle.k_top_lemmas.proofs.LatencyLemmas.{standard_bounded}
@@ -55,6 +56,7 @@ use Rattle.k_top_exists.proofs.ReportParts.{contexts_exist, plans_exist}
 use Rattle.k_top_exists.proofs.RowsOfTrees.{rows_exist}
 use Rattle.k_top_exists.proofs.RunReports.{profile_is_shown, run_annotations_exist, run_pages_exist, run_reports_exist}
 use Rattle.k_top_exists.proofs.SavedFiles.{saved_file_is_answered}
+use Rattle.k_top_exists.proofs.Storage.{marked_found, storage_written}
 use Rattle.k_top_exists.proofs.Words.{words_are_answered}
 
 -- a run from which main returned has a profile or none, and a report
@@ -100,15 +102,18 @@ listed depth r sound =
     (ended text.0 r.steps (run_of r).end, record { tree = tree.0; text = text.0; is_tree = tree.1; is_text = text.1; is = refl })
 
 -- CARRIED
-carried_told : (depth : ℕ) (r : Running) (exit : ℤ) → (loops : List LoopPairs) × AreCarried (regions_of r.typed) depth (run_of r).events loops
-    → Answered (λ a. AnswersCarried depth a r (end.Returned exit))
-carried_told depth r exit (loops, are_carried) =
-    (done (carried_text (regions_of r.typed) loops), record { loops = loops; are_carried = are_carried; is = refl })
+carried_told : (depth : ℕ) (storage : Bool) (r : Running) (exit : ℤ) → (loops : List LoopPairs) × AreCarried (regions_of r.typed) depth (run_of r).events loops
+    → (shared : List ℕ) × WritesStorage storage r depth shared → Answered (λ a. AnswersCarried depth storage a r (end.Returned exit))
+carried_told depth storage r exit (loops, are_carried) (shared, writes) = (
+  done (carried_text (regions_of r.typed) loops ++ shared),
+  record { loops = loops; are_carried = are_carried; shared = shared; writes = writes; is = refl },
+)
 
-carried_answers : (depth : ℕ) (r : Running) (how : End) → Answered (λ a. AnswersCarried depth a r how)
-carried_answers depth r (end.Returned exit) = carried_told depth r exit (carried_exist (regions_of r.typed) depth (run_of r).events)
-carried_answers depth r (end.Trapped trap place) = (ended [] r.steps (end.Trapped trap place), refl)
-carried_answers depth r end.OutOfSteps = (ended [] r.steps end.OutOfSteps, refl)
+carried_answers : (depth : ℕ) (storage : Bool) (r : Running) → IsSound r → (how : End) → Answered (λ a. AnswersCarried depth storage a r how)
+carried_answers depth storage r sound (end.Returned exit) =
+    carried_told depth storage r exit (carried_exist (regions_of r.typed) depth (run_of r).events) (storage_written r sound depth storage)
+carried_answers depth storage r sound (end.Trapped trap place) = (ended [] r.steps (end.Trapped trap place), refl)
+carried_answers depth storage r sound end.OutOfSteps = (ended [] r.steps end.OutOfSteps, refl)
 
 -- REPLAY
 replay_told : (workers seed : ℕ) (r : Running) (exit : ℤ) → (text : List ℕ) × IsReplayText workers seed exit (run_of r).output (run_of r).events text
@@ -147,34 +152,36 @@ paged_answers outside file latency steps depth dict limited some tracked (Some s
     running_answers outside steps limited (λ a r. IsPaged outside file depth dict a r) (paged outside file depth dict some tracked source is) file latency
 
 -- ANNOTATE
-annotated_told : (source : List ℕ) (depth : ℕ) (r : Running) → IsSound r → 1 ≤ depth → depth ≤ 32 → (exit : ℤ) → (run_of r).end ≡ end.Returned exit
-    → (loops : List LoopPairs) × AreCarried (regions_of r.typed) depth (run_of r).events loops → Answered (λ a. AnswersAnnotated source depth a r (end.Returned exit))
-annotated_told source depth r sound some tracked exit is (loops, are_carried) =
+annotated_told : (source : List ℕ) (depth : ℕ) (strict : Bool) (r : Running) → IsSound r → 1 ≤ depth → depth ≤ 32 → (exit : ℤ) → (run_of r).end ≡ end.Returned exit
+    → (loops : List LoopPairs) × AreCarried (regions_of r.typed) depth (run_of r).events loops
+    → Answered (λ a. AnswersAnnotated source depth strict a r (end.Returned exit))
+annotated_told source depth strict r sound some tracked exit is (loops, are_carried) =
     let tree = tree_of r depth sound in
-    let told : (text : List ℕ) × IsRunAnnotation source r.typed (marks_of r.typed) (ran_of r exit depth) loops text =
-    run_annotations_exist rows_exist contexts_exist plans_exist source r.typed (marks_of r.typed) loops (ran_of r exit depth) tree.0
+    let found : (found : List LoopPairs) × MayBeMarked strict r depth loops found = marked_found r sound depth strict loops in
+    let told : (text : List ℕ) × IsRunAnnotation source r.typed (marks_of r.typed) (ran_of r exit depth) found.0 text =
+    run_annotations_exist rows_exist contexts_exist plans_exist source r.typed (marks_of r.typed) found.0 (ran_of r exit depth) tree.0
     (run_whole r sound exit depth is (run_gives_int r sound exit is) some tracked) tree.1 (run_few r depth tree.0 sound tree.1) in
-    (done told.0, record { loops = loops; are_carried = are_carried; text = told.0; annotated = told.1; is = refl })
+    (done told.0, record { loops = loops; are_carried = are_carried; found = found.0; may = found.1; text = told.0; annotated = told.1; is = refl })
 
-annotated_answers : (source : List ℕ) (depth : ℕ) (r : Running) → IsSound r → 1 ≤ depth → depth ≤ 32 → (how : End) → (run_of r).end ≡ how
-    → Answered (λ a. AnswersAnnotated source depth a r how)
-annotated_answers source depth r sound some tracked (end.Returned exit) is =
-    annotated_told source depth r sound some tracked exit is (carried_exist (regions_of r.typed) depth (run_of r).events)
-annotated_answers source depth r sound some tracked (end.Trapped trap place) is = (ended [] r.steps (end.Trapped trap place), refl)
-annotated_answers source depth r sound some tracked end.OutOfSteps is = (ended [] r.steps end.OutOfSteps, refl)
+annotated_answers : (source : List ℕ) (depth : ℕ) (strict : Bool) (r : Running) → IsSound r → 1 ≤ depth → depth ≤ 32 → (how : End) → (run_of r).end ≡ how
+    → Answered (λ a. AnswersAnnotated source depth strict a r how)
+annotated_answers source depth strict r sound some tracked (end.Returned exit) is =
+    annotated_told source depth strict r sound some tracked exit is (carried_exist (regions_of r.typed) depth (run_of r).events)
+annotated_answers source depth strict r sound some tracked (end.Trapped trap place) is = (ended [] r.steps (end.Trapped trap place), refl)
+annotated_answers source depth strict r sound some tracked end.OutOfSteps is = (ended [] r.steps end.OutOfSteps, refl)
 
 -- the annotated source of a run, of the source that the file holds
-annotated_held : (outside : Outside) (file : List ℕ) (depth : ℕ) → 1 ≤ depth → depth ≤ 32 → (source : List ℕ) → outside.files file ≡ Some source
-    → (r : Running) → IsSound r → Answered (λ a. IsAnnotated outside file depth a r)
-annotated_held outside file depth some tracked source is r sound =
-    let told = annotated_answers source depth r sound some tracked (run_of r).end refl in (told.0, (source, is, told.1))
+annotated_held : (outside : Outside) (file : List ℕ) (depth : ℕ) (strict : Bool) → 1 ≤ depth → depth ≤ 32 → (source : List ℕ) → outside.files file ≡ Some source
+    → (r : Running) → IsSound r → Answered (λ a. IsAnnotated outside file depth strict a r)
+annotated_held outside file depth strict some tracked source is r sound =
+    let told = annotated_answers source depth strict r sound some tracked (run_of r).end refl in (told.0, (source, is, told.1))
 
-annotate_answers : (outside : Outside) (file : List ℕ) (latency : Option (List ℕ)) (steps depth : ℕ) → steps ≤ 1000000000 → 1 ≤ depth → depth ≤ 32
-    → (content : Option (List ℕ)) → outside.files file ≡ content → Answered (λ a. AnswersJob outside a (job.Annotate file steps depth latency))
-annotate_answers outside file latency steps depth limited some tracked None is =
-    absent_answers outside steps (λ a r. IsAnnotated outside file depth a r) file latency is
-annotate_answers outside file latency steps depth limited some tracked (Some source) is =
-    running_answers outside steps limited (λ a r. IsAnnotated outside file depth a r) (annotated_held outside file depth some tracked source is) file latency
+annotate_answers : (outside : Outside) (file : List ℕ) (latency : Option (List ℕ)) (steps depth : ℕ) (strict : Bool) → steps ≤ 1000000000 → 1 ≤ depth → depth ≤ 32
+    → (content : Option (List ℕ)) → outside.files file ≡ content → Answered (λ a. AnswersJob outside a (job.Annotate file steps depth latency strict))
+annotate_answers outside file latency steps depth strict limited some tracked None is =
+    absent_answers outside steps (λ a r. IsAnnotated outside file depth strict a r) file latency is
+annotate_answers outside file latency steps depth strict limited some tracked (Some source) is =
+    running_answers outside steps limited (λ a r. IsAnnotated outside file depth strict a r) (annotated_held outside file depth strict some tracked source is) file latency
 
 -- SHOW
 by_profile : (form : Form) (bytes : List ℕ) → SpellsProfileOrIsWrong bytes → Answered (λ a. (read : Result Saved ℕ) × AnswersProfile form a bytes read)
@@ -209,16 +216,17 @@ job_answers outside (job.Run file steps depth latency dict save) within =
 job_answers outside (job.Graph file steps depth latency) within =
     let most : steps ≤ 200000 = within.steps.at_most in
     running_answers outside steps (omega (arith, most)) (λ a r. IsListed depth a r) (listed depth) file latency
-job_answers outside (job.Carried file steps depth latency) within =
-    running_answers outside steps within.steps.at_most (λ a r. AnswersCarried depth a r (run_of r).end) (λ r sound. carried_answers depth r (run_of r).end) file latency
+job_answers outside (job.Carried file steps depth latency storage) within =
+    running_answers outside steps within.steps.at_most (λ a r. AnswersCarried depth storage a r (run_of r).end)
+    (λ r sound. carried_answers depth storage r sound (run_of r).end) file latency
 job_answers outside (job.Replay file steps depth latency workers seed) within =
     let most : steps ≤ 200000 = within.run.steps.at_most in
     running_answers outside steps (omega (arith, most)) (λ a r. AnswersReplayed workers seed a r (run_of r).end)
     (λ r sound. replay_answers workers seed r sound within.workers.at_least within.workers.at_most (run_of r).end) file latency
 job_answers outside (job.Page file steps depth latency dict) within =
     paged_answers outside file latency steps depth dict within.steps.at_most within.depth.at_least within.depth.at_most (outside.files file) refl
-job_answers outside (job.Annotate file steps depth latency) within =
-    annotate_answers outside file latency steps depth within.steps.at_most within.depth.at_least within.depth.at_most (outside.files file) refl
+job_answers outside (job.Annotate file steps depth latency strict) within =
+    annotate_answers outside file latency steps depth strict within.steps.at_most within.depth.at_least within.depth.at_most (outside.files file) refl
 job_answers outside (job.Show file form) within =
     found_answers profile_limit file (λ a bytes. (read : Result Saved ℕ) × AnswersProfile form a bytes read)
     (λ bytes fits. by_profile form bytes (saved_file_is_answered bytes)) (outside.files file)

@@ -1,5 +1,5 @@
 -- What `graph`, `carried` and `demo` tell.
-use Rattle.std.proofs.Common.{ℕ, ◌≡◌, refl, sym, subst, ap, List, None}
+use Rattle.std.proofs.Common.{ℕ, ◌≡◌, Bool, refl, sym, subst, ap, List, None}
 use Rattle.k_ending.specs.declared.ending.End.{End}
 use Rattle.k_ending.specs.declared.ending.End.TheVariants as end
 use Rattle.k_gen.specs.Text.{program}
@@ -32,32 +32,32 @@ graph_is_told words status old new file r depth keeps is program =
           (ap (λ (a : Answer). a.out) listed.is) (ap (λ (a : Answer). a.failure) listed.is);
     }
 
-module _ (depth : ℕ) (answer : Answer) (r : Running) where
+module _ (depth : ℕ) (storage : Bool) (answer : Answer) (r : Running) where
   -- what the answer puts on out
-  carried_written : (how : End) → AnswersCarried depth answer r how → WritesCarried r depth answer.out how
-  carried_written (end.Returned exit) is = (is.loops, is.are_carried, ap (λ (a : Answer). a.out) is.is)
+  carried_written : (how : End) → AnswersCarried depth storage answer r how → WritesCarried r depth storage answer.out how
+  carried_written (end.Returned exit) is = (is.loops, is.shared, is.are_carried, is.writes, ap (λ (a : Answer). a.out) is.is)
   carried_written (end.Trapped trap place) is = ap (λ (a : Answer). a.out) is
   carried_written end.OutOfSteps is = ap (λ (a : Answer). a.out) is
 
   -- why it failed, if it did
-  carried_fails : (how : End) → AnswersCarried depth answer r how → answer.failure ≡ failure_of_end r.steps how
+  carried_fails : (how : End) → AnswersCarried depth storage answer r how → answer.failure ≡ failure_of_end r.steps how
   carried_fails (end.Returned exit) is = ap (λ (a : Answer). a.failure) is.is
   carried_fails (end.Trapped trap place) is = ap (λ (a : Answer). a.failure) is
   carried_fails end.OutOfSteps is = ap (λ (a : Answer). a.failure) is
 
 -- CARRIED
 pub carried_is_told : CarriedIsTold
-carried_is_told words status old new file r depth keeps is program =
-    let j : Job = job.Carried file r.steps depth None in
+carried_is_told words status old new file r depth storage keeps is program =
+    let j : Job = job.Carried file r.steps depth None storage in
     let given : IsGiven (λ (answer : Answer). AnswersJob keeps.outside answer j) status old new = job_given words j status old new keeps is in
-    let found : AnswersCarried depth given.answer r (run_of r).end =
-    run_answered keeps.outside old file r (λ failure. given.answer ≡ refusal failure) (λ (q : Running). AnswersCarried depth given.answer q (run_of q).end) keeps.fits program
+    let found : AnswersCarried depth storage given.answer r (run_of r).end =
+    run_answered keeps.outside old file r (λ failure. given.answer ≡ refusal failure) (λ (q : Running). AnswersCarried depth storage given.answer q (run_of q).end) keeps.fits program
     given.is_answer in
     record {
       text = given.answer.out;
-      written = carried_written depth given.answer r (run_of r).end found;
+      written = carried_written depth storage given.answer r (run_of r).end found;
       tells = told_of_run (λ (answer : Answer). AnswersJob keeps.outside answer j) r given.answer.out status old new given refl
-          (carried_fails depth given.answer r (run_of r).end found);
+          (carried_fails depth storage given.answer r (run_of r).end found);
     }
 
 module _ (number loops : ℕ) (answer : Answer) (r : Running) where

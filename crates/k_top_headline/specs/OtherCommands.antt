@@ -1,7 +1,7 @@
 -- Believed with a public law.
 -- What `kremlin graph`, `carried`, `page`, `annotate`, `show`, `check` and `demo` write, and with which status they end, where nothing goes wrong outside and
 -- memory suffices.
-use Rattle.std.specs.Prelude.{ℕ, ◌-◌, ◌≡◌, ◌≤◌, Bool, List, [], length, Option, Some, None}
+use Rattle.std.specs.Prelude.{ℕ, ◌-◌, ◌≡◌, ◌≤◌, ◌++◌, Bool, List, [], length, Option, Some, None}
 use Rattle.k_edge.specs.SinkWords.{Grows}
 use Rattle.k_optab.specs.declared.node.Node.{Node}
 use Rattle.k_optab.specs.Tree.{IsTree}
@@ -43,6 +43,7 @@ use Rattle.k_top_answers.specs.Checks.{told}
 use Rattle.k_top_answers.specs.Clauses.{Keeps, TellsEnd, World}
 use Rattle.k_top_answers.specs.Failures.{status_of}
 use Rattle.k_top_answers.specs.Steps.{AnswersSource, Running, file_limit, profile_limit, run_of}
+use Rattle.k_top_answers.specs.Storage.{MayBeMarked, WritesStorage}
 use Rattle.k_top_answers.specs.Texts.{IsSummary}
 use Rattle.k_top_headline.specs.Headline.{HoldsProgram, IsAccepted, TellsFile, TellsOfRun, WentWell}
 
@@ -64,26 +65,28 @@ GraphIsTold = (words : List (List ℕ)) (status : ℕ) (old new : World) (file :
     → GraphTells r depth status old new
 
 -- what is written of the loops of a run, by how it ended: where main returned, each loop with a tracked instance, with the pairs of places between
--- which it carries dependences; and else nothing
-abbrev pub WritesCarried : Running → ℕ → List ℕ → End → Type 0
-WritesCarried r depth text (Returned exit) =
-    (loops : List LoopPairs) × AreCarried (regions_of r.typed) depth (run_of r).events loops × (text ≡ carried_text (regions_of r.typed) loops)
-WritesCarried r depth text (Trapped trap place) = text ≡ []
-WritesCarried r depth text OutOfSteps = text ≡ []
+-- which it carries dependences, and behind them, where it is asked for, its storage pairs; and else nothing
+abbrev pub WritesCarried : Running → ℕ → Bool → List ℕ → End → Type 0
+WritesCarried r depth storage text (Returned exit) =
+    (loops : List LoopPairs) × (shared : List ℕ) × AreCarried (regions_of r.typed) depth (run_of r).events loops × WritesStorage storage r depth shared
+    × (text ≡ carried_text (regions_of r.typed) loops ++ shared)
+WritesCarried r depth storage text (Trapped trap place) = text ≡ []
+WritesCarried r depth storage text OutOfSteps = text ≡ []
 
 -- CARRIED, the conclusions
-pub record CarriedTells (r : Running) (depth status : ℕ) (old new : World) : Type 0 where
-  -- what the loops of the run carry from turn to turn
+pub record CarriedTells (r : Running) (depth : ℕ) (storage : Bool) (status : ℕ) (old new : World) : Type 0 where
+  -- what the loops of the run carry from turn to turn, and what their turns share
   pub text : List ℕ
-  pub written : WritesCarried r depth text (run_of r).end
+  pub written : WritesCarried r depth storage text (run_of r).end
   -- is what is told
   pub tells : TellsOfRun r text status old new
 
--- CARRIED. The words ask what the loops of a file carry, and name no table of latencies; and the file is an accepted program, with its input
+-- CARRIED. The words ask what the loops of a file carry, with what their turns share or without, and name no table of latencies; and the file is an accepted
+-- program, with its input
 abbrev pub CarriedIsTold : Type 0
-CarriedIsTold = (words : List (List ℕ)) (status : ℕ) (old new : World) (file : List ℕ) (r : Running) (depth : ℕ)
-    → Keeps words status old new → WentWell words (job.Carried file r.steps depth None) status old new → HoldsProgram old file r
-    → CarriedTells r depth status old new
+CarriedIsTold = (words : List (List ℕ)) (status : ℕ) (old new : World) (file : List ℕ) (r : Running) (depth : ℕ) (storage : Bool)
+    → Keeps words status old new → WentWell words (job.Carried file r.steps depth None storage) status old new → HoldsProgram old file r
+    → CarriedTells r depth storage status old new
 
 -- the page, by which limit the dictionary passes, if it passes one: there the page says so. Else it is that of a tree: the page shows its rows, its contexts,
 -- the best plan of these, and the entries where they are asked for, beside the source
@@ -128,37 +131,39 @@ AnnotatesWithin source r ran loops nodes text None = IsAnnotationOf source r.typ
 AnnotatesWithin source r ran loops nodes text (Some which) = text ≡ source
 
 -- THE ANNOTATED SOURCE of the graph of a run
-pub record AnnotatesGraph (source : List ℕ) (r : Running) (ran : Ran) (text : List ℕ) : Type 0 where
-  -- what the loops of the run carry from turn to turn
+pub record AnnotatesGraph (source : List ℕ) (r : Running) (ran : Ran) (strict : Bool) (text : List ℕ) : Type 0 where
+  -- what the loops of the run carry from turn to turn, and those that may be marked: all, or those alone that share nothing
   pub loops : List LoopPairs
   pub are_carried : AreCarried ran.regions ran.depth ran.events loops
+  pub found : List LoopPairs
+  pub may : MayBeMarked strict r ran.depth loops found
   -- the tree of the explicit dependence graph, and the dictionary of that tree
   pub nodes : List Node
   pub tree : IsTree ran.depth ran.events nodes
   pub entries : List Entry
   pub dictionary : IsDictionary nodes entries
   -- the annotated source of that tree, or the source, exactly where its dictionary is over its limits
-  pub within : AnnotatesWithin source r ran loops nodes text (refusal 0 0 entries)
+  pub within : AnnotatesWithin source r ran found nodes text (refusal 0 0 entries)
 
 -- what is written, by how the run ended: the annotated source where main returned, and else nothing
-abbrev pub Annotates : List ℕ → Running → ℕ → List ℕ → End → Type 0
-Annotates source r depth text (Returned exit) = AnnotatesGraph source r (ran_of r exit depth) text
-Annotates source r depth text (Trapped trap place) = text ≡ []
-Annotates source r depth text OutOfSteps = text ≡ []
+abbrev pub Annotates : List ℕ → Running → ℕ → Bool → List ℕ → End → Type 0
+Annotates source r depth strict text (Returned exit) = AnnotatesGraph source r (ran_of r exit depth) strict text
+Annotates source r depth strict text (Trapped trap place) = text ≡ []
+Annotates source r depth strict text OutOfSteps = text ≡ []
 
 -- ANNOTATE, the conclusions
-pub record AnnotateTells (source : List ℕ) (r : Running) (depth status : ℕ) (old new : World) : Type 0 where
+pub record AnnotateTells (source : List ℕ) (r : Running) (depth : ℕ) (strict : Bool) (status : ℕ) (old new : World) : Type 0 where
   pub text : List ℕ
-  pub written : Annotates source r depth text (run_of r).end
+  pub written : Annotates source r depth strict text (run_of r).end
   -- is what is told
   pub tells : TellsOfRun r text status old new
 
 -- ANNOTATE. The words ask for the annotated source of a file, and name no table of latencies; and the file is an accepted program, with its input. Its bytes
 -- are the source
 abbrev pub AnnotateIsTold : Type 0
-AnnotateIsTold = (words : List (List ℕ)) (status : ℕ) (old new : World) (file : List ℕ) (r : Running) (depth : ℕ)
-    → Keeps words status old new → WentWell words (job.Annotate file r.steps depth None) status old new → (program : HoldsProgram old file r)
-    → AnnotateTells program.bytes r depth status old new
+AnnotateIsTold = (words : List (List ℕ)) (status : ℕ) (old new : World) (file : List ℕ) (r : Running) (depth : ℕ) (strict : Bool)
+    → Keeps words status old new → WentWell words (job.Annotate file r.steps depth None strict) status old new → (program : HoldsProgram old file r)
+    → AnnotateTells program.bytes r depth strict status old new
 
 -- the files tell that one of this name is a saved profile of either format, of at most 536,870,912 bytes
 pub record HoldsProfile (old : World) (name : List ℕ) (file : File) : Type 0 where

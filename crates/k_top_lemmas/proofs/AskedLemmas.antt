@@ -199,102 +199,102 @@ module _ (file : List ℕ) (latency : Option (List ℕ)) (steps depth : ℕ) (ol
   page_short dict r (view, is_view, (same, input, runs, holds)) = (view, is_view, (behind_input _ _ _ view old new tt same input, tt))
 
   -- ANNOTATE
-  annotated_ends : (source : List ℕ) (answer : Answer) (r : Running) (how : End) → AnswersAnnotated source depth answer r how → IsEnd answer
-  annotated_ends source answer r (end.Returned exit) is = record {
+  annotated_ends : (strict : Bool) (source : List ℕ) (answer : Answer) (r : Running) (how : End) → AnswersAnnotated source depth strict answer r how → IsEnd answer
+  annotated_ends strict source answer r (end.Returned exit) is = record {
     low = done_low answer.failure (ap (λ (a : Answer). a.failure) is.is);
     saves = inl (ap (λ (a : Answer). a.failure) is.is);
   }
-  annotated_ends source answer r (end.Trapped trap place) is = record {
+  annotated_ends strict source answer r (end.Trapped trap place) is = record {
     low = ended_low r.steps (end.Trapped trap place) answer.failure (ap (λ (a : Answer). a.failure) is);
     saves = inr (ap (λ (a : Answer). a.saved) is);
   }
-  annotated_ends source answer r end.OutOfSteps is = record {
+  annotated_ends strict source answer r end.OutOfSteps is = record {
     low = ended_low r.steps end.OutOfSteps answer.failure (ap (λ (a : Answer). a.failure) is);
     saves = inr (ap (λ (a : Answer). a.saved) is);
   }
 
-  pub annotated_found : (r : Ready) (answer : Answer) → MakesReady (Ok r) file latency steps old new
-      → AnswersAnnotated r.program.source depth answer (running_of r) (run_of (running_of r)).end
-      → FindsJob (Ok answer) (job.Annotate file steps depth latency) old new
-  annotated_found r answer (view, is_view, (same, input, runs, holds)) is = (
+  pub annotated_found : (strict : Bool) (r : Ready) (answer : Answer) → MakesReady (Ok r) file latency steps old new
+      → AnswersAnnotated r.program.source depth strict answer (running_of r) (run_of (running_of r)).end
+      → FindsJob (Ok answer) (job.Annotate file steps depth latency strict) old new
+  annotated_found strict r answer (view, is_view, (same, input, runs, holds)) is = (
     view,
     is_view,
     (
-      (loads_of (job.Annotate file steps depth latency), refl, same),
+      (loads_of (job.Annotate file steps depth latency strict), refl, same),
       input,
-      annotated_ends r.program.source answer (running_of r) (run_of (running_of r)).end is,
+      annotated_ends strict r.program.source answer (running_of r) (run_of (running_of r)).end is,
       λ outside shows.
-          running_maps (λ failure. ⊥) (λ failure. answer ≡ refusal failure) (λ failure e. absurd e) (λ q. q ≡ running_of r) (IsAnnotated outside file depth answer)
+          running_maps (λ failure. ⊥) (λ failure. answer ≡ refusal failure) (λ failure e. absurd e) (λ q. q ≡ running_of r) (IsAnnotated outside file depth strict answer)
           (λ q e. (
             r.program.source,
             holds outside shows,
-            subst (λ (q : Running). AnswersAnnotated r.program.source depth answer q (run_of q).end) (sym e) is,
+            subst (λ (q : Running). AnswersAnnotated r.program.source depth strict answer q (run_of q).end) (sym e) is,
           )) outside file latency steps (runs outside shows),
     ),
   )
 
-  pub annotated_failed : (failure : Failure) → MakesReady (Err failure) file latency steps old new
-      → FindsJob (Err failure) (job.Annotate file steps depth latency) old new
-  annotated_failed failure (view, is_view, (before, refuses)) = (
+  pub annotated_failed : (strict : Bool) (failure : Failure) → MakesReady (Err failure) file latency steps old new
+      → FindsJob (Err failure) (job.Annotate file steps depth latency strict) old new
+  annotated_failed strict failure (view, is_view, (before, refuses)) = (
     view,
     is_view,
     (
       before,
       refusal_maps _ _ failure (λ fails outside shows.
           running_maps (λ other. other ≡ failure) (λ other. refusal failure ≡ refusal other) (λ other e. ap refusal (sym e)) (λ running. ⊥)
-          (IsAnnotated outside file depth (refusal failure)) (λ q e. absurd e) outside file latency steps (fails outside shows)) refuses,
+          (IsAnnotated outside file depth strict (refusal failure)) (λ q e. absurd e) outside file latency steps (fails outside shows)) refuses,
     ),
   )
 
-  pub annotated_short : (r : Ready) → MakesReady (Ok r) file latency steps old new
-      → FindsJob (Err why.NoMemory) (job.Annotate file steps depth latency) old new
-  annotated_short r (view, is_view, (same, input, runs, holds)) = (view, is_view, (behind_input _ _ _ view old new tt same input, tt))
+  pub annotated_short : (strict : Bool) (r : Ready) → MakesReady (Ok r) file latency steps old new
+      → FindsJob (Err why.NoMemory) (job.Annotate file steps depth latency strict) old new
+  annotated_short strict r (view, is_view, (same, input, runs, holds)) = (view, is_view, (behind_input _ _ _ view old new tt same input, tt))
 
   -- CARRIED
-  carried_ends : (answer : Answer) (r : Running) (how : End) → AnswersCarried depth answer r how → IsEnd answer
-  carried_ends answer r (end.Returned exit) is = record {
+  carried_ends : (storage : Bool) (answer : Answer) (r : Running) (how : End) → AnswersCarried depth storage answer r how → IsEnd answer
+  carried_ends storage answer r (end.Returned exit) is = record {
     low = done_low answer.failure (ap (λ (a : Answer). a.failure) is.is);
     saves = inl (ap (λ (a : Answer). a.failure) is.is);
   }
-  carried_ends answer r (end.Trapped trap place) is = record {
+  carried_ends storage answer r (end.Trapped trap place) is = record {
     low = ended_low r.steps (end.Trapped trap place) answer.failure (ap (λ (a : Answer). a.failure) is);
     saves = inr (ap (λ (a : Answer). a.saved) is);
   }
-  carried_ends answer r end.OutOfSteps is = record {
+  carried_ends storage answer r end.OutOfSteps is = record {
     low = ended_low r.steps end.OutOfSteps answer.failure (ap (λ (a : Answer). a.failure) is);
     saves = inr (ap (λ (a : Answer). a.saved) is);
   }
 
-  pub carried_found : (r : Ready) (answer : Answer) → MakesReady (Ok r) file latency steps old new
-      → AnswersCarried depth answer (running_of r) (run_of (running_of r)).end → FindsJob (Ok answer) (job.Carried file steps depth latency) old new
-  carried_found r answer (view, is_view, (same, input, runs, holds)) is = (
+  pub carried_found : (storage : Bool) (r : Ready) (answer : Answer) → MakesReady (Ok r) file latency steps old new
+      → AnswersCarried depth storage answer (running_of r) (run_of (running_of r)).end → FindsJob (Ok answer) (job.Carried file steps depth latency storage) old new
+  carried_found storage r answer (view, is_view, (same, input, runs, holds)) is = (
     view,
     is_view,
     (
-      (loads_of (job.Carried file steps depth latency), refl, same),
+      (loads_of (job.Carried file steps depth latency storage), refl, same),
       input,
-      carried_ends answer (running_of r) (run_of (running_of r)).end is,
+      carried_ends storage answer (running_of r) (run_of (running_of r)).end is,
       λ outside shows.
           running_maps (λ failure. ⊥) (λ failure. answer ≡ refusal failure) (λ failure e. absurd e) (λ q. q ≡ running_of r)
-          (λ q. AnswersCarried depth answer q (run_of q).end)
-          (λ q e. subst (λ (q : Running). AnswersCarried depth answer q (run_of q).end) (sym e) is) outside file latency steps (runs outside shows),
+          (λ q. AnswersCarried depth storage answer q (run_of q).end)
+          (λ q e. subst (λ (q : Running). AnswersCarried depth storage answer q (run_of q).end) (sym e) is) outside file latency steps (runs outside shows),
     ),
   )
 
-  pub carried_failed : (failure : Failure) → MakesReady (Err failure) file latency steps old new → FindsJob (Err failure) (job.Carried file steps depth latency) old new
-  carried_failed failure (view, is_view, (before, refuses)) = (
+  pub carried_failed : (storage : Bool) (failure : Failure) → MakesReady (Err failure) file latency steps old new → FindsJob (Err failure) (job.Carried file steps depth latency storage) old new
+  carried_failed storage failure (view, is_view, (before, refuses)) = (
     view,
     is_view,
     (
       before,
       refusal_maps _ _ failure (λ fails outside shows.
           running_maps (λ other. other ≡ failure) (λ other. refusal failure ≡ refusal other) (λ other e. ap refusal (sym e)) (λ running. ⊥)
-          (λ q. AnswersCarried depth (refusal failure) q (run_of q).end) (λ q e. absurd e) outside file latency steps (fails outside shows)) refuses,
+          (λ q. AnswersCarried depth storage (refusal failure) q (run_of q).end) (λ q e. absurd e) outside file latency steps (fails outside shows)) refuses,
     ),
   )
 
-  pub carried_short : (r : Ready) → MakesReady (Ok r) file latency steps old new → FindsJob (Err why.NoMemory) (job.Carried file steps depth latency) old new
-  carried_short r (view, is_view, (same, input, runs, holds)) = (view, is_view, (behind_input _ _ _ view old new tt same input, tt))
+  pub carried_short : (storage : Bool) (r : Ready) → MakesReady (Ok r) file latency steps old new → FindsJob (Err why.NoMemory) (job.Carried file steps depth latency storage) old new
+  carried_short storage r (view, is_view, (same, input, runs, holds)) = (view, is_view, (behind_input _ _ _ view old new tt same input, tt))
 
 -- nothing was seen
 nothing_seen : (old : Around) → IsView no_view old

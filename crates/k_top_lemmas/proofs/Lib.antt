@@ -20,6 +20,7 @@ mod OneListing
 mod OnePage
 mod OneAnnotation
 mod OneReport
+mod OneStorage
 pub mod AskedLemmas
 pub mod ReplayLemmas
 pub mod FileLemmas

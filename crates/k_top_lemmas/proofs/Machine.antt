@@ -1,5 +1,5 @@
 -- What running the lowered code of an accepted program comes to, in terms of the program's run.
-use Rattle.std.proofs.Common.{ℕ, ℤ, ◌≡◌, ap, sym, subst, ◌∙◌, List, [], ◌++◌, length, Option, Result, Ok, Err, FitsSigned, w32, to_z, of_z}
+use Rattle.std.proofs.Common.{ℕ, ℤ, ◌≡◌, Bool, ap, refl, sym, subst, ◌∙◌, List, [], ◌++◌, length, Option, Result, Ok, Err, FitsSigned, w32, to_z, of_z}
 use Rattle.std.proofs.lemmas.Int.{to_z-of_z}
 use Rattle.k_edge.specs.SinkWords.{SinkState, GrowsInPart}
 use Rattle.k_edge.specs.declared.sink.PutFault.TheVariants as putting
@@ -22,6 +22,11 @@ use Rattle.k_carry_pairs.specs.Carried.{AreCarried}
 use Rattle.k_carry_pairs.specs.declared.pairs.CarriedPairs.{CarriedPairs}
 use Rattle.k_carry_pairs.specs.declared.pairs.LoopPairs.{LoopPairs}
 use Rattle.k_carry_text.specs.Lines.{carried_text}
+use Rattle.k_carry_storage_pairs.specs.Storage.{AreShared}
+use Rattle.k_carry_storage_pairs.specs.declared.pairs.StoragePairs.{StoragePairs}
+use Rattle.k_carry_storage.specs.Accesses.{HasAccesses, accesses_of}
+use Rattle.k_carry_storage.specs.Answer as storage
+use Rattle.k_lower_code.specs.Programs.{flattened}
 use Rattle.k_hcpa.specs.Profiles.{HoldsLast, IsCut, IsProfile, IsSummary, RunsHeld}
 use Rattle.k_hcpa.specs.declared.profile.Profile.{Profile}
 use Rattle.k_hcpa.specs.declared.profile.RunFault.{RunFault}
@@ -39,7 +44,8 @@ use Rattle.k_top_lemmas.specs.declared.running.Ready.{Ready}
 use Rattle.k_top_answers.specs.declared.answer.Answer.{Answer}
 use Rattle.k_top_answers.specs.Answers.{AnswersCarried, ToldCarried, done, ended, ran_of}
 use Rattle.k_top_answers.specs.Steps.{Running, run_of}
-use Rattle.k_top_lemmas.specs.Parts.{IsFit, IsProfileOfRun, RunsProgram, TellsOfLoops, dict_of, program_of, put_result, running_of}
+use Rattle.k_top_answers.specs.Storage.{HasStorage, code_of}
+use Rattle.k_top_lemmas.specs.Parts.{IsFit, IsProfileOfRun, RunsProgram, TellsOfLoops, WritesLoops, dict_of, program_of, put_result, running_of}
 use Rattle.k_top_lemmas.proofs.Growing.{grows_no_part}
 use Rattle.k_top_lemmas.proofs.RunLemmas.{run_few, run_gives_int, run_whole, sound}
 
@@ -55,6 +61,10 @@ where_fit ready depth fit claim promised = promised fit.program.unit fit.program
 abbrev pub RunsAs : Program → Code → Type 0
 RunsAs p code = (input : List ℕ) (budget : ℕ)
     → HasOutcome code input budget (run (program_of p) input budget).events (run (program_of p) input budget).output (run (program_of p) input budget).end
+
+flat_regions : (program : evaluation.Program) → (flattened program).regions ≡ regions_of program.unit
+unfolding flattened
+flat_regions program = refl
 
 module _ (ready : Ready) (depth : ℕ) (fit : IsFit ready depth) (code : Code) where
   -- the code runs as the program, with the marks of its source
@@ -105,6 +115,29 @@ module _ (ready : Ready) (depth : ℕ) (fit : IsFit ready depth) (code : Code) w
           end = same.2;
           are_carried = subst (λ (rs : List Region). AreCarried rs depth (run_of (running_of ready)).events c.loops) regions
               (subst (λ (es : List Event). AreCarried code.regions depth es c.loops) same.0 is.carried);
+        }
+
+    -- what is told of the storage of the code's run is told of the program's
+    pub storage_told : code ≡ flattened (program_of ready.program) → (s : StoragePairs) → storage.TellsOf code ready.input ready.steps depth s
+        → HasStorage (running_of ready) depth s.loops
+    storage_told same s is =
+        let events = (one_outcome code ready.input ready.steps is.events (run_of (running_of ready)).events is.output (run_of (running_of ready)).output
+        s.end (run_of (running_of ready)).end is.outcome (outcome runs)).0 in
+        let flat : code ≡ code_of (running_of ready) =
+        same ∙ ap (λ (marks : Marks). flattened (record { unit = ready.program.typed; marks = marks; latencies = ready.program.latencies })) fit.program.marks in
+        let regions : code.regions ≡ regions_of ready.program.typed = ap (λ (c : Code). c.regions) same ∙ flat_regions (program_of ready.program) in
+        record {
+          accesses = accesses_of code ready.input ready.steps is.outcome.count;
+          have = subst (λ (c : Code). HasAccesses c ready.input ready.steps (accesses_of code ready.input ready.steps is.outcome.count)) flat (record {
+            count = is.outcome.count;
+            end = s.end;
+            world = is.outcome.world;
+            ends = is.outcome.is;
+            are = refl;
+          });
+          are_shared =
+              subst (λ (rs : List Region). AreShared rs depth (run_of (running_of ready)).events (accesses_of code ready.input ready.steps is.outcome.count) s.loops) regions
+              (subst (λ (es : List Event). AreShared code.regions depth es (accesses_of code ready.input ready.steps is.outcome.count) s.loops) events is.shared);
         }
 
 -- no memory was found before the run
@@ -166,23 +199,27 @@ IsBroken (Trapped trap place) = Unit {0}
 IsBroken OutOfSteps = Unit {0}
 
 -- CARRIED, where main returned
-pub carried_returned : (r : Running) (depth : ℕ) (c : CarriedPairs) → TellsOfLoops r depth c → (exit : ℤ) → c.end ≡ Returned exit → (loops : List LoopPairs) → loops ≡ c.loops
-    → (answer : Answer) → answer ≡ done (carried_text (regions_of r.typed) loops) → AnswersCarried depth answer r (run_of r).end
-carried_returned r depth c is exit returned loops same answer told =
-    let so : ToldCarried r depth answer = record {
+pub carried_returned : (r : Running) (depth : ℕ) (storage : Bool) (c : CarriedPairs) → TellsOfLoops r depth c → (exit : ℤ) → c.end ≡ Returned exit → (loops : List LoopPairs)
+    → loops ≡ c.loops → (answer : Answer) (text : List ℕ) → WritesLoops r depth storage loops text → answer ≡ done text
+    → AnswersCarried depth storage answer r (run_of r).end
+carried_returned r depth storage c is exit returned loops same answer text written told =
+    let so : ToldCarried r depth storage answer = record {
       loops = c.loops;
       are_carried = is.are_carried;
-      is = told ∙ ap (λ (ls : List LoopPairs). done (carried_text (regions_of r.typed) ls)) same;
+      shared = written.shared;
+      writes = written.writes;
+      is = told ∙ (ap done written.is ∙ ap (λ (ls : List LoopPairs). done (carried_text (regions_of r.typed) ls ++ written.shared)) same);
     } in
-    subst (λ (e : End). AnswersCarried depth answer r e) (sym (sym is.end ∙ returned)) so
+    subst (λ (e : End). AnswersCarried depth storage answer r e) (sym (sym is.end ∙ returned)) so
 
 -- and where it did not
-carried_of_broken : (depth : ℕ) (answer : Answer) (r : Running) (how : End) → IsBroken how → answer ≡ ended [] r.steps how → AnswersCarried depth answer r how
-carried_of_broken depth answer r (Returned exit) broken told = absurd broken
-carried_of_broken depth answer r (Trapped trap place) broken told = told
-carried_of_broken depth answer r OutOfSteps broken told = told
+carried_of_broken : (depth : ℕ) (storage : Bool) (answer : Answer) (r : Running) (how : End) → IsBroken how → answer ≡ ended [] r.steps how
+    → AnswersCarried depth storage answer r how
+carried_of_broken depth storage answer r (Returned exit) broken told = absurd broken
+carried_of_broken depth storage answer r (Trapped trap place) broken told = told
+carried_of_broken depth storage answer r OutOfSteps broken told = told
 
-pub carried_broken : (r : Running) (depth : ℕ) (c : CarriedPairs) → TellsOfLoops r depth c → (how : End) → c.end ≡ how → IsBroken how
-    → (answer : Answer) → answer ≡ ended [] r.steps how → AnswersCarried depth answer r (run_of r).end
-carried_broken r depth c is how same broken answer told =
-    subst (λ (e : End). AnswersCarried depth answer r e) (sym (sym is.end ∙ same)) (carried_of_broken depth answer r how broken told)
+pub carried_broken : (r : Running) (depth : ℕ) (storage : Bool) (c : CarriedPairs) → TellsOfLoops r depth c → (how : End) → c.end ≡ how → IsBroken how
+    → (answer : Answer) → answer ≡ ended [] r.steps how → AnswersCarried depth storage answer r (run_of r).end
+carried_broken r depth storage c is how same broken answer told =
+    subst (λ (e : End). AnswersCarried depth storage answer r e) (sym (sym is.end ∙ same)) (carried_of_broken depth storage answer r how broken told)

@@ -1,5 +1,5 @@
 -- Words have one answer, whatever the outside holds.
-use Rattle.std.proofs.Common.{ℕ, ◌≡◌, ◌≤◌, Bool, ap, refl, sym, subst, ◌∙◌, List, [], Option, Some, None, Result, Ok, Err, arith, inl, inr}
+use Rattle.std.proofs.Common.{ℕ, ◌≡◌, ◌≤◌, Bool, ap, refl, sym, subst, ◌∙◌, List, [], ◌++◌, Option, Some, None, Result, Ok, Err, arith, inl, inr}
 use Rattle.k_ending.specs.declared.ending.End.{End}
 use Rattle.k_ending.specs.declared.ending.End.TheVariants as end
 use Rattle.k_carry_pairs.proofs.Answer.{one_answer}
@@ -39,6 +39,7 @@ use Rattle.k_top_lemmas.proofs.OneListing.{one_listed}
 use Rattle.k_top_lemmas.proofs.OnePage.{by_paged}
 use Rattle.k_top_lemmas.proofs.OneAnnotation.{by_annotated}
 use Rattle.k_top_lemmas.proofs.OneReport.{one_reported}
+use Rattle.k_top_lemmas.proofs.OneStorage.{one_written}
 use Rattle.k_top_lemmas.proofs.OneSummary.{one_demo}
 use Rattle.k_top_lemmas.proofs.ReplayLemmas.{one_replayed}
 use Rattle.k_top_lemmas.proofs.RunLemmas.{IsSound, run_gives_int}
@@ -59,12 +60,14 @@ by_run one other P Q same (inl (failure, a, b)) = a ∙ sym b
 by_run one other P Q same (inr (r, a, b)) = same r a b
 
 -- CARRIED
-one_carried : (depth : ℕ) (one other : Answer) (r : Running) (how : End) → AnswersCarried depth one r how → AnswersCarried depth other r how → one ≡ other
-one_carried depth one other r (end.Returned exit) a b =
+one_carried : (depth : ℕ) (storage : Bool) (one other : Answer) (r : Running) (how : End) → AnswersCarried depth storage one r how → AnswersCarried depth storage other r how
+    → one ≡ other
+one_carried depth storage one other r (end.Returned exit) a b =
     let same : a.loops ≡ b.loops = one_answer (regions_of r.typed) depth (run_of r).events a.loops b.loops a.are_carried b.are_carried in
-    a.is ∙ ap (λ (loops : List LoopPairs). done (carried_text (regions_of r.typed) loops)) same ∙ sym b.is
-one_carried depth one other r (end.Trapped trap place) a b = a ∙ sym b
-one_carried depth one other r end.OutOfSteps a b = a ∙ sym b
+    let shared : a.shared ≡ b.shared = one_written r depth storage a.shared b.shared a.writes b.writes in
+    a.is ∙ (λ i. done (carried_text (regions_of r.typed) (same i) ++ shared i)) ∙ sym b.is
+one_carried depth storage one other r (end.Trapped trap place) a b = a ∙ sym b
+one_carried depth storage one other r end.OutOfSteps a b = a ∙ sym b
 
 -- SHOW
 spelled_same : (bytes : List ℕ) (one other : Saved) → Reads bytes (Ok one) → Reads bytes (Ok other) → one ≡ other
@@ -125,9 +128,9 @@ one_job outside one other (job.Graph file steps depth latency) within a b =
     by_run one other (λ r. IsListed depth one r × IsSound r) (IsListed depth other) (λ r p q. one_listed depth one other r p.0 q)
     (running_agrees (λ failure. one ≡ refusal failure) (λ failure. other ≡ refusal failure) _ _ outside steps file latency
     (running_sound (λ failure. one ≡ refusal failure) (IsListed depth one) outside steps (omega (arith, most)) file latency a) b)
-one_job outside one other (job.Carried file steps depth latency) within a b =
-    by_run one other (λ r. AnswersCarried depth one r (run_of r).end) (λ r. AnswersCarried depth other r (run_of r).end)
-    (λ r p q. one_carried depth one other r (run_of r).end p q)
+one_job outside one other (job.Carried file steps depth latency storage) within a b =
+    by_run one other (λ r. AnswersCarried depth storage one r (run_of r).end) (λ r. AnswersCarried depth storage other r (run_of r).end)
+    (λ r p q. one_carried depth storage one other r (run_of r).end p q)
     (running_agrees (λ failure. one ≡ refusal failure) (λ failure. other ≡ refusal failure) _ _ outside steps file latency a b)
 one_job outside one other (job.Replay file steps depth latency workers seed) within a b =
     by_run one other (λ r. AnswersReplayed workers seed one r (run_of r).end) (λ r. AnswersReplayed workers seed other r (run_of r).end)
@@ -137,10 +140,10 @@ one_job outside one other (job.Page file steps depth latency dict) within a b =
     by_paged outside file depth dict one other within.depth.at_least within.depth.at_most
     (running_agrees (λ failure. one ≡ refusal failure) (λ failure. other ≡ refusal failure) _ _ outside steps file latency
     (running_sound (λ failure. one ≡ refusal failure) (IsPaged outside file depth dict one) outside steps within.steps.at_most file latency a) b)
-one_job outside one other (job.Annotate file steps depth latency) within a b =
-    by_annotated outside file depth one other within.depth.at_least within.depth.at_most
+one_job outside one other (job.Annotate file steps depth latency strict) within a b =
+    by_annotated outside file depth strict one other within.depth.at_least within.depth.at_most
     (running_agrees (λ failure. one ≡ refusal failure) (λ failure. other ≡ refusal failure) _ _ outside steps file latency
-    (running_sound (λ failure. one ≡ refusal failure) (IsAnnotated outside file depth one) outside steps within.steps.at_most file latency a) b)
+    (running_sound (λ failure. one ≡ refusal failure) (IsAnnotated outside file depth strict one) outside steps within.steps.at_most file latency a) b)
 one_job outside one other (job.Show file form) within a b =
     by_file form one other (file_agrees (λ failure. one ≡ refusal failure) (λ failure. other ≡ refusal failure) _ _ outside profile_limit file a b)
 one_job outside one other (job.Check file) within a b =

@@ -19,12 +19,15 @@ use Rattle.k_lex.specs.Laws.{IsNamed, IsRightKind, IsRightToken}
 use Rattle.k_lex_pieces.specs.Pieces.{is_name}
 use Rattle.k_lex.specs.Tokens.{tokens}
 use Rattle.k_lex_pieces.specs.Words.{words}
-use Rattle.k_lex.proofs.TokenLaws.{tokens_right}
+use Rattle.k_lex.proofs.TokenLaws.{strings_fit, tokens_right}
 use Rattle.k_dict_saved.specs.Files.{AreRegions}
 use Rattle.k_parse.specs.Parse.{IsParse}
 use Rattle.k_types_meaning.specs.Bare.{IsTyped}
 use Rattle.k_types_meaning.specs.Units.{faults}
 use Rattle.k_types_meaning.specs.declared.tree.unit.TUnit.{TUnit}
+use Rattle.k_evaluation.specs.Laws.{AreAtMost}
+use Rattle.k_evaluation.specs.States.{Program}
+use Rattle.k_lower_accepted.specs.Accepted.{IsAccepted}
 use Rattle.k_regions.specs.Regions.{regions_of}
 use Rattle.k_regions.specs.Saving as saving
 use Rattle.k_regions.proofs.Paired.{can_be_saved}
@@ -107,3 +110,17 @@ pub source_regions : (bytes : List ℕ) (list : List Token) (unit : tree.Unit) (
 source_regions bytes list unit typed lexed parsed faultless is =
     can_be_saved unit typed list parsed.0.placed parsed.1
     (λ n t there. token_right t (at_place IsRightToken list (recursion_from_All IsRightToken list (tokens_right bytes list lexed)) n t there)) is faultless
+
+-- it is accepted, as the laws of lowering have it
+pub source_accepted : (bytes : List ℕ) (list : List Token) (unit : tree.Unit) (program : Program) → tokens bytes ≡ Ok list → IsParse list (Ok unit)
+    → faults unit ≡ [] → IsTyped unit program.unit → AreAtMost 10000 program.latencies → IsAccepted unit program
+source_accepted bytes list unit program lexed parsed faultless is bounded = record {
+  tokens = list;
+  strings = strings_fit bytes list lexed;
+  ranked = parsed.0.ranked;
+  placed = parsed.0.placed;
+  few = parsed.1;
+  faultless = faultless;
+  typed = is;
+  latencies = bounded;
+}

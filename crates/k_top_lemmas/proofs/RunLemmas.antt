@@ -15,12 +15,11 @@ use Rattle.k_optab.specs.Tree.{EachWith, IsNodeOf, IsTree}
 use Rattle.k_optab.proofs.Counting.{intervals_count_operations}
 use Rattle.k_optab.proofs.Nesting.{intervals_are_ordered}
 use Rattle.k_ending.specs.declared.ending.End.TheVariants.{Returned}
-use Rattle.k_types_meaning.specs.Bare.{IsTyped}
-use Rattle.k_types_meaning.specs.Units.{faults}
 use Rattle.k_tree.specs.declared.tree.unit.Unit as source
 use Rattle.k_tree.specs.Count.{unit_count}
 use Rattle.k_marks_meaning.specs.Marking.{marks_of}
-use Rattle.k_evaluation.specs.Laws.{AreAtMost, IsReturned}
+use Rattle.k_marks_meaning.specs.declared.Marks.{Marks}
+use Rattle.k_evaluation.specs.Laws.{IsReturned}
 use Rattle.k_evaluation.specs.States as evaluation
 use Rattle.k_evaluation.proofs.Runs.{bounded_time, earlier_sources, kept_budget}
 use Rattle.k_graph.specs.Listings.{IsListed, IsListing}
@@ -32,38 +31,34 @@ use Rattle.k_regions.specs.Regions.{regions_of}
 use Rattle.k_regions.proofs.Entries.{enter_few}
 use Rattle.k_regions.proofs.Few.{are_few}
 use Rattle.k_regions.proofs.Whole.{are_of_main, enter_theirs, return_ints}
+use Rattle.k_lower_accepted.specs.Accepted.{IsAccepted}
 use Rattle.k_report.specs.Graph.{IsWithin}
 use Rattle.k_top_lemmas.specs.declared.running.Ready.{Ready}
 use Rattle.k_top_answers.specs.Answers.{ran_of}
 use Rattle.k_top_lemmas.specs.Parts.{IsFit, running_of}
 use Rattle.k_top_answers.specs.Steps.{Running, run_of}
 
+-- a run's program, as runs have it
+abbrev pub program_of : Running → evaluation.Program
+program_of r = record { unit = r.typed; marks = marks_of r.typed; latencies = r.latencies }
+
 -- a run of which the laws of runs speak: that of an accepted source, with latencies of at most 10,000, in which at most 1,000,000,000 operations
 -- are made
 pub record IsSound (r : Running) : Type 0 where
   pub unit : source.Unit
-  pub typed : IsTyped unit r.typed
-  pub faultless : faults unit ≡ []
-  pub few : unit_count unit ≤ 262144
+  pub accepted : IsAccepted unit (program_of r)
   pub regions : AreRegions (regions_of r.typed)
-  pub latencies : AreAtMost 10000 r.latencies
   pub steps : r.steps ≤ 1000000000
 
 -- a program that is ready to run has such a run
 pub sound : (r : Ready) (depth : ℕ) → IsFit r depth → IsSound (running_of r)
 sound r depth fit = record {
   unit = fit.program.unit;
-  typed = fit.program.accepted.typed;
-  faultless = fit.program.accepted.faultless;
-  few = fit.program.accepted.few;
+  accepted = subst (λ (marks : Marks). IsAccepted fit.program.unit (record { unit = r.program.typed; marks = marks; latencies = r.program.latencies })) fit.program.marks
+      fit.program.accepted;
   regions = fit.program.regions;
-  latencies = fit.program.accepted.latencies;
   steps = fit.steps;
 }
-
--- a run's program, as runs have it
-abbrev program_of : Running → evaluation.Program
-program_of r = record { unit = r.typed; marks = marks_of r.typed; latencies = r.latencies }
 
 -- numbers of operations, and their time
 time_bounded : (time steps : ℕ) → time ≤ steps * 10000 → steps ≤ 1000000000 → time ≤ 17592186044416
@@ -86,7 +81,7 @@ module _ (r : Running) (is : IsSound r) where
 
   run_time : total_latency (operations (run_of r).events) ≤ r.steps * 10000
   unfolding run_of
-  run_time = bounded_time (program_of r) r.input r.steps 10000 is.latencies
+  run_time = bounded_time (program_of r) r.input r.steps 10000 is.accepted.latencies
 
   pub run_short : total_latency (operations (run_of r).events) < 2 ^ 62
   run_short =
@@ -95,19 +90,19 @@ module _ (r : Running) (is : IsSound r) where
 
   run_below : EnterBelow (length (regions_of r.typed)) (run_of r).events
   unfolding run_of
-  run_below = enter_theirs is.unit (program_of r) r.input r.steps is.typed is.faultless
+  run_below = enter_theirs is.unit (program_of r) r.input r.steps is.accepted.typed is.accepted.faultless
 
   run_of_main : IsReturned (run_of r).end → IsOfMain (regions_of r.typed) (run_of r).events
   unfolding run_of
-  run_of_main returned = are_of_main is.unit (program_of r) r.input r.steps is.typed is.faultless returned
+  run_of_main returned = are_of_main is.unit (program_of r) r.input r.steps is.accepted.typed is.accepted.faultless returned
 
   run_entries : entries (run_of r).events ≤ length (regions_of r.typed) * (r.steps + 1)
   unfolding run_of
-  run_entries = enter_few is.unit (program_of r) r.input r.steps is.typed is.faultless
+  run_entries = enter_few is.unit (program_of r) r.input r.steps is.accepted.typed is.accepted.faultless
 
   pub run_gives_int : (exit : ℤ) → (run_of r).end ≡ Returned exit → FitsSigned w32 exit
   unfolding run_of
-  run_gives_int exit returned = return_ints is.unit (program_of r) r.input r.steps exit is.typed is.faultless returned
+  run_gives_int exit returned = return_ints is.unit (program_of r) r.input r.steps exit is.accepted.typed is.accepted.faultless returned
 
   -- A REPORT can be made of it, where main returned
   pub run_whole : (exit : ℤ) (depth : ℕ) → (run_of r).end ≡ Returned exit → FitsSigned w32 exit → 1 ≤ depth → depth ≤ 32 → IsWhole (ran_of r exit depth)
@@ -202,8 +197,8 @@ product_within count steps few limited =
 pub run_few : (r : Running) (depth : ℕ) (nodes : List Node) → IsSound r → IsTree depth (run_of r).events nodes → length nodes ≤ 576460752303423488
 run_few r depth nodes is listed =
     let count : ℕ = length (regions_of r.typed) in
-    let twice : count ≤ 2 * unit_count is.unit = are_few is.unit r.typed is.typed in
-    let tree_few : unit_count is.unit ≤ 262144 = is.few in
+    let twice : count ≤ 2 * unit_count is.unit = are_few is.unit r.typed is.accepted.typed in
+    let tree_few : unit_count is.unit ≤ 262144 = is.accepted.few in
     let made : length nodes ≤ entries (run_of r).events = nodes_few depth (run_of r).events nodes listed in
     let entered : entries (run_of r).events ≤ count * (r.steps + 1) = run_entries r is in
     let bounded : count * (r.steps + 1) ≤ 576460752303423488 = product_within count r.steps (omega (arith, twice, tree_few)) is.steps in

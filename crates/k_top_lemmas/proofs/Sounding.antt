@@ -9,6 +9,7 @@ use Rattle.k_parse.specs.Parse.{IsParse}
 use Rattle.k_parse.specs.declared.fault.ParseFault.{ParseFault}
 use Rattle.k_types_meaning.specs.Units.{faults}
 use Rattle.k_types_meaning.specs.declared.fault.TypeFault.{TypeFault}
+use Rattle.k_marks_meaning.specs.Marking.{marks_of}
 use Rattle.k_evaluation.specs.Laws.{AreAtMost}
 use Rattle.k_types_calls.specs.Getchar.{calls_getchar}
 use Rattle.k_types_meaning.specs.declared.tree.unit.TUnit.{TUnit}
@@ -16,7 +17,7 @@ use Rattle.k_top_answers.specs.declared.failure.Failure.{Failure}
 use Rattle.k_top_answers.specs.Steps.{AnswersFound, AnswersInput, AnswersLatency, AnswersRunning, AnswersSource, AnswersTable, AnswersTokens, AnswersTree, AnswersTyped, Outside, Running, file_limit}
 use Rattle.k_top_lemmas.proofs.AskedLemmas.{input_maps}
 use Rattle.k_top_lemmas.proofs.LatencyLemmas.{standard_bounded, told_bounded}
-use Rattle.k_top_lemmas.proofs.RegionLemmas.{source_regions}
+use Rattle.k_top_lemmas.proofs.RegionLemmas.{source_accepted, source_regions}
 use Rattle.k_top_lemmas.proofs.RunLemmas.{IsSound}
 use Rattle.k_top_lemmas.proofs.StepLemmas.{source_maps}
 
@@ -40,11 +41,8 @@ module _ (F : Failure → Type 0) (P : TUnit → Type 0) (latencies : List ℕ) 
       holds,
       λ input. record {
         unit = unit;
-        typed = is_typed;
-        faultless = is;
-        few = parsed.1;
+        accepted = source_accepted bytes list unit (record { unit = typed; marks = marks_of typed; latencies = latencies }) lexed parsed is is_typed bounded;
         regions = source_regions bytes list unit typed lexed parsed is is_typed;
-        latencies = bounded;
         steps = limited;
       },
     ),

@@ -26,6 +26,8 @@ use Rattle.k_shadow.specs.Content.{Content, empty}
 use Rattle.k_dict.specs.declared.entry.Entry.{Entry}
 use Rattle.k_carry_pairs.specs.Carried.{AreCarried}
 use Rattle.k_carry_pairs.specs.declared.pairs.CarriedPairs.{CarriedPairs}
+use Rattle.k_carry_pairs.specs.declared.pairs.LoopPairs.{LoopPairs}
+use Rattle.k_carry_text.specs.Lines.{carried_text}
 use Rattle.k_hcpa.specs.Profiles.{IsSummary}
 use Rattle.k_hcpa.specs.declared.profile.Profile.{Profile}
 use Rattle.k_hcpa.specs.declared.profile.RunFault.{RunFault}
@@ -55,6 +57,7 @@ use Rattle.k_top_answers.specs.Answers.{AnswersChecked, AnswersProfile, done}
 use Rattle.k_top_answers.specs.Clauses.{Told}
 use Rattle.k_top_answers.specs.Failures.{failure_line, failure_of_load, failure_of_put, failure_of_reading, failure_of_save, failure_of_saved, failure_of_table, failure_status}
 use Rattle.k_top_answers.specs.Steps.{AnswersSource, Running, file_limit, input_limit, profile_limit, run_of}
+use Rattle.k_top_answers.specs.Storage.{MayBeMarked, WritesStorage}
 use Rattle.k_top_answers.specs.Texts.{plan_line, tree_lines}
 
 -- the failure refuses: it is no fault of the outside and no want of memory
@@ -166,6 +169,18 @@ pub record IsProfileOfRun (r : Running) (depth : ℕ) (put : List ℕ) (p : Prof
 pub record TellsOfLoops (r : Running) (depth : ℕ) (c : CarriedPairs) : Type 0 where
   pub end : c.end ≡ (run_of r).end
   pub are_carried : AreCarried (regions_of r.typed) depth (run_of r).events c.loops
+
+-- these loops may be marked: those of a run that are told with what they carry, or those alone that share nothing
+pub record FindsMarkable (r : Running) (depth : ℕ) (strict : Bool) (found : List LoopPairs) : Type 0 where
+  pub loops : List LoopPairs
+  pub are_carried : AreCarried (regions_of r.typed) depth (run_of r).events loops
+  pub may : MayBeMarked strict r depth loops found
+
+-- a text on what a run's loops carry, and on what their turns share, where it is asked for
+pub record WritesLoops (r : Running) (depth : ℕ) (storage : Bool) (loops : List LoopPairs) (text : List ℕ) : Type 0 where
+  pub shared : List ℕ
+  pub writes : WritesStorage storage r depth shared
+  pub is : text ≡ carried_text (regions_of r.typed) loops ++ shared
 
 -- what making the answer comes to that is a text
 abbrev pub GivesText : Result Answer Failure → List ℕ → Type 0

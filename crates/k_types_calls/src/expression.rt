@@ -1,10 +1,10 @@
 //! The calls in expressions (C17 6.5.2.2).
 ghost use Rattle.std.specs.Prelude.{◌≡◌, ◌++◌, map, OnOk};
 ghost use Rattle.k_types_meaning.specs.Called.{all_calls, expr_calls, option_calls};
-ghost use Rattle.k_types_calls.specs.Noting.{seen};
+ghost use Rattle.k_types_calls.specs.Noting.{call_calls, seen};
 
 use crate::source::Call;
-use k_num::{Box, NoMemory, Seq};
+use k_num::{Box, NoMemory, Place, Seq, Text};
 use k_tree::Expr;
 
 /// Notes the calls of an expression: a call goes before those in its arguments.
@@ -45,14 +45,22 @@ pub(crate) fn note_expr<'a>(expr: &'a Expr, calls: &mut Vec<Call<'a>>) -> Result
             note_expr(then.get(), calls)?;
             note_expr(other.get(), calls)
         }
-        Expr::Call { place, name, args } => {
-            calls.push(Call {
-                name,
-                place: *place,
-            })?;
-            note_args(args, calls)
-        }
+        Expr::Call { place, name, args } => note_call(*place, name, args, calls),
     }
+}
+
+/// Notes a call, and then those in its arguments.
+#[cycle(expressions)]
+fn note_call<'a>(
+    place: Place,
+    name: &'a Text,
+    args: &'a Seq<Expr>,
+    calls: &mut Vec<Call<'a>>,
+) -> Result<(), NoMemory>
+    ensures { OnOk result (map seen calls.new.items ≡ map seen calls.old.items ++ call_calls place name.now args.now) }
+{
+    calls.push(Call { name, place })?;
+    note_args(args, calls)
 }
 
 /// Notes the calls in the arguments of a call.

@@ -1,13 +1,13 @@
 //! The calls in statements (C17 6.8).
 ghost use Rattle.std.specs.Prelude.{◌≡◌, ◌++◌, map, OnOk};
 ghost use Rattle.k_types_meaning.specs.Called.{all_calls, first_calls, stmt_calls};
-ghost use Rattle.k_types_calls.specs.Noting.{part_calls, seen};
+ghost use Rattle.k_types_calls.specs.Noting.{for_calls, part_calls, seen};
 
 use crate::declaration::note_declarators;
 use crate::expression::{note_boxed, note_expr};
 use crate::source::Call;
-use k_num::{NoMemory, Seq};
-use k_tree::{First, Part, Stmt};
+use k_num::{Box, NoMemory, Seq};
+use k_tree::{Expr, First, Part, Stmt};
 
 /// Notes the calls of statements.
 #[cycle(statements)]
@@ -59,12 +59,7 @@ fn note_stmt<'a>(stmt: &'a Stmt, calls: &mut Vec<Call<'a>>) -> Result<(), NoMemo
             step,
             body,
             ..
-        } => {
-            note_first(first, calls)?;
-            note_boxed(test, calls)?;
-            note_boxed(step, calls)?;
-            note_stmt(body.get(), calls)
-        }
+        } => note_for(first, test, step, body.get(), calls),
         Stmt::Switch { on, parts, .. } => {
             note_expr(on.get(), calls)?;
             note_parts(parts, calls)
@@ -72,6 +67,23 @@ fn note_stmt<'a>(stmt: &'a Stmt, calls: &mut Vec<Call<'a>>) -> Result<(), NoMemo
         Stmt::Return { value, .. } => note_boxed(value, calls),
         Stmt::Declare { list, .. } => note_declarators(list, calls),
     }
+}
+
+/// Notes the calls of a `for`: of its first part, its test, its step and its body.
+#[cycle(statements)]
+fn note_for<'a>(
+    first: &'a First,
+    test: &'a Option<Box<Expr>>,
+    step: &'a Option<Box<Expr>>,
+    body: &'a Stmt,
+    calls: &mut Vec<Call<'a>>,
+) -> Result<(), NoMemory>
+    ensures { OnOk result (map seen calls.new.items ≡ map seen calls.old.items ++ for_calls first.now test.now step.now body.now) }
+{
+    note_first(first, calls)?;
+    note_boxed(test, calls)?;
+    note_boxed(step, calls)?;
+    note_stmt(body, calls)
 }
 
 /// Notes the calls of the parts of a `switch`.

@@ -19,6 +19,7 @@ use k_world::Read;
 
 impl<'a> State<'a> {
     /// The code that is run.
+    #[inline(always)]
     pub fn code(&self) -> &'a Code
         ensures { result.now ≡ self.now.code }
     {
@@ -26,6 +27,7 @@ impl<'a> State<'a> {
     }
 
     /// The instruction that is next.
+    #[inline(always)]
     pub fn instruction(&self) -> &'a Instr
         requires { self.now.pc < length self.now.code.instrs }
         ensures { slice_get self.now.code.instrs self.now.pc ≡ Some result.now }
@@ -35,6 +37,7 @@ impl<'a> State<'a> {
     }
 
     /// The place of the newest call's first register.
+    #[inline(always)]
     pub fn first(&self) -> usize
         ensures { result ≡ self.now.call.first }
     {
@@ -42,6 +45,7 @@ impl<'a> State<'a> {
     }
 
     /// The number of the first register behind the newest call's.
+    #[inline(always)]
     pub fn next_register(&self) -> u32
         requires { IsSound self.now }
         ensures next { result ≡ widths self.now.code (frames_of (configuration_of self.now)) }
@@ -86,6 +90,7 @@ impl<'a> State<'a> {
 
     /// The operation that gave what an operand reads, if one did.
     #[tactic(auto, unfolding(crate::specs::Kept::configuration_of))]
+    #[inline(always)]
     pub fn source(&self, arg: &Arg) -> Option<u64>
         requires { self.now.call.first ≤ length self.now.registers }
         ensures { result ≡ source_read (configuration_of self.now) arg.now }
@@ -94,6 +99,7 @@ impl<'a> State<'a> {
     }
 
     /// The current control source.
+    #[inline(always)]
     pub fn control(&self) -> Option<u64>
         ensures { result ≡ self.now.world.control }
     {
@@ -125,6 +131,7 @@ impl<'a> State<'a> {
     }
 
     /// How many operations were made.
+    #[inline(always)]
     pub fn made(&self) -> u64
         ensures { result ≡ self.now.world.made }
     {
@@ -132,6 +139,7 @@ impl<'a> State<'a> {
     }
 
     /// The output that was not yet taken.
+    #[inline(always)]
     pub fn pending(&self) -> &[u8]
         ensures { result.now ≡ self.now.world.output }
     {

@@ -22,6 +22,7 @@ use k_world::{ActRef, Done, Held, Stop, Value};
 
 impl<'a> State<'a> {
     /// Makes the operation of an instruction, and goes on behind it.
+    #[inline(always)]
     pub fn operate(&mut self, instr: &Instr) -> Result<Done, Stop>
         requires sound { IsSound self.old }
         requires next { IsNext self.old instr.now }
@@ -65,6 +66,7 @@ impl<'a> State<'a> {
     }
 
     /// Makes an operation, of which the world alone tells.
+    #[inline(always)]
     pub fn perform(
         &mut self,
         place: Place,
@@ -97,6 +99,7 @@ impl<'a> State<'a> {
     }
 
     /// The operation of an instruction gave this: its register holds it, and the run goes on.
+    #[inline(always)]
     fn give(&mut self, what: &Do, held: Held)
         requires within { IsWithin self.old.call.first (register_set what.now) self.old.registers }
         requires next { self.old.pc + 1 < 2 ^ 64 }
@@ -109,6 +112,7 @@ impl<'a> State<'a> {
 
 /// The instruction behind one whose operation gave this.
 #[tactic(auto, unfolding(crate::specs::Parts::follows))]
+#[inline(always)]
 fn follow(what: &Do, held: &Held, pc: usize) -> usize
     requires { pc + 1 < 2 ^ 64 }
     ensures { result ≡ follows_meant what.now held.now pc }
@@ -126,6 +130,7 @@ fn follow(what: &Do, held: &Held, pc: usize) -> usize
 }
 
 /// Whether a value is a number other than 0, or a pointer.
+#[inline(always)]
 fn is_true(value: &Value) -> bool
     ensures { result ≡ is_true_meant value.now }
 {

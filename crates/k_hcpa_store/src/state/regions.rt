@@ -36,6 +36,7 @@ impl<'a> State<'a> {
     }
 
     /// How many regions a return leaves.
+    #[inline(always)]
     pub fn regions(&self) -> u64
         requires { IsSound self.now }
         ensures { result ≡ self.now.call.regions + 1 }

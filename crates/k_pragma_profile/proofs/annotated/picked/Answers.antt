@@ -3,7 +3,7 @@ use Rattle.std.proofs.lemmas.Result.{IfOk-weaker}
 use Rattle.k_optab.specs.declared.node.Node.{Node}
 use Rattle.k_selfpar.specs.Contexts.{AreContexts}
 use Rattle.k_report_profile.proofs.Reported.{at_root}
-use Rattle.k_pragma_profile.proofs.Annotations.{few_picked, none_picked}
+use Rattle.k_pragma_profile.proofs.Annotations.{few_picked}
 use Rattle.k_pragma_profile.proofs.annotated.picked.Goals as goal
 
 pub contexts-requires-clause-root : goal.contexts-requires-clause-root

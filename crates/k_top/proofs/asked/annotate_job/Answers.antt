@@ -21,19 +21,19 @@ returns-in_err-ready g c =
     let old : Around = record { files = g.F.Files.seen c.args.files.now; input = g.S.Source.seen c.args.input.now } in
     let new : Around = record { files = g.F.Files.seen c.make_ready.new.files; input = g.S.Source.seen c.make_ready.new.input } in
     let same : c.from_residual.result ≡ Err c.in_err-ready.field-0.0 = first_of (search rules, grind arith, cc) in
-    subst (λ (r : Result Answer Failure). FindsJob r (job.Annotate c.args.file c.args.steps c.args.depth c.args.latency) old new) (sym same)
-    (annotated_failed c.args.file c.args.latency c.args.steps c.args.depth old new c.in_err-ready.field-0.0 c.in_err-ready.ensures.ready)
+    subst (λ (r : Result Answer Failure). FindsJob r (job.Annotate c.args.file c.args.steps c.args.depth c.args.latency c.args.strict) old new) (sym same)
+    (annotated_failed c.args.file c.args.latency c.args.steps c.args.depth old new c.args.strict c.in_err-ready.field-0.0 c.in_err-ready.ensures.ready)
 
 pub returns-in_err-answer : goal.returns-in_err-answer
 returns-in_err-answer g c =
     let old : Around = record { files = g.F.Files.seen c.args.files.now; input = g.S.Source.seen c.args.input.now } in
     let new : Around = record { files = g.F.Files.seen c.make_ready.new.files; input = g.S.Source.seen c.make_ready.new.input } in
     let same : c.from_residual-in_err-answer.result ≡ Err why.NoMemory = first_of (search rules, grind arith, cc) in
-    subst (λ (r : Result Answer Failure). FindsJob r (job.Annotate c.args.file c.args.steps c.args.depth c.args.latency) old new) (sym same)
-    (annotated_short c.args.file c.args.latency c.args.steps c.args.depth old new c.in_ok-ready.ready c.in_ok-ready.ensures.ready)
+    subst (λ (r : Result Answer Failure). FindsJob r (job.Annotate c.args.file c.args.steps c.args.depth c.args.latency c.args.strict) old new) (sym same)
+    (annotated_short c.args.file c.args.latency c.args.steps c.args.depth old new c.args.strict c.in_ok-ready.ready c.in_ok-ready.ensures.ready)
 
 pub returns : goal.returns
 returns g c =
     let old : Around = record { files = g.F.Files.seen c.args.files.now; input = g.S.Source.seen c.args.input.now } in
     let new : Around = record { files = g.F.Files.seen c.make_ready.new.files; input = g.S.Source.seen c.make_ready.new.input } in
-    annotated_found c.args.file c.args.latency c.args.steps c.args.depth old new c.in_ok-ready.ready c.in_ok-answer.answer c.in_ok-ready.ensures.ready c.in_ok-answer.ensures
+    annotated_found c.args.file c.args.latency c.args.steps c.args.depth old new c.args.strict c.in_ok-ready.ready c.in_ok-answer.answer c.in_ok-ready.ensures.ready c.in_ok-answer.ensures

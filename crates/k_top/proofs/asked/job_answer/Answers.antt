@@ -41,7 +41,7 @@ returns-in-Carried g c =
     let new : Around = record { files = g.F.Files.seen c.carried_job.new.files; input = g.S.Source.seen c.carried_job.new.input } in
     let out = g.K.Sink.seen c.args.out.now in
     subst (λ (j : Job). StreamsJob c.carried_job.result j old new out out) (sym c.in-Carried.is)
-    (nothing_first c.carried_job.result (job.Carried c.in-Carried.file c.in-Carried.steps c.in-Carried.depth c.in-Carried.latency) old new out out refl c.carried_job.ensures)
+    (nothing_first c.carried_job.result (job.Carried c.in-Carried.file c.in-Carried.steps c.in-Carried.depth c.in-Carried.latency c.in-Carried.storage) old new out out refl c.carried_job.ensures)
 
 pub returns-in-Replay : goal.returns-in-Replay
 returns-in-Replay g c =
@@ -66,7 +66,7 @@ returns-in-Annotate g c =
     let new : Around = record { files = g.F.Files.seen c.annotate_job.new.files; input = g.S.Source.seen c.annotate_job.new.input } in
     let out = g.K.Sink.seen c.args.out.now in
     subst (λ (j : Job). StreamsJob c.annotate_job.result j old new out out) (sym c.in-Annotate.is)
-    (nothing_first c.annotate_job.result (job.Annotate c.in-Annotate.file c.in-Annotate.steps c.in-Annotate.depth c.in-Annotate.latency) old new out out refl c.annotate_job.ensures)
+    (nothing_first c.annotate_job.result (job.Annotate c.in-Annotate.file c.in-Annotate.steps c.in-Annotate.depth c.in-Annotate.latency c.in-Annotate.strict) old new out out refl c.annotate_job.ensures)
 
 pub returns-in-Show : goal.returns-in-Show
 returns-in-Show g c =

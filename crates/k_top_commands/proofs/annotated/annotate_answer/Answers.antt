@@ -7,4 +7,4 @@ profile_answer-requires g c = (c.args.depth, c.in-Ok.ensures.0, c.requires.fit, 
 pub returns-in-Ok : goal.returns-in-Ok
 returns-in-Ok g c =
     IfOk-weaker c.profile_answer.result _ _
-    (λ answer answers. answers c.args.depth c.in-Ok.ensures.0 c.requires.fit c.in-Ok.ensures.2 c.in_ok-found.ensures) c.profile_answer.ensures
+    (λ answer answers. answers c.args.depth c.in-Ok.ensures.0 c.args.strict c.requires.fit c.in-Ok.ensures.2 (record { loops = c.in_ok-found.found.loops; are_carried = c.in_ok-found.ensures.are_carried; may = c.in_ok-marked.ensures })) c.profile_answer.ensures

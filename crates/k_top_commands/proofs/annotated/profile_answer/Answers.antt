@@ -13,8 +13,8 @@ annotation_text-requires-clause-short c = let (depth, first, fit, is) = c.requir
 
 pub returns-in_ok-text-in-Returned : goal.returns-in_ok-text-in-Returned
 returns-in_ok-text-in-Returned c =
-    λ depth first fit is tells.
-    returned_annotated c.args.ready.now.program.source (running_of c.args.ready.now) depth first c.args.profile is c.args.found.now tells _
+    λ depth first strict fit is finds.
+    returned_annotated c.args.ready.now.program.source (running_of c.args.ready.now) depth first c.args.profile is strict c.args.found.now.loops finds _
     (shown_returned c.args.ready.now depth fit first c.args.profile is c.in-Returned.exit c.in-Returned.is) c.args.ready.now.program.marks fit.program.marks
     c.in_ok-text-in-Returned.text.items
     (c.in_ok-text-in-Returned.ensures depth

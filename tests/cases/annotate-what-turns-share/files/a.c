@@ -1,0 +1,1 @@
+int t[1],a[9]; int main(void){int i; for(i=0;i<9;i++){ t[0]=i*i; a[i]=t[0]; } return a[8];}

@@ -1,0 +1,1 @@
+int a[9]; int main(void){int i; for(i=0;i<9;i++){ int t[1]; t[0]=i*i; a[i]=t[0]; } return a[8];}
