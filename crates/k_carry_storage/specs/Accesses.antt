@@ -1,4 +1,4 @@
--- For contracts between crates: nobody has to believe it.
+-- Believed with the theorem on the top call, where storage is asked for.
 -- The accesses of a run: for each of its operations, by its number, the load or the store of an element that it makes, if it makes one.
 use Rattle.std.specs.Prelude.{ℕ, zero, suc, ◌≡◌, nat_lt, Bool, true, false, if◌then◌else◌, List, [], ◌∷◌, ◌++◌, slice_get, Option, Some, None}
 use Rattle.k_ending.specs.declared.ending.End.{End}

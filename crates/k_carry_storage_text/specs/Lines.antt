@@ -1,4 +1,4 @@
--- For contracts between crates: nobody has to believe it.
+-- Believed with the theorem on the top call, where storage is asked for.
 -- How storage pairs are written.
 use Rattle.std.specs.Prelude.{ℕ, List, ◌++◌, codes, length, slice_get}
 use Rattle.std.specs.List.{flat_map}

@@ -1,4 +1,4 @@
--- Believed with the theorem on the top call.
+-- Believed with the theorem on the top call, where storage is asked for.
 -- The loops that may be marked where turns may share no storage either.
 use Rattle.std.specs.Prelude.{ℕ, ◌==◌, ◌&&◌, not, nat_eq, Bool, List, length}
 use Rattle.std.specs.List.{filter, list_any}

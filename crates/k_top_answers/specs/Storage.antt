@@ -1,4 +1,4 @@
--- Believed with the theorem on the top call.
+-- Believed with the theorem on the top call, where storage is asked for.
 -- The storage pairs of a run, and what of them is asked for.
 use Rattle.std.specs.Prelude.{ℕ, ◌≡◌, Bool, true, false, List, [], Option}
 use Rattle.k_marks_meaning.specs.Marking.{marks_of}
