@@ -1,5 +1,5 @@
 use Rattle.k_top_lemmas.specs.Parts.{running_of}
-use Rattle.k_top_lemmas.proofs.ReplayLemmas.{returned_replayed}
+use Rattle.k_top_commands.proofs.Replaying.{returned_replayed}
 use Rattle.k_top_commands.proofs.replayed.replay_answer.Goals as goal
 
 pub returns-in-Returned : goal.returns-in-Returned

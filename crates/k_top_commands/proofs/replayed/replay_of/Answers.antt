@@ -1,5 +1,5 @@
 use Rattle.std.proofs.lemmas.Result.{IfOk-weaker}
-use Rattle.k_top_lemmas.proofs.ReplayLemmas.{replays_run}
+use Rattle.k_top_commands.proofs.Replaying.{replays_run}
 use Rattle.k_top_commands.proofs.replayed.replay_of.Goals as goal
 
 pub returns : goal.returns
