@@ -1,17 +1,15 @@
-//! Runs of sources that are recorded: how many operations they make, what they write and how they end. Their operations are fired by one, three and sixteen
-//! workers under two seeds.
+//! Runs of sources that are recorded and replayed: the operations of a sum by calls of workers, and what replays tell. More sources, with more workers and
+//! other seeds, run through the built program.
 ghost use Rattle.std.specs.Prelude.{◌≤◌, IfSome};
 ghost use Rattle.k_replay_record.specs.Records.{IsRecord};
 
 use crate::tests::{Call, all_answer};
-use k_ending::{End, Trap};
+use k_ending::End;
 use k_lex::lex;
 use k_marks::mark;
-use k_marks_meaning::Marks;
-use k_num::Place;
 use k_optab::standard;
 use k_parse::parse;
-use k_replay::{Core, Deal, run_rounds};
+use k_replay::{Core, Deal};
 use k_replay_record::{Datum, Record};
 use k_replay_run::{Replay, record_run, replay_run};
 use k_types::check;
@@ -27,186 +25,29 @@ fn typed(alloc: Global, source: &str) -> Option<TUnit> {
     check(alloc, &unit).ok()
 }
 
-/// The record of the run of a typed source.
-fn record_of_typed(
-    alloc: Global,
-    unit: &TUnit,
-    marks: &Marks,
-    input: &[u8],
-    budget: u64,
-) -> Option<Record>
+/// The record of the run of a typed source, with the standard latencies and no input.
+fn record_of_typed(alloc: Global, unit: &TUnit) -> Option<Record>
     ensures { IfSome result (λ tape. IsRecord tape) }
 {
-    match record_run(alloc, unit, marks, &standard(), input, budget) {
+    let marks = mark(alloc, unit).ok()?;
+    match record_run(alloc, unit, &marks, &standard(), &[], 200_000) {
         Ok(tape) => Some(tape),
         Err(_) => None,
     }
 }
 
-/// The record of a source's run, with the standard latencies.
-fn record_of(alloc: Global, source: &str, input: &[u8], budget: u64) -> Option<Record>
+/// The record of a source's run.
+fn record_of(alloc: Global, source: &str) -> Option<Record>
     ensures { IfSome result (λ tape. IsRecord tape) }
 {
-    let unit = typed(alloc, source)?;
-    let marks = mark(alloc, &unit).ok()?;
-    record_of_typed(alloc, &unit, &marks, input, budget)
-}
-
-/// Fires a record in rounds: all operations are fired, and the output is the record's.
-fn fire(rt: &impl Abort, alloc: Global, tape: &Record, workers: u32, seed: u64) -> Result<(), Fail>
-    requires recorded { IsRecord tape.now }
-    requires some { 1 ≤ workers }
-    requires few { workers ≤ 16 }
-{
-    let mut core = Core::new(alloc, tape, workers)?;
-    run_rounds(alloc, &mut core, workers, seed)?;
-    assert_eq!(rt; core.left(), 0);
-    assert!(rt; core.output() == tape.output.as_slice());
-    Ok(())
-}
-
-/// Fires a record by one, three and sixteen workers under two seeds.
-fn fire_all(rt: &impl Abort, alloc: Global, tape: &Record) -> Result<(), Fail>
-    requires { IsRecord tape.now }
-{
-    fire(rt, alloc, tape, 1, 1)?;
-    fire(rt, alloc, tape, 1, 7)?;
-    fire(rt, alloc, tape, 3, 1)?;
-    fire(rt, alloc, tape, 3, 7)?;
-    fire(rt, alloc, tape, 16, 1)?;
-    fire(rt, alloc, tape, 16, 7)
-}
-
-/// A source, its input, how many operations its run makes, its output, and its end.
-type Row = (&'static str, &'static [u8], u64, &'static [u8], End);
-
-/// A row holds.
-fn holds(rt: &impl Abort, alloc: Global, row: &Row) -> Result<(), Fail> {
-    let (source, input, operations, output, end) = *row;
-    let tape = record_of(alloc, source, input, 200_000);
-    assert!(rt; tape.is_some(), "{source}");
-    if let Some(tape) = tape {
-        assert_eq!(rt; tape.steps.len() as u64, operations, "{source}");
-        assert!(rt; tape.output.as_slice() == output, "{source}");
-        assert!(rt; tape.end == end, "{source}");
-        fire_all(rt, alloc, &tape)?;
-        drop(tape);
+    match typed(alloc, source) {
+        None => None,
+        Some(unit) => {
+            let tape = record_of_typed(alloc, &unit);
+            drop(unit);
+            tape
+        }
     }
-    Ok(())
-}
-
-/// Numbers, choices, loops and calls.
-static SOURCES: [Row; 8] = [
-    ("int main(void){return 0;}", b"", 1, b"", End::Returned(0)),
-    (
-        "int main(void){int i,s; s=0; for(i=0;i<4;i++) s+=i; return s;}",
-        b"",
-        29,
-        b"",
-        End::Returned(6),
-    ),
-    (
-        "int main(void){int x=16; while(x>1) x=x/2; return 0;}",
-        b"",
-        20,
-        b"",
-        End::Returned(0),
-    ),
-    (
-        "int a[64]; int main(void){int i; a[0]=0; for(i=1;i<64;i++) a[i]=a[i-1]+1; return a[63];}",
-        b"",
-        638,
-        b"",
-        End::Returned(63),
-    ),
-    (
-        "int main(void){int x=2,y=0; switch(x){case 1: y=5; break; case 2: y=7; case 3: y=y+1; break; default: y=9;} return y;}",
-        b"",
-        10,
-        b"",
-        End::Returned(8),
-    ),
-    (
-        "int main(void){int i,s; s=0; for(i=0;i<4;i++) switch(i&1){case 1: s+=i; break;} return s;}",
-        b"",
-        37,
-        b"",
-        End::Returned(4),
-    ),
-    (
-        "int f(int n){if(n==0) return 0; return f(n-1);} int main(void){return f(40);}",
-        b"",
-        205,
-        b"",
-        End::Returned(0),
-    ),
-    (
-        "int main(void){return 2147483647+1;}",
-        b"",
-        0,
-        b"",
-        End::Trapped(
-            Trap::Overflow,
-            Place {
-                line: 1,
-                column: 33,
-            },
-        ),
-    ),
-];
-
-#[test]
-fn records_have_the_operations_of_their_runs(rt: HostRuntime) -> Result<(), Fail> {
-    for row in &SOURCES {
-        holds(&rt, rt.alloc(), row)?;
-    }
-    Ok(())
-}
-
-/// A source that copies its input.
-const COPY: &str =
-    "#include <stdio.h>\nint main(void){int c; while((c=getchar())!=EOF) putchar(c); return 0;}";
-
-/// A source that writes by each call.
-const WRITES: &str =
-    "#include <stdio.h>\nint main(void){printf(\"x=%d %x%c\",-7,255,33); puts(\"end\"); putchar(65); return 0;}";
-
-/// A source writes this for an input, whoever fires its operations.
-fn writes(
-    rt: &impl Abort,
-    alloc: Global,
-    source: &str,
-    input: &[u8],
-    output: &[u8],
-) -> Result<(), Fail> {
-    let tape = record_of(alloc, source, input, 200_000);
-    assert!(rt; tape.is_some(), "{source}");
-    if let Some(tape) = tape {
-        assert!(rt; tape.output.as_slice() == output, "{source}");
-        fire_all(rt, alloc, &tape)?;
-        drop(tape);
-    }
-    Ok(())
-}
-
-#[test]
-fn outputs_are_those_of_the_run(rt: HostRuntime) -> Result<(), Fail> {
-    writes(&rt, rt.alloc(), COPY, b"abc\n", b"abc\n")?;
-    writes(&rt, rt.alloc(), WRITES, b"", b"x=-7 ff!end\nA")?;
-    Ok(())
-}
-
-#[test]
-fn a_run_out_of_steps_is_recorded_so_far(rt: HostRuntime) -> Result<(), Fail> {
-    let tape = record_of(rt.alloc(), "int main(void){while(1);return 0;}", b"", 1000);
-    assert!(rt; tape.is_some());
-    if let Some(tape) = tape {
-        assert_eq!(rt; tape.steps.len(), 1000);
-        assert!(rt; tape.end == End::OutOfSteps);
-        fire(&rt, rt.alloc(), &tape, 3, 1)?;
-        drop(tape);
-    }
-    Ok(())
 }
 
 /// A sum of two numbers.
@@ -232,7 +73,7 @@ static ONE: [Call; 4] = [
 
 #[test]
 fn a_sum_by_calls(rt: HostRuntime) -> Result<(), Fail> {
-    let tape = record_of(rt.alloc(), SUM, b"", 200_000);
+    let tape = record_of(rt.alloc(), SUM);
     assert!(rt; tape.is_some());
     if let Some(tape) = tape {
         let mut core = Core::new(rt.alloc(), &tape, 2)?;
@@ -247,16 +88,15 @@ fn a_sum_by_calls(rt: HostRuntime) -> Result<(), Fail> {
     Ok(())
 }
 
-/// The replay of a source's run.
-fn replay_of(alloc: Global, source: &str, workers: u32, seed: u64) -> Option<Replay>
+/// The replay of a typed source's run.
+fn replay_of_typed(alloc: Global, unit: &TUnit, workers: u32, seed: u64) -> Option<Replay>
     requires some { 1 ≤ workers }
     requires few { workers ≤ 16 }
 {
-    let unit = typed(alloc, source)?;
-    let marks = mark(alloc, &unit).ok()?;
+    let marks = mark(alloc, unit).ok()?;
     replay_run(
         alloc,
-        &unit,
+        unit,
         &marks,
         &standard(),
         &[],
@@ -265,6 +105,21 @@ fn replay_of(alloc: Global, source: &str, workers: u32, seed: u64) -> Option<Rep
         seed,
     )
     .ok()
+}
+
+/// The replay of a source's run.
+fn replay_of(alloc: Global, source: &str, workers: u32, seed: u64) -> Option<Replay>
+    requires some { 1 ≤ workers }
+    requires few { workers ≤ 16 }
+{
+    match typed(alloc, source) {
+        None => None,
+        Some(unit) => {
+            let replay = replay_of_typed(alloc, &unit, workers, seed);
+            drop(unit);
+            replay
+        }
+    }
 }
 
 /// The replay of a source's run ends so, with this text.
