@@ -17,6 +17,7 @@ kept_if (Some kept) = kept.items.items
 abbrev pub kept_in : Row → ℕ → List Origin
 kept_in row at = kept_if (slice_get row.elements.items at)
 
+-- the same where the object may have no row
 abbrev pub kept_in_if : Option Row → ℕ → List Origin
 kept_in_if None at = []
 kept_in_if (Some row) at = kept_in row at

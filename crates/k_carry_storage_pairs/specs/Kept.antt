@@ -57,6 +57,7 @@ pairs_among kind region (l ∷ loops) = pairs_of_one kind region l ++ pairs_amon
 abbrev pub one_joined : List LoopPairs → LoopPairs → LoopStorage
 one_joined stores l = record { region = l.region; pairs = map (as_shared sharing.Anti) l.pairs ++ pairs_among sharing.Output l.region stores }
 
+-- those of all loops
 abbrev pub joined : List LoopPairs → List LoopPairs → List LoopStorage
 joined stores [] = []
 joined stores (l ∷ loops) = one_joined stores l ∷ joined stores loops
