@@ -1,0 +1,12 @@
+pub mod Bounds
+pub mod Bytes
+pub mod Document
+pub mod Known
+pub mod Lexed
+pub mod Read
+pub mod Records
+pub mod Simple
+pub mod Tabled
+pub mod Texts
+pub mod Within
+pub mod Written
