@@ -71,18 +71,32 @@ static ONE: [Call; 4] = [
     Call::Fire(0, Ok(1)),
 ];
 
+/// Workers fire all operations of a sum by these calls.
+fn is_fired(
+    rt: &impl Abort,
+    alloc: Global,
+    tape: &Record,
+    workers: u32,
+    calls: &[Call],
+) -> Result<(), Fail>
+    requires recorded { IsRecord tape.now }
+    requires some { 1 ≤ workers }
+    requires few { workers ≤ 16 }
+{
+    let mut core = Core::new(alloc, tape, workers)?;
+    assert!(rt; all_answer(&mut core, workers, calls));
+    assert_eq!(rt; core.left(), 0);
+    assert_eq!(rt; core.value(1), Some(Datum::Number(3)));
+    Ok(())
+}
+
 #[test]
 fn a_sum_by_calls(rt: HostRuntime) -> Result<(), Fail> {
     let tape = record_of(rt.alloc(), SUM);
     assert!(rt; tape.is_some());
     if let Some(tape) = tape {
-        let mut core = Core::new(rt.alloc(), &tape, 2)?;
-        assert!(rt; all_answer(&mut core, 2, TWO.as_slice()));
-        assert_eq!(rt; core.left(), 0);
-        assert_eq!(rt; core.value(1), Some(Datum::Number(3)));
-        let mut core = Core::new(rt.alloc(), &tape, 1)?;
-        assert!(rt; all_answer(&mut core, 1, ONE.as_slice()));
-        assert_eq!(rt; core.left(), 0);
+        is_fired(&rt, rt.alloc(), &tape, 2, TWO.as_slice())?;
+        is_fired(&rt, rt.alloc(), &tape, 1, ONE.as_slice())?;
         drop(tape);
     }
     Ok(())
