@@ -2,6 +2,7 @@
 ghost use Rattle.std.specs.Prelude.{◌≡◌, ◌++◌, IfOk, option_map};
 ghost use Rattle.k_tree.specs.Spelling.{spell_stmt, spell_stmts, spell_first, spell_for, spell_do, spell_else, spell_option, spell_part, spell_switched, spell_expr, in_braces, the_word, the_mark, in_parens};
 ghost use Rattle.k_tree.specs.declared.tokens.mark.Mark.TheVariants as mark;
+ghost use Rattle.k_tree.specs.declared.tokens.word.Word.TheVariants as word;
 
 use crate::printer::Printer;
 use k_num::{Box, NoMemory, Seq};
@@ -14,10 +15,7 @@ impl Printer {
         ensures { IfOk result (λ _. self.new.tokens ≡ self.old.tokens ++ spell_stmt stmt.now) }
     {
         match stmt {
-            Stmt::Expr { value, .. } => {
-                self.expr(value.get())?;
-                self.mark(Mark::Semicolon)
-            }
+            Stmt::Expr { value, .. } => self.ended(value.get()),
             Stmt::Empty { .. } => self.mark(Mark::Semicolon),
             Stmt::Block { parts, .. } => self.block(parts),
             Stmt::If {
@@ -42,8 +40,7 @@ impl Printer {
                 body,
                 ..
             } => {
-                self.word(Word::For)?;
-                self.for_parts(first, test, step)?;
+                self.for_head(first, test, step)?;
                 self.stmt(body.get())
             }
             Stmt::Switch { on, parts, .. } => {
@@ -52,10 +49,7 @@ impl Printer {
             }
             Stmt::Break { .. } => self.jump(Word::Break),
             Stmt::Continue { .. } => self.jump(Word::Continue),
-            Stmt::Return { value, .. } => {
-                self.word(Word::Return)?;
-                self.ended(value)
-            }
+            Stmt::Return { value, .. } => self.returned(value),
             Stmt::Declare { specs, list, .. } => self.declaration(specs, list),
         }
     }
@@ -144,23 +138,33 @@ impl Printer {
         self.mark(Mark::Semicolon)
     }
 
-    /// Writes an expression, if there is one, and the semicolon behind it.
-    fn ended(&mut self, value: &Option<Box<Expr>>) -> Result<(), NoMemory>
-        ensures { IfOk result (λ _. self.new.tokens ≡ self.old.tokens ++ (spell_option value.now ++ the_mark mark.Semicolon)) }
+    /// Writes an expression and the semicolon behind it.
+    fn ended(&mut self, value: &Expr) -> Result<(), NoMemory>
+        ensures { IfOk result (λ _. self.new.tokens ≡ self.old.tokens ++ (spell_expr value.now ++ the_mark mark.Semicolon)) }
     {
+        self.expr(value)?;
+        self.mark(Mark::Semicolon)
+    }
+
+    /// Writes a `return`, with its value, if it has one.
+    fn returned(&mut self, value: &Option<Box<Expr>>) -> Result<(), NoMemory>
+        ensures { IfOk result (λ _. self.new.tokens ≡ self.old.tokens ++ (the_word word.Return ++ (spell_option value.now ++ the_mark mark.Semicolon))) }
+    {
+        self.word(Word::Return)?;
         self.optional(value)?;
         self.mark(Mark::Semicolon)
     }
 
-    /// Writes the three parts of a `for`, in parentheses.
-    fn for_parts(
+    /// Writes `for` and its three parts, in parentheses.
+    fn for_head(
         &mut self,
         first: &First,
         test: &Option<Box<Expr>>,
         step: &Option<Box<Expr>>,
     ) -> Result<(), NoMemory>
-        ensures { IfOk result (λ _. self.new.tokens ≡ self.old.tokens ++ spell_for first.now test.now step.now) }
+        ensures { IfOk result (λ _. self.new.tokens ≡ self.old.tokens ++ (the_word word.For ++ spell_for first.now test.now step.now)) }
     {
+        self.word(Word::For)?;
         self.mark(Mark::LeftParen)?;
         self.first(first)?;
         self.optional(test)?;
@@ -175,10 +179,7 @@ impl Printer {
     {
         match first {
             First::Nothing => self.mark(Mark::Semicolon),
-            First::Value(value) => {
-                self.expr(value)?;
-                self.mark(Mark::Semicolon)
-            }
+            First::Value(value) => self.ended(value),
             First::Declare(specs, list) => self.declaration(specs, list),
         }
     }
