@@ -1,3 +1,4 @@
 pub mod Counting
+pub mod Forms
 pub mod Renumbering
 pub mod Steps

@@ -4,6 +4,7 @@ use Rattle.std.specs.Prelude.{ℕ, ◌≡◌, List, ◌∷◌, map, Option}
 use Rattle.k_types_meaning.specs.declared.tree.declaration.TDeclarator.{TDeclarator}
 use Rattle.k_types_meaning.specs.declared.tree.declaration.TInit.{TInit}
 use Rattle.k_types_meaning.specs.declared.tree.declaration.TItem.{TItem}
+use Rattle.k_types_meaning.specs.declared.tree.expression.Node.{Node}
 use Rattle.k_types_meaning.specs.declared.tree.expression.TExpr.{TExpr}
 use Rattle.k_types_meaning.specs.declared.tree.statement.TFirst.{TFirst}
 use Rattle.k_types_meaning.specs.declared.tree.statement.TPart.{TPart, fold-TPart}
@@ -43,6 +44,23 @@ pub record NumbersPair (a b x y : TExpr) (s t : Counts) : Type 0 where
   pub left : bare_expr x ≡ bare_expr a
   pub right : bare_expr y ≡ bare_expr b
   pub counted : Counted (before (expr_numbers x) (expr_numbers y)) s t
+
+-- a node has this number, and its operand is numbered
+pub record NumbersOne (number : ℕ) (was made : Node) (a x : TExpr) (s t : Counts) : Type 0 where
+  pub own : made ≡ record was { number = number }
+  pub operand : NumbersExpr a x s t
+
+-- a node has this number, and its two operands are numbered
+pub record NumbersTwo (number : ℕ) (was made : Node) (a b x y : TExpr) (s t : Counts) : Type 0 where
+  pub own : made ≡ record was { number = number }
+  pub operands : NumbersPair a b x y s t
+
+-- a node has this number, and its three operands are numbered
+pub record NumbersThree (number : ℕ) (was made : Node) (a b c x y z : TExpr) (s t : Counts) : Type 0 where
+  pub own : made ≡ record was { number = number }
+  pub middle : Counts
+  pub test : NumbersExpr a x s middle
+  pub arms : NumbersPair b c y z middle t
 
 -- expressions are numbered in their order
 abbrev pub NumbersExprs : List TExpr → List TExpr → Counts → Counts → Type 0

@@ -1,10 +1,11 @@
 //! Numbering of expressions (C17 6.5).
-ghost use Rattle.std.specs.Prelude.{◌≡◌, OnOk};
-ghost use Rattle.k_types_numbers.specs.Renumbering.{NumbersExpr, NumbersExprs, NumbersOperands, NumbersOption, NumbersPair};
+ghost use Rattle.std.specs.Prelude.{◌≡◌, true, OnOk};
+ghost use Rattle.k_types_numbers.specs.Forms.{has_operands, has_several, is_on_pointers, is_operation};
+ghost use Rattle.k_types_numbers.specs.Renumbering.{NumbersExpr, NumbersExprs, NumbersOne, NumbersOperands, NumbersOption, NumbersPair, NumbersThree, NumbersTwo};
 
 use crate::counts::Counts;
 use k_num::{Box, NoMemory};
-use k_types_meaning::TExpr;
+use k_types_meaning::{Node, TExpr};
 use std::alloc::Global;
 
 /// Numbers expressions in their order.
@@ -96,6 +97,22 @@ fn number_operands(
             *string = counts.string(alloc, node.place, bytes)?;
             Ok(())
         }
+        _ => number_call(expr, number, alloc, counts),
+    }
+}
+
+/// The same for an expression with operands: calls stand here.
+#[cycle(expressions)]
+fn number_call(
+    expr: &mut TExpr,
+    number: u32,
+    alloc: Global,
+    counts: &mut Counts,
+) -> Result<(), NoMemory>
+    requires { has_operands expr.old ≡ true }
+    ensures { OnOk result (NumbersOperands number expr.old expr.new counts.old counts.new) }
+{
+    match expr {
         TExpr::Call {
             node,
             function: _function,
@@ -112,134 +129,164 @@ fn number_operands(
             node.number = number;
             number_exprs(args.as_mut_slice(), alloc, counts)
         }
-        TExpr::Putchar { node, of } => {
-            node.number = number;
-            number_boxed(of, alloc, counts)
-        }
-        TExpr::Puts { node, of } => {
-            node.number = number;
-            number_boxed(of, alloc, counts)
-        }
+        TExpr::Putchar { node, of } => give_one(node, of, number, alloc, counts),
+        TExpr::Puts { node, of } => give_one(node, of, number, alloc, counts),
+        _ => number_unary(expr, number, alloc, counts),
+    }
+}
+
+/// The same for an operation that is no call: those on one operand stand here.
+#[cycle(expressions)]
+fn number_unary(
+    expr: &mut TExpr,
+    number: u32,
+    alloc: Global,
+    counts: &mut Counts,
+) -> Result<(), NoMemory>
+    requires { is_operation expr.old ≡ true }
+    ensures { OnOk result (NumbersOperands number expr.old expr.new counts.old counts.new) }
+{
+    match expr {
+        TExpr::Address { node, of } => give_one(node, of, number, alloc, counts),
+        TExpr::Deref { node, of } => give_one(node, of, number, alloc, counts),
+        TExpr::Plus { node, of } => give_one(node, of, number, alloc, counts),
+        TExpr::Convert { node, of } => give_one(node, of, number, alloc, counts),
+        TExpr::Cast { node, of } => give_one(node, of, number, alloc, counts),
         TExpr::Post {
             node,
             change: _change,
             of,
-        } => {
-            node.number = number;
-            number_boxed(of, alloc, counts)
-        }
+        } => give_one(node, of, number, alloc, counts),
         TExpr::Pre {
             node,
             change: _change,
             of,
-        } => {
-            node.number = number;
-            number_boxed(of, alloc, counts)
-        }
-        TExpr::Address { node, of } => {
-            node.number = number;
-            number_boxed(of, alloc, counts)
-        }
-        TExpr::Deref { node, of } => {
-            node.number = number;
-            number_boxed(of, alloc, counts)
-        }
-        TExpr::Plus { node, of } => {
-            node.number = number;
-            number_boxed(of, alloc, counts)
-        }
+        } => give_one(node, of, number, alloc, counts),
         TExpr::Unary {
             node,
             op: _op,
             kind: _kind,
             of,
-        } => {
-            node.number = number;
-            number_boxed(of, alloc, counts)
-        }
-        TExpr::Convert { node, of } => {
-            node.number = number;
-            number_boxed(of, alloc, counts)
-        }
-        TExpr::Cast { node, of } => {
-            node.number = number;
-            number_boxed(of, alloc, counts)
-        }
-        TExpr::Index { node, base, index } => {
-            node.number = number;
-            number_pair(base, index, alloc, counts)
-        }
+        } => give_one(node, of, number, alloc, counts),
+        _ => number_several(expr, number, alloc, counts),
+    }
+}
+
+/// The same for an operation on several operands: all but those that compute with pointers stand here.
+#[cycle(expressions)]
+fn number_several(
+    expr: &mut TExpr,
+    number: u32,
+    alloc: Global,
+    counts: &mut Counts,
+) -> Result<(), NoMemory>
+    requires { has_several expr.old ≡ true }
+    ensures { OnOk result (NumbersOperands number expr.old expr.new counts.old counts.new) }
+{
+    match expr {
+        TExpr::Both { node, left, right } => give_two(node, left, right, number, alloc, counts),
+        TExpr::Either { node, left, right } => give_two(node, left, right, number, alloc, counts),
+        TExpr::Assign { node, left, right } => give_two(node, left, right, number, alloc, counts),
+        TExpr::Comma { node, left, right } => give_two(node, left, right, number, alloc, counts),
         TExpr::Binary {
             node,
             op: _op,
             kind: _kind,
             left,
             right,
-        } => {
-            node.number = number;
-            number_pair(left, right, alloc, counts)
-        }
-        TExpr::Both { node, left, right } => {
-            node.number = number;
-            number_pair(left, right, alloc, counts)
-        }
-        TExpr::Either { node, left, right } => {
-            node.number = number;
-            number_pair(left, right, alloc, counts)
-        }
-        TExpr::Forward { node, left, right } => {
-            node.number = number;
-            number_pair(left, right, alloc, counts)
-        }
-        TExpr::Onto { node, left, right } => {
-            node.number = number;
-            number_pair(left, right, alloc, counts)
-        }
-        TExpr::Back { node, left, right } => {
-            node.number = number;
-            number_pair(left, right, alloc, counts)
+        } => give_two(node, left, right, number, alloc, counts),
+        TExpr::AssignBy {
+            node,
+            change: _change,
+            left,
+            right,
+        } => give_two(node, left, right, number, alloc, counts),
+        TExpr::Cond {
+            node,
+            test,
+            then,
+            other,
+        } => give_three(node, test, then, other, number, alloc, counts),
+        _ => number_pointers(expr, number, alloc, counts),
+    }
+}
+
+/// The same for an index and for other operations that compute with pointers.
+#[cycle(expressions)]
+fn number_pointers(
+    expr: &mut TExpr,
+    number: u32,
+    alloc: Global,
+    counts: &mut Counts,
+) -> Result<(), NoMemory>
+    requires { is_on_pointers expr.old ≡ true }
+    ensures { OnOk result (NumbersOperands number expr.old expr.new counts.old counts.new) }
+{
+    match expr {
+        TExpr::Index { node, base, index } => give_two(node, base, index, number, alloc, counts),
+        TExpr::Forward { node, left, right } => give_two(node, left, right, number, alloc, counts),
+        TExpr::Onto { node, left, right } => give_two(node, left, right, number, alloc, counts),
+        TExpr::Back { node, left, right } => give_two(node, left, right, number, alloc, counts),
+        TExpr::PtrDistance { node, left, right } => {
+            give_two(node, left, right, number, alloc, counts)
         }
         TExpr::PtrCompare {
             node,
             op: _op,
             left,
             right,
-        } => {
-            node.number = number;
-            number_pair(left, right, alloc, counts)
-        }
-        TExpr::PtrDistance { node, left, right } => {
-            node.number = number;
-            number_pair(left, right, alloc, counts)
-        }
-        TExpr::Assign { node, left, right } => {
-            node.number = number;
-            number_pair(left, right, alloc, counts)
-        }
-        TExpr::AssignBy {
-            node,
-            change: _change,
-            left,
-            right,
-        } => {
-            node.number = number;
-            number_pair(left, right, alloc, counts)
-        }
-        TExpr::Comma { node, left, right } => {
-            node.number = number;
-            number_pair(left, right, alloc, counts)
-        }
-        TExpr::Cond {
-            node,
-            test,
-            then,
-            other,
-        } => {
-            node.number = number;
-            number_boxed(test, alloc, counts)?;
-            number_pair(then, other, alloc, counts)
-        }
+        } => give_two(node, left, right, number, alloc, counts),
+        _ => unreachable!(),
     }
+}
+
+/// Gives a node this number, and numbers its operand.
+#[cycle(expressions)]
+fn give_one(
+    node: &mut Node,
+    of: &mut Box<TExpr>,
+    number: u32,
+    alloc: Global,
+    counts: &mut Counts,
+) -> Result<(), NoMemory>
+    ensures { OnOk result (NumbersOne number node.old node.new of.old of.new counts.old counts.new) }
+{
+    node.number = number;
+    number_boxed(of, alloc, counts)
+}
+
+/// Gives a node this number, and numbers its two operands.
+#[cycle(expressions)]
+fn give_two(
+    node: &mut Node,
+    left: &mut Box<TExpr>,
+    right: &mut Box<TExpr>,
+    number: u32,
+    alloc: Global,
+    counts: &mut Counts,
+) -> Result<(), NoMemory>
+    ensures { OnOk result (NumbersTwo number node.old node.new left.old right.old left.new right.new counts.old counts.new) }
+{
+    node.number = number;
+    number_pair(left, right, alloc, counts)
+}
+
+/// Gives a node this number, and numbers its three operands.
+#[cycle(expressions)]
+fn give_three(
+    node: &mut Node,
+    test: &mut Box<TExpr>,
+    first: &mut Box<TExpr>,
+    second: &mut Box<TExpr>,
+    number: u32,
+    alloc: Global,
+    counts: &mut Counts,
+) -> Result<(), NoMemory>
+    ensures { OnOk result (NumbersThree number node.old node.new test.old first.old second.old test.new first.new second.new counts.old counts.new) }
+{
+    node.number = number;
+    number_boxed(test, alloc, counts)?;
+    number_pair(first, second, alloc, counts)
 }
 
 /// Numbers an expression where there is one.

@@ -1,5 +1,6 @@
 //! Numbering of statements (C17 6.8).
-ghost use Rattle.std.specs.Prelude.{◌≡◌, OnOk};
+ghost use Rattle.std.specs.Prelude.{◌≡◌, true, OnOk};
+ghost use Rattle.k_types_numbers.specs.Forms.{selects_or_iterates, iterates};
 ghost use Rattle.k_types_numbers.specs.Renumbering.{NumbersBehind, NumbersClauses, NumbersFirst, NumbersPart, NumbersParts, NumbersStmt, NumbersStmts};
 
 use crate::counts::Counts;
@@ -66,72 +67,6 @@ fn number_behind(
             number_stmts(parts.as_mut_slice(), alloc, counts)?;
             Ok(())
         }
-        TStmt::If {
-            spot,
-            test,
-            then,
-            other,
-        } => {
-            spot.number = number;
-            number_boxed(test, alloc, counts)?;
-            number_boxed_stmt(then, alloc, counts)?;
-            match other {
-                None => Ok(()),
-                Some(other) => {
-                    number_boxed_stmt(other, alloc, counts)?;
-                    Ok(())
-                }
-            }
-        }
-        TStmt::While {
-            spot,
-            turns,
-            test,
-            body,
-        } => {
-            spot.number = number;
-            *turns = counts.turns()?;
-            number_boxed(test, alloc, counts)?;
-            number_boxed_stmt(body, alloc, counts)?;
-            Ok(())
-        }
-        TStmt::DoWhile {
-            spot,
-            turns,
-            body,
-            test,
-        } => {
-            spot.number = number;
-            *turns = counts.turns()?;
-            number_boxed_stmt(body, alloc, counts)?;
-            number_boxed(test, alloc, counts)?;
-            Ok(())
-        }
-        TStmt::For {
-            spot,
-            turns,
-            first,
-            test,
-            step,
-            body,
-        } => {
-            spot.number = number;
-            *turns = counts.turns()?;
-            number_clauses(first, test, step, alloc, counts)?;
-            number_boxed_stmt(body, alloc, counts)?;
-            Ok(())
-        }
-        TStmt::Switch {
-            spot,
-            kind: _kind,
-            on,
-            parts,
-        } => {
-            spot.number = number;
-            number_boxed(on, alloc, counts)?;
-            number_parts(parts.as_mut_slice(), alloc, counts)?;
-            Ok(())
-        }
         TStmt::Break { spot } => {
             spot.number = number;
             Ok(())
@@ -150,6 +85,102 @@ fn number_behind(
             number_declared(list.as_mut_slice(), alloc, counts)?;
             Ok(())
         }
+        _ => number_selection(stmt, number, alloc, counts),
+    }
+}
+
+/// The same for a selection or a loop: selections stand here.
+#[cycle(statements)]
+fn number_selection(
+    stmt: &mut TStmt,
+    number: u32,
+    alloc: Global,
+    counts: &mut Counts,
+) -> Result<(), NoMemory>
+    requires { selects_or_iterates stmt.old ≡ true }
+    ensures { OnOk result (NumbersBehind number stmt.old stmt.new counts.old counts.new) }
+{
+    match stmt {
+        TStmt::If {
+            spot,
+            test,
+            then,
+            other,
+        } => {
+            spot.number = number;
+            number_boxed(test, alloc, counts)?;
+            number_boxed_stmt(then, alloc, counts)?;
+            match other {
+                None => Ok(()),
+                Some(other) => {
+                    number_boxed_stmt(other, alloc, counts)?;
+                    Ok(())
+                }
+            }
+        }
+        TStmt::Switch {
+            spot,
+            kind: _kind,
+            on,
+            parts,
+        } => {
+            spot.number = number;
+            number_boxed(on, alloc, counts)?;
+            number_parts(parts.as_mut_slice(), alloc, counts)?;
+            Ok(())
+        }
+        _ => number_loop(stmt, number, alloc, counts),
+    }
+}
+
+/// The same for a loop.
+#[cycle(statements)]
+fn number_loop(
+    stmt: &mut TStmt,
+    number: u32,
+    alloc: Global,
+    counts: &mut Counts,
+) -> Result<(), NoMemory>
+    requires { iterates stmt.old ≡ true }
+    ensures { OnOk result (NumbersBehind number stmt.old stmt.new counts.old counts.new) }
+{
+    match stmt {
+        TStmt::While {
+            spot,
+            turns,
+            test,
+            body,
+        } => {
+            spot.number = number;
+            *turns = counts.turns()?;
+            number_boxed(test, alloc, counts)?;
+            number_boxed_stmt(body, alloc, counts)
+        }
+        TStmt::DoWhile {
+            spot,
+            turns,
+            body,
+            test,
+        } => {
+            spot.number = number;
+            *turns = counts.turns()?;
+            number_boxed_stmt(body, alloc, counts)?;
+            number_boxed(test, alloc, counts)
+        }
+        TStmt::For {
+            spot,
+            turns,
+            first,
+            test,
+            step,
+            body,
+        } => {
+            spot.number = number;
+            *turns = counts.turns()?;
+            number_clauses(first, test, step, alloc, counts)?;
+            number_boxed_stmt(body, alloc, counts)
+        }
+        _ => unreachable!(),
     }
 }
 

@@ -1,7 +1,9 @@
 use Rattle.std.proofs.Common.{◌∙◌, ◌<◌, ◌≤◌, length, rules, arith, sym}
+use Rattle.std.proofs.lemmas.Result.{on_ok_weaker}
 use Rattle.k_types_numbers.specs.Renumbering.{bare_declarator, declarator_numbers}
 use Rattle.k_types_numbers.proofs.CountingLaws.{ends_as, list_done, list_lent, list_more, numbered_of, renumbers_as, renumbers_of, unvisited_more}
 use Rattle.k_types_numbers.proofs.StatementForms.{alone_of, clauses_of, else_of, numbers_Block, numbers_Break, numbers_Continue, numbers_Declare, numbers_DoWhile, numbers_Empty, numbers_Expr, numbers_For, numbers_Return, numbers_Switch, numbers_While, part_does}
+use Rattle.k_types_numbers.proofs.LeftForms.{a_control, a_loop, no_loop}
 use Rattle.k_types_numbers.proofs.statement.+statements.Goals as goal
 
 pub number_behind-returns-in-Empty : goal.number_behind-returns-in-Empty
@@ -30,16 +32,16 @@ number_behind-returns-in_ok-number_stmts-in-Block t c =
     (numbers_Block _ _ _ _ _ _
     (list_lent _ _ _ c.in-Block.parts _ _ _ _ (c.as_mut_slice.ensures.value ∙ c.in-Block.parts-is) c.number_stmts.auto.stmts c.in_ok-number_stmts-in-Block.ensures))) (search rules)
 
-pub number_behind-returns-in-None : goal.number_behind-returns-in-None
-number_behind-returns-in-None t c =
+pub number_selection-returns-in-None : goal.number_selection-returns-in-None
+number_selection-returns-in-None t c =
     ends_as _ _ _ _ _ _ _ _ _
     (alone_of _ _ _ _ _ _ _ _ _ _ _ c.in-If.is (sym c.in-If.other-is ∙ c.in-None.is)
     (renumbers_of _ _ _ _ _ _ _ _ c.in-If.test-is c.in_ok-number_boxed-in-If.ensures)
     (renumbers_of _ _ _ _ _ _ _ _ c.in-If.then-is c.in_ok-number_boxed_stmt-in-If.ensures))
     (search rules)
 
-pub number_behind-returns-in_ok-number_boxed_stmt-in-Some : goal.number_behind-returns-in_ok-number_boxed_stmt-in-Some
-number_behind-returns-in_ok-number_boxed_stmt-in-Some t c =
+pub number_selection-returns-in_ok-number_boxed_stmt-in-Some : goal.number_selection-returns-in_ok-number_boxed_stmt-in-Some
+number_selection-returns-in_ok-number_boxed_stmt-in-Some t c =
     ends_as _ _ _ _ _ _ _ _ _
     (else_of _ _ _ _ _ _ _ _ _ _ _ _ _ _ c.in-If.is (sym c.in-If.other-is ∙ c.in-Some.is)
     (renumbers_of _ _ _ _ _ _ _ _ c.in-If.test-is c.in_ok-number_boxed-in-If.ensures)
@@ -47,32 +49,32 @@ number_behind-returns-in_ok-number_boxed_stmt-in-Some t c =
     (renumbers_of _ _ _ _ _ _ _ _ c.in-Some.other-is c.in_ok-number_boxed_stmt-in-Some.ensures))
     (search rules)
 
-pub number_behind-returns-in_ok-number_boxed_stmt-in-While : goal.number_behind-returns-in_ok-number_boxed_stmt-in-While
-number_behind-returns-in_ok-number_boxed_stmt-in-While t c =
-    ends_as _ _ _ _ _ _ _ _ _ (numbered_of _ _ _ _ _ _ _ _ _ c.in-While.is
+pub number_loop-returns-in_ok-number_boxed-in-While : goal.number_loop-returns-in_ok-number_boxed-in-While
+number_loop-returns-in_ok-number_boxed-in-While t c =
+    on_ok_weaker c.number_boxed_stmt.result (λ h. ends_as _ _ _ _ _ _ _ _ _ (numbered_of _ _ _ _ _ _ _ _ _ c.in-While.is
     (numbers_While _ _ _ _ _ _ _ _ _ _ _ _ c.in_ok-turns-in-While.ensures.0 c.in_ok-turns-in-While.ensures.1
     (renumbers_of _ _ _ _ _ _ _ _ c.in-While.test-is c.in_ok-number_boxed-in-While.ensures)
-    (renumbers_of _ _ _ _ _ _ _ _ c.in-While.body-is c.in_ok-number_boxed_stmt-in-While.ensures))) (search rules)
+    (renumbers_of _ _ _ _ _ _ _ _ c.in-While.body-is h))) (search rules)) c.number_boxed_stmt.ensures
 
-pub number_behind-returns-in_ok-number_boxed-in-DoWhile : goal.number_behind-returns-in_ok-number_boxed-in-DoWhile
-number_behind-returns-in_ok-number_boxed-in-DoWhile t c =
-    ends_as _ _ _ _ _ _ _ _ _ (numbered_of _ _ _ _ _ _ _ _ _ c.in-DoWhile.is
+pub number_loop-returns-in_ok-number_boxed_stmt-in-DoWhile : goal.number_loop-returns-in_ok-number_boxed_stmt-in-DoWhile
+number_loop-returns-in_ok-number_boxed_stmt-in-DoWhile t c =
+    on_ok_weaker c.number_boxed-in-DoWhile.result (λ h. ends_as _ _ _ _ _ _ _ _ _ (numbered_of _ _ _ _ _ _ _ _ _ c.in-DoWhile.is
     (numbers_DoWhile _ _ _ _ _ _ _ _ _ _ _ _ c.in_ok-turns-in-DoWhile.ensures.0 c.in_ok-turns-in-DoWhile.ensures.1
     (renumbers_of _ _ _ _ _ _ _ _ c.in-DoWhile.body-is c.in_ok-number_boxed_stmt-in-DoWhile.ensures)
-    (renumbers_of _ _ _ _ _ _ _ _ c.in-DoWhile.test-is c.in_ok-number_boxed-in-DoWhile.ensures))) (search rules)
+    (renumbers_of _ _ _ _ _ _ _ _ c.in-DoWhile.test-is h))) (search rules)) c.number_boxed-in-DoWhile.ensures
 
-pub number_behind-returns-in_ok-number_boxed_stmt-in-For : goal.number_behind-returns-in_ok-number_boxed_stmt-in-For
-number_behind-returns-in_ok-number_boxed_stmt-in-For t c =
-    ends_as _ _ _ _ _ _ _ _ _ (numbered_of _ _ _ _ _ _ _ _ _ c.in-For.is
+pub number_loop-returns-in_ok-number_clauses-in-For : goal.number_loop-returns-in_ok-number_clauses-in-For
+number_loop-returns-in_ok-number_clauses-in-For t c =
+    on_ok_weaker c.number_boxed_stmt-in-For.result (λ h. ends_as _ _ _ _ _ _ _ _ _ (numbered_of _ _ _ _ _ _ _ _ _ c.in-For.is
     (numbers_For _ _ _ _ _ _ _ _ _ _ _ _ _ _ _ _ c.in_ok-turns-in-For.ensures.0 c.in_ok-turns-in-For.ensures.1
     (clauses_of _ _ _ _ _ _ _ _ _ _ _ c.in-For.first-is c.in-For.test-is c.in-For.step-is c.in_ok-number_clauses-in-For.ensures)
-    (renumbers_of _ _ _ _ _ _ _ _ c.in-For.body-is c.in_ok-number_boxed_stmt-in-For.ensures))) (search rules)
+    (renumbers_of _ _ _ _ _ _ _ _ c.in-For.body-is h))) (search rules)) c.number_boxed_stmt-in-For.ensures
 
-pub number_behind-returns-in_ok-number_parts-in-Switch : goal.number_behind-returns-in_ok-number_parts-in-Switch
-number_behind-returns-in_ok-number_parts-in-Switch t c =
+pub number_selection-returns-in_ok-number_parts-in-Switch : goal.number_selection-returns-in_ok-number_parts-in-Switch
+number_selection-returns-in_ok-number_parts-in-Switch t c =
     ends_as _ _ _ _ _ _ _ _ _ (numbered_of _ _ _ _ _ _ _ _ _ c.in-Switch.is
     (numbers_Switch _ _ _ _ _ _ _ _ _ _ (renumbers_of _ _ _ _ _ _ _ _ c.in-Switch.on-is c.in_ok-number_boxed-in-Switch.ensures)
-    (list_lent _ _ _ c.in-Switch.parts _ _ _ _ (c.as_mut_slice-in-Switch.ensures.value ∙ c.in-Switch.parts-is) c.number_parts.auto.parts c.in_ok-number_parts-in-Switch.ensures))) (search rules)
+    (list_lent _ _ _ c.in-Switch.parts _ _ _ _ (c.as_mut_slice.ensures.value ∙ c.in-Switch.parts-is) c.number_parts.auto.parts c.in_ok-number_parts-in-Switch.ensures))) (search rules)
 
 pub number_behind-returns-in_ok-number_option-in-Return : goal.number_behind-returns-in_ok-number_option-in-Return
 number_behind-returns-in_ok-number_option-in-Return t c =
@@ -112,3 +114,12 @@ number_stmts-loop-stmt-preserved t c =
       unvisited_more _ _ _ _ _ c.loop-stmt.invariant.0,
       list_more _ _ _ _ _ _ _ _ _ _ _ within c.loop-stmt.invariant.1 c.in_ok-number_stmt.ensures,
     )
+
+pub number_behind-number_selection-requires : goal.number_behind-number_selection-requires
+number_behind-number_selection-requires t c = (omega (arith, c.decreases), a_control _ c.in_default.not-Expr c.in_default.not-Empty c.in_default.not-Block c.in_default.not-Break c.in_default.not-Continue c.in_default.not-Return c.in_default.not-Declare)
+
+pub number_selection-number_loop-requires : goal.number_selection-number_loop-requires
+number_selection-number_loop-requires t c = (omega (arith, c.decreases), a_loop _ c.requires c.in_default.not-If c.in_default.not-Switch)
+
+pub number_loop-unreachable-requires : goal.number_loop-unreachable-requires
+number_loop-unreachable-requires t c = no_loop _ c.requires c.in_default.not-While c.in_default.not-DoWhile c.in_default.not-For
