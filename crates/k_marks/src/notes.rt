@@ -1,6 +1,6 @@
 //! What expressions and statements do with variables, noted in text order.
 ghost use Rattle.std.specs.Prelude.{◌≡◌, ◌++◌, map, OnOk};
-ghost use Rattle.k_marks_meaning.specs.Uses.{Used, used, assigns, uses_of, option_uses, all_uses, in_order, item_uses, init_uses, declarator_uses, declared_uses, first_uses};
+ghost use Rattle.k_marks_meaning.specs.Uses.{Used, used, assigns, target, uses_of, option_uses, all_uses, in_order, item_uses, init_uses, declarator_uses, declared_uses, first_uses};
 
 use k_marks_meaning::Use;
 use k_num::{Box, NoMemory, Seq};
@@ -35,13 +35,9 @@ pub(crate) fn note_expr(expr: &TExpr, uses: &mut Vec<Use>) -> Result<(), NoMemor
         | TExpr::Unary { of, .. }
         | TExpr::Convert { of, .. }
         | TExpr::Cast { of, .. } => note_expr(of.get(), uses),
-        TExpr::Post { of, .. } | TExpr::Pre { of, .. } => {
-            note_target(of.get(), uses)?;
-            note_expr(of.get(), uses)
-        }
+        TExpr::Post { of, .. } | TExpr::Pre { of, .. } => note_changed(of.get(), uses),
         TExpr::Assign { left, right, .. } | TExpr::AssignBy { left, right, .. } => {
-            note_target(left.get(), uses)?;
-            note_expr(left.get(), uses)?;
+            note_changed(left.get(), uses)?;
             note_expr(right.get(), uses)
         }
         TExpr::Cond {
@@ -49,11 +45,7 @@ pub(crate) fn note_expr(expr: &TExpr, uses: &mut Vec<Use>) -> Result<(), NoMemor
             then,
             other,
             ..
-        } => {
-            note_expr(test.get(), uses)?;
-            note_expr(then.get(), uses)?;
-            note_expr(other.get(), uses)
-        }
+        } => note_choice(test.get(), then.get(), other.get(), uses),
         TExpr::Index {
             base: left,
             index: right,
@@ -67,11 +59,41 @@ pub(crate) fn note_expr(expr: &TExpr, uses: &mut Vec<Use>) -> Result<(), NoMemor
         | TExpr::Back { left, right, .. }
         | TExpr::PtrCompare { left, right, .. }
         | TExpr::PtrDistance { left, right, .. }
-        | TExpr::Comma { left, right, .. } => {
-            note_expr(left.get(), uses)?;
-            note_expr(right.get(), uses)
-        }
+        | TExpr::Comma { left, right, .. } => note_both(left.get(), right.get(), uses),
     }
+}
+
+/// Notes what an operand does that is assigned.
+#[cycle(expressions)]
+fn note_changed(of: &TExpr, uses: &mut Vec<Use>) -> Result<(), NoMemory>
+    ensures { OnOk result (uses.new.items ≡ uses.old.items ++ target (used of.now)) }
+{
+    note_target(of, uses)?;
+    note_expr(of, uses)
+}
+
+/// Notes what two operands do.
+#[cycle(expressions)]
+fn note_both(left: &TExpr, right: &TExpr, uses: &mut Vec<Use>) -> Result<(), NoMemory>
+    ensures { OnOk result (uses.new.items ≡ uses.old.items ++ (uses_of left.now ++ uses_of right.now)) }
+{
+    note_expr(left, uses)?;
+    note_expr(right, uses)
+}
+
+/// Notes what a test and its two arms do.
+#[cycle(expressions)]
+fn note_choice(
+    test: &TExpr,
+    first: &TExpr,
+    second: &TExpr,
+    uses: &mut Vec<Use>,
+) -> Result<(), NoMemory>
+    ensures { OnOk result (uses.new.items ≡ uses.old.items ++ (uses_of test.now ++ (uses_of first.now ++ uses_of second.now))) }
+{
+    note_expr(test, uses)?;
+    note_expr(first, uses)?;
+    note_expr(second, uses)
 }
 
 /// Notes what arguments do.
@@ -145,7 +167,7 @@ pub(crate) fn note_declared(list: &Seq<TDeclarator>, uses: &mut Vec<Use>) -> Res
 }
 
 /// Notes what the first part of a `for` does.
-pub(crate) fn note_first(first: &TFirst, uses: &mut Vec<Use>) -> Result<(), NoMemory>
+fn note_first(first: &TFirst, uses: &mut Vec<Use>) -> Result<(), NoMemory>
     ensures { OnOk result (uses.new.items ≡ uses.old.items ++ first_uses first.now) }
 {
     match first {
@@ -153,4 +175,18 @@ pub(crate) fn note_first(first: &TFirst, uses: &mut Vec<Use>) -> Result<(), NoMe
         TFirst::Value(value) => note_expr(value, uses),
         TFirst::Declare(list) => note_declared(list, uses),
     }
+}
+
+/// Notes what the three parts of a `for` do.
+pub(crate) fn note_head(
+    first: &TFirst,
+    test: &Option<Box<TExpr>>,
+    step: &Option<Box<TExpr>>,
+    uses: &mut Vec<Use>,
+) -> Result<(), NoMemory>
+    ensures { OnOk result (uses.new.items ≡ uses.old.items ++ (first_uses first.now ++ (option_uses test.now ++ option_uses step.now))) }
+{
+    note_first(first, uses)?;
+    note_option(test, uses)?;
+    note_option(step, uses)
 }

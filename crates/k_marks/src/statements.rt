@@ -3,7 +3,7 @@ ghost use Rattle.std.specs.Prelude.{◌≡◌, ◌++◌, map, OnOk, option_map, 
 ghost use Rattle.k_marks_meaning.specs.Contents.{inside, nothing, part_inside, row};
 
 use crate::actions::note_action;
-use crate::notes::{note_declared, note_expr, note_first, note_option};
+use crate::notes::{note_declared, note_expr, note_head, note_option};
 use k_marks_meaning::Use;
 use k_num::{Box, NoMemory, Seq};
 use k_types_meaning::{TPart, TStmt};
@@ -42,9 +42,7 @@ pub(crate) fn note_stmt(stmt: &TStmt, uses: &mut Vec<Use>) -> Result<(), NoMemor
             body,
             ..
         } => {
-            note_first(first, uses)?;
-            note_option(test, uses)?;
-            note_option(step, uses)?;
+            note_head(first, test, step, uses)?;
             note_stmt(body.get(), uses)
         }
         TStmt::Switch { on, parts, .. } => {
