@@ -107,7 +107,7 @@ fn test_name(class: Class) -> &'static str {
     }
 }
 
-/// What an operation on numbers does, or on pointers.
+/// What an operation on numbers does.
 fn push_computed(text: &mut String, act: &Do) -> Result<(), AllocError> {
     match act {
         Do::Binary { op, kind, a, b, to } => {
@@ -130,6 +130,13 @@ fn push_computed(text: &mut String, act: &Do) -> Result<(), AllocError> {
             text.push_str("move")?;
             push_args(text, &[*a])
         }
+        _ => Ok(()),
+    }
+}
+
+/// What an operation on pointers does.
+fn push_pointers(text: &mut String, act: &Do) -> Result<(), AllocError> {
+    match act {
         Do::Offset {
             minus,
             scale,
@@ -267,6 +274,7 @@ fn push_place(text: &mut String, place: Place) -> Result<(), AllocError> {
 /// An instruction.
 fn push_instr(text: &mut String, instr: &Instr) -> Result<(), AllocError> {
     push_computed(text, &instr.act)?;
+    push_pointers(text, &instr.act)?;
     push_reaching(text, &instr.act)?;
     push_turning(text, &instr.act)?;
     push_quiet(text, &instr.act)?;
