@@ -1,8 +1,9 @@
 //! The judge of expressions: an operand is judged before the expression that it stands in (C17 6.5).
-ghost use Rattle.std.specs.Prelude.{◌≡◌, map, IfOk, IfErr};
+ghost use Rattle.std.specs.Prelude.{◌≡◌, true, map, IfOk, IfErr};
 ghost use Rattle.k_types_meaning.specs.Expressions as spec;
 ghost use Rattle.k_types_meaning.specs.Made.{all_made};
 ghost use Rattle.k_types_expressions.specs.Arguments.{GivesAll};
+ghost use Rattle.k_types_expressions.specs.Forms.{has_operator, has_infix};
 ghost use Rattle.k_types_expressions.specs.Results.{Gives};
 ghost use Rattle.k_types_rules.specs.Views.{Refuses};
 
@@ -37,15 +38,36 @@ pub fn judge<'a>(
         Expr::Number { place, kind, value } => number_rule(alloc, *place, *kind, *value),
         Expr::Char { place, value } => char_rule(alloc, *place, *value),
         Expr::Str { place, bytes } => string_rule(alloc, *place, bytes),
+        Expr::SizeofType {
+            place,
+            specs,
+            stars,
+        } => sizeof_type_rule(alloc, *place, specs, stars),
         Expr::Paren { of, .. } => judge(alloc, names, of.get(), taken),
+        Expr::Call { place, name, args } => {
+            let args = judge_all(alloc, names, args, taken)?;
+            call_rule(alloc, names, *place, name, args)
+        }
+        _ => judge_operator(alloc, names, expr, taken),
+    }
+}
+
+/// The same where an operator on operands stands outermost: those that stand behind or before their operand are judged here.
+#[cycle(expressions)]
+fn judge_operator<'a>(
+    alloc: Global,
+    names: &'a Scopes,
+    expr: &Expr,
+    taken: &mut Seq<u32>,
+) -> Result<TypedExpr<'a>, TypeFault>
+    requires { has_operator expr.now ≡ true }
+    ensures { Gives result taken.old taken.new (spec.judge names.now expr.now) }
+{
+    match expr {
         Expr::Index { place, base, index } => {
             let base = judge(alloc, names, base.get(), taken)?;
             let index = judge(alloc, names, index.get(), taken)?;
             index_rule(alloc, *place, base, index)
-        }
-        Expr::Call { place, name, args } => {
-            let args = judge_all(alloc, names, args, taken)?;
-            call_rule(alloc, names, *place, name, args)
         }
         Expr::Post { place, op, of } => {
             let of = judge(alloc, names, of.get(), taken)?;
@@ -63,11 +85,6 @@ pub fn judge<'a>(
             let of = judge(alloc, names, of.get(), taken)?;
             sizeof_rule(alloc, *place, of)
         }
-        Expr::SizeofType {
-            place,
-            specs,
-            stars,
-        } => sizeof_type_rule(alloc, *place, specs, stars),
         Expr::Cast {
             place,
             specs,
@@ -77,6 +94,22 @@ pub fn judge<'a>(
             let of = judge(alloc, names, of.get(), taken)?;
             cast_rule(alloc, *place, specs, stars, of)
         }
+        _ => judge_infix(alloc, names, expr, taken),
+    }
+}
+
+/// The same where an operator stands between operands.
+#[cycle(expressions)]
+fn judge_infix<'a>(
+    alloc: Global,
+    names: &'a Scopes,
+    expr: &Expr,
+    taken: &mut Seq<u32>,
+) -> Result<TypedExpr<'a>, TypeFault>
+    requires { has_infix expr.now ≡ true }
+    ensures { Gives result taken.old taken.new (spec.judge names.now expr.now) }
+{
+    match expr {
         Expr::Binary {
             place,
             op,
@@ -113,6 +146,7 @@ pub fn judge<'a>(
             let right = judge(alloc, names, right.get(), taken)?;
             comma_rule(alloc, *place, left, right)
         }
+        _ => unreachable!(),
     }
 }
 

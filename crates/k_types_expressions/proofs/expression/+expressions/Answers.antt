@@ -1,4 +1,4 @@
-use Rattle.std.proofs.Common.{◌≡◌, ℕ, List, map, Ok, sym, ap, ◌∙◌, subst}
+use Rattle.std.proofs.Common.{◌≡◌, ℕ, List, map, Ok, sym, ap, ◌∙◌, subst, arith}
 use Rattle.k_tree.specs.declared.tree.expression.Expr.{Expr}
 use Rattle.k_tree.proofs.Folds.{expr_Cond, expr_Assign, expr_Comma}
 use Rattle.k_types_meaning.specs.Conversions.{Typed}
@@ -8,12 +8,22 @@ use Rattle.k_types_meaning.specs.Names.{Names}
 use Rattle.k_types_meaning.specs.Operators.{cond_rule, assign_rule, comma_rule}
 use Rattle.k_types_rules.specs.declared.judged.TypedExpr.{TypedExpr}
 use Rattle.k_types_expressions.specs.Results.{Gives}
+use Rattle.k_types_expressions.proofs.LeftForms.{with_operator, with_infix, no_more}
 use Rattle.k_types_expressions.proofs.Judging.{two_gives, three_gives}
 use Rattle.k_types_expressions.proofs.Passing.{judges_more, judges_all}
 use Rattle.k_types_expressions.proofs.expression.+expressions.Goals as goal
 
-pub judge-returns-in_ok-second-in-Cond : goal.judge-returns-in_ok-second-in-Cond
-judge-returns-in_ok-second-in-Cond t c =
+pub judge-judge_operator-requires : goal.judge-judge_operator-requires
+judge-judge_operator-requires t c = (omega (arith, c.decreases), with_operator _ c.in_default.not-Name c.in_default.not-Number c.in_default.not-Char c.in_default.not-Str c.in_default.not-SizeofType c.in_default.not-Paren c.in_default.not-Call)
+
+pub judge_operator-judge_infix-requires : goal.judge_operator-judge_infix-requires
+judge_operator-judge_infix-requires t c = (omega (arith, c.decreases), with_infix _ c.requires c.in_default.not-Index c.in_default.not-Post c.in_default.not-Pre c.in_default.not-Unary c.in_default.not-SizeofExpr c.in_default.not-Cast)
+
+pub judge_infix-unreachable-requires : goal.judge_infix-unreachable-requires
+judge_infix-unreachable-requires t c = no_more _ c.requires c.in_default.not-Binary c.in_default.not-Cond c.in_default.not-Assign c.in_default.not-Comma
+
+pub judge_infix-returns-in_ok-second-in-Cond : goal.judge_infix-returns-in_ok-second-in-Cond
+judge_infix-returns-in_ok-second-in-Cond t c =
     let names : Names = c.args.names.now in
     let older : List ℕ = c.args.taken.now in
     let before : List ℕ = c.judge-in-Cond.new.taken in
@@ -36,8 +46,8 @@ judge-returns-in_ok-second-in-Cond t c =
     subst (Gives c.cond_rule.result older newer) (sym whole)
     (three_gives c.cond_rule.result (cond_rule c.in-Cond.place) i j k older before middle newer (judge names a) (judge names b) (judge names d) test first second c.cond_rule.ensures)
 
-pub judge-returns-in_ok-right-in-Assign : goal.judge-returns-in_ok-right-in-Assign
-judge-returns-in_ok-right-in-Assign t c =
+pub judge_infix-returns-in_ok-right-in-Assign : goal.judge_infix-returns-in_ok-right-in-Assign
+judge_infix-returns-in_ok-right-in-Assign t c =
     let names : Names = c.args.names.now in
     let older : List ℕ = c.args.taken.now in
     let middle : List ℕ = c.judge-in-Assign.new.taken in
@@ -55,8 +65,8 @@ judge-returns-in_ok-right-in-Assign t c =
     subst (Gives c.assign_rule.result older newer) (sym whole)
     (two_gives c.assign_rule.result (assign_rule c.in-Assign.place c.in-Assign.op) j k older middle newer (judge names l) (judge names r) left right c.assign_rule.ensures)
 
-pub judge-returns-in_ok-right-in-Comma : goal.judge-returns-in_ok-right-in-Comma
-judge-returns-in_ok-right-in-Comma t c =
+pub judge_infix-returns-in_ok-right-in-Comma : goal.judge_infix-returns-in_ok-right-in-Comma
+judge_infix-returns-in_ok-right-in-Comma t c =
     let names : Names = c.args.names.now in
     let older : List ℕ = c.args.taken.now in
     let middle : List ℕ = c.judge-in-Comma.new.taken in
