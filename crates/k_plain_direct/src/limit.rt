@@ -1,5 +1,5 @@
 //! Which expressions are evaluated as they are nested.
-ghost use Rattle.std.specs.Prelude.{◌≡◌, true, IfSome};
+ghost use Rattle.std.specs.Prelude.{◌≡◌, ◌&&◌, true, IfSome};
 ghost use Rattle.std.specs.Bool.{OnTrue};
 ghost use Rattle.k_plain_direct.specs.Direct.{is_direct as direct_meant};
 
@@ -10,6 +10,7 @@ use k_types_meaning::TExpr;
 const MOST: u32 = 64;
 
 /// How many more expressions may be visited behind one, of so many: nothing where it is not direct, or larger.
+#[cycle(rooms)]
 fn room_behind(e: &TExpr, room: u32) -> Option<u32>
     ensures { IfSome result (λ left. direct_meant e.now ≡ true) }
 {
@@ -44,22 +45,34 @@ fn room_behind(e: &TExpr, room: u32) -> Option<u32>
         | TExpr::PtrDistance { left, right, .. }
         | TExpr::Assign { left, right, .. }
         | TExpr::AssignBy { left, right, .. }
-        | TExpr::Comma { left, right, .. } => {
-            let room = room_behind(left.get(), room)?;
-            room_behind(right.get(), room)
-        }
+        | TExpr::Comma { left, right, .. } => room_behind_both(left.get(), right.get(), room),
         TExpr::Cond {
             test,
             then,
             other,
             ..
-        } => {
-            let room = room_behind(test.get(), room)?;
-            let room = room_behind(then.get(), room)?;
-            room_behind(other.get(), room)
-        }
+        } => room_behind_choice(test.get(), then.get(), other.get(), room),
         TExpr::Call { .. } | TExpr::Puts { .. } | TExpr::Printf { .. } => None,
     }
+}
+
+/// The same behind two operands.
+#[cycle(rooms)]
+fn room_behind_both(left: &TExpr, right: &TExpr, room: u32) -> Option<u32>
+    ensures { IfSome result (λ n. (direct_meant left.now && direct_meant right.now) ≡ true) }
+{
+    let room = room_behind(left, room)?;
+    room_behind(right, room)
+}
+
+/// The same behind a test and its two arms.
+#[cycle(rooms)]
+fn room_behind_choice(test: &TExpr, first: &TExpr, second: &TExpr, room: u32) -> Option<u32>
+    ensures { IfSome result (λ n. (direct_meant test.now && (direct_meant first.now && direct_meant second.now)) ≡ true) }
+{
+    let room = room_behind(test, room)?;
+    let room = room_behind(first, room)?;
+    room_behind(second, room)
 }
 
 /// Whether an expression is evaluated as it is nested: it is direct, and no larger than the limit.

@@ -17,42 +17,10 @@ use k_types_meaning::{Node, TExpr};
 use k_world::{ActRef, Stop};
 
 /// The node of an expression.
-#[tactic(auto, unfolding(k_evaluation::specs::Places::number, k_evaluation::specs::Places::string, k_evaluation::specs::Places::object, k_evaluation::specs::Places::variable, k_evaluation::specs::Places::index, k_evaluation::specs::Places::deref, k_evaluation::specs::Places::address, k_evaluation::specs::Places::forward, k_evaluation::specs::Places::back, k_evaluation::specs::Places::onto, k_evaluation::specs::Operators::plus, k_evaluation::specs::Operators::unary, k_evaluation::specs::Operators::convert, k_evaluation::specs::Operators::cast, k_evaluation::specs::Operators::binary, k_evaluation::specs::Operators::compare, k_evaluation::specs::Operators::distance, k_evaluation::specs::Operators::both, k_evaluation::specs::Operators::either, k_evaluation::specs::Operators::cond, k_evaluation::specs::Operators::comma, k_evaluation::specs::Assignments::assign, k_evaluation::specs::Assignments::assign_by, k_evaluation::specs::Assignments::pre, k_evaluation::specs::Assignments::post, k_evaluation::specs::Library::getchar, k_evaluation::specs::Library::putchar, k_evaluation::specs::Library::puts, k_evaluation::specs::Library::printf, k_evaluation::specs::Expressions::call))]
 pub fn node_of(e: &TExpr) -> Node
     ensures { (w : Within) → result ≡ (means w e.now).node }
 {
-    match e {
-        TExpr::Number { node, .. }
-        | TExpr::Str { node, .. }
-        | TExpr::Object { node, .. }
-        | TExpr::Variable { node, .. }
-        | TExpr::Index { node, .. }
-        | TExpr::Call { node, .. }
-        | TExpr::Getchar { node }
-        | TExpr::Putchar { node, .. }
-        | TExpr::Puts { node, .. }
-        | TExpr::Printf { node, .. }
-        | TExpr::Post { node, .. }
-        | TExpr::Pre { node, .. }
-        | TExpr::Address { node, .. }
-        | TExpr::Deref { node, .. }
-        | TExpr::Plus { node, .. }
-        | TExpr::Unary { node, .. }
-        | TExpr::Convert { node, .. }
-        | TExpr::Cast { node, .. }
-        | TExpr::Binary { node, .. }
-        | TExpr::Both { node, .. }
-        | TExpr::Either { node, .. }
-        | TExpr::Forward { node, .. }
-        | TExpr::Onto { node, .. }
-        | TExpr::Back { node, .. }
-        | TExpr::PtrCompare { node, .. }
-        | TExpr::PtrDistance { node, .. }
-        | TExpr::Cond { node, .. }
-        | TExpr::Assign { node, .. }
-        | TExpr::AssignBy { node, .. }
-        | TExpr::Comma { node, .. } => *node,
-    }
+    k_types_meaning::node_of(e)
 }
 
 /// The numbers that one element has of what an expression points to.

@@ -1,9 +1,10 @@
 //! The row of an expression: its node, and in one form all constructs that are evaluated alike, with their operands lent (C17 6.5).
-ghost use Rattle.std.specs.Prelude.{◌≡◌, ◌<◌, IfSome};
+ghost use Rattle.std.specs.Prelude.{◌≡◌, ◌<◌, true, IfSome};
 ghost use Rattle.k_evaluation.specs.Flows.{Within, means};
 ghost use Rattle.k_evaluation.specs.Meanings.{only_value};
 ghost use Rattle.k_evaluation.specs.Operators.{cast_to};
 ghost use Rattle.k_plain_direct.specs.Direct.{is_direct as direct_meant};
+ghost use Rattle.k_plain_direct.specs.Families.{has_infix, takes_two};
 ghost use Rattle.k_plain_direct.specs.Forms.{designator_depth, designator_direct, designator_in, form_depth, form_direct, form_means, meant};
 ghost use Rattle.k_types_meaning.specs.declared.tree.expression.Node.{Node};
 ghost use Rattle.k_types_meaning.specs.declared.tree.expression.TExpr.{size-TExpr};
@@ -122,7 +123,7 @@ pub struct Row<'a>(pub &'a Node, pub Form<'a>);
 
 /// The row of an expression.
 #[inline(always)]
-#[tactic(auto, unfolding(k_evaluation::specs::Places::number, k_evaluation::specs::Places::string, k_evaluation::specs::Places::object, k_evaluation::specs::Places::variable, k_evaluation::specs::Places::index, k_evaluation::specs::Places::deref, k_evaluation::specs::Places::address, k_evaluation::specs::Places::forward, k_evaluation::specs::Places::back, k_evaluation::specs::Places::onto, k_evaluation::specs::Operators::plus, k_evaluation::specs::Operators::unary, k_evaluation::specs::Operators::convert, k_evaluation::specs::Operators::cast, k_evaluation::specs::Operators::binary, k_evaluation::specs::Operators::compare, k_evaluation::specs::Operators::distance, k_evaluation::specs::Operators::both, k_evaluation::specs::Operators::either, k_evaluation::specs::Operators::cond, k_evaluation::specs::Operators::comma, k_evaluation::specs::Assignments::assign, k_evaluation::specs::Assignments::assign_by, k_evaluation::specs::Assignments::pre, k_evaluation::specs::Assignments::post, k_evaluation::specs::Library::getchar, k_evaluation::specs::Library::putchar, k_evaluation::specs::Library::puts, k_evaluation::specs::Library::printf, k_evaluation::specs::Expressions::call))]
+#[tactic(auto, unfolding(k_evaluation::specs::Places::number, k_evaluation::specs::Places::string, k_evaluation::specs::Places::object, k_evaluation::specs::Places::variable, k_evaluation::specs::Places::index, k_evaluation::specs::Places::deref, k_evaluation::specs::Places::address, k_evaluation::specs::Operators::plus, k_evaluation::specs::Operators::unary, k_evaluation::specs::Operators::convert, k_evaluation::specs::Operators::cast, k_evaluation::specs::Assignments::pre, k_evaluation::specs::Assignments::post, k_evaluation::specs::Library::getchar, k_evaluation::specs::Library::putchar, k_evaluation::specs::Library::puts, k_evaluation::specs::Library::printf, k_evaluation::specs::Expressions::call))]
 pub fn row_of<'a>(e: &'a TExpr) -> Row<'a>
     ensures means { (w : Within) → means w e.now ≡ meant w result }
     ensures direct { direct_meant e.now ≡ form_direct result.1 }
@@ -164,6 +165,50 @@ pub fn row_of<'a>(e: &'a TExpr) -> Row<'a>
         ),
         TExpr::Convert { node, of } => Row(node, Form::One(OnValue::Convert(kind_of(node.of)), of)),
         TExpr::Cast { node, of } => Row(node, cast(node.of, of)),
+        _ => row_between(e),
+    }
+}
+
+/// The same where an operator stands between operands.
+#[inline(always)]
+#[tactic(auto, unfolding(k_evaluation::specs::Operators::both, k_evaluation::specs::Operators::either, k_evaluation::specs::Operators::cond, k_evaluation::specs::Operators::comma, k_evaluation::specs::Assignments::assign, k_evaluation::specs::Assignments::assign_by))]
+fn row_between<'a>(e: &'a TExpr) -> Row<'a>
+    requires { has_infix e.now ≡ true }
+    ensures means { (w : Within) → means w e.now ≡ meant w result }
+    ensures direct { direct_meant e.now ≡ form_direct result.1 }
+    ensures smaller { form_depth result.1 < size-TExpr e.now }
+{
+    match e {
+        TExpr::Both { node, left, right } => Row(node, Form::Logic(false, left, right)),
+        TExpr::Either { node, left, right } => Row(node, Form::Logic(true, left, right)),
+        TExpr::Cond {
+            node,
+            test,
+            then,
+            other,
+        } => Row(node, Form::Choice(test, then, other)),
+        TExpr::Assign { node, left, right } => Row(node, Form::Assign(left, right)),
+        TExpr::AssignBy {
+            node,
+            change,
+            left,
+            right,
+        } => Row(node, Form::AssignBy(*change, left, right)),
+        TExpr::Comma { node, left, right } => Row(node, Form::Comma(left, right)),
+        _ => row_of_two(e),
+    }
+}
+
+/// The same where an operation is made on the values of two operands.
+#[inline(always)]
+#[tactic(auto, unfolding(k_evaluation::specs::Operators::binary, k_evaluation::specs::Places::forward, k_evaluation::specs::Places::back, k_evaluation::specs::Places::onto, k_evaluation::specs::Operators::compare, k_evaluation::specs::Operators::distance))]
+fn row_of_two<'a>(e: &'a TExpr) -> Row<'a>
+    requires { takes_two e.now ≡ true }
+    ensures means { (w : Within) → means w e.now ≡ meant w result }
+    ensures direct { direct_meant e.now ≡ form_direct result.1 }
+    ensures smaller { form_depth result.1 < size-TExpr e.now }
+{
+    match e {
         TExpr::Binary {
             node,
             op,
@@ -174,8 +219,6 @@ pub fn row_of<'a>(e: &'a TExpr) -> Row<'a>
             node,
             Form::Two(binary(node.place, *op, *kind), false, left, right),
         ),
-        TExpr::Both { node, left, right } => Row(node, Form::Logic(false, left, right)),
-        TExpr::Either { node, left, right } => Row(node, Form::Logic(true, left, right)),
         TExpr::Forward { node, left, right } => Row(
             node,
             Form::Two(moving(*node, false), false, left, right),
@@ -201,20 +244,7 @@ pub fn row_of<'a>(e: &'a TExpr) -> Row<'a>
             node,
             Form::Two(distance(*node, left), false, left, right),
         ),
-        TExpr::Cond {
-            node,
-            test,
-            then,
-            other,
-        } => Row(node, Form::Choice(test, then, other)),
-        TExpr::Assign { node, left, right } => Row(node, Form::Assign(left, right)),
-        TExpr::AssignBy {
-            node,
-            change,
-            left,
-            right,
-        } => Row(node, Form::AssignBy(*change, left, right)),
-        TExpr::Comma { node, left, right } => Row(node, Form::Comma(left, right)),
+        _ => unreachable!(),
     }
 }
 
