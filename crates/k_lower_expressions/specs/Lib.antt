@@ -1,3 +1,4 @@
 pub mod Arounds
 pub mod Emits
+pub mod Families
 pub mod Makings

@@ -12,6 +12,7 @@ ghost use Rattle.k_evaluation.specs.Meanings.{scale_of as scale_of_meant};
 ghost use Rattle.k_world.specs.declared.act.Out.TheVariants as out_act;
 ghost use Rattle.k_lower_expressions.specs.Arounds.{lowered_in, program_of};
 ghost use Rattle.k_lower_expressions.specs.Emits.{Emits, EmitsPlace};
+ghost use Rattle.k_lower_expressions.specs.Families.{assigns_or_computes, calls_or_computes, computes};
 ghost use Rattle.k_lower_expressions.specs.Makings.{chosen, decided, on_two_by};
 
 use crate::around::Around;
@@ -42,7 +43,8 @@ pub fn value(
 ) -> Result<Arg, NoMemory>
     ensures { Emits result ((lowered_in around.now e.now).value used r) out.old.items out.new.items }
 {
-    if u32::MAX - ROOM < r {
+    let most = u32::MAX - ROOM;
+    if most < r {
         return Err(NoMemory);
     }
     match e {
@@ -51,6 +53,39 @@ pub fn value(
         TExpr::Object { node, .. } => read(e, node, used, r, around, out),
         TExpr::Variable { node, .. } => read(e, node, used, r, around, out),
         TExpr::Index { node, .. } => read(e, node, used, r, around, out),
+        TExpr::Deref { node, .. } => read(e, node, used, r, around, out),
+        TExpr::Address { of, .. } => address(of, r, around, out),
+        TExpr::Plus { of, .. } => boxed_value(of, used, r, around, out),
+        TExpr::Unary { node, op, kind, of } => one(of, node.place, *op, *kind, r, around, out),
+        TExpr::Convert { node, of } => converted(of, node.place, kind_of(node.of), r, around, out),
+        TExpr::Cast { node, of } => cast(of, node, used, r, around, out),
+        TExpr::Both { node, left, right } => logic(left, right, node, false, r, around, out),
+        TExpr::Either { node, left, right } => logic(left, right, node, true, r, around, out),
+        TExpr::Cond {
+            node,
+            test,
+            then,
+            other,
+        } => conditional(test, then, other, node, r, around, out),
+        TExpr::Comma { left, right, .. } => comma(left, right, used, r, around, out),
+        _ => call_value(e, used, r, around, out),
+    }
+}
+
+/// The same of what is left: that of a call of a function of the source or of the library is emitted here (C17 6.5.2.2, 7.21.6, 7.21.7).
+#[cycle(expressions)]
+fn call_value(
+    e: &TExpr,
+    used: bool,
+    r: u32,
+    around: &Around<'_>,
+    out: &mut Vec<Instr>,
+) -> Result<Arg, NoMemory>
+    requires room { r + 8 < 2 ^ 32 }
+    requires family { calls_or_computes e.now ≡ true }
+    ensures { Emits result ((lowered_in around.now e.now).value used r) out.old.items out.new.items }
+{
+    match e {
         TExpr::Call {
             node,
             function,
@@ -60,14 +95,53 @@ pub fn value(
         TExpr::Putchar { node, of } => putchar(of, node.place, r, around, out),
         TExpr::Puts { node, of } => puts(of, node.place, r, around, out),
         TExpr::Printf { node, format, args } => printf(args, node.place, format, r, around, out),
+        _ => assignment_value(e, used, r, around, out),
+    }
+}
+
+/// The same: that of what writes to the place of its first operand is emitted here (C17 6.5.2.4, 6.5.3.1, 6.5.16).
+#[cycle(expressions)]
+fn assignment_value(
+    e: &TExpr,
+    used: bool,
+    r: u32,
+    around: &Around<'_>,
+    out: &mut Vec<Instr>,
+) -> Result<Arg, NoMemory>
+    requires room { r + 8 < 2 ^ 32 }
+    requires family { assigns_or_computes e.now ≡ true }
+    ensures { Emits result ((lowered_in around.now e.now).value used r) out.old.items out.new.items }
+{
+    match e {
         TExpr::Post { node, change, of } => post(of, node, *change, used, r, around, out),
         TExpr::Pre { node, change, of } => pre(of, node, *change, used, r, around, out),
-        TExpr::Address { of, .. } => address(of, r, around, out),
-        TExpr::Deref { node, .. } => read(e, node, used, r, around, out),
-        TExpr::Plus { of, .. } => boxed_value(of, used, r, around, out),
-        TExpr::Unary { node, op, kind, of } => one(of, node.place, *op, *kind, r, around, out),
-        TExpr::Convert { node, of } => converted(of, node.place, kind_of(node.of), r, around, out),
-        TExpr::Cast { node, of } => cast(of, node, used, r, around, out),
+        TExpr::Assign { node, left, right } => {
+            assign(left, right, node.place, used, r, around, out)
+        }
+        TExpr::AssignBy {
+            node,
+            change,
+            left,
+            right,
+        } => assign_by(left, right, node, *change, used, r, around, out),
+        _ => binary_value(e, used, r, around, out),
+    }
+}
+
+/// The same of a binary operator that takes the values of both operands, numbers or pointers (C17 6.5.5 to 6.5.12).
+#[cycle(expressions)]
+fn binary_value(
+    e: &TExpr,
+    used: bool,
+    r: u32,
+    around: &Around<'_>,
+    out: &mut Vec<Instr>,
+) -> Result<Arg, NoMemory>
+    requires room { r + 8 < 2 ^ 32 }
+    requires family { computes e.now ≡ true }
+    ensures { Emits result ((lowered_in around.now e.now).value used r) out.old.items out.new.items }
+{
+    match e {
         TExpr::Binary {
             node,
             op,
@@ -75,8 +149,6 @@ pub fn value(
             left,
             right,
         } => two(left, right, node, OnTwo::Binary(*op, *kind), r, around, out),
-        TExpr::Both { node, left, right } => logic(left, right, node, false, r, around, out),
-        TExpr::Either { node, left, right } => logic(left, right, node, true, r, around, out),
         TExpr::Forward { node, left, right } => {
             two(left, right, node, OnTwo::Forward, r, around, out)
         }
@@ -91,22 +163,7 @@ pub fn value(
         TExpr::PtrDistance { node, left, right } => {
             two(left, right, node, OnTwo::Distance, r, around, out)
         }
-        TExpr::Cond {
-            node,
-            test,
-            then,
-            other,
-        } => conditional(test, then, other, node, r, around, out),
-        TExpr::Assign { node, left, right } => {
-            assign(left, right, node.place, used, r, around, out)
-        }
-        TExpr::AssignBy {
-            node,
-            change,
-            left,
-            right,
-        } => assign_by(left, right, node, *change, used, r, around, out),
-        TExpr::Comma { left, right, .. } => comma(left, right, used, r, around, out),
+        _ => unreachable!(),
     }
 }
 

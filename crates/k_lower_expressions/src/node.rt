@@ -1,51 +1,12 @@
-//! What the text of an expression tells: its node, and its bytes where it is a string.
+//! What the text of an expression tells: its type, and its bytes where it is a string.
 ghost use Rattle.std.specs.Prelude.{◌≡◌, List, IfOk};
 ghost use Rattle.k_types_meaning.specs.declared.tree.unit.TVariable.{TVariable};
 ghost use Rattle.k_evaluation.specs.States.{Program};
 ghost use Rattle.k_lower_code.specs.Expressions.{lowered};
 
 use k_num::{Box, NoMemory, Seq};
-use k_types_meaning::{Node, TExpr, TType};
+use k_types_meaning::{TExpr, TType, node_of};
 use std::alloc::Global;
-
-/// The node of an expression.
-#[tactic(auto, unfolding(k_lower_code::specs::Places::number, k_lower_code::specs::Places::string, k_lower_code::specs::Places::object, k_lower_code::specs::Places::variable, k_lower_code::specs::Places::index, k_lower_code::specs::Places::deref, k_lower_code::specs::Places::address, k_lower_code::specs::Places::forward, k_lower_code::specs::Places::back, k_lower_code::specs::Places::onto, k_lower_code::specs::Operators::plus, k_lower_code::specs::Operators::unary, k_lower_code::specs::Operators::convert, k_lower_code::specs::Operators::cast, k_lower_code::specs::Operators::binary, k_lower_code::specs::Operators::compare, k_lower_code::specs::Operators::distance, k_lower_code::specs::Operators::both, k_lower_code::specs::Operators::either, k_lower_code::specs::Operators::cond, k_lower_code::specs::Operators::comma, k_lower_code::specs::Assignments::assign, k_lower_code::specs::Assignments::assign_by, k_lower_code::specs::Assignments::pre, k_lower_code::specs::Assignments::post, k_lower_code::specs::Library::getchar, k_lower_code::specs::Library::putchar, k_lower_code::specs::Library::puts, k_lower_code::specs::Library::printf, k_lower_code::specs::Library::call))]
-fn node_of(e: &TExpr) -> Node
-    ensures { (program : Program) (vs : List TVariable) → result ≡ (lowered program vs e.now).node }
-{
-    match e {
-        TExpr::Number { node, .. }
-        | TExpr::Str { node, .. }
-        | TExpr::Object { node, .. }
-        | TExpr::Variable { node, .. }
-        | TExpr::Index { node, .. }
-        | TExpr::Call { node, .. }
-        | TExpr::Getchar { node }
-        | TExpr::Putchar { node, .. }
-        | TExpr::Puts { node, .. }
-        | TExpr::Printf { node, .. }
-        | TExpr::Post { node, .. }
-        | TExpr::Pre { node, .. }
-        | TExpr::Address { node, .. }
-        | TExpr::Deref { node, .. }
-        | TExpr::Plus { node, .. }
-        | TExpr::Unary { node, .. }
-        | TExpr::Convert { node, .. }
-        | TExpr::Cast { node, .. }
-        | TExpr::Binary { node, .. }
-        | TExpr::Both { node, .. }
-        | TExpr::Either { node, .. }
-        | TExpr::Forward { node, .. }
-        | TExpr::Onto { node, .. }
-        | TExpr::Back { node, .. }
-        | TExpr::PtrCompare { node, .. }
-        | TExpr::PtrDistance { node, .. }
-        | TExpr::Cond { node, .. }
-        | TExpr::Assign { node, .. }
-        | TExpr::AssignBy { node, .. }
-        | TExpr::Comma { node, .. } => *node,
-    }
-}
 
 /// The type of the value of an expression.
 pub fn type_of(e: &Box<TExpr>) -> TType

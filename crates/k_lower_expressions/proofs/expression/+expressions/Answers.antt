@@ -1,4 +1,4 @@
-use Rattle.std.proofs.Common.{ℕ, ◌∙◌, ◌+◌, true, false, List, Option, None, Some, map, slice_set, sym, ap, subst, rules}
+use Rattle.std.proofs.Common.{ℕ, ◌∙◌, ◌+◌, true, false, List, Option, None, Some, map, slice_set, sym, ap, subst, rules, arith}
 use Rattle.std.proofs.lemmas.Int.{to_z-of_z}
 use Rattle.std.specs.Int.{w128}
 use Rattle.k_num.specs.declared.numbers.Bin.TheVariants.{Ne}
@@ -23,10 +23,23 @@ use Rattle.k_lower_code.specs.Places.{address_at, behind_base, element_at}
 use Rattle.k_lower_expressions.specs.Arounds.{designates, lowered_in, program_of}
 use Rattle.k_lower_expressions.specs.Makings.{on_two_by}
 use Rattle.k_lower_expressions.proofs.Emitted.{Emits, EmitsPlace, Emitted, behind, emitted_behind, ends, only_emitted, place_behind, same_emits, same_place, settled_emitted}
+use Rattle.k_lower_expressions.proofs.LeftForms.{a_call_or_more, an_assignment_or_more, a_binary, no_more}
 use Rattle.k_lower_expressions.proofs.NoPlaces.{no_place}
 use Rattle.k_lower_expressions.proofs.Rows.{address_row, assign_by_row, assign_row, back_row, binary_row, both_row, call_row, cast_row, comma_row, compare_row, cond_row, convert_row, deref_place, deref_read, distance_row, either_row, forward_row, getchar_row, index_place, index_read, number_row, object_place, object_read, onto_row, plus_row, post_row, pre_row, printf_row, putchar_row, puts_row, string_row, unary_row, variable_place, variable_read}
 use Rattle.k_lower_expressions.proofs.Tests.{chooses_emitted, tests_emitted}
 use Rattle.k_lower_expressions.proofs.expression.+expressions.Goals as goal
+
+pub value-call_value-requires : goal.value-call_value-requires
+value-call_value-requires t c = (omega (arith, c.decreases), (omega (arith, c.if-most-r.false), a_call_or_more _ c.in_default.not-Number c.in_default.not-Str c.in_default.not-Object c.in_default.not-Variable c.in_default.not-Index c.in_default.not-Deref c.in_default.not-Address c.in_default.not-Plus c.in_default.not-Unary c.in_default.not-Convert c.in_default.not-Cast c.in_default.not-Both c.in_default.not-Either c.in_default.not-Cond c.in_default.not-Comma))
+
+pub call_value-assignment_value-requires : goal.call_value-assignment_value-requires
+call_value-assignment_value-requires t c = (omega (arith, c.decreases), (c.requires.room, an_assignment_or_more _ c.requires.family c.in_default.not-Call c.in_default.not-Getchar c.in_default.not-Putchar c.in_default.not-Puts c.in_default.not-Printf))
+
+pub assignment_value-binary_value-requires : goal.assignment_value-binary_value-requires
+assignment_value-binary_value-requires t c = (omega (arith, c.decreases), (c.requires.room, a_binary _ c.requires.family c.in_default.not-Post c.in_default.not-Pre c.in_default.not-Assign c.in_default.not-AssignBy))
+
+pub binary_value-unreachable-requires : goal.binary_value-unreachable-requires
+binary_value-unreachable-requires t c = no_more _ c.requires.family c.in_default.not-Binary c.in_default.not-Forward c.in_default.not-Onto c.in_default.not-Back c.in_default.not-PtrCompare c.in_default.not-PtrDistance
 
 pub value-returns-in-Str : goal.value-returns-in-Str
 value-returns-in-Str t c =
@@ -52,44 +65,44 @@ value-returns-in-Index t c =
     let at = c.in-Index in
     same_emits c.read-in-Index.result _ _ c.args.out.now.items c.read-in-Index.new.out.items (index_read a c.args.e.now at.node c.args.used c.args.r at.base at.index at.is) c.read-in-Index.ensures
 
-pub value-returns-in-Call : goal.value-returns-in-Call
-value-returns-in-Call t c =
+pub call_value-returns-in-Call : goal.call_value-returns-in-Call
+call_value-returns-in-Call t c =
     let a = c.args.around.now in
     let at = c.in-Call in
     same_emits c.call.result _ _ c.args.out.now.items c.call.new.out.items (call_row a c.args.e.now at.node c.args.used c.args.r at.function at.args at.is) c.call.ensures
 
-pub value-returns-in-Getchar : goal.value-returns-in-Getchar
-value-returns-in-Getchar t c =
+pub call_value-returns-in-Getchar : goal.call_value-returns-in-Getchar
+call_value-returns-in-Getchar t c =
     let a = c.args.around.now in
     let at = c.in-Getchar in
     same_emits c.sets.result _ _ c.args.out.now.items c.sets.new.out.items (getchar_row a c.args.e.now at.node c.args.used c.args.r at.is) c.sets.ensures
 
-pub value-returns-in-Putchar : goal.value-returns-in-Putchar
-value-returns-in-Putchar t c =
+pub call_value-returns-in-Putchar : goal.call_value-returns-in-Putchar
+call_value-returns-in-Putchar t c =
     let a = c.args.around.now in
     let at = c.in-Putchar in
     same_emits c.putchar.result _ _ c.args.out.now.items c.putchar.new.out.items (putchar_row a c.args.e.now at.node c.args.used c.args.r at.of at.is) c.putchar.ensures
 
-pub value-returns-in-Puts : goal.value-returns-in-Puts
-value-returns-in-Puts t c =
+pub call_value-returns-in-Puts : goal.call_value-returns-in-Puts
+call_value-returns-in-Puts t c =
     let a = c.args.around.now in
     let at = c.in-Puts in
     same_emits c.puts.result _ _ c.args.out.now.items c.puts.new.out.items (puts_row a c.args.e.now at.node c.args.used c.args.r at.of at.is) c.puts.ensures
 
-pub value-returns-in-Printf : goal.value-returns-in-Printf
-value-returns-in-Printf t c =
+pub call_value-returns-in-Printf : goal.call_value-returns-in-Printf
+call_value-returns-in-Printf t c =
     let a = c.args.around.now in
     let at = c.in-Printf in
     same_emits c.printf.result _ _ c.args.out.now.items c.printf.new.out.items (printf_row a c.args.e.now at.node c.args.used c.args.r at.format at.args at.is) c.printf.ensures
 
-pub value-returns-in-Post : goal.value-returns-in-Post
-value-returns-in-Post t c =
+pub assignment_value-returns-in-Post : goal.assignment_value-returns-in-Post
+assignment_value-returns-in-Post t c =
     let a = c.args.around.now in
     let at = c.in-Post in
     same_emits c.post.result _ _ c.args.out.now.items c.post.new.out.items (post_row a c.args.e.now at.node c.args.used c.args.r at.change at.of at.is) c.post.ensures
 
-pub value-returns-in-Pre : goal.value-returns-in-Pre
-value-returns-in-Pre t c =
+pub assignment_value-returns-in-Pre : goal.assignment_value-returns-in-Pre
+assignment_value-returns-in-Pre t c =
     let a = c.args.around.now in
     let at = c.in-Pre in
     same_emits c.pre.result _ _ c.args.out.now.items c.pre.new.out.items (pre_row a c.args.e.now at.node c.args.used c.args.r at.change at.of at.is) c.pre.ensures
@@ -132,8 +145,8 @@ value-returns-in-Cast t c =
     let at = c.in-Cast in
     same_emits c.cast.result _ _ c.args.out.now.items c.cast.new.out.items (cast_row a c.args.e.now at.node c.args.used c.args.r at.of at.is) c.cast.ensures
 
-pub value-returns-in-Binary : goal.value-returns-in-Binary
-value-returns-in-Binary t c =
+pub binary_value-returns-in-Binary : goal.binary_value-returns-in-Binary
+binary_value-returns-in-Binary t c =
     let a = c.args.around.now in
     let at = c.in-Binary in
     same_emits c.two.result _ _ c.args.out.now.items c.two.new.out.items (binary_row a c.args.e.now at.node c.args.used c.args.r at.op at.kind at.left at.right at.is) c.two.ensures
@@ -150,32 +163,32 @@ value-returns-in-Either t c =
     let at = c.in-Either in
     same_emits c.logic-in-Either.result _ _ c.args.out.now.items c.logic-in-Either.new.out.items (either_row a c.args.e.now at.node c.args.used c.args.r at.left at.right at.is) c.logic-in-Either.ensures
 
-pub value-returns-in-Forward : goal.value-returns-in-Forward
-value-returns-in-Forward t c =
+pub binary_value-returns-in-Forward : goal.binary_value-returns-in-Forward
+binary_value-returns-in-Forward t c =
     let a = c.args.around.now in
     let at = c.in-Forward in
     same_emits c.two-in-Forward.result _ _ c.args.out.now.items c.two-in-Forward.new.out.items (forward_row a c.args.e.now at.node c.args.used c.args.r at.left at.right at.is) c.two-in-Forward.ensures
 
-pub value-returns-in-Onto : goal.value-returns-in-Onto
-value-returns-in-Onto t c =
+pub binary_value-returns-in-Onto : goal.binary_value-returns-in-Onto
+binary_value-returns-in-Onto t c =
     let a = c.args.around.now in
     let at = c.in-Onto in
     same_emits c.two-in-Onto.result _ _ c.args.out.now.items c.two-in-Onto.new.out.items (onto_row a c.args.e.now at.node c.args.used c.args.r at.left at.right at.is) c.two-in-Onto.ensures
 
-pub value-returns-in-Back : goal.value-returns-in-Back
-value-returns-in-Back t c =
+pub binary_value-returns-in-Back : goal.binary_value-returns-in-Back
+binary_value-returns-in-Back t c =
     let a = c.args.around.now in
     let at = c.in-Back in
     same_emits c.two-in-Back.result _ _ c.args.out.now.items c.two-in-Back.new.out.items (back_row a c.args.e.now at.node c.args.used c.args.r at.left at.right at.is) c.two-in-Back.ensures
 
-pub value-returns-in-PtrCompare : goal.value-returns-in-PtrCompare
-value-returns-in-PtrCompare t c =
+pub binary_value-returns-in-PtrCompare : goal.binary_value-returns-in-PtrCompare
+binary_value-returns-in-PtrCompare t c =
     let a = c.args.around.now in
     let at = c.in-PtrCompare in
     same_emits c.two-in-PtrCompare.result _ _ c.args.out.now.items c.two-in-PtrCompare.new.out.items (compare_row a c.args.e.now at.node c.args.used c.args.r at.op at.left at.right at.is) c.two-in-PtrCompare.ensures
 
-pub value-returns-in-PtrDistance : goal.value-returns-in-PtrDistance
-value-returns-in-PtrDistance t c =
+pub binary_value-returns-in-PtrDistance : goal.binary_value-returns-in-PtrDistance
+binary_value-returns-in-PtrDistance t c =
     let a = c.args.around.now in
     let at = c.in-PtrDistance in
     same_emits c.two-in-PtrDistance.result _ _ c.args.out.now.items c.two-in-PtrDistance.new.out.items (distance_row a c.args.e.now at.node c.args.used c.args.r at.left at.right at.is) c.two-in-PtrDistance.ensures
@@ -186,14 +199,14 @@ value-returns-in-Cond t c =
     let at = c.in-Cond in
     same_emits c.conditional.result _ _ c.args.out.now.items c.conditional.new.out.items (cond_row a c.args.e.now at.node c.args.used c.args.r at.test at.then at.other at.is) c.conditional.ensures
 
-pub value-returns-in-Assign : goal.value-returns-in-Assign
-value-returns-in-Assign t c =
+pub assignment_value-returns-in-Assign : goal.assignment_value-returns-in-Assign
+assignment_value-returns-in-Assign t c =
     let a = c.args.around.now in
     let at = c.in-Assign in
     same_emits c.assign.result _ _ c.args.out.now.items c.assign.new.out.items (assign_row a c.args.e.now at.node c.args.used c.args.r at.left at.right at.is) c.assign.ensures
 
-pub value-returns-in-AssignBy : goal.value-returns-in-AssignBy
-value-returns-in-AssignBy t c =
+pub assignment_value-returns-in-AssignBy : goal.assignment_value-returns-in-AssignBy
+assignment_value-returns-in-AssignBy t c =
     let a = c.args.around.now in
     let at = c.in-AssignBy in
     same_emits c.assign_by.result _ _ c.args.out.now.items c.assign_by.new.out.items (assign_by_row a c.args.e.now at.node c.args.used c.args.r at.change at.left at.right at.is) c.assign_by.ensures
