@@ -1,7 +1,10 @@
 -- For contracts between crates: nobody has to believe it.
 -- Statements of a block and parts of a switch that were emitted, and what stands behind a loop in front of which objects were made.
-use Rattle.std.specs.Prelude.{ℕ, zero, suc, ◌≡◌, List, [], length}
+use Rattle.std.specs.Prelude.{ℕ, zero, suc, ◌≡◌, Bool, true, false, List, [], length}
 use Rattle.k_num.specs.declared.place.Place.{Place}
+use Rattle.k_types_meaning.specs.declared.tree.statement.TPart.{TPart}
+use Rattle.k_types_meaning.specs.declared.tree.statement.TPart.TheOpen.{TStmt-F}
+use Rattle.k_types_meaning.specs.declared.tree.statement.TStmt.{TStmt, out-TStmt}
 use Rattle.k_code.specs.declared.instruction.Do.TheVariants.{ObjectsClose}
 use Rattle.k_code.specs.declared.instruction.Instr.{Instr}
 use Rattle.k_evaluation.specs.States.{Program}
@@ -14,6 +17,17 @@ use Rattle.k_lower_statements.specs.Sites.{at_site, site_of}
 use Rattle.k_lower_statements.specs.declared.site.Site as declared_site
 use Rattle.k_lower_blocks.specs.Arounds.{EntersBlock, Passes}
 use Rattle.k_lower_blocks.specs.declared.block.BlockRest.{BlockRest}
+
+-- a loop
+abbrev pub iterates_at : TStmt-F TPart TStmt → Bool
+iterates_at (TStmt-F.While spot n test body) = true
+iterates_at (TStmt-F.DoWhile spot n body test) = true
+iterates_at (TStmt-F.For spot n start test step body) = true
+iterates_at _ = false
+
+-- a statement is one
+abbrev pub iterates : TStmt → Bool
+iterates s = iterates_at (out-TStmt s)
 
 -- a block of which nothing was emitted yet
 abbrev pub begun : declared_site.Site → List Extent → BlockRest

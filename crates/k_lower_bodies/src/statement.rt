@@ -1,7 +1,7 @@
 //! The walk over statements that emits them.
 ghost use Rattle.std.specs.Prelude.{◌≡◌, None, Some, true, false, map, OnOk};
 ghost use Rattle.std.specs.Option.{option_copied};
-ghost use Rattle.k_lower_bodies.specs.Bodies.{NextEmitted, PartEmitted};
+ghost use Rattle.k_lower_bodies.specs.Bodies.{NextEmitted, PartEmitted, iterates};
 ghost use Rattle.k_lower_cases.specs.Cases.{switches_in};
 ghost use Rattle.k_lower_code.specs.Declarations.{means, temporary as temporary_meant};
 ghost use Rattle.k_lower_code.specs.Loops.{inside_loop, source_loop};
@@ -54,50 +54,6 @@ fn statement(
             None => if_one(then, test, spot, table, site, around, out),
             Some(other) => if_two(then, other, test, spot, table, site, around, out),
         },
-        TStmt::While {
-            spot,
-            turns,
-            test,
-            body,
-        } => repeat(
-            body,
-            spot,
-            *turns,
-            true,
-            Some(test),
-            None,
-            table,
-            site,
-            around,
-            out,
-        ),
-        TStmt::DoWhile {
-            spot,
-            turns,
-            body,
-            test,
-        } => repeat(
-            body,
-            spot,
-            *turns,
-            false,
-            Some(test),
-            None,
-            table,
-            site,
-            around,
-            out,
-        ),
-        TStmt::For {
-            spot,
-            turns,
-            first,
-            test,
-            step,
-            body,
-        } => repeat_from(
-            body, spot, *turns, first, test, step, table, site, around, out,
-        ),
         TStmt::Switch {
             spot,
             kind,
@@ -111,6 +67,46 @@ fn statement(
             declare(list, spot, site, around, out)?;
             Ok(())
         }
+        _ => loop_statement(stmt, table, site, around, out),
+    }
+}
+
+/// Emits a statement that is a loop.
+#[cycle(statements)]
+fn loop_statement(
+    stmt: &TStmt,
+    table: &[Option<Extent>],
+    site: Site,
+    around: &Around<'_>,
+    out: &mut Vec<Instr>,
+) -> Result<(), NoMemory>
+    requires { iterates stmt.now ≡ true }
+    ensures { AreExtents table.now (inside_of around.now) stmt.now → Emits result (at_site (site_of site) (lowered (inside_of around.now) stmt.now)) out.old.items out.new.items }
+{
+    match stmt {
+        TStmt::While {
+            spot,
+            turns,
+            test,
+            body,
+        } => repeat_while(body, spot, *turns, true, test, table, site, around, out),
+        TStmt::DoWhile {
+            spot,
+            turns,
+            body,
+            test,
+        } => repeat_while(body, spot, *turns, false, test, table, site, around, out),
+        TStmt::For {
+            spot,
+            turns,
+            first,
+            test,
+            step,
+            body,
+        } => repeat_from(
+            body, spot, *turns, first, test, step, table, site, around, out,
+        ),
+        _ => unreachable!(),
     }
 }
 
@@ -276,6 +272,35 @@ fn repeat(
     save_unless(stays, around, spot.place, out)?;
     turn(body, turns, test, step, table, site, around, out)?;
     back_unless(stays, around, spot.place, out)
+}
+
+/// Emits a `while` or a `do`, which have a test and no step.
+#[cycle(statements)]
+fn repeat_while(
+    body: &Box<TStmt>,
+    spot: &Spot,
+    number: u32,
+    tested: bool,
+    test: &Box<TExpr>,
+    table: &[Option<Extent>],
+    site: Site,
+    around: &Around<'_>,
+    out: &mut Vec<Instr>,
+) -> Result<(), NoMemory>
+    ensures { AreExtents table.now (inside_of around.now) body.now → Emits result (at_site (site_of site) (source_loop (inside_of around.now) spot.now number (Some test.now) None (lowered (inside_of around.now) body.now) tested)) out.old.items out.new.items }
+{
+    repeat(
+        body,
+        spot,
+        number,
+        tested,
+        Some(test),
+        None,
+        table,
+        site,
+        around,
+        out,
+    )
 }
 
 /// Emits what a loop is in its region: its body, and what stands around it.

@@ -24,8 +24,15 @@ use Rattle.k_lower_turns.proofs.Together.{turns_emits}
 use Rattle.std.specs.Option.{option_copied}
 use Rattle.k_types_meaning.specs.declared.tree.expression.TExpr.{TExpr}
 use Rattle.k_lower_turns.specs.declared.turns.Turns.{Turns}
+use Rattle.k_lower_bodies.proofs.LeftForms.{a_loop, no_loop}
 use Rattle.k_lower_bodies.proofs.Rows.{as_lowered, block_row, for_emitted, loop_emitted, nothing_yet, part_left, parts_end, statement_left, statements_end, switch_emitted}
 use Rattle.k_lower_bodies.proofs.statement.+statements.Goals as goal
+
+pub statement-loop_statement-requires : goal.statement-loop_statement-requires
+statement-loop_statement-requires t c = (omega (arith, c.decreases), a_loop _ c.in_default.not-Expr c.in_default.not-Empty c.in_default.not-Block c.in_default.not-If c.in_default.not-Switch c.in_default.not-Break c.in_default.not-Continue c.in_default.not-Return c.in_default.not-Declare)
+
+pub loop_statement-unreachable-requires : goal.loop_statement-unreachable-requires
+loop_statement-unreachable-requires t c = no_loop _ c.requires c.in_default.not-While c.in_default.not-DoWhile c.in_default.not-For
 
 pub statement-returns-in-Block : goal.statement-returns-in-Block
 statement-returns-in-Block t c = λ has.
@@ -45,20 +52,20 @@ statement-returns-in-Some t c = λ has.
     (ap (lowered (inside_of c.args.around.now)) (c.in-If.is ∙ ap (stmt.If c.in-If.spot c.in-If.test c.in-If.then) c.in-Some.is) ∙ done_else PartLowered Stretch part_step (lower_step (inside_of c.args.around.now)) c.in-If.spot c.in-If.test c.in-If.then c.in-Some.other)
     (c.if_two.ensures (first_arm (inside_of c.args.around.now) c.args.table.now c.in-If.spot c.in-If.test c.in-If.then c.in-Some.other (subst (AreExtents c.args.table.now (inside_of c.args.around.now)) (c.in-If.is ∙ ap (stmt.If c.in-If.spot c.in-If.test c.in-If.then) c.in-Some.is) has)) (second_arm (inside_of c.args.around.now) c.args.table.now c.in-If.spot c.in-If.test c.in-If.then c.in-Some.other (subst (AreExtents c.args.table.now (inside_of c.args.around.now)) (c.in-If.is ∙ ap (stmt.If c.in-If.spot c.in-If.test c.in-If.then) c.in-Some.is) has)))
 
-pub statement-returns-in-While : goal.statement-returns-in-While
-statement-returns-in-While t c = λ has.
-    as_lowered (inside_of c.args.around.now) c.args.stmt.now (source_loop (inside_of c.args.around.now) c.in-While.spot c.in-While.turns (Some c.in-While.test) None (lowered (inside_of c.args.around.now) c.in-While.body) true) (site_of c.args.site) c.repeat.result c.args.out.now.items c.repeat.new.out.items
+pub loop_statement-returns-in-While : goal.loop_statement-returns-in-While
+loop_statement-returns-in-While t c = λ has.
+    as_lowered (inside_of c.args.around.now) c.args.stmt.now (source_loop (inside_of c.args.around.now) c.in-While.spot c.in-While.turns (Some c.in-While.test) None (lowered (inside_of c.args.around.now) c.in-While.body) true) (site_of c.args.site) c.repeat_while.result c.args.out.now.items c.repeat_while.new.out.items
     (ap (lowered (inside_of c.args.around.now)) c.in-While.is ∙ done_While PartLowered Stretch part_step (lower_step (inside_of c.args.around.now)) c.in-While.spot c.in-While.turns c.in-While.test c.in-While.body)
-    (c.repeat.ensures (while_body (inside_of c.args.around.now) c.args.table.now c.in-While.spot c.in-While.turns c.in-While.test c.in-While.body (subst (AreExtents c.args.table.now (inside_of c.args.around.now)) c.in-While.is has)))
+    (c.repeat_while.ensures (while_body (inside_of c.args.around.now) c.args.table.now c.in-While.spot c.in-While.turns c.in-While.test c.in-While.body (subst (AreExtents c.args.table.now (inside_of c.args.around.now)) c.in-While.is has)))
 
-pub statement-returns-in-DoWhile : goal.statement-returns-in-DoWhile
-statement-returns-in-DoWhile t c = λ has.
-    as_lowered (inside_of c.args.around.now) c.args.stmt.now (source_loop (inside_of c.args.around.now) c.in-DoWhile.spot c.in-DoWhile.turns (Some c.in-DoWhile.test) None (lowered (inside_of c.args.around.now) c.in-DoWhile.body) false) (site_of c.args.site) c.repeat-in-DoWhile.result c.args.out.now.items c.repeat-in-DoWhile.new.out.items
+pub loop_statement-returns-in-DoWhile : goal.loop_statement-returns-in-DoWhile
+loop_statement-returns-in-DoWhile t c = λ has.
+    as_lowered (inside_of c.args.around.now) c.args.stmt.now (source_loop (inside_of c.args.around.now) c.in-DoWhile.spot c.in-DoWhile.turns (Some c.in-DoWhile.test) None (lowered (inside_of c.args.around.now) c.in-DoWhile.body) false) (site_of c.args.site) c.repeat_while-in-DoWhile.result c.args.out.now.items c.repeat_while-in-DoWhile.new.out.items
     (ap (lowered (inside_of c.args.around.now)) c.in-DoWhile.is ∙ done_DoWhile PartLowered Stretch part_step (lower_step (inside_of c.args.around.now)) c.in-DoWhile.spot c.in-DoWhile.turns c.in-DoWhile.body c.in-DoWhile.test)
-    (c.repeat-in-DoWhile.ensures (do_body (inside_of c.args.around.now) c.args.table.now c.in-DoWhile.spot c.in-DoWhile.turns c.in-DoWhile.body c.in-DoWhile.test (subst (AreExtents c.args.table.now (inside_of c.args.around.now)) c.in-DoWhile.is has)))
+    (c.repeat_while-in-DoWhile.ensures (do_body (inside_of c.args.around.now) c.args.table.now c.in-DoWhile.spot c.in-DoWhile.turns c.in-DoWhile.body c.in-DoWhile.test (subst (AreExtents c.args.table.now (inside_of c.args.around.now)) c.in-DoWhile.is has)))
 
-pub statement-returns-in-For : goal.statement-returns-in-For
-statement-returns-in-For t c = λ has.
+pub loop_statement-returns-in-For : goal.loop_statement-returns-in-For
+loop_statement-returns-in-For t c = λ has.
     as_lowered (inside_of c.args.around.now) c.args.stmt.now (for_loop (inside_of c.args.around.now) c.in-For.spot c.in-For.turns c.in-For.first c.in-For.test c.in-For.step (lowered (inside_of c.args.around.now) c.in-For.body)) (site_of c.args.site) c.repeat_from.result c.args.out.now.items c.repeat_from.new.out.items
     (ap (lowered (inside_of c.args.around.now)) c.in-For.is ∙ done_For PartLowered Stretch part_step (lower_step (inside_of c.args.around.now)) c.in-For.spot c.in-For.turns c.in-For.first c.in-For.test c.in-For.step c.in-For.body)
     (c.repeat_from.ensures (for_body (inside_of c.args.around.now) c.args.table.now c.in-For.spot c.in-For.turns c.in-For.first c.in-For.test c.in-For.step c.in-For.body (subst (AreExtents c.args.table.now (inside_of c.args.around.now)) c.in-For.is has)))
@@ -132,6 +139,9 @@ repeat-returns t c = λ has.
     c.in_ok-extent.extent c.in_ok-turns.turns c.stays_behind_loop-stays.result c.args.out.now.items c.save_unless.new.out.items c.turn.new.out.items c.back_unless.new.out.items
     (c.in_ok-extent.ensures (inside_of c.args.around.now) has) c.in_ok-turns.ensures c.stays_behind_loop-stays.ensures c.in_ok-save_unless.ensures
     (c.in_ok-turn.ensures has (sym (c.in_ok-extent.ensures (inside_of c.args.around.now) has) ∙ sym (ap (λ (u : Turns). u.body) c.in_ok-turns.ensures))) c.back_unless.ensures
+
+pub repeat_while-returns : goal.repeat_while-returns
+repeat_while-returns t c = λ has. c.repeat.ensures has
 
 pub turn-returns : goal.turn-returns
 turn-returns t c = λ has is.

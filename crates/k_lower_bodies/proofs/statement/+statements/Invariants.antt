@@ -23,46 +23,52 @@ invariant-part_statements-loop-part l =
     (at_site (site_of l.fn.site) (in_order (program_of l.around) l.place (statements_of (map (lowered_part (inside_of l.around)) l.parts)))) l.fn.out.items l.out.items
 
 abbrev pub decreases-statement : goal.decreases-statement
-decreases-statement a = 16 * size-TStmt a.stmt.now
+decreases-statement a = 16 * size-TStmt a.stmt.now + 1
+
+abbrev pub decreases-loop_statement : goal.decreases-loop_statement
+decreases-loop_statement a = 16 * size-TStmt a.stmt.now
 
 abbrev pub decreases-boxed : goal.decreases-boxed
-decreases-boxed a = 16 * size-TStmt a.stmt.now + 1
+decreases-boxed a = 16 * size-TStmt a.stmt.now + 2
 
 abbrev pub decreases-next_statement : goal.decreases-next_statement
-decreases-next_statement a = 16 * size-TStmt a.stmt.now + 1
+decreases-next_statement a = 16 * size-TStmt a.stmt.now + 2
 
 abbrev pub decreases-statements : goal.decreases-statements
-decreases-statements a = 16 * goal.size-statements a + 2
+decreases-statements a = 16 * goal.size-statements a + 3
 
 abbrev pub decreases-one_arm : goal.decreases-one_arm
-decreases-one_arm a = 16 * size-TStmt a.then.now + 2
+decreases-one_arm a = 16 * size-TStmt a.then.now + 3
 
 abbrev pub decreases-if_one : goal.decreases-if_one
-decreases-if_one a = 16 * size-TStmt a.then.now + 3
+decreases-if_one a = 16 * size-TStmt a.then.now + 4
 
 abbrev pub decreases-two_arms : goal.decreases-two_arms
-decreases-two_arms a = 16 * max (size-TStmt a.then.now) (size-TStmt a.other.now) + 2
+decreases-two_arms a = 16 * max (size-TStmt a.then.now) (size-TStmt a.other.now) + 3
 
 abbrev pub decreases-if_two : goal.decreases-if_two
-decreases-if_two a = 16 * max (size-TStmt a.then.now) (size-TStmt a.other.now) + 3
+decreases-if_two a = 16 * max (size-TStmt a.then.now) (size-TStmt a.other.now) + 4
 
 abbrev pub decreases-turn : goal.decreases-turn
-decreases-turn a = 16 * size-TStmt a.body.now + 2
+decreases-turn a = 16 * size-TStmt a.body.now + 3
 
 abbrev pub decreases-repeat : goal.decreases-repeat
-decreases-repeat a = 16 * size-TStmt a.body.now + 3
+decreases-repeat a = 16 * size-TStmt a.body.now + 4
+
+abbrev pub decreases-repeat_while : goal.decreases-repeat_while
+decreases-repeat_while a = 16 * size-TStmt a.body.now + 5
 
 abbrev pub decreases-repeat_from : goal.decreases-repeat_from
-decreases-repeat_from a = 16 * size-TStmt a.body.now + 4
+decreases-repeat_from a = 16 * size-TStmt a.body.now + 5
 
 abbrev pub decreases-next_part : goal.decreases-next_part
-decreases-next_part a = 16 * size-TPart a.part.now + 1
+decreases-next_part a = 16 * size-TPart a.part.now + 2
 
 abbrev pub decreases-part_statements : goal.decreases-part_statements
-decreases-part_statements a = 16 * goal.size-part_statements a + 2
+decreases-part_statements a = 16 * goal.size-part_statements a + 3
 
 abbrev pub decreases-select : goal.decreases-select
-decreases-select a = 16 * goal.size-select a + 3
+decreases-select a = 16 * goal.size-select a + 4
 
 abbrev pub decreases-choose : goal.decreases-choose
-decreases-choose a = 16 * goal.size-choose a + 4
+decreases-choose a = 16 * goal.size-choose a + 5
