@@ -6,3 +6,4 @@ pub mod DeclareRows
 pub mod CallRows
 pub mod FitLaws
 pub mod FoundRows
+pub mod LeftForms

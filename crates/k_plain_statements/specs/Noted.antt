@@ -1,12 +1,12 @@
 -- For contracts between crates: nobody has to believe it.
 -- What a statement does where the jumps of the parts of an `if`, a loop and a switch are looked up in a table.
-use Rattle.std.specs.Prelude.{ℕ, ◌≡◌, List, [], ◌∷◌, map, Option, Some, None, slice_get}
+use Rattle.std.specs.Prelude.{ℕ, ◌≡◌, Bool, true, false, List, [], ◌∷◌, map, Option, Some, None, slice_get}
 use Rattle.k_num.specs.declared.numbers.Kind.{Kind}
 use Rattle.k_types_meaning.specs.declared.tree.expression.TExpr.{TExpr}
 use Rattle.k_types_meaning.specs.declared.tree.statement.Spot.{Spot}
 use Rattle.k_types_meaning.specs.declared.tree.statement.TPart.{TPart, fold-TPart}
 use Rattle.k_types_meaning.specs.declared.tree.statement.TPart.TheOpen.{TStmt-F}
-use Rattle.k_types_meaning.specs.declared.tree.statement.TStmt.{TStmt, fold-TStmt}
+use Rattle.k_types_meaning.specs.declared.tree.statement.TStmt.{TStmt, fold-TStmt, out-TStmt}
 use Rattle.k_types_meaning.specs.declared.tree.unit.TFunc.{TFunc}
 use Rattle.k_marks_meaning.specs.declared.jumps.Jumps.{Jumps}
 use Rattle.k_marks_meaning.specs.declared.jumps.StatementJumps.{StatementJumps}
@@ -74,6 +74,17 @@ noted_step w (TStmt-F.Break spot) = break
 noted_step w (TStmt-F.Continue spot) = continue
 noted_step w (TStmt-F.Return spot value) = return w.within spot value
 noted_step w (TStmt-F.Declare spot list) = declaration w.within list
+
+-- C17 6.8.5: an iteration statement, by its form
+abbrev pub iterates_at : TStmt-F TPart TStmt → Bool
+iterates_at (TStmt-F.While spot number test body) = true
+iterates_at (TStmt-F.DoWhile spot number body test) = true
+iterates_at (TStmt-F.For spot number start test step body) = true
+iterates_at x = false
+
+-- C17 6.8.5: an iteration statement
+abbrev pub iterates : TStmt → Bool
+iterates s = iterates_at (out-TStmt s)
 
 -- a statement, by the table
 abbrev pub noted : Tabled → TStmt → Doing

@@ -1,9 +1,9 @@
 //! How statements are begun, and what follows their parts (C17 6.8).
-ghost use Rattle.std.specs.Prelude.{◌≡◌, ◌+◌, ◌^◌, ◌<◌, [], map, option_map, slice_get, IfSome};
+ghost use Rattle.std.specs.Prelude.{◌≡◌, ◌+◌, ◌^◌, ◌<◌, [], map, option_map, slice_get, true, IfSome};
 ghost use Rattle.std.specs.Option.{option_copied};
 ghost use Rattle.k_evaluation.specs.Statements.{compound, declaration, expression, return};
 ghost use Rattle.k_plain_state.specs.Arounds.{within_of};
-ghost use Rattle.k_plain_statements.specs.Noted.{Tabled, if_by, noted, noted_jumps, tabled_of};
+ghost use Rattle.k_plain_statements.specs.Noted.{Tabled, if_by, iterates, noted, noted_jumps, tabled_of};
 ghost use Rattle.k_plain_statements.specs.Parts.{doing, ordered, other, started};
 ghost use Rattle.k_plain_statements.specs.Resumes.{Resumes};
 ghost use Rattle.k_plain_statements.specs.Tasks.{statement_task};
@@ -38,6 +38,27 @@ impl<'a> Runner<'a> {
                 then,
                 other,
             } => self.begin_if(setting, *spot, test, then, other),
+            TStmt::Switch {
+                spot,
+                kind,
+                on,
+                parts,
+            } => self.begin_switch(setting, *spot, *kind, on, parts),
+            TStmt::Break { .. } => Ok(Given::Flow(Flow::Broke)),
+            TStmt::Continue { .. } => Ok(Given::Flow(Flow::Continued)),
+            TStmt::Return { spot, value } => self.begin_return(setting, *spot, value),
+            TStmt::Declare { list, .. } => self.begin_declaration(list),
+            _ => self.iteration(setting, s),
+        }
+    }
+
+    /// An iteration statement.
+    fn iteration(&mut self, setting: &Setting<'a>, s: &'a TStmt) -> Result<Given, Stop>
+        requires tasks { self.old.tasks ≡ [] }
+        requires loops { iterates s.now ≡ true }
+        ensures { Resumes (tabled_of setting.now) result (doing (noted (tabled_of setting.now) s.now) self.old.evaluator) self.old.rest self.new.tasks self.new.rest self.new.evaluator }
+    {
+        match s {
             TStmt::While {
                 spot,
                 turns,
@@ -58,16 +79,7 @@ impl<'a> Runner<'a> {
                 step,
                 body,
             } => self.begin_for(setting, *spot, *turns, first, test, step, body),
-            TStmt::Switch {
-                spot,
-                kind,
-                on,
-                parts,
-            } => self.begin_switch(setting, *spot, *kind, on, parts),
-            TStmt::Break { .. } => Ok(Given::Flow(Flow::Broke)),
-            TStmt::Continue { .. } => Ok(Given::Flow(Flow::Continued)),
-            TStmt::Return { spot, value } => self.begin_return(setting, *spot, value),
-            TStmt::Declare { list, .. } => self.begin_declaration(list),
+            _ => unreachable!(),
         }
     }
 
