@@ -1,11 +1,23 @@
 //! Where variables occur in expressions, noted in text order.
-ghost use Rattle.std.specs.Prelude.{◌≡◌, ◌++◌, map, OnOk, IfOk};
-ghost use Rattle.k_pragma_texts.specs.Occurrences.{told, occurs_in, occurs_in_all, occurs_left};
+ghost use Rattle.std.specs.Prelude.{◌≡◌, ◌++◌, ◌∷◌, [], map, OnOk, IfOk};
+ghost use Rattle.k_pragma_texts.specs.Occurrences.{occurrence, told, occurs_in, occurs_in_all, occurs_left};
+ghost use Rattle.k_pragma_texts.specs.declared.occurrence.How.TheVariants.{Reads};
 
 use crate::occurrence::{How, Occurrence};
 use k_num::{NoMemory, Seq};
 use k_types_meaning::TExpr;
 use std::alloc::Global;
+
+/// Notes a variable that is read.
+fn note_read(variable: u32, node: u32, occurs: &mut Vec<Occurrence>) -> Result<(), NoMemory>
+    ensures { OnOk result (occurs.new.items ≡ occurs.old.items ++ occurrence Reads (record { variable = variable; node = node }) ∷ []) }
+{
+    Ok(occurs.push(Occurrence {
+        variable,
+        node,
+        how: How::Reads,
+    })?)
+}
 
 /// Notes the left of an assignment.
 #[cycle(expressions)]
@@ -28,11 +40,7 @@ pub(crate) fn note_expr(expr: &TExpr, occurs: &mut Vec<Occurrence>) -> Result<()
     ensures { OnOk result (occurs.new.items ≡ occurs.old.items ++ occurs_in expr.now) }
 {
     match expr {
-        TExpr::Variable { node, variable } => Ok(occurs.push(Occurrence {
-            variable: *variable,
-            node: node.number,
-            how: How::Reads,
-        })?),
+        TExpr::Variable { node, variable } => note_read(*variable, node.number, occurs),
         TExpr::Number { .. } | TExpr::Str { .. } | TExpr::Object { .. } | TExpr::Getchar { .. } => {
             Ok(())
         }
@@ -49,29 +57,19 @@ pub(crate) fn note_expr(expr: &TExpr, occurs: &mut Vec<Occurrence>) -> Result<()
             note_left(of.get(), How::Changes, occurs)
         }
         TExpr::Assign { left, right, .. } => {
-            note_left(left.get(), How::Sets, occurs)?;
-            note_expr(right.get(), occurs)
+            note_assigned(left.get(), How::Sets, right.get(), occurs)
         }
         TExpr::AssignBy { left, right, .. } => {
-            note_left(left.get(), How::Changes, occurs)?;
-            note_expr(right.get(), occurs)
+            note_assigned(left.get(), How::Changes, right.get(), occurs)
         }
         TExpr::Cond {
             test,
             then,
             other,
             ..
-        } => {
-            note_expr(test.get(), occurs)?;
-            note_expr(then.get(), occurs)?;
-            note_expr(other.get(), occurs)
-        }
-        TExpr::Index {
-            base: left,
-            index: right,
-            ..
-        }
-        | TExpr::Binary { left, right, .. }
+        } => note_choice(test.get(), then.get(), other.get(), occurs),
+        TExpr::Index { base, index, .. } => note_both(base.get(), index.get(), occurs),
+        TExpr::Binary { left, right, .. }
         | TExpr::Both { left, right, .. }
         | TExpr::Either { left, right, .. }
         | TExpr::Forward { left, right, .. }
@@ -79,11 +77,45 @@ pub(crate) fn note_expr(expr: &TExpr, occurs: &mut Vec<Occurrence>) -> Result<()
         | TExpr::Back { left, right, .. }
         | TExpr::PtrCompare { left, right, .. }
         | TExpr::PtrDistance { left, right, .. }
-        | TExpr::Comma { left, right, .. } => {
-            note_expr(left.get(), occurs)?;
-            note_expr(right.get(), occurs)
-        }
+        | TExpr::Comma { left, right, .. } => note_both(left.get(), right.get(), occurs),
     }
+}
+
+/// Notes the left of an assignment and its right.
+#[cycle(expressions)]
+fn note_assigned(
+    left: &TExpr,
+    how: How,
+    right: &TExpr,
+    occurs: &mut Vec<Occurrence>,
+) -> Result<(), NoMemory>
+    ensures { OnOk result (occurs.new.items ≡ occurs.old.items ++ (occurs_left how (told left.now).itself (occurs_in left.now) ++ occurs_in right.now)) }
+{
+    note_left(left, how, occurs)?;
+    note_expr(right, occurs)
+}
+
+/// Notes where variables occur in two operands.
+#[cycle(expressions)]
+fn note_both(left: &TExpr, right: &TExpr, occurs: &mut Vec<Occurrence>) -> Result<(), NoMemory>
+    ensures { OnOk result (occurs.new.items ≡ occurs.old.items ++ (occurs_in left.now ++ occurs_in right.now)) }
+{
+    note_expr(left, occurs)?;
+    note_expr(right, occurs)
+}
+
+/// Notes where variables occur in a test and its two arms.
+#[cycle(expressions)]
+fn note_choice(
+    test: &TExpr,
+    first: &TExpr,
+    second: &TExpr,
+    occurs: &mut Vec<Occurrence>,
+) -> Result<(), NoMemory>
+    ensures { OnOk result (occurs.new.items ≡ occurs.old.items ++ (occurs_in test.now ++ (occurs_in first.now ++ occurs_in second.now))) }
+{
+    note_expr(test, occurs)?;
+    note_both(first, second, occurs)
 }
 
 /// Notes where variables occur in arguments.

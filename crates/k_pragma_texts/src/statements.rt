@@ -1,5 +1,7 @@
 //! What stands in statements, noted in text order.
 ghost use Rattle.std.specs.Prelude.{◌≡◌, ◌∷◌, ◌++◌, [], map, option_map, IfOk, OnOk};
+ghost use Rattle.k_pragma_texts.specs.Declarations.{first_occurs, first_sets as first_meant, option_occurs};
+ghost use Rattle.k_pragma_texts.specs.Occurrences.{last_in, occurs_in};
 ghost use Rattle.k_pragma_texts.specs.Texts.{for_text, held, loops_in_parts, loops_in_row, loops_there, occurs_in_parts, occurs_in_row, occurs_there, part_held, setter, setters_in_block, setters_in_parts, setters_there, tested_text};
 
 use crate::actions::note_action;
@@ -129,21 +131,13 @@ fn note_stmt(alloc: Global, stmt: &TStmt, text: &mut Text) -> Result<(), NoMemor
             turns,
             test,
             body,
-        } => {
-            note_tested(*spot, *turns, last_of_stmt(body.get()), &mut text.loops)?;
-            note_expr(test.get(), &mut text.occurs)?;
-            note_stmt(alloc, body.get(), text)
-        }
+        } => note_while(alloc, body.get(), test.get(), *spot, *turns, text),
         TStmt::DoWhile {
             spot,
             turns,
             body,
             test,
-        } => {
-            note_tested(*spot, *turns, last_of(test.get()), &mut text.loops)?;
-            note_stmt(alloc, body.get(), text)?;
-            note_expr(test.get(), &mut text.occurs)
-        }
+        } => note_do(alloc, body.get(), test.get(), *spot, *turns, text),
         TStmt::For {
             spot,
             turns,
@@ -151,23 +145,91 @@ fn note_stmt(alloc: Global, stmt: &TStmt, text: &mut Text) -> Result<(), NoMemor
             test,
             step,
             body,
-        } => {
-            let last = last_of_stmt(body.get());
-            let set = first_sets(alloc, first)?;
-            note_for(*spot, *turns, last, first, step, &mut text.loops)?;
-            note_setter(spot.number, last, set, &mut text.setters)?;
-            note_first(spot.number, first, &mut text.occurs)?;
-            note_option(test, &mut text.occurs)?;
-            note_option(step, &mut text.occurs)?;
-            note_stmt(alloc, body.get(), text)
-        }
-        TStmt::Switch { on, parts, .. } => {
-            note_expr(on.get(), &mut text.occurs)?;
-            note_parts(alloc, parts, text)
-        }
+        } => note_counted(alloc, body.get(), first, test, step, *spot, *turns, text),
+        TStmt::Switch { on, parts, .. } => note_switch(alloc, parts, on.get(), text),
         TStmt::Return { value, .. } => note_option(value, &mut text.occurs),
         TStmt::Declare { spot, list } => note_declared(spot.number, list, &mut text.occurs),
     }
+}
+
+/// Notes what stands in a `while`.
+#[cycle(statements)]
+fn note_while(
+    alloc: Global,
+    body: &TStmt,
+    test: &TExpr,
+    spot: Spot,
+    turns: u32,
+    text: &mut Text,
+) -> Result<(), NoMemory>
+    ensures occurs { OnOk result (text.new.occurs.items ≡ text.old.occurs.items ++ (occurs_in test.now ++ (held body.now).occurs)) }
+    ensures setters { OnOk result (text.new.setters.items ≡ text.old.setters.items ++ (held body.now).setters) }
+    ensures loops { OnOk result (text.new.loops.items ≡ text.old.loops.items ++ tested_text spot turns (held body.now).last ∷ (held body.now).loops) }
+{
+    note_tested(spot, turns, last_of_stmt(body), &mut text.loops)?;
+    note_expr(test, &mut text.occurs)?;
+    note_stmt(alloc, body, text)
+}
+
+/// Notes what stands in a `do`.
+#[cycle(statements)]
+fn note_do(
+    alloc: Global,
+    body: &TStmt,
+    test: &TExpr,
+    spot: Spot,
+    turns: u32,
+    text: &mut Text,
+) -> Result<(), NoMemory>
+    ensures occurs { OnOk result (text.new.occurs.items ≡ text.old.occurs.items ++ ((held body.now).occurs ++ occurs_in test.now)) }
+    ensures setters { OnOk result (text.new.setters.items ≡ text.old.setters.items ++ (held body.now).setters) }
+    ensures loops { OnOk result (text.new.loops.items ≡ text.old.loops.items ++ tested_text spot turns (last_in test.now) ∷ (held body.now).loops) }
+{
+    note_tested(spot, turns, last_of(test), &mut text.loops)?;
+    note_stmt(alloc, body, text)?;
+    note_expr(test, &mut text.occurs)
+}
+
+/// Notes what stands in a `for`.
+#[cycle(statements)]
+fn note_counted(
+    alloc: Global,
+    body: &TStmt,
+    first: &TFirst,
+    test: &Option<Box<TExpr>>,
+    step: &Option<Box<TExpr>>,
+    spot: Spot,
+    turns: u32,
+    text: &mut Text,
+) -> Result<(), NoMemory>
+    ensures occurs { OnOk result (text.new.occurs.items ≡ text.old.occurs.items ++ (first_occurs spot.number first.now ++ (option_occurs test.now ++ (option_occurs step.now ++ (held body.now).occurs)))) }
+    ensures setters { OnOk result (text.new.setters.items ≡ text.old.setters.items ++ (setter spot.number (held body.now).last (first_meant first.now) ++ (held body.now).setters)) }
+    ensures loops { OnOk result (text.new.loops.items ≡ text.old.loops.items ++ for_text spot turns (held body.now).last first.now step.now ∷ (held body.now).loops) }
+{
+    let last = last_of_stmt(body);
+    let set = first_sets(alloc, first)?;
+    note_for(spot, turns, last, first, step, &mut text.loops)?;
+    note_setter(spot.number, last, set, &mut text.setters)?;
+    note_first(spot.number, first, &mut text.occurs)?;
+    note_option(test, &mut text.occurs)?;
+    note_option(step, &mut text.occurs)?;
+    note_stmt(alloc, body, text)
+}
+
+/// Notes what stands in a switch.
+#[cycle(statements)]
+fn note_switch(
+    alloc: Global,
+    parts: &Seq<TPart>,
+    on: &TExpr,
+    text: &mut Text,
+) -> Result<(), NoMemory>
+    ensures occurs { OnOk result (text.new.occurs.items ≡ text.old.occurs.items ++ (occurs_in on.now ++ occurs_in_parts (map part_held parts.now))) }
+    ensures setters { OnOk result (text.new.setters.items ≡ text.old.setters.items ++ setters_in_parts (map part_held parts.now)) }
+    ensures loops { OnOk result (text.new.loops.items ≡ text.old.loops.items ++ loops_in_parts (map part_held parts.now)) }
+{
+    note_expr(on, &mut text.occurs)?;
+    note_parts(alloc, parts, text)
 }
 
 /// Notes what stands in the statements of a block with this last node.
