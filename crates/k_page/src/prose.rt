@@ -33,51 +33,69 @@ pub enum Prose {
     HundredAndMore,
 }
 
+/// What work and path are.
+const WORK: &str =
+    "Every operation costs what a table of latencies says. The work of a function, a loop or a loop body is what all its operations cost together, \
+over all n times that it was entered. Its path is what the longest chain of operations costs that wait for one another: with any number of processors it takes no less.";
+
+/// What self-parallelism is.
+const PARALLEL: &str =
+    "The self-parallelism sp tells how many times faster it could be at best by making itself parallel, and nothing within it: for a loop, its turns. \
+It is a fraction; 1/1 says that nothing is gained.";
+
+/// What a loop of the plan saves.
+const SAVING: &str =
+    "A loop of the plan saves its work less its work over its self-parallelism. It is doall where its turns hardly waited for one another, \
+and doacross where they did in part, or differ much in length. Of loops inside one another at most one is in the plan.";
+
+/// What the boxes of the picture are.
+const PICTURE: &str =
+    "Each box is a function, loop or body as it was reached from main; it is as wide as its share of the work, and stands under the one that it was reached from. \
+Its own work stands at its left, what was reached from it beside that. Boxes that are too narrow are left out.";
+
+/// That the numbers are of one run.
+const ONE_RUN: &str =
+    "All numbers are of one run with one input: other runs may have other dependences. Look at a loop before you change it.";
+
+/// Why there is no plan where regions are reached on too many ways.
+const NO_PLAN: &str =
+    "There are more than 65536 ways on which regions were reached, and so there are no plan and no picture.";
+
+/// Why there are no rows where the dictionary is too large.
+const LARGE: &str =
+    "The profile is over the limits of its dictionary, which lists each shape of instances once; so there are no rows, no plan and no picture. \
+A smaller --depth tracks fewer levels, and has fewer shapes.";
+
+/// The caption of the dictionary.
+const DICTIONARY_CAPTION: &str =
+    "The dictionary: each shape of instances, with its children as entry*count";
+
+/// The picture in words.
+const PICTURE_TEXT: &str =
+    "Boxes for functions, loops and bodies, each under the one around it, as wide as its share of the work. \
+Their numbers stand in the tables below.";
+
 /// A text of the page, in words.
 #[tactic(auto, unfolding(crate::specs::Prose::words))]
 pub(crate) fn words(prose: Prose) -> &'static str
     ensures { result.now ≡ spec.words prose }
 {
     match prose {
-        Prose::Work => {
-            "Every operation costs what a table of latencies says. The work of a function, a loop or a loop body is what all its operations cost together, \
-over all n times that it was entered. Its path is what the longest chain of operations costs that wait for one another: with any number of processors it takes no less."
-        }
-        Prose::Parallel => {
-            "The self-parallelism sp tells how many times faster it could be at best by making itself parallel, and nothing within it: for a loop, its turns. \
-It is a fraction; 1/1 says that nothing is gained."
-        }
-        Prose::Saving => {
-            "A loop of the plan saves its work less its work over its self-parallelism. It is doall where its turns hardly waited for one another, \
-and doacross where they did in part, or differ much in length. Of loops inside one another at most one is in the plan."
-        }
-        Prose::Picture => {
-            "Each box is a function, loop or body as it was reached from main; it is as wide as its share of the work, and stands under the one that it was reached from. \
-Its own work stands at its left, what was reached from it beside that. Boxes that are too narrow are left out."
-        }
-        Prose::OneRun => {
-            "All numbers are of one run with one input: other runs may have other dependences. Look at a loop before you change it."
-        }
-        Prose::NoPlan => {
-            "There are more than 65536 ways on which regions were reached, and so there are no plan and no picture."
-        }
-        Prose::Large => {
-            "The profile is over the limits of its dictionary, which lists each shape of instances once; so there are no rows, no plan and no picture. \
-A smaller --depth tracks fewer levels, and has fewer shapes."
-        }
+        Prose::Work => WORK,
+        Prose::Parallel => PARALLEL,
+        Prose::Saving => SAVING,
+        Prose::Picture => PICTURE,
+        Prose::OneRun => ONE_RUN,
+        Prose::NoPlan => NO_PLAN,
+        Prose::Large => LARGE,
         Prose::Heading => "Profile of ",
         Prose::Meaning => "What the numbers mean",
         Prose::RowsCaption => "All functions, loops and bodies that were entered",
         Prose::PlanCaption => "Loops to make parallel first",
-        Prose::DictionaryCaption => {
-            "The dictionary: each shape of instances, with its children as entry*count"
-        }
+        Prose::DictionaryCaption => DICTIONARY_CAPTION,
         Prose::ShadesCaption => "Shades of the boxes, by sp; boxes of the plan are outlined",
         Prose::PictureTitle => "Where the work is",
-        Prose::PictureText => {
-            "Boxes for functions, loops and bodies, each under the one around it, as wide as its share of the work. \
-Their numbers stand in the tables below."
-        }
+        Prose::PictureText => PICTURE_TEXT,
         Prose::SourceNotes => "what begins there, with its share of the work",
         Prose::BelowTwo => "below 2",
         Prose::BelowFive => "2 to below 5",
