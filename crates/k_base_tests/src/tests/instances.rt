@@ -180,7 +180,11 @@ fn trees(rt: HostRuntime) -> Result<(), Fail> {
     assert!(rt; tree_is(rt.alloc(), &nested, 1, &[whole])?);
     assert!(rt; tree_is(rt.alloc(), &nested, 2, &[whole, first, second])?);
     assert!(rt; tree_is(rt.alloc(), &nested, 3, &[whole, first, inner, second])?);
+    Ok(())
+}
 
+#[test]
+fn unbalanced_events(rt: HostRuntime) -> Result<(), Fail> {
     // An Exit with nothing open, and an instance that is still open at the end.
     let open = [
         Step::Exit,

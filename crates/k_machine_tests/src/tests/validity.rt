@@ -346,26 +346,25 @@ static ROWS: [Row; 61] = [
     },
 ];
 
+/// A test of the number 1, of this class.
+fn choice(then: u32, other: u32, class: Class) -> Do {
+    Do::Test {
+        a: Arg::Number(1),
+        then,
+        other,
+        to: None,
+        class,
+    }
+}
+
 fn act(alloc: Global, part: Part) -> Result<Do, NoMemory> {
     Ok(match part {
         Part::Return(a) => Do::Return { value: Some(a) },
         Part::ReturnNothing => Do::Return { value: None },
         Part::FallOff => Do::FallOff,
         Part::Jump(to) => Do::Jump { to },
-        Part::Test(then, other) => Do::Test {
-            a: Arg::Number(1),
-            then,
-            other,
-            to: None,
-            class: Class::Test,
-        },
-        Part::OfClass(class) => Do::Test {
-            a: Arg::Number(1),
-            then: 1,
-            other: 1,
-            to: None,
-            class,
-        },
+        Part::Test(then, other) => choice(then, other, Class::Test),
+        Part::OfClass(class) => choice(1, 1, class),
         Part::Move(a, to) => Do::Move { a, to },
         Part::Save => Do::Save,
         Part::Keep => Do::Keep,

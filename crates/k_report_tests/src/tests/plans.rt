@@ -4,6 +4,7 @@ ghost use Rattle.k_plan.specs.Plan.{CanPlan, works_under};
 
 use k_num::{NoMemory, Seq};
 use k_optab::RegionKind;
+use k_optab::RegionKind::{Body, Func, Loop};
 use k_plan::{Advice, Context, Limits, Pick, plan, standard_limits};
 use k_selfpar::Frac;
 use std::alloc::Global;
@@ -86,7 +87,7 @@ fn context(
 
 /// The function main, entered once.
 fn main_of(work: u64, path: u64) -> Context {
-    context(0, RegionKind::Func, (1, 0), (work, path), Frac::new(1, 1))
+    context(0, Func, (1, 0), (work, path), Frac::new(1, 1))
 }
 
 fn advise(
@@ -129,10 +130,10 @@ fn pick(context: u32, doall: bool, saves: u64) -> Pick {
 fn the_outer_loop_is_taken_where_it_saves_as_much(rt: HostRuntime) -> Result<(), Fail> {
     let contexts = [
         main_of(125, 25),
-        context(0, RegionKind::Loop, (1, 5), (125, 25), Frac::new(5, 1)),
-        context(1, RegionKind::Body, (5, 0), (122, 100), Frac::new(1, 1)),
-        context(2, RegionKind::Loop, (1, 6), (60, 10), Frac::new(6, 1)),
-        context(2, RegionKind::Loop, (1, 6), (60, 10), Frac::new(6, 1)),
+        context(0, Loop, (1, 5), (125, 25), Frac::new(5, 1)),
+        context(1, Body, (5, 0), (122, 100), Frac::new(1, 1)),
+        context(2, Loop, (1, 6), (60, 10), Frac::new(6, 1)),
+        context(2, Loop, (1, 6), (60, 10), Frac::new(6, 1)),
     ];
     check(&rt, rt.alloc(), &contexts, &[pick(1, true, 100)], 100)?;
     Ok(())
@@ -142,10 +143,10 @@ fn the_outer_loop_is_taken_where_it_saves_as_much(rt: HostRuntime) -> Result<(),
 fn the_inner_loops_are_taken_where_they_save_more(rt: HostRuntime) -> Result<(), Fail> {
     let contexts = [
         main_of(125, 25),
-        context(0, RegionKind::Loop, (1, 5), (125, 25), Frac::new(5, 1)),
-        context(1, RegionKind::Body, (5, 0), (122, 100), Frac::new(1, 1)),
-        context(2, RegionKind::Loop, (1, 6), (60, 10), Frac::new(6, 1)),
-        context(2, RegionKind::Loop, (1, 6), (62, 11), Frac::new(6, 1)),
+        context(0, Loop, (1, 5), (125, 25), Frac::new(5, 1)),
+        context(1, Body, (5, 0), (122, 100), Frac::new(1, 1)),
+        context(2, Loop, (1, 6), (60, 10), Frac::new(6, 1)),
+        context(2, Loop, (1, 6), (62, 11), Frac::new(6, 1)),
     ];
     check(
         &rt,
@@ -161,8 +162,8 @@ fn the_inner_loops_are_taken_where_they_save_more(rt: HostRuntime) -> Result<(),
 fn the_sum_of_odd_numbers(rt: HostRuntime) -> Result<(), Fail> {
     let contexts = [
         main_of(35, 4),
-        context(0, RegionKind::Loop, (1, 6), (35, 4), Frac::new(35, 4)),
-        context(1, RegionKind::Body, (6, 0), (15, 15), Frac::new(1, 1)),
+        context(0, Loop, (1, 6), (35, 4), Frac::new(35, 4)),
+        context(1, Body, (6, 0), (15, 15), Frac::new(1, 1)),
     ];
     check(&rt, rt.alloc(), &contexts, &[pick(1, true, 31)], 31)?;
     Ok(())
@@ -171,71 +172,17 @@ fn the_sum_of_odd_numbers(rt: HostRuntime) -> Result<(), Fail> {
 #[test]
 fn the_product_of_matrices(rt: HostRuntime) -> Result<(), Fail> {
     let contexts = [
-        context(
-            0,
-            RegionKind::Func,
-            (1, 0),
-            (642_388, 27),
-            Frac::new(32, 27),
-        ),
-        context(0, RegionKind::Loop, (1, 32), (11_426, 4), Frac::new(97, 2)),
-        context(1, RegionKind::Body, (32, 0), (11_328, 96), Frac::new(1, 1)),
-        context(
-            2,
-            RegionKind::Loop,
-            (32, 1024),
-            (11_328, 96),
-            Frac::new(194, 3),
-        ),
-        context(
-            3,
-            RegionKind::Body,
-            (1024, 0),
-            (8192, 3072),
-            Frac::new(8, 3),
-        ),
-        context(
-            0,
-            RegionKind::Loop,
-            (1, 32),
-            (630_946, 12),
-            Frac::new(241, 6),
-        ),
-        context(
-            5,
-            RegionKind::Body,
-            (32, 0),
-            (630_848, 384),
-            Frac::new(1, 1),
-        ),
-        context(
-            6,
-            RegionKind::Loop,
-            (32, 1024),
-            (630_848, 384),
-            Frac::new(241, 6),
-        ),
-        context(
-            7,
-            RegionKind::Body,
-            (1024, 0),
-            (627_712, 12_288),
-            Frac::new(7, 6),
-        ),
-        context(
-            8,
-            RegionKind::Loop,
-            (1024, 32_768),
-            (624_640, 11_264),
-            Frac::new(38, 1),
-        ),
-        context(
-            9,
-            RegionKind::Body,
-            (32_768, 0),
-            (524_288, 327_680),
-            Frac::new(8, 5),
-        ),
+        context(0, Func, (1, 0), (642_388, 27), Frac::new(32, 27)),
+        context(0, Loop, (1, 32), (11_426, 4), Frac::new(97, 2)),
+        context(1, Body, (32, 0), (11_328, 96), Frac::new(1, 1)),
+        context(2, Loop, (32, 1024), (11_328, 96), Frac::new(194, 3)),
+        context(3, Body, (1024, 0), (8192, 3072), Frac::new(8, 3)),
+        context(0, Loop, (1, 32), (630_946, 12), Frac::new(241, 6)),
+        context(5, Body, (32, 0), (630_848, 384), Frac::new(1, 1)),
+        context(6, Loop, (32, 1024), (630_848, 384), Frac::new(241, 6)),
+        context(7, Body, (1024, 0), (627_712, 12_288), Frac::new(7, 6)),
+        context(8, Loop, (1024, 32_768), (624_640, 11_264), Frac::new(38, 1)),
+        context(9, Body, (32_768, 0), (524_288, 327_680), Frac::new(8, 5)),
     ];
     check(
         &rt,
@@ -259,7 +206,7 @@ fn check_loop(
 ) -> Result<(), NoMemory> {
     let contexts = [
         main_of(root, 1),
-        context(0, RegionKind::Loop, (1, turns), (work, 1), sp),
+        context(0, Loop, (1, turns), (work, 1), sp),
     ];
     let advice = advise(rt, alloc, &contexts, &standard_limits())?;
     assert_eq!(rt; advice.total, saves);
@@ -298,12 +245,12 @@ fn great_counts(rt: HostRuntime) -> Result<(), Fail> {
         main_of(1 << 44, 1),
         context(
             0,
-            RegionKind::Loop,
+            Loop,
             (many, many),
             (1 << 44, 1),
             Frac::new((1 << 61) + 1, 1),
         ),
-        context(0, RegionKind::Loop, (1, many), (0, 0), Frac::new(1, 1)),
+        context(0, Loop, (1, many), (0, 0), Frac::new(1, 1)),
     ];
     check(
         &rt,

@@ -23,12 +23,8 @@ fn list_expr<'a>(expr: &'a TExpr, nodes: &mut Vec<&'a TExpr>) -> Result<(), NoMe
         | TExpr::Unary { of, .. }
         | TExpr::Convert { of, .. }
         | TExpr::Cast { of, .. } => list_expr(of.get(), nodes),
-        TExpr::Index {
-            base: left,
-            index: right,
-            ..
-        }
-        | TExpr::Binary { left, right, .. }
+        TExpr::Index { base, index, .. } => list_both(base.get(), index.get(), nodes),
+        TExpr::Binary { left, right, .. }
         | TExpr::Both { left, right, .. }
         | TExpr::Either { left, right, .. }
         | TExpr::Forward { left, right, .. }
@@ -38,10 +34,7 @@ fn list_expr<'a>(expr: &'a TExpr, nodes: &mut Vec<&'a TExpr>) -> Result<(), NoMe
         | TExpr::PtrDistance { left, right, .. }
         | TExpr::Assign { left, right, .. }
         | TExpr::AssignBy { left, right, .. }
-        | TExpr::Comma { left, right, .. } => {
-            list_expr(left.get(), nodes)?;
-            list_expr(right.get(), nodes)
-        }
+        | TExpr::Comma { left, right, .. } => list_both(left.get(), right.get(), nodes),
         TExpr::Cond {
             test,
             then,
@@ -49,11 +42,21 @@ fn list_expr<'a>(expr: &'a TExpr, nodes: &mut Vec<&'a TExpr>) -> Result<(), NoMe
             ..
         } => {
             list_expr(test.get(), nodes)?;
-            list_expr(then.get(), nodes)?;
-            list_expr(other.get(), nodes)
+            list_both(then.get(), other.get(), nodes)
         }
         TExpr::Call { args, .. } | TExpr::Printf { args, .. } => list_args(args, nodes),
     }
+}
+
+/// Lists two operands.
+#[cycle(expressions)]
+fn list_both<'a>(
+    left: &'a TExpr,
+    right: &'a TExpr,
+    nodes: &mut Vec<&'a TExpr>,
+) -> Result<(), NoMemory> {
+    list_expr(left, nodes)?;
+    list_expr(right, nodes)
 }
 
 /// Lists the arguments of a call.
@@ -110,6 +113,18 @@ fn list_first<'a>(first: &'a TFirst, nodes: &mut Vec<&'a TExpr>) -> Result<(), N
     }
 }
 
+/// Lists the expressions of the three parts of a `for`.
+fn list_head<'a>(
+    first: &'a TFirst,
+    test: &'a Option<Box<TExpr>>,
+    step: &'a Option<Box<TExpr>>,
+    nodes: &mut Vec<&'a TExpr>,
+) -> Result<(), NoMemory> {
+    list_first(first, nodes)?;
+    list_option(test, nodes)?;
+    list_option(step, nodes)
+}
+
 /// Lists the expressions of statements.
 #[cycle(statements)]
 fn list_stmts<'a>(parts: &'a Seq<TStmt>, nodes: &mut Vec<&'a TExpr>) -> Result<(), NoMemory> {
@@ -134,10 +149,7 @@ fn list_stmt<'a>(stmt: &'a TStmt, nodes: &mut Vec<&'a TExpr>) -> Result<(), NoMe
         } => {
             list_expr(test.get(), nodes)?;
             list_stmt(then.get(), nodes)?;
-            match other {
-                None => Ok(()),
-                Some(other) => list_stmt(other.get(), nodes),
-            }
+            list_else(other, nodes)
         }
         TStmt::While { test, body, .. } => {
             list_expr(test.get(), nodes)?;
@@ -154,9 +166,7 @@ fn list_stmt<'a>(stmt: &'a TStmt, nodes: &mut Vec<&'a TExpr>) -> Result<(), NoMe
             body,
             ..
         } => {
-            list_first(first, nodes)?;
-            list_option(test, nodes)?;
-            list_option(step, nodes)?;
+            list_head(first, test, step, nodes)?;
             list_stmt(body.get(), nodes)
         }
         TStmt::Switch { on, parts, .. } => {
@@ -165,6 +175,15 @@ fn list_stmt<'a>(stmt: &'a TStmt, nodes: &mut Vec<&'a TExpr>) -> Result<(), NoMe
         }
         TStmt::Return { value, .. } => list_option(value, nodes),
         TStmt::Declare { list, .. } => list_declarators(list, nodes),
+    }
+}
+
+/// Lists the expressions of a statement that may be left out.
+#[cycle(statements)]
+fn list_else<'a>(stmt: &'a Option<Box<TStmt>>, nodes: &mut Vec<&'a TExpr>) -> Result<(), NoMemory> {
+    match stmt {
+        None => Ok(()),
+        Some(stmt) => list_stmt(stmt.get(), nodes),
     }
 }
 

@@ -1,7 +1,7 @@
 //! Words, with the job or the fault that they are.
 
 use k_num::{NoMemory, Text};
-use k_words::{Form, Job, Usage, words};
+use k_words::{Form, Job, Part, Usage, words};
 use std::alloc::Global;
 use std::process::Abort;
 use std::test::Fail;
@@ -31,7 +31,7 @@ fn parts(fault: Usage) -> (&'static str, u32) {
 }
 
 /// Lines of words that are refused, each with its fault and the fault's index.
-static REFUSED: [(&str, &str, u32); 121] = [
+static REFUSED: [(&str, &str, u32); 132] = [
     ("", "NoCommand", 0),
     ("ruN", "UnknownWord", 0),
     ("--help", "UnknownWord", 0),
@@ -148,6 +148,17 @@ static REFUSED: [(&str, &str, u32); 121] = [
         "UnknownWord",
         7,
     ),
+    ("merge", "NoFile", 0),
+    ("merge o", "NoFile", 0),
+    ("merge o a", "NoFile", 0),
+    ("merge --o a b", "NoFile", 0),
+    ("merge o  b c", "NoFile", 0),
+    ("merge o a --dict b", "NoFile", 0),
+    ("merge o a b --dict", "UnknownWord", 4),
+    ("merge o a b ", "UnknownWord", 4),
+    ("merge o a b -c -- d", "UnknownWord", 5),
+    ("merge  a b --", "NoFile", 0),
+    ("merges o a b", "UnknownWord", 0),
     ("demo 1", "NoFile", 0),
     ("demo x", "BadNumber", 1),
     ("demo 18446744073709551616 1", "BadNumber", 1),
@@ -206,6 +217,78 @@ fn lists_dict(form: &Form) -> bool {
     }
 }
 
+/// A job of `merge` in a line: the name of the file that is saved and the first two of those that are put together, how many these are, each name counted once, and how often the first is named.
+fn merged_parts<'a>(save: &'a str, parts: &'a [Part]) -> ([&'a str; 4], [u64; 2], bool) {
+    match parts {
+        [first] => (
+            ["merge", save, first.file.as_str(), ""],
+            [1, u64::from(first.times)],
+            false,
+        ),
+        [first, second, ..] => (
+            ["merge", save, first.file.as_str(), second.file.as_str()],
+            [parts.len() as u64, u64::from(first.times)],
+            false,
+        ),
+        [] => (["merge", save, "", ""], [0, 0], false),
+    }
+}
+
+/// A job in a line that names a file and no program: its names, its numbers, and whether what it has an option for besides is asked for.
+fn file_parts(job: &Job) -> ([&str; 4], [u64; 2], bool) {
+    match job {
+        Job::Show { file, form } => (
+            ["show", file.as_str(), form_name(form), ""],
+            [0, 0],
+            lists_dict(form),
+        ),
+        Job::Merge { save, parts } => merged_parts(save.as_str(), parts.as_slice()),
+        Job::Check { file } => (["check", file.as_str(), "", ""], [0, 0], false),
+        Job::Demo { number, loops } => (["demo", "", "", ""], [*number, u64::from(*loops)], false),
+        _ => (["", "", "", ""], [0, 0], false),
+    }
+}
+
+/// A job in a line that reruns a program or writes it anew, or has no program.
+fn written_parts(job: &Job) -> ([&str; 4], [u64; 2], bool) {
+    match job {
+        Job::Replay {
+            file,
+            steps,
+            depth,
+            latency,
+            ..
+        } => (
+            ["replay", file.as_str(), name_of(latency), ""],
+            [*steps, u64::from(*depth)],
+            false,
+        ),
+        Job::Page {
+            file,
+            steps,
+            depth,
+            latency,
+            dict,
+        } => (
+            ["page", file.as_str(), name_of(latency), ""],
+            [*steps, u64::from(*depth)],
+            *dict,
+        ),
+        Job::Annotate {
+            file,
+            steps,
+            depth,
+            latency,
+            strict,
+        } => (
+            ["annotate", file.as_str(), name_of(latency), ""],
+            [*steps, u64::from(*depth)],
+            *strict,
+        ),
+        _ => file_parts(job),
+    }
+}
+
 /// A job in a line: its file and names, its numbers, and whether what it has an option for besides is asked for.
 fn job_parts(job: &Job) -> ([&str; 4], [u64; 2], bool) {
     match job {
@@ -242,51 +325,12 @@ fn job_parts(job: &Job) -> ([&str; 4], [u64; 2], bool) {
             [*steps, u64::from(*depth)],
             *storage,
         ),
-        Job::Replay {
-            file,
-            steps,
-            depth,
-            latency,
-            ..
-        } => (
-            ["replay", file.as_str(), name_of(latency), ""],
-            [*steps, u64::from(*depth)],
-            false,
-        ),
-        Job::Page {
-            file,
-            steps,
-            depth,
-            latency,
-            dict,
-        } => (
-            ["page", file.as_str(), name_of(latency), ""],
-            [*steps, u64::from(*depth)],
-            *dict,
-        ),
-        Job::Annotate {
-            file,
-            steps,
-            depth,
-            latency,
-            strict,
-        } => (
-            ["annotate", file.as_str(), name_of(latency), ""],
-            [*steps, u64::from(*depth)],
-            *strict,
-        ),
-        Job::Show { file, form } => (
-            ["show", file.as_str(), form_name(form), ""],
-            [0, 0],
-            lists_dict(form),
-        ),
-        Job::Check { file } => (["check", file.as_str(), "", ""], [0, 0], false),
-        Job::Demo { number, loops } => (["demo", "", "", ""], [*number, u64::from(*loops)], false),
+        _ => written_parts(job),
     }
 }
 
 /// Lines of words, each with its job's names, numbers and whether the dictionary, the storage pairs or strictness are asked for.
-static ACCEPTED: [(&str, [&str; 4], [u64; 2], bool); 31] = [
+static ACCEPTED: [(&str, [&str; 4], [u64; 2], bool); 36] = [
     ("run a.c", ["run", "a.c", "", ""], [100_000_000, 24], false),
     ("run -", ["run", "-", "", ""], [100_000_000, 24], false),
     ("run -x", ["run", "-x", "", ""], [100_000_000, 24], false),
@@ -410,6 +454,21 @@ static ACCEPTED: [(&str, [&str; 4], [u64; 2], bool); 31] = [
         true,
     ),
     ("show p --csv", ["show", "p", "csv", ""], [0, 0], false),
+    ("merge o a b", ["merge", "o", "a", "b"], [2, 1], false),
+    (
+        "merge - a a b -c a",
+        ["merge", "-", "a", "b"],
+        [3, 3],
+        false,
+    ),
+    ("merge o o o", ["merge", "o", "o", ""], [1, 2], false),
+    (
+        "merge o a b a b b a",
+        ["merge", "o", "a", "b"],
+        [2, 3],
+        false,
+    ),
+    ("merge o b ab b", ["merge", "o", "b", "ab"], [2, 2], false),
     ("check a.c", ["check", "a.c", "", ""], [0, 0], false),
     ("demo 0 1", ["demo", "", "", ""], [0, 1], false),
     (
@@ -472,6 +531,41 @@ fn workers_are_read(rt: HostRuntime) -> Result<(), Fail> {
             }
             Err(_) => assert!(rt; false),
         }
+    }
+    Ok(())
+}
+
+/// The words of a `merge` of one file named so often.
+fn merge_of(alloc: Global, files: u32) -> Result<Vec<String>, NoMemory> {
+    let mut list = list_of(alloc, "merge o")?;
+    for _ in 0..files {
+        list.push(String::from_str(alloc, "p")?)?;
+    }
+    Ok(list)
+}
+
+#[test]
+fn as_many_files_are_merged_as_may_be(rt: HostRuntime) -> Result<(), Fail> {
+    let list = merge_of(rt.alloc(), 4_096)?;
+    match words(rt.alloc(), list.as_slice()) {
+        Ok(job) => {
+            assert!(rt; job_parts(&job).1 == [1, 4_096]);
+            drop(job);
+        }
+        Err(_) => assert!(rt; false),
+    }
+    Ok(())
+}
+
+#[test]
+fn no_more_files_are_merged(rt: HostRuntime) -> Result<(), Fail> {
+    let list = merge_of(rt.alloc(), 4_097)?;
+    match words(rt.alloc(), list.as_slice()) {
+        Ok(job) => {
+            drop(job);
+            assert!(rt; false);
+        }
+        Err(fault) => assert_eq!(rt; parts(fault), ("UnknownWord", 4_098)),
     }
     Ok(())
 }

@@ -56,6 +56,13 @@ fn loads_and_stores(rt: HostRuntime) -> Result<(), Fail> {
     ] {
         assert_eq!(rt; objects.load(pointer), want, "at {pointer:?}");
     }
+    Ok(())
+}
+
+#[test]
+fn elements(rt: HostRuntime) -> Result<(), Fail> {
+    let mut objects = Objects::new(rt.alloc());
+    four_objects(&rt, &mut objects)?;
     for (pointer, want) in [
         (at(0, 1), Ok(1)),
         (at(1, 1), Ok(4)),
