@@ -2,6 +2,7 @@ pub mod Beginning
 pub mod Entering
 pub mod Leaving
 pub mod Longer
+pub mod Making
 pub mod Moving
 pub mod Operating
 pub mod Sending

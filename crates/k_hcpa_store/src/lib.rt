@@ -3,6 +3,7 @@
 #![tactic(auto)]
 
 mod answer;
+mod at_once;
 mod call;
 mod operands;
 mod registers;

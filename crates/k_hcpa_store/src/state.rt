@@ -11,6 +11,7 @@ mod alone;
 mod calls;
 mod getters;
 mod operations;
+mod quick;
 mod regions;
 mod start;
 

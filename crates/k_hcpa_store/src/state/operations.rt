@@ -14,6 +14,7 @@ ghost use Rattle.k_hcpa_store.specs.Parts.{IsWithin, follows as follows_meant, g
 ghost use Rattle.k_hcpa_store.specs.Sound.{IsSound};
 
 use super::State;
+use crate::at_once::AtOnce;
 use crate::operands::{Operands, act_in, operands_in, register_in};
 use crate::registers::{read, read_all};
 use k_code::{Arg, Do, Instr};
@@ -24,6 +25,22 @@ impl<'a> State<'a> {
     /// Makes the operation of an instruction, and goes on behind it.
     #[inline(always)]
     pub fn operate(&mut self, instr: &Instr) -> Result<Done, Stop>
+        requires sound { IsSound self.old }
+        requires next { IsNext self.old instr.now }
+        ensures operates { (o : Class × Act) → goes_by instr.now.act ≡ Some o → Operates self.old instr.now o result self.new }
+        ensures made { (o : Class × Act) → goes_by instr.now.act ≡ Some o → MakesBy self.old instr.now o result self.new }
+        ensures sound { IsSound self.new }
+    {
+        match self.at_once(&instr.act) {
+            AtOnce::Gives(value, to) => Ok(self.give_at_once(value, to)),
+            AtOnce::Tests(holds, pc, to) => Ok(self.lead_at_once(holds, pc, to)),
+            AtOnce::Other => self.operate_by_parts(instr),
+        }
+    }
+
+    /// The same, by its act, its operands and its register.
+    #[inline(always)]
+    fn operate_by_parts(&mut self, instr: &Instr) -> Result<Done, Stop>
         requires sound { IsSound self.old }
         requires next { IsNext self.old instr.now }
         ensures operates { (o : Class × Act) → goes_by instr.now.act ≡ Some o → Operates self.old instr.now o result self.new }

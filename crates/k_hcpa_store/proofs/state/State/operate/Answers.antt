@@ -1,43 +1,55 @@
-use Rattle.k_world.specs.Answers.{act_of}
-use Rattle.k_hcpa_store.specs.Parts.{listed}
-use Rattle.k_hcpa_store.proofs.Operating.{within, pc_within, first_within, makes_err, makes_ok, operates_ok, sound_ok, operates_err, sound_err}
+use Rattle.std.proofs.Common.{subst}
+use Rattle.k_hcpa_store.specs.Parts.{IsWithin}
+use Rattle.k_hcpa_store.proofs.Operating.{within, pc_within, first_within}
+use Rattle.k_hcpa_store.proofs.Making.{given_operates, given_sound, given_tells, tested_operates, tested_sound, tested_tells}
 use Rattle.k_hcpa_store.proofs.state.State.operate.Goals as goal
 
-pub perform-requires : goal.perform-requires
-perform-requires c = first_within c.args.self.now c.args.instr.now c.requires.sound c.requires.next
+pub at_once-requires : goal.at_once-requires
+at_once-requires c = first_within c.args.self.now c.args.instr.now c.requires.sound c.requires.next
 
-pub give-requires-clause-within : goal.give-requires-clause-within
-give-requires-clause-within c = rw c.in-Ok.ensures.kept (within c.args.self.now c.args.instr.now c.requires.sound c.requires.next)
+pub give_at_once-requires-clause-left : goal.give_at_once-requires-clause-left
+give_at_once-requires-clause-left c = c.in-Gives.ensures.left
 
-pub give-requires-clause-next : goal.give-requires-clause-next
-give-requires-clause-next c = rw c.in-Ok.ensures.kept (pc_within c.args.self.now c.args.instr.now c.requires.sound c.requires.next)
+pub give_at_once-requires-clause-within : goal.give_at_once-requires-clause-within
+give_at_once-requires-clause-within c =
+    subst (λ r. IsWithin c.args.self.now.call.first r c.args.self.now.registers) c.in-Gives.ensures.sets (within c.args.self.now c.args.instr.now c.requires.sound c.requires.next)
 
-pub returns-in-Ok-clause-operates : goal.returns-in-Ok-clause-operates
-returns-in-Ok-clause-operates c =
-    operates_ok c.args.self.now c.args.instr.now c.requires.sound c.requires.next (act_of c.in-Some.act) (listed c.operands_in.result) c.perform.new.self
-    c.in-Some.ensures c.operands_in.ensures c.in-Ok.ensures.kept c.in-Ok.done c.give.new.self c.in-Ok.ensures.made c.in-Ok.ensures.element c.give.ensures
+pub give_at_once-requires-clause-next : goal.give_at_once-requires-clause-next
+give_at_once-requires-clause-next c = pc_within c.args.self.now c.args.instr.now c.requires.sound c.requires.next
 
-pub returns-in-Ok-clause-sound : goal.returns-in-Ok-clause-sound
-returns-in-Ok-clause-sound c =
-    sound_ok c.args.self.now c.args.instr.now c.requires.sound c.requires.next (act_of c.in-Some.act) (listed c.operands_in.result) c.perform.new.self
-    c.in-Some.ensures c.operands_in.ensures c.in-Ok.ensures.kept c.in-Ok.done c.give.new.self c.in-Ok.ensures.made c.give.ensures
+pub lead_at_once-requires-clause-left : goal.lead_at_once-requires-clause-left
+lead_at_once-requires-clause-left c = c.in-Tests.ensures.left
 
-pub returns-in-Err-clause-operates : goal.returns-in-Err-clause-operates
-returns-in-Err-clause-operates c =
-    operates_err c.args.self.now c.args.instr.now c.requires.sound c.requires.next (act_of c.in-Some.act) (listed c.operands_in.result) c.perform.new.self
-    c.in-Some.ensures c.operands_in.ensures c.in-Err.ensures.kept c.in-Err.stop c.in-Err.ensures.made
+pub lead_at_once-requires-clause-within : goal.lead_at_once-requires-clause-within
+lead_at_once-requires-clause-within c =
+    subst (λ r. IsWithin c.args.self.now.call.first r c.args.self.now.registers) c.in-Tests.ensures.sets (within c.args.self.now c.args.instr.now c.requires.sound c.requires.next)
 
-pub returns-in-Err-clause-sound : goal.returns-in-Err-clause-sound
-returns-in-Err-clause-sound c =
-    sound_err c.args.self.now c.args.instr.now c.requires.sound c.requires.next (act_of c.in-Some.act) (listed c.operands_in.result) c.perform.new.self
-    c.in-Some.ensures c.operands_in.ensures c.in-Err.ensures.kept c.in-Err.stop c.in-Err.ensures.made
+pub returns-in-Gives-clause-operates : goal.returns-in-Gives-clause-operates
+returns-in-Gives-clause-operates c =
+    given_operates c.args.self.now c.args.instr.now c.requires.sound c.requires.next c.give_at_once.result c.give_at_once.new.self c.in-Gives.value c.in-Gives.to c.in-Gives.ensures
+    c.give_at_once.ensures.counts c.give_at_once.ensures.given
 
-pub returns-in-Ok-clause-made : goal.returns-in-Ok-clause-made
-returns-in-Ok-clause-made c =
-    makes_ok c.args.self.now c.args.instr.now c.requires.sound c.requires.next (act_of c.in-Some.act) (listed c.operands_in.result) c.perform.new.self
-    c.in-Some.ensures c.operands_in.ensures c.in-Ok.ensures.kept c.in-Ok.done c.give.new.self c.in-Ok.ensures.made c.give.ensures
+pub returns-in-Gives-clause-made : goal.returns-in-Gives-clause-made
+returns-in-Gives-clause-made c =
+    given_tells c.args.self.now c.args.instr.now c.requires.sound c.requires.next c.give_at_once.result c.give_at_once.new.self c.in-Gives.value c.in-Gives.to c.in-Gives.ensures
+    c.give_at_once.ensures.counts c.give_at_once.ensures.given
 
-pub returns-in-Err-clause-made : goal.returns-in-Err-clause-made
-returns-in-Err-clause-made c =
-    makes_err c.args.self.now c.args.instr.now c.requires.sound c.requires.next (act_of c.in-Some.act) (listed c.operands_in.result) c.perform.new.self
-    c.in-Some.ensures c.operands_in.ensures c.in-Err.ensures.kept c.in-Err.stop c.in-Err.ensures.made
+pub returns-in-Gives-clause-sound : goal.returns-in-Gives-clause-sound
+returns-in-Gives-clause-sound c =
+    given_sound c.args.self.now c.args.instr.now c.requires.sound c.requires.next c.give_at_once.result c.give_at_once.new.self c.in-Gives.value c.in-Gives.to c.in-Gives.ensures
+    c.give_at_once.ensures.counts c.give_at_once.ensures.given
+
+pub returns-in-Tests-clause-operates : goal.returns-in-Tests-clause-operates
+returns-in-Tests-clause-operates c =
+    tested_operates c.args.self.now c.args.instr.now c.requires.sound c.requires.next c.lead_at_once.result c.lead_at_once.new.self c.in-Tests.holds c.in-Tests.pc c.in-Tests.to c.in-Tests.ensures
+    c.lead_at_once.ensures.counts c.lead_at_once.ensures.given
+
+pub returns-in-Tests-clause-made : goal.returns-in-Tests-clause-made
+returns-in-Tests-clause-made c =
+    tested_tells c.args.self.now c.args.instr.now c.requires.sound c.requires.next c.lead_at_once.result c.lead_at_once.new.self c.in-Tests.holds c.in-Tests.pc c.in-Tests.to c.in-Tests.ensures
+    c.lead_at_once.ensures.counts c.lead_at_once.ensures.given
+
+pub returns-in-Tests-clause-sound : goal.returns-in-Tests-clause-sound
+returns-in-Tests-clause-sound c =
+    tested_sound c.args.self.now c.args.instr.now c.requires.sound c.requires.next c.lead_at_once.result c.lead_at_once.new.self c.in-Tests.holds c.in-Tests.pc c.in-Tests.to c.in-Tests.ensures
+    c.lead_at_once.ensures.counts c.lead_at_once.ensures.given
