@@ -46,7 +46,7 @@ beside_assoc (grown x i l) g h = ap (grown x i) (beside_assoc l g h)
 -- ---- the entries of one dictionary are those of their own trees
 
 module _ (dict : List Entry) (proper : AreProper dict) where
-  same_number : (m n : ℕ) → m < length dict → n < length dict → SameShape (tree_at dict m) (tree_at dict n) → m ≡ n
+  pub same_number : (m n : ℕ) → m < length dict → n < length dict → SameShape (tree_at dict m) (tree_at dict n) → m ≡ n
   same_number m n less less' same =
       let coded : code dict (tree_at dict m).inner [] ≡ code dict (tree_at dict n).inner [] =
       code_alike dict (tree_at dict m).inner (tree_at dict n).inner same.inner [] in

@@ -26,7 +26,7 @@ use Rattle.k_sum_order.proofs.OneOrder.{entry_there, order_is_one}
 use Rattle.k_sum_order.proofs.Ordered.{forest_coded, forest_known, ordered_earlier, ordered_proper, tree_stays}
 
 -- alike forests have the same shapes
-has_alike : (t : Tree) (f g : Forest) → Alike f g → Has t f → Has t g
+pub has_alike : (t : Tree) (f g : Forest) → Alike f g → Has t f → Has t g
 has_alike t _ _ neither has = has
 has_alike t _ _ (both x i i' l l' inner later) has = elim has [
   | inl here ↦ inl (SameShape-further t (record { label = x; inner = i }) (record { label = x; inner = i' }) here (record { label = refl; inner = inner }))
@@ -50,7 +50,7 @@ has_alike t _ _ (exchanged x y i j l) has = elim has [
 ]
 has_alike t _ _ (further f g h one other) has = has_alike t g h other (has_alike t f g one has)
 
-has_shape : (t u : Tree) (f : Forest) → SameShape t u → Has u f → Has t f
+pub has_shape : (t u : Tree) (f : Forest) → SameShape t u → Has u f → Has t f
 has_shape t u bare same has = has
 has_shape t u (grown x i l) same has = elim has [
   | inl here ↦ inl (SameShape-further t u (record { label = x; inner = i }) same here)
@@ -61,7 +61,7 @@ has_shape t u (grown x i l) same has = elim has [
 ]
 
 -- what stands within a tree of a forest stands in the forest
-has_within : (t u : Tree) (f : Forest) → Has t u.inner → Has u f → Has t f
+pub has_within : (t u : Tree) (f : Forest) → Has t u.inner → Has u f → Has t f
 has_within t u bare inside has = has
 has_within t u (grown x i l) inside has = elim has [
   | inl here ↦ inr (inl (has_alike t u.inner i here.inner inside))
@@ -119,7 +119,7 @@ behind_copies : (count : ℕ) (t u : Tree) (f : Forest) → Has t f → Has t (c
 behind_copies zero t u f has = has
 behind_copies (suc count) t u f has = inr (inr (behind_copies count t u f has))
 
-has_named : (trees : List Tree) (n high : ℕ) (runs : List Run) → NameBelow high runs → Names n runs → Has (get_or trees n no_tree) (laid trees runs)
+pub has_named : (trees : List Tree) (n high : ℕ) (runs : List Run) → NameBelow high runs → Names n runs → Has (get_or trees n no_tree) (laid trees runs)
 has_named trees n high [] below names = absurd names
 has_named trees n high (run ∷ runs) below names = elim names [
   | inl same ↦ (let P : ℕ → Type 0 = λ k. Has (get_or trees k no_tree) (laid trees (run ∷ runs)) in
@@ -128,14 +128,14 @@ has_named trees n high (run ∷ runs) below names = elim names [
 ]
 
 -- the entry whose runs name a number
-named_at : (n : ℕ) (entries : List Entry) → IsNamedBy n entries → (m : ℕ) × (e : Entry) × (slice_get entries m ≡ Some e) × Names n e.runs
+pub named_at : (n : ℕ) (entries : List Entry) → IsNamedBy n entries → (m : ℕ) × (e : Entry) × (slice_get entries m ≡ Some e) × Names n e.runs
 named_at n [] named = absurd named
 named_at n (e ∷ entries) named = elim named [
   | inl here ↦ (0, e, refl, here)
   | inr later ↦ (let rest = named_at n entries later in (suc rest.0, rest.1, rest.2, rest.3))
 ]
 
-names_below : (n high : ℕ) (runs : List Run) → NameBelow high runs → Names n runs → n < high
+pub names_below : (n high : ℕ) (runs : List Run) → NameBelow high runs → Names n runs → n < high
 names_below n high [] below names = absurd names
 names_below n high (run ∷ runs) below names = elim names [
   | inl same ↦ (let less : run.entry < high = below.0 in omega arith)

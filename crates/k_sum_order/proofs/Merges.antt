@@ -15,13 +15,22 @@ use Rattle.k_sum_order.proofs.ExitOrder.{AreExits, exits-with, exits_are_one}
 use Rattle.k_sum_order.proofs.Left.{both_have_none_left, one_has_none_left, text_is_one}
 
 -- what holds of the sum of profiles of one program
-record Facts (regions : List Region) (sum : Sum) : Type 0 where
-  tells : TellsOfRuns sum
-  left : NoneIsLeft sum
-  exits : AreExits sum.exits
-  regions_are : sum.regions ≡ regions
+pub record Facts (regions : List Region) (sum : Sum) : Type 0 where
+  pub tells : TellsOfRuns sum
+  pub left : NoneIsLeft sum
+  pub exits : AreExits sum.exits
+  pub regions_are : sum.regions ≡ regions
 
-facts : (regions : List Region) (m : Merge) → AreOfProgram regions m → Facts regions (sum_of_all m)
+-- it holds of two such sums together
+pub facts_both : (regions : List Region) (one other : Sum) → Facts regions one → Facts regions other → Facts regions (sums.both one other)
+facts_both regions one other is others = record {
+  tells = (both_tell_of_all one other is.tells others.tells).0;
+  left = both_have_none_left one other is.tells others.tells is.left others.left;
+  exits = exits-with (with_exits [] one.exits) other.exits (exits-with [] one.exits tt is.exits) others.exits;
+  regions_are = is.regions_are;
+}
+
+pub facts : (regions : List Region) (m : Merge) → AreOfProgram regions m → Facts regions (sum_of_all m)
 facts regions (alone saved) are = record {
   tells = (one_tells_of_its_run saved are.0).0;
   left = one_has_none_left saved are.0;
@@ -29,24 +38,16 @@ facts regions (alone saved) are = record {
   regions_are = are.1;
 }
 facts regions (merged first second) are =
-    let one = facts regions first are.0 in
-    let other = facts regions second are.1 in
-    record {
-      tells = (both_tell_of_all (sum_of_all first) (sum_of_all second) one.tells other.tells).0;
-      left = both_have_none_left (sum_of_all first) (sum_of_all second) one.tells other.tells one.left other.left;
-      exits = exits-with (with_exits [] (sum_of_all first).exits) (sum_of_all second).exits
-          (exits-with [] (sum_of_all first).exits tt one.exits) other.exits;
-      regions_are = one.regions_are;
-    }
+    facts_both regions (sum_of_all first) (sum_of_all second) (facts regions first are.0) (facts regions second are.1)
 
 -- two sums tell of the same runs
-record AreSame (one other : Sum) : Type 0 where
-  forests : Alike (forest_of one) (forest_of other)
-  runs : one.runs ≡ other.runs
-  ops : one.ops ≡ other.ops
-  ends : (v : ℤ) → ended_with v one.exits ≡ ended_with v other.exits
+pub record AreSame (one other : Sum) : Type 0 where
+  pub forests : Alike (forest_of one) (forest_of other)
+  pub runs : one.runs ≡ other.runs
+  pub ops : one.ops ≡ other.ops
+  pub ends : (v : ℤ) → ended_with v one.exits ≡ ended_with v other.exits
 
-profiles_stay : (regions : List Region) (m n : Merge) → Regrouped m n → (AreOfProgram regions m → AreOfProgram regions n) × (AreOfProgram regions n → AreOfProgram regions m)
+pub profiles_stay : (regions : List Region) (m n : Merge) → Regrouped m n → (AreOfProgram regions m → AreOfProgram regions n) × (AreOfProgram regions n → AreOfProgram regions m)
 profiles_stay regions _ _ (same m) = (λ are. are, λ are. are)
 profiles_stay regions _ _ (exchanged m n) = (λ are. (are.1, are.0), λ are. (are.1, are.0))
 profiles_stay regions _ _ (grouped k m n) = (λ are. (are.0.0, (are.0.1, are.1)), λ are. ((are.0, are.1.0), are.1.1))
@@ -67,7 +68,27 @@ together_alike f f' g g' first second =
     subst P (sym (together_is f g)) (subst Q (sym (together_is f' g'))
     (trees.further (beside f g) (beside f' g) (beside f' g') (beside_left f f' g first) (beside_right f' g g' second)))
 
-merges_same : (regions : List Region) (m n : Merge) → Regrouped m n → AreOfProgram regions m → AreOfProgram regions n → AreSame (sum_of_all m) (sum_of_all n)
+-- so do they with others that do
+pub both_same : (a b a' b' : Sum) → TellsOfRuns a → TellsOfRuns b → TellsOfRuns a' → TellsOfRuns b' → AreSame a a' → AreSame b b'
+    → AreSame (sums.both a b) (sums.both a' b')
+both_same a b a' b' tells more tells' more' one other =
+    let runs = one.runs in let runs' = other.runs in let ops = one.ops in let ops' = other.ops in
+    let left = (both_tell_of_all a b tells more).1 in
+    let right = (both_tell_of_all a' b' tells' more').1 in
+    let f : Forest = together (forest_of a) (forest_of b) in
+    let g : Forest = together (forest_of a') (forest_of b') in
+    record {
+      forests = trees.further (forest_of (sums.both a b)) f (forest_of (sums.both a' b')) left
+          (trees.further f g (forest_of (sums.both a' b')) (together_alike (forest_of a) (forest_of a') (forest_of b) (forest_of b') one.forests other.forests)
+          (Alike-sym (forest_of (sums.both a' b')) g right));
+      runs = omega arith;
+      ops = omega arith;
+      ends = λ v.
+          let here = exits_add_up a b v in let there = exits_add_up a' b' v in
+          let ends = one.ends v in let ends' = other.ends v in omega arith;
+    }
+
+pub merges_same : (regions : List Region) (m n : Merge) → Regrouped m n → AreOfProgram regions m → AreOfProgram regions n → AreSame (sum_of_all m) (sum_of_all n)
 merges_same regions _ _ (same m) are others = record { forests = Alike-refl (forest_of (sum_of_all m)); runs = refl; ops = refl; ends = λ v. refl }
 merges_same regions _ _ (exchanged m n) are others =
     let one : Sum = sum_of_all m in
@@ -93,27 +114,8 @@ merges_same regions _ _ (grouped k m n) are others =
           let within_second = exits_add_up two three v in omega arith;
     }
 merges_same regions _ _ (within k k' m m' first second) are others =
-    let one = merges_same regions k k' first are.0 others.0 in
-    let other = merges_same regions m m' second are.1 others.1 in
-    let a : Sum = sum_of_all k in
-    let b : Sum = sum_of_all m in
-    let a' : Sum = sum_of_all k' in
-    let b' : Sum = sum_of_all m' in
-    let runs = one.runs in let runs' = other.runs in let ops = one.ops in let ops' = other.ops in
-    let left = (both_tell_of_all a b (facts regions k are.0).tells (facts regions m are.1).tells).1 in
-    let right = (both_tell_of_all a' b' (facts regions k' others.0).tells (facts regions m' others.1).tells).1 in
-    let f : Forest = together (forest_of a) (forest_of b) in
-    let g : Forest = together (forest_of a') (forest_of b') in
-    record {
-      forests = trees.further (forest_of (sums.both a b)) f (forest_of (sums.both a' b')) left
-          (trees.further f g (forest_of (sums.both a' b')) (together_alike (forest_of a) (forest_of a') (forest_of b) (forest_of b') one.forests other.forests)
-          (Alike-sym (forest_of (sums.both a' b')) g right));
-      runs = omega arith;
-      ops = omega arith;
-      ends = λ v.
-          let here = exits_add_up a b v in let there = exits_add_up a' b' v in
-          let ends = one.ends v in let ends' = other.ends v in omega arith;
-    }
+    both_same (sum_of_all k) (sum_of_all m) (sum_of_all k') (sum_of_all m') (facts regions k are.0).tells (facts regions m are.1).tells (facts regions k' others.0).tells
+    (facts regions m' others.1).tells (merges_same regions k k' first are.0 others.0) (merges_same regions m m' second are.1 others.1)
 merges_same regions _ _ (back m n is) are others =
     let one = merges_same regions m n is others are in
     record {
