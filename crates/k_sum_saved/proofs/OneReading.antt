@@ -1,15 +1,16 @@
 -- A text has one reading: lines lead to one place, and no whole file goes wrong.
-use Rattle.std.proofs.Common.{◌≡◌, ℕ, ◌+◌, ◌*◌, ◌≤◌, inl, inr, List, [], ◌∷◌, ◌++◌, length, Option, Some, refl, sym, ap, ◌∙◌, subst, append_assoc, arith}
-use Rattle.std.specs.Prelude.{codes}
+use Rattle.std.proofs.Common.{◌≡◌, ℕ, ℤ, ◌+◌, ◌*◌, ◌≤◌, inl, inr, List, [], ◌∷◌, ◌++◌, length, Option, Some, refl, sym, ap, ◌∙◌, subst, append_assoc, arith}
+use Rattle.std.specs.Prelude.{codes, FitsSigned}
+use Rattle.std.specs.Int.{w32}
 use Rattle.std.specs.List.{flat_map}
 use Rattle.std.specs.Fmt.{decimal, signed_decimal}
 use Rattle.std.proofs.lemmas.Option.{same_Some}
 use Rattle.k_optab.specs.declared.region.Region.{Region}
 use Rattle.k_scan.specs.Numbers.{number_at, signed_at}
 use Rattle.k_scan.specs.Pieces.{word_at}
-use Rattle.k_scan.proofs.BelowZero.{signed_again}
-use Rattle.k_scan.proofs.Digits.{number_again}
-use Rattle.k_scan.proofs.Front.{word_again}
+use Rattle.k_scan.proofs.BelowZero.{signed_again, signed_takes}
+use Rattle.k_scan.proofs.Digits.{number_again, number_takes}
+use Rattle.k_scan.proofs.Front.{word_again, word_takes}
 use Rattle.k_dict.specs.Entries.{AreRuns}
 use Rattle.k_dict.specs.Tallies.{total}
 use Rattle.k_dict.specs.declared.entry.Entry.{Entry}
@@ -23,9 +24,10 @@ use Rattle.k_dict_saved.specs.Syntax.{◌>>=◌, entry_at, named_at}
 use Rattle.k_dict_saved.specs.declared.format.Format.TheVariants.{Two}
 use Rattle.k_dict_saved.proofs.Files as lists_read
 use Rattle.k_dict_saved.proofs.Keeping.{few_bound}
-use Rattle.k_dict_saved.proofs.Spelled.{AreSmall, entry_again, named_again, named_parts}
+use Rattle.k_dict_saved.proofs.Spelled.{AreSmall, bind_some, entry_again, named_again, named_parts}
 use Rattle.k_sum.specs.SumText.{exit_line, roots_text}
 use Rattle.k_sum.specs.declared.exits.Exit.{Exit}
+use Rattle.k_sum_saved.specs.ExitLine.{exit_line_at}
 use Rattle.k_sum_saved.specs.LineLaws.{FirstWrongIsOne, WholeIsNotWrong, WholeIsOne}
 use Rattle.k_sum_saved.specs.SumLines.{Counted, Follows, Head, InExits, IsListLine, IsNextExit, IsRootsLine, IsWhole, IsWrong, Leads, Listed, Named, Opened, Rooted, Stage, Told, arrived, entries_so_far, onward}
 
@@ -38,19 +40,34 @@ module _ {X : Type 0} (read : List ℕ → Option (X × List ℕ)) where
   same_read one other line line' rest left is first second =
       let pair = same_Some (one, rest) (other, left) (sym first ∙ ap read is ∙ second) in (ap (λ p. p.0) pair, ap (λ p. p.1) pair)
 
--- the line of an exit value
-abbrev exit_line_at : List ℕ → Option (Exit × List ℕ)
-exit_line_at text =
-    signed_at text >>= λ value. word_at (codes " ") value.1 >>= λ rest. number_at rest >>= λ runs. word_at (codes "\n") runs.1 >>= λ rest.
-    Some (record { value = value.0; runs = runs.0 }, rest)
-
 exit_parts : (x : Exit) (rest : List ℕ) → exit_line x ++ rest ≡ signed_decimal x.value ++ 32 ∷ (decimal x.runs ++ 10 ∷ rest)
 exit_parts x rest =
     append_assoc (signed_decimal x.value) (named_line (codes " ") (decimal x.runs)) rest
     ∙ ap (λ l. signed_decimal x.value ++ l) (named_parts (codes " ") (decimal x.runs) rest)
 
-exit_line_again : (runs : ℕ) (exits : List Exit) (x : Exit) (rest : List ℕ) → runs ≤ 4294967295 → IsNextExit runs exits x
+-- the line of an exit value that was read
+pub exit_line_takes : (text : List ℕ) (x : Exit) (rest : List ℕ) → exit_line_at text ≡ Some (x, rest) → (text ≡ exit_line x ++ rest) × FitsSigned w32 x.value
+unfolding exit_line_at
+exit_line_takes text x rest h =
+    let made : ℤ × List ℕ → ℕ × List ℕ → List ℕ → Exit × List ℕ = λ value runs rest. (record { value = value.0; runs = runs.0 }, rest) in
+    let a = bind_some (signed_at text) (λ value. word_at (codes " ") value.1 >>= λ rest. number_at rest >>= λ runs. word_at (codes "\n") runs.1 >>= λ rest. Some (made value runs rest)) (x, rest) h in
+    let b = bind_some (word_at (codes " ") a.0.1) (λ rest. number_at rest >>= λ runs. word_at (codes "\n") runs.1 >>= λ rest. Some (made a.0 runs rest)) (x, rest) a.2 in
+    let c = bind_some (number_at b.0) (λ runs. word_at (codes "\n") runs.1 >>= λ rest. Some (made a.0 runs rest)) (x, rest) b.2 in
+    let d = bind_some (word_at (codes "\n") c.0.1) (λ rest. Some (made a.0 c.0 rest)) (x, rest) c.2 in
+    let takes = signed_takes text a.0.0 a.0.1 a.1 in
+    let P : Exit × List ℕ → Type 0 = λ q. (text ≡ exit_line q.0 ++ q.1) × FitsSigned w32 q.0.value in
+    subst P (same_Some (made a.0 c.0 d.0) (x, rest) d.2) (
+      takes.0
+          ∙ ap (λ l. signed_decimal a.0.0 ++ l) (word_takes (codes " ") a.0.1 b.0 b.1
+          ∙ ap (λ l. 32 ∷ l) ((number_takes b.0 c.0.0 c.0.1 c.1).0 ∙ ap (λ l. decimal c.0.0 ++ l) (word_takes (codes "\n") c.0.1 d.0 d.1)))
+          ∙ sym (exit_parts (made a.0 c.0 d.0).0 d.0),
+      takes.1,
+    )
+
+-- the line of an exit value is read
+pub exit_line_again : (runs : ℕ) (exits : List Exit) (x : Exit) (rest : List ℕ) → runs ≤ 4294967295 → IsNextExit runs exits x
     → exit_line_at (exit_line x ++ rest) ≡ Some (x, rest)
+unfolding exit_line_at
 exit_line_again runs exits x rest most right =
     let few = right.few in
     let behind : List ℕ = decimal x.runs ++ 10 ∷ rest in
@@ -65,11 +82,13 @@ exit_line_again runs exits x rest most right =
 abbrev entry_with : List Run → Entry
 entry_with roots = record { region = 0; work = 0; path = 0; runs = roots }
 
-small_counts : (roots : List Run) → total roots ≤ 4294967295 → AreSmall roots
+-- the counts of roots fit 64 bits
+pub small_counts : (roots : List Run) → total roots ≤ 4294967295 → AreSmall roots
 small_counts [] few = tt
 small_counts (run ∷ roots) few = (omega arith, small_counts roots (omega arith))
 
-roots_parts : (roots : List Run) (rest : List ℕ) → roots_text roots ++ rest ≡ codes "roots" ++ (flat_map run_text roots ++ 10 ∷ rest)
+-- the parts of the line of roots
+pub roots_parts : (roots : List Run) (rest : List ℕ) → roots_text roots ++ rest ≡ codes "roots" ++ (flat_map run_text roots ++ 10 ∷ rest)
 roots_parts roots rest = append_assoc (codes "roots" ++ flat_map run_text roots) (10 ∷ []) rest ∙ append_assoc (codes "roots") (flat_map run_text roots) (10 ∷ rest)
 
 entry_parts : (roots : List Run) (rest : List ℕ) → entry_line (entry_with roots) ++ rest ≡ numbers_text (entry_with []) ++ (flat_map run_text roots ++ 10 ∷ rest)

@@ -1,2 +1,5 @@
-pub mod SumLines
+pub mod ExitLine
 pub mod LineLaws
+pub mod Merged
+pub mod SumLines
+pub mod SumRules

@@ -1,7 +1,10 @@
 -- Believed with a public law.
--- What holds of the files of sums: the statements of the laws.
+-- What holds of the files of sums, and of sums that can be saved: the statements of the laws.
 use Rattle.std.specs.Prelude.{ℕ, ◌≡◌, List, ◌++◌, codes}
+use Rattle.k_sum.specs.Sums.{HasBounds}
+use Rattle.k_sum.specs.declared.sum.Sum.{Sum}
 use Rattle.k_sum_saved.specs.SumLines.{IsFirstWrong, IsWhole, Leads, Opened, Stage}
+use Rattle.k_sum_saved.specs.SumRules.{IsSum}
 
 -- a text has at most one first wrong line
 abbrev pub FirstWrongIsOne : Type 0
@@ -15,3 +18,7 @@ WholeIsNotWrong = (lines : List ℕ) (whole : Stage) (place : ℕ) → Leads Ope
 abbrev pub WholeIsOne : Type 0
 WholeIsOne = (lines others : List ℕ) (one other : Stage) → Leads Opened lines one → Leads Opened others other → IsWhole one → IsWhole other
     → lines ++ codes "end\n" ≡ others ++ codes "end\n" → one ≡ other
+
+-- a sum that can be saved can be put to others
+abbrev pub SumHasBounds : Type 0
+SumHasBounds = (sum : Sum) → IsSum sum → HasBounds sum

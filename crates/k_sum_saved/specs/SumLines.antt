@@ -1,14 +1,15 @@
 -- Believed with a public law.
 -- The lines of the file of a sum: which line may stand behind which, by what the lines before it told.
-use Rattle.std.specs.Prelude.{ℕ, ℤ, ◌+◌, ◌*◌, ◌^◌, ◌<◌, ◌≤◌, ◌≡◌, ◌≢◌, ◌⊎◌, List, [], ◌∷◌, ◌++◌, length, FitsSigned, codes, int_lt, true}
+use Rattle.std.specs.Prelude.{ℕ, ℤ, ◌+◌, ◌*◌, ◌<◌, ◌≤◌, ◌≡◌, ◌≢◌, ◌⊎◌, List, [], ◌∷◌, ◌++◌, length, FitsSigned, codes, int_lt, true}
 use Rattle.std.specs.Int.{w32}
 use Rattle.std.specs.Fmt.{decimal}
 use Rattle.k_optab.specs.declared.region.Region.{Region}
 use Rattle.k_optab.specs.declared.region.RegionKind.TheVariants.{Func}
 use Rattle.std.specs.Prelude.{Some, slice_get}
-use Rattle.k_dict.specs.Entries.{AreRuns}
+use Rattle.k_dict.specs.Entries.{AreRuns, laid, trees_of}
 use Rattle.k_dict.specs.Rules.{child_works, entry_of}
 use Rattle.k_dict.specs.Tallies.{total}
+use Rattle.k_dict.specs.Trees.{size}
 use Rattle.k_dict.specs.declared.entry.Entry.{Entry}
 use Rattle.k_dict.specs.declared.entry.Run.{Run}
 use Rattle.k_text.specs.Texts.{named_line}
@@ -40,24 +41,32 @@ pub record IsNextExit (runs : ℕ) (exits : List Exit) (x : Exit) : Type 0 where
   pub some : 1 ≤ x.runs
   pub few : ends.total exits + x.runs ≤ runs
 
--- the region of a run's root is the function main
-pub record IsOfMain (regions : List Region) (entries : List Entry) (root : Run) : Type 0 where
+-- these roots are of a region
+abbrev pub AreOfRegion : ℕ → List Entry → List Run → Type 0
+AreOfRegion region entries [] = Unit {0}
+AreOfRegion region entries (root ∷ roots) = ((entry_of entries root.entry).region ≡ region) × AreOfRegion region entries roots
+
+-- all roots are of one region
+abbrev pub AreOfOneRegion : List Entry → List Run → Type 0
+AreOfOneRegion entries roots = (region : ℕ) × AreOfRegion region entries roots
+
+-- the roots are of one region, which is the function main
+pub record AreOfMain (regions : List Region) (entries : List Entry) (roots : List Run) : Type 0 where
+  pub region : ℕ
   pub main : Region
-  pub there : slice_get regions (entry_of entries root.entry).region ≡ Some main
+  pub there : slice_get regions region ≡ Some main
   pub kind : main.kind ≡ Func
   pub func : main.func ≡ codes "main"
+  pub each : AreOfRegion region entries roots
 
--- so are those of all roots
-abbrev pub AreOfMain : List Region → List Entry → List Run → Type 0
-AreOfMain regions entries [] = Unit {0}
-AreOfMain regions entries (root ∷ roots) = IsOfMain regions entries root × AreOfMain regions entries roots
-
--- the roots of so many runs: they are entries by rising number, of main, each run has one, their work is below 2 ^ 62, and no entry is left over
+-- the roots of so many runs: they are entries by rising number, of main, and each run has one; their works are at most 2 ^ 44 together and
+-- their instances at most 2 ^ 59, as those of one profile; and no entry is left over
 pub record AreRoots (runs : ℕ) (regions : List Region) (entries : List Entry) (roots : List Run) : Type 0 where
   pub rise : AreRuns 0 (length entries) roots
   pub main : AreOfMain regions entries roots
   pub count : total roots ≡ runs
-  pub work : child_works entries roots < 2 ^ 62
+  pub work : child_works entries roots ≤ 17592186044416
+  pub instances : size (laid (trees_of entries) roots) ≤ 576460752303423488
   pub none_left : (n : ℕ) → n < length entries → IsNamedBy n entries ⊎ Names n roots
 
 -- what lines have told: how far they have come, and what later lines depend on
