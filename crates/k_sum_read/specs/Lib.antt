@@ -1,0 +1,4 @@
+pub mod AnyFile
+pub mod Laws
+pub mod Reading
+pub mod SumFile
