@@ -4,6 +4,7 @@
 mod dict_lines;
 mod event_lines;
 mod graph_lines;
+mod heading;
 mod instance_lines;
 pub mod laws;
 mod plan_lines;
@@ -11,5 +12,6 @@ mod regions;
 mod report_lines;
 
 pub use graph_lines::graph_text;
+pub use heading::Heading;
 pub use plan_lines::wide_line;
 pub use report_lines::{large_line, report, report_large};

@@ -7,6 +7,7 @@ ghost use Rattle.k_report.specs.PlanLines.{NamesContexts};
 ghost use Rattle.k_report.specs.Report.{large_line, large_text, numbers_text, report_text, row_line, row_text};
 
 use crate::dict_lines::push_dict;
+use crate::heading::{Heading, push_title};
 use crate::plan_lines::push_plan;
 use crate::regions::region_at;
 use k_dict::Dict;
@@ -14,7 +15,7 @@ use k_num::{NoMemory, Seq};
 use k_optab::Region;
 use k_plan::Advice;
 use k_selfpar::{ContextList, Row};
-use k_text::{push, push_head, push_named, push_region};
+use k_text::{push, push_named, push_region};
 use std::alloc::Global;
 
 /// The numbers of a row.
@@ -56,12 +57,12 @@ fn push_rows(text: &mut Vec<u8>, regions: &[Region], rows: &[Row]) -> Result<(),
     Ok(())
 }
 
-/// The report of a run that ended by a return: what main returned, how many operations were made, a line for each row, the lines of
-/// the dictionary where one is given, and the plan. Where no plan is given there were too many contexts for one.
+/// The report of a run that ended by a return, or of many runs: what main returned or how many runs there were, how many operations were
+/// made, a line for each row, the lines of the dictionary where one is given, and the plan. Where no plan is given there were too many contexts for one.
 pub fn report(
     alloc: Global,
     regions: &Seq<Region>,
-    exit: i32,
+    heading: Heading,
     ops: u64,
     rows: &Seq<Row>,
     dict: Option<&Dict>,
@@ -72,11 +73,11 @@ pub fn report(
     requires contexts { All (λ context. context.region < length regions.now) contexts.now }
     requires parents { ParentsComeFirst contexts.now }
     requires plan { ForSome (option_copied plan) (NamesContexts contexts.now) }
-    ensures { IfOk result (λ text. text.items ≡ report_text regions.now exit ops rows.now (option_copied dict.entry) contexts.now (option_copied plan.entry)) }
+    ensures { IfOk result (λ text. text.items ≡ report_text regions.now heading ops rows.now (option_copied dict.entry) contexts.now (option_copied plan.entry)) }
 {
     let regions = regions.as_slice();
     let mut text = Vec::new(alloc);
-    push_head(&mut text, "== kremlin ==\n", exit, ops)?;
+    push_title(&mut text, heading, ops)?;
     push_rows(&mut text, regions, rows.as_slice())?;
     push_dict(&mut text, dict)?;
     push_plan(alloc, &mut text, regions, contexts.as_slice(), plan)?;
@@ -95,7 +96,7 @@ pub fn report_large(alloc: Global, exit: i32, ops: u64) -> Result<Vec<u8>, NoMem
     ensures { IfOk result (λ text. text.items ≡ large_text exit ops) }
 {
     let mut text = Vec::new(alloc);
-    push_head(&mut text, "== kremlin ==\n", exit, ops)?;
+    push_title(&mut text, Heading::Exit(exit), ops)?;
     push(&mut text, large_line())?;
     Ok(text)
 }

@@ -6,7 +6,7 @@ use Rattle.std.proofs.lemmas.List.Elements.{All-append, All-cons, All-from_get_o
 use Rattle.std.proofs.lemmas.Option.{none-some, slice_get-get_or, slice_get_within}
 use Rattle.k_optab.specs.declared.region.Region.{Region}
 use Rattle.k_optab.specs.declared.region.RegionKind.{RegionKind}
-use Rattle.k_dict.specs.Trees.{Forest, Tree, alone, bare, grown, list_of}
+use Rattle.k_dict.specs.Trees.{Forest, Tree, alone, bare, grown, list_of, nodes_of}
 use Rattle.k_dict.specs.Entries.{AreRuns, NameEarlier, copies, laid, no_tree, tree_at, trees_of}
 use Rattle.k_dict.specs.Rules.{NameRegions, entry_of, no_entry}
 use Rattle.k_dict.specs.declared.entry.Entry.{Entry}
@@ -17,7 +17,7 @@ use Rattle.k_selfpar.specs.Rows.{AreRows, IsRow, of_region}
 use Rattle.k_selfpar.specs.Sums.{one, sum_of, within}
 use Rattle.k_selfpar.specs.declared.context.Context.{Context}
 use Rattle.k_selfpar.specs.declared.row.Row.{Row}
-use Rattle.k_selfpar.proofs.Listed.{instances_are}
+use Rattle.k_selfpar.proofs.Listed.{gross_is_sum, length_is_gross}
 
 -- each instance of a forest is of one of so many regions
 abbrev pub AreNamed : ℕ → Forest → Type 0
@@ -28,7 +28,8 @@ named_copies : (count n : ℕ) (t : Tree) (later : Forest) → AreNamed count (a
 named_copies count zero t later is rest = rest
 named_copies count (suc n) t later is rest = (is.0, is.1, named_copies count n t later is rest)
 
-named_laid : (count : ℕ) (trees : List Tree) (low high : ℕ) (runs : List Run) → AreRuns low high runs
+-- each instance of trees that runs name is, where that is so of the trees
+pub named_laid : (count : ℕ) (trees : List Tree) (low high : ℕ) (runs : List Run) → AreRuns low high runs
     → ((m : ℕ) → m < high → AreNamed count (alone (get_or trees m no_tree))) → AreNamed count (laid trees runs)
 named_laid count trees low high [] are each = tt
 named_laid count trees low high (run ∷ runs) are each =
@@ -64,19 +65,24 @@ occurs count region (grown label inner later) named lt = elim (cases_eq label.re
       ])
 ]
 
--- each row of a tree names one of its regions
-pub rows_named : (count : ℕ) (t : Tree) (rows : List Row) → AreNamed count (alone t) → AreRows (list_of t) rows → All (λ (row : Row). row.region < count) rows
-rows_named count t [] named are = All-nil (λ (row : Row). row.region < count)
-rows_named count t (row ∷ rows) named are =
+-- each row of a forest names one of its regions
+pub rows_named_in : (count : ℕ) (f : Forest) (rows : List Row) → AreNamed count f → AreRows (nodes_of 0 f) rows → All (λ (row : Row). row.region < count) rows
+rows_named_in count f [] named are = All-nil (λ (row : Row). row.region < count)
+rows_named_in count f (row ∷ rows) named are =
     All-from_get_or (λ (r : Row). r.region < count) (row ∷ rows) row (λ i lt. one_named i (get_or (row ∷ rows) i row) (slice_get-get_or (row ∷ rows) i row lt))
   where
     one_named : (i : ℕ) (r : Row) → slice_get (row ∷ rows) i ≡ Some r → r.region < count
     one_named i r at =
-        let is : IsRow (list_of t) r = are.each i r at in
+        let is : IsRow (nodes_of 0 f) r = are.each i r at in
         let some : 0 < r.instances = is.some in
-        let instances : r.instances ≡ length (of_region r.region (list_of t)) = is.instances in
-        let sum : length (of_region r.region (list_of t)) ≡ sum_of (within r.region one) (alone t) = instances_are r.region t in
-        occurs count r.region (alone t) named (omega (arith, some, instances, sum))
+        let instances : r.instances ≡ length (of_region r.region (nodes_of 0 f)) = is.instances in
+        let sum : length (of_region r.region (nodes_of 0 f)) ≡ sum_of (within r.region one) f =
+        length_is_gross r.region (nodes_of 0 f) ∙ gross_is_sum r.region (λ n. 1) (λ l. 1) (λ d l. refl) f 0 in
+        occurs count r.region f named (omega (arith, some, instances, sum))
+
+-- and each row of a tree
+pub rows_named : (count : ℕ) (t : Tree) (rows : List Row) → AreNamed count (alone t) → AreRows (list_of t) rows → All (λ (row : Row). row.region < count) rows
+rows_named count t rows named are = rows_named_in count (alone t) rows named are
 
 -- a region of a known kind is one of the list
 known : (regions : List Region) (region : ℕ) (kind : RegionKind) (found : Option Region) → slice_get regions region ≡ found

@@ -28,6 +28,7 @@ use Rattle.k_dict_saved.proofs.Migrated.{all_named}
 use Rattle.k_selfpar.specs.Contexts.{AreContexts}
 use Rattle.k_selfpar.proofs.Profile.{label_is}
 use Rattle.k_selfpar.proofs.Siblings.{contexts_forget_order, rows_forget_order}
+use Rattle.k_report.specs.declared.heading.Heading.TheVariants.{Exit}
 use Rattle.k_report.specs.Report.{large_text, report_text}
 use Rattle.k_report_profile.specs.Report.{IsReport, IsReportOf, asked, nodes_of_profile}
 use Rattle.k_optab.specs.Entered.{EnterBelow}
@@ -165,7 +166,7 @@ module _ (ran : Ran) (is_whole : IsWhole ran) (nodes : List Node) (tree : IsTree
           are_contexts = contexts_forget_order ran.regions (nodes_of_profile saved) nodes r.contexts alike
               (subst (λ l. AreContexts l (nodes_of_profile saved) r.contexts) is.regions r.are_contexts);
           planned = r.planned;
-          is = r.is ∙ (λ i. report_text (is.regions i) (is.exit i) (is.ops i) r.rows (asked with_dict saved.dict) r.contexts r.plan);
+          is = r.is ∙ (λ i. report_text (is.regions i) (Exit (is.exit i)) (is.ops i) r.rows (asked with_dict saved.dict) r.contexts r.plan);
         })
 
     alike_back : AreAlike nodes (nodes_of_profile saved)
@@ -182,7 +183,7 @@ module _ (ran : Ran) (is_whole : IsWhole ran) (nodes : List Node) (tree : IsTree
       are_contexts = subst (λ l. AreContexts l (nodes_of_profile saved) r.contexts) (sym is.regions)
           (contexts_forget_order ran.regions nodes (nodes_of_profile saved) r.contexts alike_back r.are_contexts);
       planned = r.planned;
-      is = r.is ∙ (λ i. report_text (sym is.regions i) (sym is.exit i) (sym is.ops i) r.rows (asked with_dict saved.dict) r.contexts r.plan);
+      is = r.is ∙ (λ i. report_text (sym is.regions i) (Exit (sym is.exit i)) (sym is.ops i) r.rows (asked with_dict saved.dict) r.contexts r.plan);
     }
 
   -- the report of a run whose dictionary is over its limits

@@ -18,6 +18,7 @@ use Rattle.k_plan.specs.declared.advice.Advice.{Advice}
 use Rattle.k_plan.specs.Saving.{standard_limits}
 use Rattle.k_plan.specs.declared.limits.Limits.{Limits}
 use Rattle.k_plan.proofs.Exchange.{advice_is_unique}
+use Rattle.k_report.specs.declared.heading.Heading.TheVariants.{Exit}
 use Rattle.k_report.specs.Report.{report_text}
 use Rattle.k_report_profile.specs.Laws.{ReportIsUnique}
 use Rattle.k_report_profile.specs.Report.{HasManyContexts, IsPlanned, IsReport, asked, nodes_of_profile}
@@ -62,13 +63,13 @@ module _ (saved : Saved) (is : IsSaved saved) where
       let rows : r.rows ≡ q.rows = rows_are_unique (nodes_of_profile saved) r.rows q.rows r.are_rows q.are_rows in
       let contexts : r.contexts ≡ q.contexts = contexts_are_unique saved.regions (nodes_of_profile saved) r.contexts q.contexts r.are_contexts q.are_contexts in
       let plan : r.plan ≡ q.plan = one_plan q.contexts r.plan q.plan q.are_contexts (subst (λ (l : List Context). IsPlanned l r.plan) contexts r.planned) q.planned in
-      r.is ∙ (λ i. report_text saved.regions saved.exit saved.ops (rows i) (asked with_dict saved.dict) (contexts i) (plan i)) ∙ sym q.is
+      r.is ∙ (λ i. report_text saved.regions (Exit saved.exit) saved.ops (rows i) (asked with_dict saved.dict) (contexts i) (plan i)) ∙ sym q.is
 
 -- the text with a plan is the report
 pub planned_report : (saved : Saved) (with_dict : Bool) (rows : List Row) (contexts : List Context) (advice : Advice) (limit : Limits) (exit : ℤ)
     (dict : Option (List Entry)) (text : List ℕ) → AreRows (nodes_of_profile saved) rows → AreContexts saved.regions (nodes_of_profile saved) contexts
     → CanPlan contexts → limit ≡ standard_limits → exit ≡ saved.exit → dict ≡ asked with_dict saved.dict → IsAdvice limit contexts advice
-    → text ≡ report_text saved.regions exit saved.ops rows dict contexts (Some advice) → IsReport saved with_dict text
+    → text ≡ report_text saved.regions (Exit exit) saved.ops rows dict contexts (Some advice) → IsReport saved with_dict text
 planned_report saved with_dict rows contexts advice limit exit dict text are_rows are_contexts can limit_is exit_is dict_is is_advice is = record {
   rows = rows;
   contexts = contexts;
@@ -76,13 +77,13 @@ planned_report saved with_dict rows contexts advice limit exit dict text are_row
   are_rows = are_rows;
   are_contexts = are_contexts;
   planned = (can.few, subst (λ l. IsAdvice l contexts advice) limit_is is_advice);
-  is = is ∙ (λ i. report_text saved.regions (exit_is i) saved.ops rows (dict_is i) contexts (Some advice));
+  is = is ∙ (λ i. report_text saved.regions (Exit (exit_is i)) saved.ops rows (dict_is i) contexts (Some advice));
 }
 
 -- the text without one is the report of a profile with many contexts
 pub wide_report : (saved : Saved) (with_dict : Bool) (rows : List Row) (contexts : List Context) (exit : ℤ) (dict : Option (List Entry)) (text : List ℕ)
     → AreRows (nodes_of_profile saved) rows → HasManyContexts saved → exit ≡ saved.exit → dict ≡ asked with_dict saved.dict
-    → text ≡ report_text saved.regions exit saved.ops rows dict contexts None → IsReport saved with_dict text
+    → text ≡ report_text saved.regions (Exit exit) saved.ops rows dict contexts None → IsReport saved with_dict text
 wide_report saved with_dict rows contexts exit dict text are_rows many exit_is dict_is is = record {
   rows = rows;
   contexts = many.0;
@@ -90,7 +91,7 @@ wide_report saved with_dict rows contexts exit dict text are_rows many exit_is d
   are_rows = are_rows;
   are_contexts = many.1;
   planned = many.2;
-  is = is ∙ (λ i. report_text saved.regions (exit_is i) saved.ops rows (dict_is i) contexts None);
+  is = is ∙ (λ i. report_text saved.regions (Exit (exit_is i)) saved.ops rows (dict_is i) contexts None);
 }
 
 -- the instances of the last entry are the profile's

@@ -13,6 +13,8 @@ use Rattle.k_selfpar.specs.declared.row.Row.{Row}
 use Rattle.k_plan.specs.Plan.{IsAdvice}
 use Rattle.k_plan.specs.declared.advice.Advice.{Advice}
 use Rattle.k_plan.specs.Saving.{standard_limits}
+use Rattle.k_report.specs.declared.heading.Heading.{Heading}
+use Rattle.k_report.specs.declared.heading.Heading.TheVariants.{Exit}
 use Rattle.k_report.specs.Report.{report_text}
 
 -- the instances that a profile stands for: those of its last entry
@@ -28,15 +30,21 @@ IsPlanned contexts (Some advice) = (length contexts ≤ 65536) × IsAdvice stand
 abbrev pub HasManyContexts : Saved → Type 0
 HasManyContexts saved = (contexts : List Context) × AreContexts saved.regions (nodes_of_profile saved) contexts × (65536 < length contexts)
 
--- the report on instances: their rows, the entries of a dictionary where one is given, and the plan of their contexts
-pub record IsReportOf (regions : List Region) (exit : ℤ) (ops : ℕ) (nodes : List Node) (dict : Option (List Entry)) (text : List ℕ) : Type 0 where
+-- the report on instances, of which these are the contexts: their rows, the entries of a dictionary where one is given, and the plan of
+-- their contexts
+pub record IsReportOn (regions : List Region) (heading : Heading) (ops : ℕ) (nodes : List Node) (AreTheirs : List Context → Type 0)
+    (dict : Option (List Entry)) (text : List ℕ) : Type 0 where
   pub rows : List Row
   pub contexts : List Context
   pub plan : Option Advice
   pub are_rows : AreRows nodes rows
-  pub are_contexts : AreContexts regions nodes contexts
+  pub are_contexts : AreTheirs contexts
   pub planned : IsPlanned contexts plan
-  pub is : text ≡ report_text regions exit ops rows dict contexts plan
+  pub is : text ≡ report_text regions heading ops rows dict contexts plan
+
+-- the report on the instances of one run
+abbrev pub IsReportOf : List Region → ℤ → ℕ → List Node → Option (List Entry) → List ℕ → Type 0
+IsReportOf regions exit ops nodes dict text = IsReportOn regions (Exit exit) ops nodes (AreContexts regions nodes) dict text
 
 -- a dictionary, where it is asked for
 abbrev pub asked : Bool → List Entry → Option (List Entry)

@@ -7,7 +7,7 @@ use k_dict::{Dict, Entry, Run};
 use k_num::{Place, Seq, Text};
 use k_optab::{Region, RegionKind};
 use k_plan::{Advice, Pick};
-use k_report::{report, report_large};
+use k_report::{Heading, report, report_large};
 use k_selfpar::{Context, Frac, Row};
 use std::alloc::Global;
 use std::process::Abort;
@@ -208,8 +208,8 @@ fn picks_have_contexts(picks: &[Pick], contexts: &[Context]) -> bool
     picks.iter().all(|pick| (pick.context as usize) < count)
 }
 
-/// What main returned, and the number of operations.
-type Ends = (i32, u64);
+/// What main returned or how many runs there were, and the number of operations.
+type Ends = (Heading, u64);
 
 /// The report of a run with a plan is this text.
 fn check_planned(
@@ -305,7 +305,7 @@ fn odd_sum(rt: HostRuntime) -> Result<(), Fail> {
         &rt,
         alloc,
         &regions,
-        (9, 47),
+        (Heading::Exit(9), 47),
         &rows,
         Some(&dict),
         &contexts,
@@ -341,7 +341,7 @@ fn matrix_product(rt: HostRuntime) -> Result<(), Fail> {
         &rt,
         alloc,
         &regions,
-        (0, 449_995),
+        (Heading::Exit(0), 449_995),
         &rows,
         None,
         &contexts,
@@ -366,7 +366,7 @@ fn other_lines(rt: HostRuntime) -> Result<(), Fail> {
         &rt,
         alloc,
         &regions,
-        (-2_147_483_648, 1_000_000_000),
+        (Heading::Exit(-2_147_483_648), 1_000_000_000),
         &rows,
         Some(&dict),
         &contexts,
@@ -384,7 +384,19 @@ fn one_line_in_place_of_others(rt: HostRuntime) -> Result<(), Fail> {
     let contexts = contexts_of(alloc, &[0, 0, 1], 35)?;
     let text =
         "== kremlin ==\nexit 9\nops 47\nfunc main 1:5 n=1 work=35 path=4 sp=1/1\nplan: over 65536 contexts\n";
-    check_wide(&rt, alloc, &regions, (9, 47), &rows, &contexts, text)?;
+    check_wide(
+        &rt,
+        alloc,
+        &regions,
+        (Heading::Exit(9), 47),
+        &rows,
+        &contexts,
+        text,
+    )?;
+    let text =
+        "== kremlin ==\nruns 4294967295\nops 18446744073709551615\nfunc main 1:5 n=1 work=35 path=4 sp=1/1\nplan: over 65536 contexts\n";
+    let many = (Heading::Runs(4_294_967_295), 18_446_744_073_709_551_615);
+    check_wide(&rt, alloc, &regions, many, &rows, &contexts, text)?;
     let large = report_large(alloc, 0, 1)?;
     assert_eq!(rt;
         large.as_slice(),
