@@ -1,5 +1,5 @@
 -- Believed with the theorem on the top call.
--- A profile as one JSON document.
+-- A profile as one JSON document, and the sum of many.
 use Rattle.std.specs.Prelude.{ℕ, ℤ, List, [], ◌++◌, Option, Some, None, codes}
 use Rattle.std.specs.Fmt.{decimal, signed_decimal}
 use Rattle.k_optab.specs.declared.region.Region.{Region}
@@ -30,6 +30,11 @@ abbrev pub run_members : ℤ → ℕ → List Region → List ℕ
 run_members exit ops regions =
     codes "{\"exit\":" ++ signed_decimal exit ++ codes ",\"ops\":" ++ decimal ops ++ codes ",\"regions\":" ++ array region_json regions
 
+-- how many runs there were, how many operations they made, and the regions
+abbrev pub sum_members : ℕ → ℕ → List Region → List ℕ
+sum_members runs ops regions =
+    codes "{\"runs\":" ++ decimal runs ++ codes ",\"ops\":" ++ decimal ops ++ codes ",\"regions\":" ++ array region_json regions
+
 -- the rows, the contexts, and the plan
 abbrev pub tree_members : List Row → List Context → Option Advice → List ℕ
 tree_members rows contexts plan =
@@ -40,3 +45,8 @@ tree_members rows contexts plan =
 abbrev pub profile_json : List Region → ℤ → ℕ → List Row → Option (List Entry) → List Context → Option Advice → List ℕ
 profile_json regions exit ops rows dict contexts plan =
     run_members exit ops regions ++ tree_members rows contexts plan ++ dict_json dict ++ codes "}\n"
+
+-- THE DOCUMENT of a sum: it differs in its first member
+abbrev pub sum_json : List Region → ℕ → ℕ → List Row → Option (List Entry) → List Context → Option Advice → List ℕ
+sum_json regions runs ops rows dict contexts plan =
+    sum_members runs ops regions ++ tree_members rows contexts plan ++ dict_json dict ++ codes "}\n"

@@ -1,4 +1,4 @@
-//! A profile as one JSON document.
+//! A profile as one JSON document, and the sum of many.
 ghost use Rattle.std.specs.Prelude.{◌≡◌, ◌++◌, IfOk, OnOk};
 ghost use Rattle.std.specs.Option.{option_copied};
 ghost use Rattle.k_data.specs.Document as spec;
@@ -59,6 +59,21 @@ fn push_run_members(
     push_regions(text, regions)
 }
 
+/// How many runs there were, how many operations they made, and the regions.
+fn push_sum_members(
+    text: &mut Vec<u8>,
+    runs: u64,
+    ops: u64,
+    regions: &[Region],
+) -> Result<(), NoMemory>
+    ensures { OnOk result (text.new.items ≡ text.old.items ++ spec.sum_members runs ops regions.now) }
+{
+    push_named(text, "{\"runs\":", runs)?;
+    push_named(text, ",\"ops\":", ops)?;
+    push(text, ",\"regions\":")?;
+    push_regions(text, regions)
+}
+
 /// The rows, the contexts, and the plan.
 fn push_tree_members(
     text: &mut Vec<u8>,
@@ -92,6 +107,27 @@ pub fn profile_json(
 {
     let mut text = Vec::new(alloc);
     push_run_members(&mut text, exit, ops, regions.as_slice())?;
+    push_tree_members(&mut text, rows.as_slice(), contexts.as_slice(), plan)?;
+    push_dict(&mut text, dict)?;
+    push(&mut text, "}\n")?;
+    Ok(text)
+}
+
+/// The sum of many profiles as one JSON document: how many runs there were, and else what the document of a profile has.
+pub fn sum_json(
+    alloc: Global,
+    regions: &Seq<Region>,
+    runs: u64,
+    ops: u64,
+    rows: &Seq<Row>,
+    dict: Option<&Dict>,
+    contexts: &ContextList,
+    plan: Option<&Advice>,
+) -> Result<Vec<u8>, NoMemory>
+    ensures { IfOk result (λ text. text.items ≡ spec.sum_json regions.now runs ops rows.now (option_copied dict.entry) contexts.now (option_copied plan.entry)) }
+{
+    let mut text = Vec::new(alloc);
+    push_sum_members(&mut text, runs, ops, regions.as_slice())?;
     push_tree_members(&mut text, rows.as_slice(), contexts.as_slice(), plan)?;
     push_dict(&mut text, dict)?;
     push(&mut text, "}\n")?;

@@ -5,5 +5,5 @@ mod document;
 mod records;
 mod table;
 
-pub use document::profile_json;
+pub use document::{profile_json, sum_json};
 pub use table::rows_csv;
