@@ -44,9 +44,9 @@ _kremlin() {
     done
     typed=${words[-1]}
     case ${#words[@]}:${words[0]} in
-        1:*) mapfile -t COMPREPLY < <(compgen -W 'run graph carried replay page annotate show check demo --help -h --version -V' -- "$typed") ;;
+        1:*) mapfile -t COMPREPLY < <(compgen -W 'run graph carried replay page annotate show merge check demo --help -h --version -V' -- "$typed") ;;
         2:run | 2:graph | 2:carried | 2:replay | 2:page | 2:annotate | 2:check) _kremlin_files '*.c' "$typed" ;;
-        2:show) _kremlin_files '*' "$typed" ;;
+        2:show | *:merge) _kremlin_files '*' "$typed" ;;
         2:*) ;;
         *:run) options='--steps= --depth= --latency= --dict --save=' ;;
         *:graph) options='--steps= --depth= --latency=' ;;

@@ -1,7 +1,9 @@
 pub mod Answering
 pub mod Demos
+pub mod FilesToMerge
 pub mod Fronts
 pub mod Given
+pub mod Naming
 pub mod Numbers
 pub mod OneAnswer
 pub mod Reading

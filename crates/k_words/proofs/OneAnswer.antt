@@ -1,18 +1,20 @@
 -- Words have one answer.
-use Rattle.std.proofs.Common.{◌≡◌, ◌≢◌, ℕ, zero, suc, ◌+◌, ◌<◌, ◌≤◌, ◌⊎◌, inl, inr, Bool, true, false, if◌then◌else◌, List, [], ◌∷◌, length, take, Option, Some, None, Result, Ok, Err, slice_get, arith, refl, sym, ap, subst, ◌∙◌}
-use Rattle.std.specs.Prelude.{is_some, option_map, option_and_then}
+use Rattle.std.proofs.Common.{◌≡◌, ◌≢◌, ℕ, zero, suc, ◌+◌, ◌<◌, ◌≤◌, ◌⊎◌, inl, inr, ◌||◌, Bool, true, false, if◌then◌else◌, List, [], ◌∷◌, length, take, Option, Some, None, Result, Ok, Err, slice_get, arith, refl, sym, ap, subst, ◌∙◌}
+use Rattle.std.specs.Prelude.{is_some, nat_lt, option_map, option_and_then}
 use Rattle.std.proofs.lemmas.Bool.{cases_lt}
 use Rattle.std.proofs.lemmas.Option.{none-some, same_Some, slice_get_past}
 use Rattle.k_words.specs.declared.job.Job.{Job}
 use Rattle.k_words.specs.declared.job.Job.TheVariants as job
 use Rattle.k_words.specs.declared.option.Command.{Command}
-use Rattle.k_words.specs.declared.option.Command.TheVariants.{Run, Graph, Carried, Replay, Page, Annotate, Show, Check, Demo}
+use Rattle.k_words.specs.declared.option.Command.TheVariants.{Run, Graph, Carried, Replay, Page, Annotate, Show, Merge, Check, Demo}
 use Rattle.k_words.specs.declared.option.Setting.{Setting}
 use Rattle.k_words.specs.declared.usage.Usage.{Usage}
 use Rattle.k_words.specs.declared.usage.Usage.TheVariants.{NoCommand, UnknownWord, BadNumber, Twice, NoFile, Memory}
+use Rattle.k_words.specs.Parts.{parts_of}
 use Rattle.k_words.specs.Setting.{is_value, option_of}
 use Rattle.k_words.specs.Settings.{IsFirst, bars, fault_if_there, given, option_fault, settings_fault}
-use Rattle.k_words.specs.Words.{Answers, AreRight, IsAnswer, annotate_of, carried_of, command_fault, command_of, demo_fault, demo_job, demo_loops, demo_number, fault_at, fault_behind, file_fault, graph_of, is_no_file, job_of, job_with, loops_fault, one_too_many, page_of, replay_of, run_of, show_of}
+use Rattle.k_words.proofs.FilesToMerge.{missing_late}
+use Rattle.k_words.specs.Words.{Answers, AreRight, IsAnswer, annotate_of, carried_of, command_fault, command_of, demo_fault, demo_job, demo_loops, demo_number, fault_at, fault_behind, file_fault, graph_of, is_no_file, job_of, job_with, loops_fault, merged_fault, most_merged, one_too_many, page_of, replay_of, run_of, show_of}
 
 -- what is wrong with a word is no want of memory
 IsNoMemory : Option Usage → Type 0
@@ -66,6 +68,15 @@ demo_other [] (suc k) = tt
 demo_other (number ∷ words) zero = either (is_some (demo_number number)) None (Some (BadNumber 1)) tt tt
 demo_other (number ∷ words) (suc k) = loops_other words k
 
+merged_other : (word : Option (List ℕ)) (k : ℕ) → IsNoMemory (merged_fault word k)
+unfolding IsNoMemory
+merged_other None k = either (nat_lt k 3) (Some NoFile) None tt tt
+merged_other (Some word) k =
+    let early : Option Usage = if is_no_file word then Some NoFile else None in
+    let late : Option Usage = if is_no_file word || nat_lt most_merged k then Some (UnknownWord (k + 1)) else None in
+    either (nat_lt k 3) early late (either (is_no_file word) (Some NoFile) None tt tt)
+    (either (is_no_file word || nat_lt most_merged k) (Some (UnknownWord (k + 1))) None tt tt)
+
 behind_other : (command : Option Command) (arguments : List (List ℕ)) (k : ℕ) → IsNoMemory (fault_behind command arguments k)
 unfolding IsNoMemory
 behind_other None arguments k = tt
@@ -76,6 +87,7 @@ behind_other (Some Replay) arguments k = file_other Replay arguments k
 behind_other (Some Page) arguments k = file_other Page arguments k
 behind_other (Some Annotate) arguments k = file_other Annotate arguments k
 behind_other (Some Show) arguments k = file_other Show arguments k
+behind_other (Some Merge) arguments k = merged_other (slice_get arguments k) k
 behind_other (Some Check) arguments k = file_other Check arguments k
 behind_other (Some Demo) arguments k = demo_other arguments k
 
@@ -113,19 +125,20 @@ demo_past [] (suc k) past = refl
 demo_past (number ∷ words) zero past = absurd (omega arith)
 demo_past (number ∷ words) (suc k) past = loops_past words k (omega arith)
 
-behind_past : (command : Option Command) (arguments : List (List ℕ)) (k : ℕ) → length arguments < k → fault_behind command arguments k ≡ None
+behind_past : (command : Option Command) (arguments : List (List ℕ)) (k : ℕ) → length arguments + 2 < k → fault_behind command arguments k ≡ None
 behind_past None arguments k past = refl
-behind_past (Some Run) arguments k past = file_past Run arguments k past
-behind_past (Some Graph) arguments k past = file_past Graph arguments k past
-behind_past (Some Carried) arguments k past = file_past Carried arguments k past
-behind_past (Some Replay) arguments k past = file_past Replay arguments k past
-behind_past (Some Page) arguments k past = file_past Page arguments k past
-behind_past (Some Annotate) arguments k past = file_past Annotate arguments k past
-behind_past (Some Show) arguments k past = file_past Show arguments k past
-behind_past (Some Check) arguments k past = file_past Check arguments k past
-behind_past (Some Demo) arguments k past = demo_past arguments k past
+behind_past (Some Run) arguments k past = file_past Run arguments k (omega (arith, past))
+behind_past (Some Graph) arguments k past = file_past Graph arguments k (omega (arith, past))
+behind_past (Some Carried) arguments k past = file_past Carried arguments k (omega (arith, past))
+behind_past (Some Replay) arguments k past = file_past Replay arguments k (omega (arith, past))
+behind_past (Some Page) arguments k past = file_past Page arguments k (omega (arith, past))
+behind_past (Some Annotate) arguments k past = file_past Annotate arguments k (omega (arith, past))
+behind_past (Some Show) arguments k past = file_past Show arguments k (omega (arith, past))
+behind_past (Some Merge) arguments k past = missing_late arguments k (omega (arith, past)) (omega (arith, past))
+behind_past (Some Check) arguments k past = file_past Check arguments k (omega (arith, past))
+behind_past (Some Demo) arguments k past = demo_past arguments k (omega (arith, past))
 
-fault_past : (words : List (List ℕ)) (k : ℕ) → length words < k → fault_at words k ≡ None
+fault_past : (words : List (List ℕ)) (k : ℕ) → length words + 2 < k → fault_at words k ≡ None
 fault_past [] zero past = absurd (omega arith)
 fault_past [] (suc k) past = refl
 fault_past (command ∷ arguments) zero past = absurd (omega arith)
@@ -160,6 +173,8 @@ job_behind (Some Annotate) [] known right = absurd (none-some _ (sym (right 0)))
 job_behind (Some Annotate) (file ∷ words) known right = (annotate_of file (given Annotate words), refl)
 job_behind (Some Show) [] known right = absurd (none-some _ (sym (right 0)))
 job_behind (Some Show) (file ∷ words) known right = (show_of file (given Show words), refl)
+job_behind (Some Merge) [] known right = absurd (none-some _ (sym (right 0)))
+job_behind (Some Merge) (save ∷ files) known right = (job.Merge save (parts_of [] files), refl)
 job_behind (Some Check) [] known right = absurd (none-some _ (sym (right 0)))
 job_behind (Some Check) (file ∷ words) known right = (job.Check file, refl)
 job_behind (Some Demo) arguments known right = demo_there arguments right
@@ -192,20 +207,20 @@ first_or_none faults (suc n) = elim (first_or_none faults n) [ inl found ↦ inl
     at_next faults n right None is = inr (λ k low. elim (cases_lt k n) [ inl below ↦ right k below | inr high ↦ (let same : n ≡ k = omega arith in ap faults (sym same) ∙ is) ])
     at_next faults n right (Some fault) is = inl (fault, record { at = n; wrong = is; before = right })
 
-answer_found : (words : List (List ℕ)) → ((fault : Usage) × IsFirst (fault_at words) fault) ⊎ ((k : ℕ) → k < length words + 1 → fault_at words k ≡ None)
+answer_found : (words : List (List ℕ)) → ((fault : Usage) × IsFirst (fault_at words) fault) ⊎ ((k : ℕ) → k < length words + 3 → fault_at words k ≡ None)
     → HasAnswer (fault_at words) (job_of words)
 unfolding HasAnswer
 answer_found words (inl found) =
     first_answers (fault_at words) (job_of words) found.0 (subst IsNoMemory found.1.wrong (fault_other words found.1.at)) found.1
 answer_found words (inr none) =
-    let right : AreRight (fault_at words) = λ k. elim (cases_lt k (length words + 1)) [ inl low ↦ none k low | inr high ↦ fault_past words k (omega arith) ] in
+    let right : AreRight (fault_at words) = λ k. elim (cases_lt k (length words + 3)) [ inl low ↦ none k low | inr high ↦ fault_past words k (omega arith) ] in
     let asked = job_there words right in
     (Ok asked.0, (right, asked.1), λ e. cc)
 
 -- there is an answer
 pub answer_exists : (words : List (List ℕ)) → (answer : Result Job Usage) × IsAnswer words answer × (answer ≢ Err Memory)
 unfolding HasAnswer
-answer_exists words = answer_found words (first_or_none (fault_at words) (length words + 1))
+answer_exists words = answer_found words (first_or_none (fault_at words) (length words + 3))
 
 -- the answer is no want of memory
 abbrev IsOther : Result Job Usage → Type 0

@@ -30,13 +30,13 @@ take_next [] k x h = absurd (omega (arith, slice_get_within [] k x h))
 take_next (y ∷ xs) zero x h = ap (λ o. first_or o y ∷ []) h
 take_next (y ∷ xs) (suc k) x h = ap (λ t. y ∷ t) (take_next xs k x h)
 
-below_next : (k j : ℕ) → j < k + 1 → (j < k) ⊎ (j ≡ k)
+pub below_next : (k j : ℕ) → j < k + 1 → (j < k) ⊎ (j ≡ k)
 below_next k j h = elim (cases_Bool (nat_lt j k)) [
   | inl less ↦ inl (grind (arith, nat_tests))
   | inr more ↦ inr (grind (arith, nat_tests))
 ]
 
-below_or_past : (j k : ℕ) → (j < k) ⊎ (k ≤ j)
+pub below_or_past : (j k : ℕ) → (j < k) ⊎ (k ≤ j)
 below_or_past j k = elim (cases_Bool (nat_lt j k)) [
   | inl less ↦ inl (grind (arith, nat_tests))
   | inr more ↦ inr (grind (arith, nat_tests))

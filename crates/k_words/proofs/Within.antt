@@ -1,5 +1,5 @@
 -- The numbers of a job lie within their limits.
-use Rattle.std.proofs.Common.{ℕ, ◌≡◌, ◌≤◌, Bool, true, false, ◌&&◌, if◌then◌else◌, nat_le, List, [], ◌∷◌, Option, Some, None, is_some, option_map, option_and_then, ap, arith, refl, subst}
+use Rattle.std.proofs.Common.{ℕ, suc, ◌≡◌, ◌≤◌, Bool, true, false, ◌&&◌, if◌then◌else◌, nat_le, List, [], ◌∷◌, Option, Some, None, is_some, option_map, option_and_then, ap, arith, refl, subst}
 use Rattle.std.proofs.lemmas.Bool.{and_parts, false≢true}
 use Rattle.std.proofs.lemmas.Bool.Decides.{nat_tests}
 use Rattle.std.specs.Prelude.{unwrap_or}
@@ -7,14 +7,15 @@ use Rattle.std.specs.Str.Parse.{digits_value}
 use Rattle.k_words.specs.declared.job.Job.{Job}
 use Rattle.k_words.specs.declared.job.Job.TheVariants as job
 use Rattle.k_words.specs.declared.option.Command.{Command}
-use Rattle.k_words.specs.declared.option.Command.TheVariants.{Run, Graph, Carried, Replay, Page, Annotate, Show, Check, Demo}
+use Rattle.k_words.specs.declared.option.Command.TheVariants.{Run, Graph, Carried, Replay, Page, Annotate, Show, Merge, Check, Demo}
 use Rattle.k_words.specs.declared.option.Setting.TheVariants.{Steps, Depth, Workers, Seed}
 use Rattle.k_words.specs.Number.{is_numeral, number_within, within}
 use Rattle.k_words.specs.Setting.{most_depth, most_seed, most_steps, most_workers, or_else}
 use Rattle.k_words.specs.Settings.{depth_in, first_of, given, seed_in, steps_in, text_in, workers_in}
 use Rattle.k_words.specs.Within.{IsJobWithin, IsReplayWithin, IsRunWithin, IsWithin, JobsAreWithin}
-use Rattle.k_words.specs.Words.{annotate_of, carried_of, command_of, demo_loops, demo_number, graph_of, job_with, page_of, replay_of, run_of}
+use Rattle.k_words.specs.Words.{AreRight, annotate_of, argument_fault, carried_of, command_of, fault_behind, demo_loops, demo_number, graph_of, job_with, page_of, replay_of, run_of}
 use Rattle.k_words.proofs.Given.{mapped, some_inner}
+use Rattle.k_words.proofs.FilesToMerge.{are_parts}
 
 -- nothing is something
 no_some : {A : Type 0} {B : Type 0} (x : A) → None ≡ Some x → B
@@ -104,45 +105,47 @@ replay_within words = record {
 }
 
 -- a command with its arguments
-command_within : (command : Command) (words : List (List ℕ)) (asked : Job) → job_with words command ≡ Some asked → IsJobWithin asked
-command_within Run [] asked is = no_some asked is
-command_within Run (file ∷ words) asked is =
+command_within : (command : Command) (words : List (List ℕ)) (asked : Job) → AreRight (argument_fault command words) → job_with words command ≡ Some asked → IsJobWithin asked
+command_within Run [] asked right is = no_some asked is
+command_within Run (file ∷ words) asked right is =
     subst IsJobWithin (some_inner (run_of file (given Run words)) asked is)
     (options_within Run words 100000000 (record { at_least = omega arith; at_most = omega arith }))
-command_within Graph [] asked is = no_some asked is
-command_within Graph (file ∷ words) asked is =
+command_within Graph [] asked right is = no_some asked is
+command_within Graph (file ∷ words) asked right is =
     subst IsJobWithin (some_inner (graph_of file (given Graph words)) asked is)
     (options_within Graph words 200000 (record { at_least = omega arith; at_most = omega arith }))
-command_within Carried [] asked is = no_some asked is
-command_within Carried (file ∷ words) asked is =
+command_within Carried [] asked right is = no_some asked is
+command_within Carried (file ∷ words) asked right is =
     subst IsJobWithin (some_inner (carried_of file (given Carried words)) asked is)
     (options_within Carried words 100000000 (record { at_least = omega arith; at_most = omega arith }))
-command_within Replay [] asked is = no_some asked is
-command_within Replay (file ∷ words) asked is = subst IsJobWithin (some_inner (replay_of file (given Replay words)) asked is) (replay_within words)
-command_within Page [] asked is = no_some asked is
-command_within Page (file ∷ words) asked is =
+command_within Replay [] asked right is = no_some asked is
+command_within Replay (file ∷ words) asked right is = subst IsJobWithin (some_inner (replay_of file (given Replay words)) asked is) (replay_within words)
+command_within Page [] asked right is = no_some asked is
+command_within Page (file ∷ words) asked right is =
     subst IsJobWithin (some_inner (page_of file (given Page words)) asked is)
     (options_within Page words 100000000 (record { at_least = omega arith; at_most = omega arith }))
-command_within Annotate [] asked is = no_some asked is
-command_within Annotate (file ∷ words) asked is =
+command_within Annotate [] asked right is = no_some asked is
+command_within Annotate (file ∷ words) asked right is =
     subst IsJobWithin (some_inner (annotate_of file (given Annotate words)) asked is)
     (options_within Annotate words 100000000 (record { at_least = omega arith; at_most = omega arith }))
-command_within Show [] asked is = no_some asked is
-command_within Show (file ∷ words) asked is = subst IsJobWithin (some_inner _ asked is) tt
-command_within Check [] asked is = no_some asked is
-command_within Check (file ∷ words) asked is = subst IsJobWithin (some_inner _ asked is) tt
-command_within Demo [] asked is = no_some asked is
-command_within Demo (number ∷ []) asked is = no_some asked is
-command_within Demo (number ∷ loops ∷ words) asked is =
+command_within Show [] asked right is = no_some asked is
+command_within Show (file ∷ words) asked right is = subst IsJobWithin (some_inner _ asked is) tt
+command_within Merge [] asked right is = no_some asked is
+command_within Merge (save ∷ files) asked right is = subst IsJobWithin (some_inner _ asked is) (are_parts save files right)
+command_within Check [] asked right is = no_some asked is
+command_within Check (file ∷ words) asked right is = subst IsJobWithin (some_inner _ asked is) tt
+command_within Demo [] asked right is = no_some asked is
+command_within Demo (number ∷ []) asked right is = no_some asked is
+command_within Demo (number ∷ loops ∷ words) asked right is =
     let (n, first, later) = then_some (λ n. option_map (λ l. job.Demo n l) (demo_loops loops)) (demo_number number) asked is in
     let (l, second, same) = mapped (λ l. job.Demo n l) (demo_loops loops) asked later in
     subst IsJobWithin same (number_is_within 1 2000 loops l second)
 
 -- what words ask for
-by_command : (o : Option Command) (words : List (List ℕ)) (asked : Job) → option_and_then (job_with words) o ≡ Some asked → IsJobWithin asked
-by_command None words asked is = no_some asked is
-by_command (Some command) words asked is = command_within command words asked is
+by_command : (o : Option Command) (words : List (List ℕ)) (asked : Job) → AreRight (fault_behind o words) → option_and_then (job_with words) o ≡ Some asked → IsJobWithin asked
+by_command None words asked right is = no_some asked is
+by_command (Some command) words asked right is = command_within command words asked right is
 
 pub jobs_are_within : JobsAreWithin
 jobs_are_within [] asked (right, is) = no_some asked is
-jobs_are_within (command ∷ words) asked (right, is) = by_command (command_of command) words asked is
+jobs_are_within (command ∷ words) asked (right, is) = by_command (command_of command) words asked (λ k. right (suc k)) is

@@ -37,7 +37,8 @@ help_text = concat (
     codes "kremlin replay FILE [OPTION ..]    lets workers fire the operations of the run in any order and counts their rounds\n" ∷
     codes "kremlin page FILE [OPTION ..]      runs a C program and writes one page of HTML: its profile, its plan and its source\n" ∷
     codes "kremlin annotate FILE [OPTION ..]  runs a C program and writes its source with the numbers of each loop and OpenMP lines\n" ∷
-    codes "kremlin show FILE [OPTION ..]      writes a saved profile: its report, a JSON document, or its rows as CSV\n" ∷
+    codes "kremlin show FILE [OPTION ..]      writes a saved profile or sum: its report, a JSON document, or its rows as CSV\n" ∷
+    codes "kremlin merge OUT FILE FILE ..     saves the sum of 2 to 4096 saved profiles or sums of runs of one program\n" ∷
     codes "kremlin check FILE                 reads and checks a C program and does not run it; what is refused it shows in its line\n" ∷
     codes "kremlin demo NUMBER LOOPS          makes a program of LOOPS loops (1 to 2000) from NUMBER and sums up its run\n" ∷
     codes "kremlin --help, -h                 writes this text\n" ∷
@@ -67,7 +68,7 @@ help_text = concat (
     codes " 8  no memory\n" ∷
     codes " 9  the input is too long\n" ∷
     codes "10  the latency table was refused\n" ∷
-    codes "11  the saved file was refused\n" ∷
+    codes "11  a saved file was refused\n" ∷
     codes "12  a file is too long\n" ∷
     codes "\n" ∷
     codes "examples:\n" ∷

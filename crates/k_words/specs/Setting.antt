@@ -4,7 +4,7 @@ use Rattle.std.specs.Prelude.{ℕ, Bool, true, false, ◌==◌, ◌||◌, nat_eq
 use Rattle.std.specs.List.{starts_with}
 use Rattle.std.specs.Cmp.Lexicographic.{pointwise}
 use Rattle.k_words.specs.declared.option.Command.{Command}
-use Rattle.k_words.specs.declared.option.Command.TheVariants.{Run, Graph, Carried, Replay, Page, Annotate, Show, Check, Demo}
+use Rattle.k_words.specs.declared.option.Command.TheVariants.{Run, Graph, Carried, Replay, Page, Annotate, Show, Merge, Check, Demo}
 use Rattle.k_words.specs.declared.option.Setting.{Setting}
 use Rattle.k_words.specs.declared.option.Setting.TheVariants.{Steps, Depth, Latency, Dict, Save, Storage, Strict, Workers, Seed, Json, Csv}
 use Rattle.k_words.specs.Number.{number_within}
@@ -69,6 +69,7 @@ options Replay = Steps ∷ Depth ∷ Latency ∷ Workers ∷ Seed ∷ []
 options Page = Steps ∷ Depth ∷ Latency ∷ Dict ∷ []
 options Annotate = Steps ∷ Depth ∷ Latency ∷ Strict ∷ []
 options Show = Dict ∷ Json ∷ Csv ∷ []
+options Merge = []
 options Check = []
 options Demo = []
 
@@ -98,6 +99,7 @@ most_steps Replay = 200000
 most_steps Page = 1000000000
 most_steps Annotate = 1000000000
 most_steps Show = 1000000000
+most_steps Merge = 1000000000
 most_steps Check = 1000000000
 most_steps Demo = 1000000000
 

@@ -3,6 +3,8 @@
 use Rattle.std.specs.Prelude.{ℕ, ◌≤◌, List, Ok}
 use Rattle.k_words.specs.declared.job.Job.{Job}
 use Rattle.k_words.specs.declared.job.Job.TheVariants as job
+use Rattle.k_words.specs.Parts.{AreNamedOnce, all_times}
+use Rattle.k_words.specs.declared.merging.Part.{Part}
 use Rattle.k_words.specs.Words.{IsAnswer}
 
 -- a number lies within limits
@@ -21,6 +23,11 @@ pub record IsReplayWithin (operations levels count number : ℕ) : Type 0 where
   pub workers : IsWithin 1 16 count
   pub seed : IsWithin 0 18446744073709551615 number
 
+-- files to put together: each stands once, and together they are named 2 to 4,096 times
+pub record AreParts (parts : List Part) : Type 0 where
+  pub once : AreNamedOnce parts
+  pub count : IsWithin 2 4096 (all_times parts)
+
 -- the numbers of a job lie within their limits
 abbrev pub IsJobWithin : Job → Type 0
 IsJobWithin (job.Run file steps depth latency dict save) = IsRunWithin 1000000000 steps depth
@@ -30,6 +37,7 @@ IsJobWithin (job.Replay file steps depth latency workers seed) = IsReplayWithin 
 IsJobWithin (job.Page file steps depth latency dict) = IsRunWithin 1000000000 steps depth
 IsJobWithin (job.Annotate file steps depth latency strict) = IsRunWithin 1000000000 steps depth
 IsJobWithin (job.Show file form) = Unit {0}
+IsJobWithin (job.Merge save parts) = AreParts parts
 IsJobWithin (job.Check file) = Unit {0}
 IsJobWithin (job.Demo number loops) = IsWithin 1 2000 loops
 

@@ -1,6 +1,6 @@
 -- Believed with the theorem on the top call.
 -- *Words*: what the words of the command line ask for, and the first of them that is wrong.
-use Rattle.std.specs.Prelude.{ℕ, zero, suc, ◌+◌, ◌≡◌, Bool, true, if◌then◌else◌, List, [], ◌∷◌, codes, nat_eq, slice_get, Option, Some, None, is_some, unwrap_or, option_map, option_and_then, Result, Ok, Err}
+use Rattle.std.specs.Prelude.{ℕ, zero, suc, ◌+◌, ◌≡◌, ◌||◌, Bool, true, if◌then◌else◌, List, [], ◌∷◌, codes, nat_eq, nat_lt, slice_get, Option, Some, None, is_some, unwrap_or, option_map, option_and_then, Result, Ok, Err}
 use Rattle.std.specs.List.{starts_with}
 use Rattle.std.specs.Cmp.Lexicographic.{pointwise}
 use Rattle.k_words.specs.declared.job.Job.{Job}
@@ -8,10 +8,11 @@ use Rattle.k_words.specs.declared.job.Job.TheVariants as job
 use Rattle.k_words.specs.declared.job.Form.{Form}
 use Rattle.k_words.specs.declared.job.Form.TheVariants as form
 use Rattle.k_words.specs.declared.option.Command.{Command}
-use Rattle.k_words.specs.declared.option.Command.TheVariants.{Run, Graph, Carried, Replay, Page, Annotate, Show, Check, Demo}
+use Rattle.k_words.specs.declared.option.Command.TheVariants.{Run, Graph, Carried, Replay, Page, Annotate, Show, Merge, Check, Demo}
 use Rattle.k_words.specs.declared.usage.Usage.{Usage}
 use Rattle.k_words.specs.declared.usage.Usage.TheVariants.{NoCommand, UnknownWord, BadNumber, Twice, NoFile, Memory}
 use Rattle.k_words.specs.Number.{number_within}
+use Rattle.k_words.specs.Parts.{parts_of}
 use Rattle.k_words.specs.Setting.{standard_depth, standard_seed, standard_steps, standard_workers}
 use Rattle.k_words.specs.Settings.{Given, IsFirst, given, settings_fault}
 
@@ -54,6 +55,22 @@ demo_fault [] (suc k) = None
 demo_fault (number ∷ words) zero = if is_some (demo_number number) then None else Some (BadNumber 1)
 demo_fault (number ∷ words) (suc k) = loops_fault words k
 
+-- how many files `merge` puts together at most
+abbrev pub most_merged : ℕ
+most_merged = 4096
+
+-- what is wrong with argument k of `merge`, which may be missing: the file that is saved and the first two that are put together have to be
+-- there, and behind them stand other files up to the last one that may be
+abbrev pub merged_fault : Option (List ℕ) → ℕ → Option Usage
+merged_fault None k = if nat_lt k 3 then Some NoFile else None
+merged_fault (Some word) k =
+    if nat_lt k 3 then (if is_no_file word then Some NoFile else None)
+    else (if is_no_file word || nat_lt most_merged k then Some (UnknownWord (k + 1)) else None)
+
+-- what is wrong with argument k of `merge`, which is the word of index k + 1
+abbrev pub merge_fault : List (List ℕ) → ℕ → Option Usage
+merge_fault words k = merged_fault (slice_get words k) k
+
 -- the word is this text
 abbrev pub is : List ℕ → List ℕ → Bool
 is word text = pointwise nat_eq word text
@@ -65,6 +82,7 @@ command_of word =
     else if is word (codes "carried") then Some Carried else if is word (codes "replay") then Some Replay
     else if is word (codes "page") then Some Page
     else if is word (codes "annotate") then Some Annotate else if is word (codes "show") then Some Show
+    else if is word (codes "merge") then Some Merge
     else if is word (codes "check") then Some Check else if is word (codes "demo") then Some Demo else None
 
 -- what is wrong with the command
@@ -81,6 +99,7 @@ argument_fault Replay words k = file_fault Replay words k
 argument_fault Page words k = file_fault Page words k
 argument_fault Annotate words k = file_fault Annotate words k
 argument_fault Show words k = file_fault Show words k
+argument_fault Merge words k = merge_fault words k
 argument_fault Check words k = file_fault Check words k
 argument_fault Demo words k = demo_fault words k
 
@@ -164,6 +183,11 @@ abbrev pub show_job : List (List ℕ) → Option Job
 show_job [] = None
 show_job (file ∷ words) = Some (show_of file (given Show words))
 
+-- what `merge` with these arguments asks for: the first is the file that is saved, and the runs of the others are put together
+abbrev pub merge_job : List (List ℕ) → Option Job
+merge_job [] = None
+merge_job (save ∷ files) = Some (job.Merge save (parts_of [] files))
+
 -- what `check` with these arguments asks for
 abbrev pub check_job : List (List ℕ) → Option Job
 check_job [] = None
@@ -184,6 +208,7 @@ job_with words Replay = replay_job words
 job_with words Page = page_job words
 job_with words Annotate = annotate_job words
 job_with words Show = show_job words
+job_with words Merge = merge_job words
 job_with words Check = check_job words
 job_with words Demo = demo_job words
 

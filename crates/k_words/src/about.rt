@@ -51,7 +51,8 @@ kremlin carried FILE [OPTION ..]   lists for each loop which places use what oth
 kremlin replay FILE [OPTION ..]    lets workers fire the operations of the run in any order and counts their rounds
 kremlin page FILE [OPTION ..]      runs a C program and writes one page of HTML: its profile, its plan and its source
 kremlin annotate FILE [OPTION ..]  runs a C program and writes its source with the numbers of each loop and OpenMP lines
-kremlin show FILE [OPTION ..]      writes a saved profile: its report, a JSON document, or its rows as CSV
+kremlin show FILE [OPTION ..]      writes a saved profile or sum: its report, a JSON document, or its rows as CSV
+kremlin merge OUT FILE FILE ..     saves the sum of 2 to 4096 saved profiles or sums of runs of one program
 kremlin check FILE                 reads and checks a C program and does not run it; what is refused it shows in its line
 kremlin demo NUMBER LOOPS          makes a program of LOOPS loops (1 to 2000) from NUMBER and sums up its run
 kremlin --help, -h                 writes this text
@@ -81,7 +82,7 @@ exit status:
  8  no memory
  9  the input is too long
 10  the latency table was refused
-11  the saved file was refused
+11  a saved file was refused
 12  a file is too long
 
 examples:

@@ -1,15 +1,16 @@
 //! What the words of the command line ask for.
 ghost use Rattle.std.specs.Prelude.{◌≡◌, MatchResult, IfOk, option_map};
 ghost use Rattle.k_words.specs.Settings.{IsFirst, seen, seen_words};
-ghost use Rattle.k_words.specs.Words.{Answers, IsAnswer, ReadsFile, annotate_job, carried_job, check_job, command_of, demo_fault, demo_job, file_fault, graph_job, is_no_file, page_job, replay_job, run_job, show_job, form_of};
+ghost use Rattle.k_words.specs.Words.{Answers, IsAnswer, ReadsFile, annotate_job, carried_job, check_job, command_of, demo_fault, demo_job, file_fault, graph_job, is_no_file, merge_fault, merge_job, page_job, replay_job, run_job, show_job, form_of};
 
+use crate::merging::{Part, are_files, parts_of};
 use crate::number::number_within;
 use crate::option::{
     Command, LISTED_STEPS, STANDARD_DEPTH, STANDARD_SEED, STANDARD_STEPS, STANDARD_WORKERS,
 };
 use crate::settings::{Settings, read_settings};
 use crate::usage::Usage;
-use k_num::{NoMemory, Text};
+use k_num::{NoMemory, Seq, Text};
 use std::alloc::Global;
 
 /// How a saved profile is shown.
@@ -82,6 +83,11 @@ pub enum Job {
         file: Text,
         form: Form,
     },
+    /// The runs of saved profiles and of sums are put together, and their sum is saved.
+    Merge {
+        save: Text,
+        parts: Seq<Part>,
+    },
     /// A source is read and checked, and not run.
     Check {
         file: Text,
@@ -108,6 +114,7 @@ pub fn words(alloc: Global, list: &[String]) -> Result<Job, Usage>
         Some(Command::Page) => page_job(alloc, arguments),
         Some(Command::Annotate) => annotate_job(alloc, arguments),
         Some(Command::Show) => show_job(alloc, arguments),
+        Some(Command::Merge) => merge_job(alloc, arguments),
         Some(Command::Check) => check_job(alloc, arguments),
         Some(Command::Demo) => demo_job(arguments),
         None => Err(Usage::UnknownWord(0)),
@@ -133,6 +140,8 @@ fn command_of(word: &str) -> Option<Command>
         Some(Command::Annotate)
     } else if word == "show" {
         Some(Command::Show)
+    } else if word == "merge" {
+        Some(Command::Merge)
     } else if word == "check" {
         Some(Command::Check)
     } else if word == "demo" {
@@ -273,6 +282,22 @@ fn show_job(alloc: Global, arguments: &[String]) -> Result<Job, Usage>
     })
 }
 
+/// What `merge` with these arguments asks for.
+fn merge_job(alloc: Global, arguments: &[String]) -> Result<Job, Usage>
+    ensures { Answers (merge_fault (seen_words arguments.now)) (merge_job (seen_words arguments.now)) result }
+{
+    if let Err(fault) = are_files(arguments) {
+        return Err(fault);
+    }
+    let Some((save, files)) = arguments.split_first() else {
+        return Err(Usage::NoFile);
+    };
+    Ok(Job::Merge {
+        save: Text::copy_of(alloc, save.as_str())?,
+        parts: parts_of(alloc, files)?,
+    })
+}
+
 /// What `check` with these arguments asks for.
 fn check_job(alloc: Global, arguments: &[String]) -> Result<Job, Usage>
     ensures { Answers (file_fault Command.Check (seen_words arguments.now)) (check_job (seen_words arguments.now)) result }
@@ -327,7 +352,7 @@ fn file_and_settings(command: Command, arguments: &[String]) -> Result<(&str, Se
 }
 
 /// Whether a word can't name a file.
-fn is_no_file(word: &str) -> bool
+pub(crate) fn is_no_file(word: &str) -> bool
     ensures { result ≡ is_no_file word.now }
 {
     word.is_empty() || word.starts_with("--")

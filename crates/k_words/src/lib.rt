@@ -4,6 +4,7 @@
 mod about;
 mod job;
 pub mod laws;
+mod merging;
 mod number;
 mod option;
 mod settings;
@@ -11,5 +12,6 @@ mod usage;
 
 pub use about::{Asked, asked_for, help, version};
 pub use job::{Form, Job, words};
+pub use merging::Part;
 pub use option::{LISTED_STEPS, STANDARD_DEPTH, STANDARD_SEED, STANDARD_STEPS, STANDARD_WORKERS};
 pub use usage::Usage;

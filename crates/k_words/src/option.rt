@@ -12,6 +12,7 @@ pub enum Command {
     Page,
     Annotate,
     Show,
+    Merge,
     Check,
     Demo,
 }
@@ -133,7 +134,7 @@ fn is_taken(command: Command, setting: Setting) -> bool
         Command::Page => is_of_run(setting) || matches!(setting, Setting::Dict),
         Command::Annotate => is_of_run(setting) || matches!(setting, Setting::Strict),
         Command::Show => matches!(setting, Setting::Dict | Setting::Json | Setting::Csv),
-        Command::Check | Command::Demo => false,
+        Command::Merge | Command::Check | Command::Demo => false,
     }
 }
 

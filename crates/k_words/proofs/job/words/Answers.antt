@@ -1,5 +1,5 @@
 use Rattle.std.proofs.Common.{◌∙◌, Some, ap, string_bytes, sym}
-use Rattle.k_words.specs.declared.option.Command.TheVariants.{Run, Graph, Carried, Replay, Page, Annotate, Show, Check, Demo}
+use Rattle.k_words.specs.declared.option.Command.TheVariants.{Run, Graph, Carried, Replay, Page, Annotate, Show, Merge, Check, Demo}
 use Rattle.k_words.specs.Settings.{seen_words}
 use Rattle.k_words.specs.Words.{command_of}
 use Rattle.k_words.proofs.Answering.{of_arguments}
@@ -46,6 +46,12 @@ returns-in-Some-Show c =
     of_arguments (seen_words c.args.list.now) (string_bytes c.in-Some.command.now) (seen_words c.in-Some.arguments.now) Show c.show_job.result
     (ap seen_words c.in-Some.ensures.cases.0)
     (ap command_of (sym c.as_str.ensures.value) ∙ sym c.command_of.ensures ∙ c.in-Some-Show.is ∙ ap Some c.in-Some-Show.field-0-is) c.show_job.ensures
+
+pub returns-in-Some-Merge : goal.returns-in-Some-Merge
+returns-in-Some-Merge c =
+    of_arguments (seen_words c.args.list.now) (string_bytes c.in-Some.command.now) (seen_words c.in-Some.arguments.now) Merge c.merge_job.result
+    (ap seen_words c.in-Some.ensures.cases.0)
+    (ap command_of (sym c.as_str.ensures.value) ∙ sym c.command_of.ensures ∙ c.in-Some-Merge.is ∙ ap Some c.in-Some-Merge.field-0-is) c.merge_job.ensures
 
 pub returns-in-Some-Check : goal.returns-in-Some-Check
 returns-in-Some-Check c =
