@@ -1,8 +1,9 @@
 //! What the words ask for, and the answer to it.
-ghost use Rattle.std.specs.Prelude.{◌≡◌, None, IfOk, map, string_bytes};
+ghost use Rattle.std.specs.Prelude.{◌≡◌, false, None, IfOk, map, string_bytes};
 ghost use Rattle.k_words.specs.About.{asked_for};
 ghost use Rattle.k_words.specs.Within.{IsJobWithin, IsReplayWithin, IsRunWithin};
 ghost use Rattle.k_words.specs.declared.job.Job.TheVariants as job;
+ghost use Rattle.k_top.specs.Jobs.{keeps_times};
 ghost use Rattle.k_top_answers.specs.Answers.{done};
 ghost use Rattle.k_top_lemmas.specs.Parts.{GivesText, IsFresh};
 ghost use Rattle.k_top_lemmas.specs.Phases.{FindsJob};
@@ -16,6 +17,7 @@ use k_top_commands::{
     annotate_answer, carried_answer, check_answer, demo_answer, graph_answer, page_answer,
     replay_answer, run_answer, show_answer,
 };
+use k_top_merge::merge_answer;
 use k_top_programs::make_ready;
 use k_words::{Asked, Job, asked_for, help, version, words};
 use std::alloc::Global;
@@ -170,6 +172,49 @@ fn annotate_job<F: Files, S: Source, R: Shadow, P: Shadow>(
     Ok(answer)
 }
 
+/// The answer to what is asked for, where no times are kept.
+fn untimed_answer<F: Files, S: Source>(
+    alloc: Global,
+    job: Job,
+    files: &mut F,
+    input: &mut S,
+) -> Result<Answer, Failure>
+    requires within { IsJobWithin job }
+    requires untimed { keeps_times job ≡ false }
+    ensures { FindsJob result job
+        (record { files = F.seen files.old; input = S.seen input.old }) (record { files = F.seen files.new; input = S.seen input.new }) }
+{
+    match job {
+        Job::Graph {
+            file,
+            steps,
+            depth,
+            latency,
+        } => graph_job(alloc, files, input, file, steps, depth, latency),
+        Job::Carried {
+            file,
+            steps,
+            depth,
+            latency,
+            storage,
+        } => carried_job(alloc, files, input, file, steps, depth, latency, storage),
+        Job::Replay {
+            file,
+            steps,
+            depth,
+            latency,
+            workers,
+            seed,
+        } => replay_job(
+            alloc, files, input, file, steps, depth, latency, workers, seed,
+        ),
+        Job::Show { file, form } => show_answer(alloc, files, file, form),
+        Job::Merge { save, parts } => merge_answer(alloc, files, save, &parts),
+        Job::Check { file } => check_answer(alloc, files, file),
+        _ => unreachable!(),
+    }
+}
+
 /// The rest of the answer to what is asked for. Only a program that `run` runs puts any of it.
 fn job_answer<F: Files, S: Source, K: Sink, R: Shadow, P: Shadow>(
     alloc: Global,
@@ -198,41 +243,6 @@ fn job_answer<F: Files, S: Source, K: Sink, R: Shadow, P: Shadow>(
         } => run_job(
             alloc, files, input, out, file, steps, depth, latency, dict, save, regs, pages,
         ),
-        Job::Graph {
-            file,
-            steps,
-            depth,
-            latency,
-        } => {
-            drop(regs);
-            drop(pages);
-            graph_job(alloc, files, input, file, steps, depth, latency)
-        }
-        Job::Carried {
-            file,
-            steps,
-            depth,
-            latency,
-            storage,
-        } => {
-            drop(regs);
-            drop(pages);
-            carried_job(alloc, files, input, file, steps, depth, latency, storage)
-        }
-        Job::Replay {
-            file,
-            steps,
-            depth,
-            latency,
-            workers,
-            seed,
-        } => {
-            drop(regs);
-            drop(pages);
-            replay_job(
-                alloc, files, input, file, steps, depth, latency, workers, seed,
-            )
-        }
         Job::Page {
             file,
             steps,
@@ -251,17 +261,12 @@ fn job_answer<F: Files, S: Source, K: Sink, R: Shadow, P: Shadow>(
         } => annotate_job(
             alloc, files, input, file, steps, depth, latency, strict, regs, pages,
         ),
-        Job::Show { file, form } => {
-            drop(regs);
-            drop(pages);
-            show_answer(alloc, files, file, form)
-        }
-        Job::Check { file } => {
-            drop(regs);
-            drop(pages);
-            check_answer(alloc, files, file)
-        }
         Job::Demo { number, loops } => demo_answer(alloc, number, loops, regs, pages),
+        other => {
+            drop(regs);
+            drop(pages);
+            untimed_answer(alloc, other, files, input)
+        }
     }
 }
 

@@ -1,6 +1,6 @@
 -- Believed with the theorem on the top call.
 -- *Whole answer*: what `kremlin` answers to the words of its command line, where files and the input hold what they hold.
-use Rattle.std.specs.Prelude.{ℕ, ℤ, ◌≡◌, ◌++◌, Bool, IsTrue, List, [], length, Option, Some, None, Result, Ok, Err}
+use Rattle.std.specs.Prelude.{ℕ, ℤ, ◌≡◌, ◌⊎◌, ◌++◌, Bool, IsTrue, List, [], length, Option, Some, None, Result, Ok, Err}
 use Rattle.k_optab.specs.Latencies.{standard_latencies}
 use Rattle.k_ending.specs.declared.ending.End.{End}
 use Rattle.k_ending.specs.declared.ending.End.TheVariants.{Returned}
@@ -25,6 +25,10 @@ use Rattle.k_replay_laws.specs.Texts.{IsReplayText}
 use Rattle.k_dict_saved.specs.Profile.{Reads}
 use Rattle.k_dict_saved.specs.SavedText.{saved_text}
 use Rattle.k_dict_saved.specs.declared.saved.Saved.{Saved}
+use Rattle.k_sum.specs.declared.sum.Sum.{Sum}
+use Rattle.k_sum_read.specs.AnyFile.{BeginsSum}
+use Rattle.k_sum_read.specs.SumFile.{ReadsSum}
+use Rattle.k_sum_report.specs.SumReport.{IsSumDocument, IsSumReport, IsSumTable}
 use Rattle.k_words.specs.About.{asked_for, help_text, version_text}
 use Rattle.k_words.specs.Setting.{standard_depth, standard_steps}
 use Rattle.k_words.specs.Words as words
@@ -43,6 +47,7 @@ use Rattle.k_top_answers.specs.declared.failure.Failure.{Failure}
 use Rattle.k_top_answers.specs.declared.failure.Failure.TheVariants as why
 use Rattle.k_top_answers.specs.Checks.{told}
 use Rattle.k_top_answers.specs.Failures.{failure_of_end}
+use Rattle.k_top_answers.specs.Merges.{AnswersSum, IsMerge}
 use Rattle.k_top_answers.specs.Steps.{AnswersFile, AnswersProgram, AnswersRunning, AnswersSource, Outside, Running, file_limit, profile_limit, run_of}
 use Rattle.k_top_answers.specs.Storage.{MayBeMarked, WritesStorage}
 use Rattle.k_top_answers.specs.Texts.{IsSummary, with_report}
@@ -154,6 +159,23 @@ abbrev pub AnswersProfile : Form → Answer → List ℕ → Result Saved ℕ �
 AnswersProfile form answer bytes (Ok profile) = Reads bytes (Ok profile) × ((text : List ℕ) × IsShown form profile text × (answer ≡ done text))
 AnswersProfile form answer bytes (Err place) = Reads bytes (Err (NotSaved place)) × (answer ≡ refusal (why.Saved place))
 
+-- how a sum is shown
+abbrev pub IsSumShown : Form → Sum → List ℕ → Type 0
+IsSumShown (shown.Report dict) sum text = IsSumReport sum dict text
+IsSumShown (shown.Json dict) sum text = IsSumDocument sum dict text
+IsSumShown shown.Csv sum text = IsSumTable sum text
+
+-- SHOW of a sum: that which the bytes spell, as it is to be shown
+abbrev pub AnswersSumShown : Form → Answer → List ℕ → Result Sum ℕ → Type 0
+AnswersSumShown form answer bytes (Ok sum) = ReadsSum bytes (Ok sum) × ((text : List ℕ) × IsSumShown form sum text × (answer ≡ done text))
+AnswersSumShown form answer bytes (Err place) = ReadsSum bytes (Err (NotSaved place)) × (answer ≡ refusal (why.Saved place))
+
+-- SHOW: of a sum where the first line is that of one, and else of a profile
+abbrev pub AnswersShown : Form → Answer → List ℕ → Type 0
+AnswersShown form answer bytes =
+    (BeginsSum bytes × ((read : Result Sum ℕ) × AnswersSumShown form answer bytes read))
+    ⊎ ((¬ BeginsSum bytes) × ((read : Result Saved ℕ) × AnswersProfile form answer bytes read))
+
 -- CHECK: nothing of a source that is accepted, and of one that is refused what is told of that
 abbrev pub AnswersChecked : List ℕ → Answer → List ℕ → Type 0
 AnswersChecked file answer source =
@@ -184,7 +206,8 @@ AnswersJob outside answer (job.Page file steps depth latency dict) =
 AnswersJob outside answer (job.Annotate file steps depth latency strict) =
     AnswersRunning (λ failure. answer ≡ refusal failure) outside file latency steps (IsAnnotated outside file depth strict answer)
 AnswersJob outside answer (job.Show file form) =
-    AnswersFile (λ failure. answer ≡ refusal failure) outside profile_limit file (λ bytes. (read : Result Saved ℕ) × AnswersProfile form answer bytes read)
+    AnswersFile (λ failure. answer ≡ refusal failure) outside profile_limit file (AnswersShown form answer)
+AnswersJob outside answer (job.Merge save parts) = AnswersSum (λ failure. answer ≡ refusal failure) outside (IsMerge save answer) parts
 AnswersJob outside answer (job.Check file) = AnswersFile (λ failure. answer ≡ refusal failure) outside file_limit file (AnswersChecked file answer)
 AnswersJob outside answer (job.Demo number loops) =
     AnswersSource (λ failure. answer ≡ refusal failure) (λ typed. AnswersMade number loops answer (made_running typed) (run_of (made_running typed)).end)
@@ -219,6 +242,7 @@ JobCalls outside (job.Replay file steps depth latency workers seed) = FilesCall 
 JobCalls outside (job.Page file steps depth latency dict) = FilesCall outside file latency
 JobCalls outside (job.Annotate file steps depth latency strict) = FilesCall outside file latency
 JobCalls outside (job.Show file form) = ⊥
+JobCalls outside (job.Merge save parts) = ⊥
 JobCalls outside (job.Check file) = ⊥
 JobCalls outside (job.Demo number loops) = ⊥
 
@@ -235,6 +259,7 @@ JobLoads (job.Replay file steps depth latency workers seed) = Unit {0}
 JobLoads (job.Page file steps depth latency dict) = Unit {0}
 JobLoads (job.Annotate file steps depth latency strict) = Unit {0}
 JobLoads (job.Show file form) = Unit {0}
+JobLoads (job.Merge save parts) = Unit {0}
 JobLoads (job.Check file) = Unit {0}
 JobLoads (job.Demo number loops) = ⊥
 

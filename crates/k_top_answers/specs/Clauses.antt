@@ -14,7 +14,7 @@ use Rattle.k_top_answers.specs.declared.failure.Failure.{Failure}
 use Rattle.k_top_answers.specs.declared.failure.Failure.TheVariants as why
 use Rattle.k_top_answers.specs.Answers.{CallsForFiles, CallsForInput, IsAnswer}
 use Rattle.k_top_answers.specs.Failures.{failure_line, status_of}
-use Rattle.k_top_answers.specs.Requests.{AreToLoad, EndsAt, IsFront, saves_of}
+use Rattle.k_top_answers.specs.Requests.{AreMade, AreToLoad, EndsAt, IsFront, saves_of}
 use Rattle.k_top_answers.specs.Steps.{Outside, input_limit}
 
 -- what is known of all that lies outside the call
@@ -155,11 +155,12 @@ abbrev pub KeepsFiles : Cause → ℕ → (Answer → Type 0) → FilesState →
 KeepsFiles save_fault status answers old new = (answer : Answer) → answers answer → KeepsAllBut answer.saved old new
 KeepsFiles cause status answers old new = (status ≡ 0) ⊎ (new.held ≡ old.held)
 
--- how far the requests went: through all loads and the save, unless no memory was found; to a file that is missing or too long, or to a load that
+-- how far the requests went: as far as those of the answer, unless no memory was found; to a file that is missing or too long, or to a load that
 -- failed; through the loads where the input was not read or the output not put; and through the save where that failed
 abbrev pub GoesFar : Cause → ℕ → (Answer → Type 0) → List Request → List Request → Type 0
 GoesFar nothing status answers loads made =
-    (answer : Answer) → answers answer → IsFront made (loads ++ saves_of answer.saved) × (status ≢ 8 → made ≡ loads ++ saves_of answer.saved)
+    (answer : Answer) → answers answer → IsFront made (loads ++ saves_of answer.saved)
+    × (status ≢ 8 → AreMade answer.failure (loads ++ saves_of answer.saved) made)
 GoesFar miss status answers loads made = IsFront made loads × ((answer : Answer) → answers answer → EndsAt answer.failure made)
 GoesFar long status answers loads made = IsFront made loads × ((answer : Answer) → answers answer → EndsAt answer.failure made)
 GoesFar load_fault status answers loads made = IsFront made loads × (made ≢ [])
@@ -168,7 +169,7 @@ GoesFar put_fault status answers loads made = made ≡ loads
 GoesFar save_fault status answers loads made = (answer : Answer) → answers answer → made ≡ loads ++ saves_of answer.saved
 
 -- REQUESTS. The call asked the files for a front of what the words have loaded and the answer saves, in order and each once: for all of it, unless
--- something went wrong outside or no memory was found
+-- something went wrong outside, no memory was found, or a file was refused whose runs were to be put to others
 pub record AsksFiles (words : List (List ℕ)) (cause : Cause) (status : ℕ) (answers : Answer → Type 0) (old new : FilesState) : Type 0 where
   -- what the words have loaded
   pub loads : List Request

@@ -23,6 +23,10 @@ use Rattle.k_edge.specs.declared.files.SaveFault.TheVariants as saving
 use Rattle.k_ending.specs.declared.ending.End.{End}
 use Rattle.k_ending.specs.declared.ending.End.TheVariants.{Returned, Trapped, OutOfSteps}
 use Rattle.k_ending.specs.Traps.{trap_name}
+use Rattle.k_dict.specs.declared.dict.DictFault.{DictFault}
+use Rattle.k_dict.specs.declared.dict.DictFault.TheVariants as entries
+use Rattle.k_sum.specs.declared.sum.SumFault.{SumFault}
+use Rattle.k_sum.specs.declared.sum.SumFault.TheVariants as adding
 use Rattle.k_words.specs.declared.usage.Usage.{Usage}
 use Rattle.k_words.specs.declared.usage.Usage.TheVariants as usage
 use Rattle.k_top_answers.specs.declared.failure.Failure.{Failure}
@@ -44,7 +48,14 @@ failure_status why.NoMemory = 8
 failure_status why.InputLong = 9
 failure_status (why.Table fault) = 10
 failure_status (why.Saved place) = 11
+failure_status (why.SavedIn file place) = 11
+failure_status (why.OtherProgram file) = 11
+failure_status (why.SumLarge file) = 11
 failure_status (why.FileLong file) = 12
+
+-- what is told of a file that is refused at this byte
+abbrev pub saved_in_text : List ℕ → ℕ → List ℕ
+saved_in_text file place = codes "saved file refused: " ++ file ++ codes " at byte " ++ decimal place
 
 -- what is told of a failure
 abbrev pub failure_text : Failure → List ℕ
@@ -61,6 +72,9 @@ failure_text why.NoMemory = codes "no memory"
 failure_text why.InputLong = codes "input too long"
 failure_text (why.Table fault) = codes "latency table refused: " ++ table_text fault
 failure_text (why.Saved place) = codes "saved file refused at byte " ++ decimal place
+failure_text (why.SavedIn file place) = saved_in_text file place
+failure_text (why.OtherProgram file) = codes "profile of another program: " ++ file
+failure_text (why.SumLarge file) = codes "sum too large with: " ++ file
 failure_text (why.FileLong file) = codes "file too long: " ++ file
 
 -- its line on err
@@ -107,6 +121,28 @@ failure_of_usage fault = why.Usage fault
 abbrev pub failure_of_saved : SavedFault → Failure
 failure_of_saved (saved.NotSaved place) = why.Saved place
 failure_of_saved saved.Memory = why.NoMemory
+
+-- why a saved profile or a sum in a file of this name is not read, as a failure
+abbrev pub failure_of_saved_in : List ℕ → SavedFault → Failure
+failure_of_saved_in file (saved.NotSaved place) = why.SavedIn file place
+failure_of_saved_in file saved.Memory = why.NoMemory
+
+-- why the entries of a file of this name are not put to others, as a failure
+abbrev pub failure_of_dict : List ℕ → DictFault → Failure
+failure_of_dict file (entries.Full which) = why.SumLarge file
+failure_of_dict file entries.Memory = why.NoMemory
+
+-- why the runs of a file of this name are not put to others, as a failure
+abbrev pub failure_of_sum : List ℕ → SumFault → Failure
+failure_of_sum file adding.Other = why.OtherProgram file
+failure_of_sum file adding.Large = why.SumLarge file
+failure_of_sum file (adding.Dict fault) = failure_of_dict file fault
+
+-- why a sum whose last file has this name is not brought in the order of its own, as a failure
+abbrev pub failure_of_finish : List ℕ → SumFault → Failure
+failure_of_finish file adding.Other = why.OtherProgram file
+failure_of_finish file adding.Large = why.SumLarge file
+failure_of_finish file (adding.Dict fault) = why.NoMemory
 
 -- why a file of this name is not loaded, as a failure
 abbrev pub failure_of_load : List ℕ → LoadFault → Failure

@@ -8,3 +8,4 @@ pub mod Requests
 pub mod Checks
 pub mod Clauses
 pub mod Laws
+pub mod Merges

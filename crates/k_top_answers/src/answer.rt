@@ -1,10 +1,12 @@
 //! What the call answers.
 ghost use Rattle.std.specs.Prelude.{◌≡◌};
 ghost use Rattle.k_top_answers.specs.Answers.{checked, done, ended};
+ghost use Rattle.k_top_answers.specs.Merges.{saving};
 
 use crate::failure::Failure;
 use k_ending::End;
 use k_num::{Seq, Text};
+use std::alloc::Global;
 
 /// A file that is saved.
 #[derive(Drop)]
@@ -31,6 +33,20 @@ impl Answer {
             out: Seq::from_vec(text),
             failure: None,
             saved: None,
+        }
+    }
+
+    /// Nothing is put on out, and these bytes are saved.
+    pub fn saving(alloc: Global, name: Text, bytes: Vec<u8>) -> Answer
+        ensures { result ≡ saving name bytes.items }
+    {
+        Answer {
+            out: Seq::new(alloc),
+            failure: None,
+            saved: Some(SavedFile {
+                name,
+                bytes: Seq::from_vec(bytes),
+            }),
         }
     }
 

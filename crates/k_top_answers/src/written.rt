@@ -1,7 +1,7 @@
 //! What is told of a failure.
 ghost use Rattle.std.specs.Prelude.{◌≡◌, Some, IfOk, string_bytes};
 ghost use Rattle.std.specs.Fmt.{DisplaysOnOk};
-ghost use Rattle.k_top_answers.specs.Failures.{failure_line, failure_text};
+ghost use Rattle.k_top_answers.specs.Failures.{failure_line, failure_text, saved_in_text};
 ghost use Rattle.k_top_answers.specs.Refusals.{about, at_word, lex_text, named_at, parse_text, table_text, type_text, usage_text};
 
 use crate::failure::Failure;
@@ -128,6 +128,13 @@ fn write_usage<W: fmt::Write>(f: &mut fmt::Formatter<W>, fault: Usage) -> fmt::R
     }
 }
 
+/// A file, and where its first wrong line starts.
+fn write_saved_in<W: fmt::Write>(f: &mut fmt::Formatter<W>, file: &str, place: u64) -> fmt::Result
+    ensures { DisplaysOnOk W.write_str_gives f.old result (Some (saved_in_text file.now place)) f.new }
+{
+    write!(f, "saved file refused: {file} at byte {place}")
+}
+
 impl fmt::Display for Failure {
     ghost output = { λ failure. Some (failure_text failure) };
 
@@ -165,6 +172,11 @@ impl fmt::Display for Failure {
             }
             Failure::Saved(place) => write!(f, "saved file refused at byte {place}"),
             Failure::FileLong(file) => write!(f, "file too long: {}", file.as_str()),
+            Failure::SavedIn(file, place) => write_saved_in(f, file.as_str(), *place),
+            Failure::OtherProgram(file) => {
+                write!(f, "profile of another program: {}", file.as_str())
+            }
+            Failure::SumLarge(file) => write!(f, "sum too large with: {}", file.as_str()),
         }
     }
 }

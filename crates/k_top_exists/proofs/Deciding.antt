@@ -64,7 +64,7 @@ other_decided (inr not_so) = inl not_so
 less_decided : (a b : ℕ) → Decided (a < b)
 less_decided a b = elim (cases_lt a b) [ inl less ↦ inl less | inr more ↦ inr (λ less. absurd (omega arith)) ]
 
-most_decided : (a b : ℕ) → Decided (a ≤ b)
+pub most_decided : (a b : ℕ) → Decided (a ≤ b)
 most_decided a b = elim (cases_lt b a) [ inl less ↦ inr (λ most. absurd (omega arith)) | inr most ↦ inl most ]
 
 -- texts are equal or not
@@ -106,7 +106,7 @@ closed_decided (Some last) = other_decided (is_loop last.kind)
 
 -- ---- entries
 
-rising_decided : (low high : ℕ) (runs : List Run) → Decided (AreRuns low high runs)
+pub rising_decided : (low high : ℕ) (runs : List Run) → Decided (AreRuns low high runs)
 rising_decided low high [] = inl tt
 rising_decided low high (run ∷ runs) =
     four_decided (most_decided low run.entry) (less_decided run.entry high) (most_decided 1 run.count) (rising_decided (run.entry + 1) high runs)
@@ -150,10 +150,10 @@ next_decided format regions entries e region below =
 -- ---- the end
 
 -- the region of this number is the function main
-abbrev IsMain : List Region → ℕ → Type 0
+abbrev pub IsMain : List Region → ℕ → Type 0
 IsMain regions number = (main : Region) × (slice_get regions number ≡ Some main) × (main.kind ≡ Func) × (main.func ≡ codes "main")
 
-main_decided : (regions : List Region) (number : ℕ) → Decided (IsMain regions number)
+pub main_decided : (regions : List Region) (number : ℕ) → Decided (IsMain regions number)
 main_decided regions number = by (slice_get regions number) refl
   where
     by : (o : Option Region) → slice_get regions number ≡ o → Decided (IsMain regions number)

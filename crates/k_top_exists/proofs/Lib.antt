@@ -5,6 +5,7 @@ pub mod Dictionaries
 pub mod GraphTexts
 pub mod Heaviest
 pub mod Listings
+pub mod Merged
 pub mod Migrations
 pub mod Numbering
 pub mod Parsed
@@ -14,6 +15,11 @@ pub mod RunReports
 pub mod SavedFiles
 pub mod SavedLines
 pub mod Storage
+pub mod SumDeciding
+pub mod SumFiles
+pub mod SumLines
+pub mod SumOrders
+pub mod SumReports
 pub mod Tables
 pub mod TypedTrees
 pub mod Whole

@@ -16,6 +16,7 @@ use Rattle.k_selfpar.specs.Rows.{AreRows}
 use Rattle.k_selfpar.specs.declared.context.Context.{Context}
 use Rattle.k_selfpar.specs.declared.row.Row.{Row}
 use Rattle.k_plan.specs.declared.advice.Advice.{Advice}
+use Rattle.k_report.specs.declared.heading.Heading.TheVariants.{Exit}
 use Rattle.k_report.specs.Report.{large_text, report_text}
 use Rattle.k_page.specs.Page.{large_page_text, page_text}
 use Rattle.k_data.specs.Document.{profile_json}
@@ -75,7 +76,7 @@ module _ (rows_exist : RowsExist) (contexts_exist : ContextsExist) (plans_exist 
   pub profile_reports_exist : ProfileReportsExist
   profile_reports_exist saved with_dict is =
       let p : HasParts saved = parts_exist saved is in (
-        report_text saved.regions saved.exit saved.ops p.rows (asked with_dict saved.dict) p.contexts p.plan,
+        report_text saved.regions (Exit saved.exit) saved.ops p.rows (asked with_dict saved.dict) p.contexts p.plan,
         record { rows = p.rows; contexts = p.contexts; plan = p.plan; are_rows = p.are_rows; are_contexts = p.are_contexts; planned = p.planned; is = refl },
       )
 

@@ -27,12 +27,12 @@ use Rattle.k_top_exists.proofs.Deciding.{closed_decided, end_decided, next_decid
 -- ---- regions
 
 -- the line of a region that may stand here, or none does
-abbrev NextRegionOrNone : List Region → List ℕ → Type 0
+abbrev pub NextRegionOrNone : List Region → List ℕ → Type 0
 NextRegionOrNone before text =
     ((r : Region) × (rest : List ℕ) × (IsRegion r × MayStand (last_of before) r × (text ≡ region_line r ++ rest)))
     ⊎ ((r : Region) (later : List ℕ) → IsRegion r → MayStand (last_of before) r → text ≢ region_line r ++ later)
 
-region_next : (before : List Region) (text : List ℕ) → NextRegionOrNone before text
+pub region_next : (before : List Region) (text : List ℕ) → NextRegionOrNone before text
 region_next before text = by (region_at text) refl
   where
     by : (o : Option (Region × List ℕ)) → region_at text ≡ o → NextRegionOrNone before text
@@ -66,12 +66,12 @@ regions_read format count text = regions_from format count text count text [] (o
 -- ---- entries
 
 -- the line of an entry that may stand here, or none does
-abbrev NextEntryOrNone : Format → ℕ → List Entry → List ℕ → Type 0
+abbrev pub NextEntryOrNone : Format → ℕ → List Entry → List ℕ → Type 0
 NextEntryOrNone format regions before text =
     ((e : Entry) × (rest : List ℕ) × IsNextEntry format regions before e × (text ≡ entry_line e ++ rest))
     ⊎ ((e : Entry) (later : List ℕ) → IsNextEntry format regions before e → text ≢ entry_line e ++ later)
 
-entry_next : (format : Format) (regions : ℕ) (before : List Entry) (text : List ℕ) → regions ≤ 524288 → length before ≤ 1048576
+pub entry_next : (format : Format) (regions : ℕ) (before : List Entry) (text : List ℕ) → regions ≤ 524288 → length before ≤ 1048576
     → NextEntryOrNone format regions before text
 entry_next format regions before text small few = by (entry_at regions (length before) text) refl
   where
@@ -142,10 +142,10 @@ head_read text = by_exit (exit_at text) refl
     by_exit (Some exit) h = by_ops exit.0 exit.1 h (named_at (codes "ops ") 0 1000000000 exit.1) refl
 
 -- the line with the number of entries, or none stands here
-abbrev CountOrNone : List Region → List ℕ → Type 0
+abbrev pub CountOrNone : List Region → List ℕ → Type 0
 CountOrNone regions text = ((count : ℕ) × (rest : List ℕ) × FoundCount regions text (Some (count, rest))) ⊎ FoundCount regions text None
 
-count_read : (regions : List Region) (text : List ℕ) → CountOrNone regions text
+pub count_read : (regions : List Region) (text : List ℕ) → CountOrNone regions text
 count_read regions text = by (named_at (codes "entries ") 1 1048576 text) refl
   where
     by : (o : Option (ℕ × List ℕ)) → named_at (codes "entries ") 1 1048576 text ≡ o → CountOrNone regions text

@@ -1,6 +1,5 @@
 -- The run of an accepted program has storage pairs.
-use Rattle.std.proofs.Common.{ℕ, ◌≡◌, Bool, true, false, List, [], refl}
-use Rattle.k_marks_meaning.specs.Marking.{marks_of}
+use Rattle.std.proofs.Common.{ℕ, Bool, true, false, List, [], refl}
 use Rattle.k_code.specs.Runs.{HasOutcome}
 use Rattle.k_regions.specs.Regions.{regions_of}
 use Rattle.k_lower_sound.specs.Laws.{IsLowered}

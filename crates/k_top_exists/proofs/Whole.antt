@@ -1,6 +1,5 @@
 -- Each job has an answer, and so all words have one.
-use Rattle.std.proofs.Common.{ℕ, ℤ, ◌≡◌, ◌≢◌, ◌≤◌, Bool, false, refl, List, [], ◌++◌, length, Option, Some, None, Result, Ok, Err, arith, inl, inr}
-use Rattle.std.specs.Prelude.{codes}
+use Rattle.std.proofs.Common.{ℕ, ℤ, ◌≡◌, ◌≢◌, ◌≤◌, Bool, false, refl, List, [], ◌++◌, length, Option, Some, None, Result, Ok, Err, arith, inl, inr, ◌⊎◌}
 use Rattle.k_optab.specs.declared.node.Node.{Node}
 use Rattle.k_optab.specs.Latencies.{standard_latencies}
 use Rattle.k_optab.specs.Tree.{IsTree}
@@ -22,7 +21,11 @@ use Rattle.k_report.specs.Graph.{IsGraphText}
 use Rattle.k_data_profile.specs.Pages.{IsRunPage}
 use Rattle.k_marks_meaning.specs.Marking.{marks_of}
 use Rattle.k_pragma_profile.specs.Annotated.{IsRunAnnotation}
+use Rattle.k_dict_saved.specs.declared.fault.SavedFault.TheVariants.{NotSaved}
 use Rattle.k_dict_saved.specs.declared.saved.Saved.{Saved}
+use Rattle.k_sum.specs.declared.sum.Sum.{Sum}
+use Rattle.k_sum_read.specs.AnyFile.{BeginsSum}
+use Rattle.k_sum_read.specs.SumFile.{ReadsSum}
 use Rattle.k_words.specs.About.{asked_for, help_text, version_text}
 use Rattle.k_words.specs.Within.{IsJobWithin}
 use Rattle.k_words.specs.Words as words
@@ -36,7 +39,7 @@ use Rattle.k_words.specs.declared.usage.Usage.TheVariants as usage
 use Rattle.k_words.proofs.Within.{jobs_are_within}
 use Rattle.k_top_answers.specs.declared.failure.Failure.TheVariants as why
 use Rattle.k_evaluation.specs.Runs.{listing_of}
-use Rattle.k_top_answers.specs.Answers.{AnswersAnnotated, AnswersAsked, AnswersCarried, AnswersChecked, AnswersJob, AnswersMade, AnswersPage, AnswersProfile, AnswersReplayed, AnswersRun, AnswersWords, IsAnnotated, IsAnswer, IsListed, IsPaged, IsShown, checked, done, ended, made_running, ran_of, refusal, saved_file}
+use Rattle.k_top_answers.specs.Answers.{AnswersAnnotated, AnswersAsked, AnswersCarried, AnswersChecked, AnswersJob, AnswersMade, AnswersPage, AnswersProfile, AnswersReplayed, AnswersRun, AnswersShown, AnswersSumShown, AnswersWords, IsAnnotated, IsAnswer, IsListed, IsPaged, IsShown, IsSumShown, checked, done, ended, made_running, ran_of, refusal, saved_file}
 use Rattle.k_top_answers.specs.Checks.{told}
 use Rattle.k_top_answers.specs.Steps.{Outside, Running, file_limit, profile_limit, run_of}
 use Rattle.k_top_answers.specs.Storage.{MayBeMarked, WritesStorage}
@@ -54,8 +57,12 @@ use Rattle.k_top_exists.proofs.GraphTexts.{graph_text_exists}
 use Rattle.k_top_exists.proofs.Listings.{listing_exists, tree_exists}
 use Rattle.k_top_exists.proofs.ReportParts.{contexts_exist, plans_exist}
 use Rattle.k_top_exists.proofs.RowsOfTrees.{rows_exist}
+use Rattle.k_top_exists.proofs.Merged.{merged_answers}
 use Rattle.k_top_exists.proofs.RunReports.{profile_is_shown, run_annotations_exist, run_pages_exist, run_reports_exist}
 use Rattle.k_top_exists.proofs.SavedFiles.{saved_file_is_answered}
+use Rattle.k_top_exists.proofs.SumFiles.{begins_decided}
+use Rattle.k_top_exists.proofs.SumLines.{sum_is_read}
+use Rattle.k_top_exists.proofs.SumReports.{sum_is_shown}
 use Rattle.k_top_exists.proofs.Storage.{marked_found, storage_written}
 use Rattle.k_top_exists.proofs.Words.{words_are_answered}
 
@@ -190,6 +197,19 @@ by_profile form bytes (inl (saved, is)) =
     (done text.0, (Ok saved, (is, (text.0, text.1, refl))))
 by_profile form bytes (inr (place, is)) = (refusal (why.Saved place), (Err place, (is, refl)))
 
+by_sum : (form : Form) (bytes : List ℕ) → ((sum : Sum) × ReadsSum bytes (Ok sum)) ⊎ ((place : ℕ) × ReadsSum bytes (Err (NotSaved place)))
+    → Answered (λ a. (read : Result Sum ℕ) × AnswersSumShown form a bytes read)
+by_sum form bytes (inl (sum, is)) =
+    let text : (text : List ℕ) × IsSumShown form sum text = sum_is_shown form sum is.0 in
+    (done text.0, (Ok sum, (is, (text.0, text.1, refl))))
+by_sum form bytes (inr (place, is)) = (refusal (why.Saved place), (Err place, (is, refl)))
+
+shown_answers : (form : Form) (bytes : List ℕ) → BeginsSum bytes ⊎ ¬ BeginsSum bytes → Answered (λ a. AnswersShown form a bytes)
+shown_answers form bytes (inl begins) =
+    let a : Answered (λ a. (read : Result Sum ℕ) × AnswersSumShown form a bytes read) = by_sum form bytes (sum_is_read bytes) in (a.0, inl (begins, a.1))
+shown_answers form bytes (inr begins_not) =
+    let a : Answered (λ a. (read : Result Saved ℕ) × AnswersProfile form a bytes read) = by_profile form bytes (saved_file_is_answered bytes) in (a.0, inr (begins_not, a.1))
+
 -- CHECK
 checked_answers : (file bytes : List ℕ) → Answered (λ a. AnswersChecked file a bytes)
 checked_answers file bytes =
@@ -228,8 +248,8 @@ job_answers outside (job.Page file steps depth latency dict) within =
 job_answers outside (job.Annotate file steps depth latency strict) within =
     annotate_answers outside file latency steps depth strict within.steps.at_most within.depth.at_least within.depth.at_most (outside.files file) refl
 job_answers outside (job.Show file form) within =
-    found_answers profile_limit file (λ a bytes. (read : Result Saved ℕ) × AnswersProfile form a bytes read)
-    (λ bytes fits. by_profile form bytes (saved_file_is_answered bytes)) (outside.files file)
+    found_answers profile_limit file (AnswersShown form) (λ bytes fits. shown_answers form bytes (begins_decided bytes)) (outside.files file)
+job_answers outside (job.Merge save parts) within = merged_answers save outside parts
 job_answers outside (job.Check file) within = found_answers file_limit file (AnswersChecked file) (λ bytes fits. checked_answers file bytes) (outside.files file)
 job_answers outside (job.Demo number loops) within =
     source_answers refusal (λ a t. AnswersMade number loops a (made_running t) (run_of (made_running t)).end)

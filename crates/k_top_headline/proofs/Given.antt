@@ -50,6 +50,7 @@ one_word (Some command.Replay) j is = none-some j is
 one_word (Some command.Page) j is = none-some j is
 one_word (Some command.Annotate) j is = none-some j is
 one_word (Some command.Show) j is = none-some j is
+one_word (Some command.Merge) j is = none-some j is
 one_word (Some command.Check) j is = none-some j is
 one_word (Some command.Demo) j is = none-some j is
 

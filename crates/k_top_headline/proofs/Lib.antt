@@ -7,3 +7,4 @@ pub mod Replayed
 pub mod Ready
 pub mod Runs
 pub mod Shown
+pub mod Sums

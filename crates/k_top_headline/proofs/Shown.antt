@@ -1,6 +1,11 @@
 -- What `show` tells.
-use Rattle.std.proofs.Common.{ℕ, ◌+◌, ◌-◌, ◌≡◌, refl, sym, subst, arith, ◌∙◌, ap, List, length, Option, None, Result, Ok, Err}
+use Rattle.std.proofs.Common.{ℕ, ◌+◌, ◌-◌, ◌≡◌, refl, sym, subst, arith, ◌∙◌, ap, List, length, Option, None, Result, Ok, Err, inl, inr}
+use Rattle.std.proofs.lemmas.Option.{none-some}
+use Rattle.std.specs.Prelude.{codes}
 use Rattle.k_edge.specs.SinkWords.{Grows}
+use Rattle.k_scan.proofs.Front.{word_again}
+use Rattle.k_scan.specs.Pieces.{word_at}
+use Rattle.k_sum_read.specs.AnyFile.{BeginsSum}
 use Rattle.k_optab.specs.declared.region.Region.{Region}
 use Rattle.k_dict.specs.Dictionary.{IsDictionaryOf}
 use Rattle.k_dict.specs.Entries.{expansion, tree_at}
@@ -21,6 +26,7 @@ use Rattle.k_dict_saved.proofs.Profiles.{migration_expands, read_migrated, read_
 use Rattle.k_selfpar.specs.Contexts.{AreContexts}
 use Rattle.k_selfpar.specs.declared.context.Context.{Context}
 use Rattle.k_selfpar.proofs.Siblings.{contexts_forget_order, rows_forget_order}
+use Rattle.k_report.specs.declared.heading.Heading.TheVariants.{Exit}
 use Rattle.k_report.specs.Report.{report_text}
 use Rattle.k_report_profile.specs.Report.{asked, nodes_of_profile}
 use Rattle.k_data.specs.Document.{profile_json}
@@ -32,7 +38,7 @@ use Rattle.k_words.specs.declared.job.Job.{Job}
 use Rattle.k_words.specs.declared.job.Job.TheVariants as job
 use Rattle.k_top_answers.specs.declared.answer.Answer.{Answer}
 use Rattle.k_top_answers.specs.declared.failure.Failure.{Failure}
-use Rattle.k_top_answers.specs.Answers.{AnswersJob, AnswersProfile, IsShown, done, refusal}
+use Rattle.k_top_answers.specs.Answers.{AnswersJob, AnswersProfile, AnswersShown, IsShown, done, refusal}
 use Rattle.k_top_answers.specs.Clauses.{IsGiven, TellsEnd}
 use Rattle.k_top_answers.specs.Failures.{status_of}
 use Rattle.k_top_answers.specs.Steps.{AnswersFound, profile_limit}
@@ -67,7 +73,7 @@ shows (shown.Report dict) file profile text is r = record {
     are_rows = rows_forget_order (nodes_of_profile profile) (tree_of_file file) r.rows is.alike r.are_rows;
     are_contexts = contexts_of file profile is r.contexts r.are_contexts;
     planned = r.planned;
-    is = r.is ∙ (λ i. report_text (is.regions i) (is.exit i) (is.ops i) r.rows (asked dict profile.dict) r.contexts r.plan);
+    is = r.is ∙ (λ i. report_text (is.regions i) (Exit (is.exit i)) (is.ops i) r.rows (asked dict profile.dict) r.contexts r.plan);
   };
 }
 shows (shown.Json dict) file profile text is r = record {
@@ -162,18 +168,32 @@ answer_shown file rules form answer (Ok profile) (reads, (text, is, made)) =
     (text, shows form file profile text (is_of file rules profile reads file.format refl) is, made)
 answer_shown file rules form answer (Err place) (reads, made) = absurd (not_refused file rules file.format refl place reads)
 
+-- no file of a profile begins as that of a sum
+begins_not : (file : File) (format : Format) → file.format ≡ format → BeginsSum (file_text file) → ⊥
+begins_not file format is (rest, begins) =
+    none-some rest (sym (none format) ∙ ap (λ (f : Format). word_at (codes "kremlin sum 1\n") (file_text (record file { format = f }))) (sym is)
+    ∙ ap (word_at (codes "kremlin sum 1\n")) begins ∙ word_again (codes "kremlin sum 1\n") rest)
+  where
+    none : (f : Format) → word_at (codes "kremlin sum 1\n") (file_text (record file { format = f })) ≡ None
+    none One = refl
+    none Two = refl
+
+shown_of_file : (file : File) → IsFile file → (form : Form) (answer : Answer) → AnswersShown form answer (file_text file) → (text : List ℕ) × Shows file form text × (answer ≡ done text)
+shown_of_file file rules form answer (inl (begins, answers)) = absurd (begins_not file file.format refl begins)
+shown_of_file file rules form answer (inr (begins, (read, answers))) = answer_shown file rules form answer read answers
+
 -- SHOW
 pub show_is_told : ShowIsTold
 show_is_told words status old new name file form keeps is holds =
     let j : Job = job.Show name form in
     let given : IsGiven (λ (answer : Answer). AnswersJob keeps.outside answer j) status old new = job_given words j status old new keeps is in
     let F : Failure → Type 0 = λ failure. given.answer ≡ refusal failure in
-    let next : List ℕ → Type 0 = λ bytes. (read : Result Saved ℕ) × AnswersProfile form given.answer bytes read in
-    let read : next (file_text file) =
+    let next : List ℕ → Type 0 = AnswersShown form given.answer in
+    let shown : next (file_text file) =
     found_answered F profile_limit name next (file_text file) holds.few
     (subst (λ (content : Option (List ℕ)). AnswersFound F profile_limit name next content)
     (held_outside old.files.held keeps.outside.files name (file_text file) keeps.fits.files holds.held) given.is_answer) in
-    let report = answer_shown file holds.rules form given.answer read.0 read.1 in
+    let report = shown_of_file file holds.rules form given.answer shown in
     let failure : given.answer.failure ≡ None = ap (λ (a : Answer). a.failure) report.2 in
     let out : given.answer.out ≡ report.0 = ap (λ (a : Answer). a.out) report.2 in
     record {

@@ -1,3 +1,4 @@
 pub mod Headline
 pub mod OtherCommands
 pub mod Replay
+pub mod Sums

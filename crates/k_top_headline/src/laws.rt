@@ -2,6 +2,7 @@
 ghost use Rattle.k_top_headline.specs.Headline.{RunIsTold};
 ghost use Rattle.k_top_headline.specs.OtherCommands.{AcceptedIsTold, AnnotateIsTold, CarriedIsTold, DemoIsTold, GraphIsTold, PageIsTold, RefusalIsTold, ShowIsTold};
 ghost use Rattle.k_top_headline.specs.Replay.{ReplayIsTold};
+ghost use Rattle.k_top_headline.specs.Sums.{MergeIsTold, SumIsTold};
 
 /// `run` of an accepted source writes the program's output and, where main returned, the report of the tree of that run.
 pub fn run_is_told()
@@ -23,9 +24,16 @@ pub fn replay_is_told()
     ensures { ReplayIsTold }
 {}
 
-/// `show` of a saved profile, of either format, writes the report of that file's own tree, or its document or table.
+/// `show` of a saved profile, of either format, writes the report of that file's own tree, or its document or table; of a saved sum it writes that of the trees
+/// of all its runs.
 pub fn show_is_told()
-    ensures { ShowIsTold }
+    ensures profile { ShowIsTold }
+    ensures sum { SumIsTold }
+{}
+
+/// `merge` of files with runs of one program saves the sum of all these runs, each file counted as often as it is named, and writes nothing.
+pub fn merge_is_told()
+    ensures { MergeIsTold }
 {}
 
 /// `page` of an accepted source writes, where main returned, the page of the tree of that run, beside the source.

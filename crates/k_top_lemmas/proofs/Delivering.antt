@@ -20,7 +20,7 @@ use Rattle.k_top_answers.specs.declared.failure.Failure.TheVariants as why
 use Rattle.k_top_answers.specs.Answers.{CallsForInput, IsAnswer}
 use Rattle.k_top_answers.specs.Clauses.{AsksFiles, Cause, HoldsAfter, IsGiven, GoesFar, Keeps, KeepsAllBut, MayGive, ReadsInput, TellsEnd, TellsFault, World, faults_of, is_blame, nothing, put_fault, save_fault}
 use Rattle.k_top_answers.specs.Failures.{failure_line, failure_of_put, failure_of_save, failure_status, status_of}
-use Rattle.k_top_answers.specs.Requests.{AreToLoad, IsFront, saves_of}
+use Rattle.k_top_answers.specs.Requests.{AreMade, AreToLoad, IsFront, saves_of}
 use Rattle.k_top_lemmas.specs.Parts.{Delivers, EndsAs, EndsBy, PutsAll, SavesFile, Tells}
 use Rattle.k_top_lemmas.specs.Phases.{Around, InputDone, IsEnd, IsView, Shows, View}
 use Rattle.k_top_answers.specs.Steps.{Outside, input_limit}
@@ -30,6 +30,7 @@ use Rattle.k_top_lemmas.specs.Streams.{IsCounted}
 use Rattle.k_top_lemmas.proofs.Growing.{grows_in_part}
 use Rattle.k_top_lemmas.proofs.Putting.{counted}
 use Rattle.k_top_lemmas.proofs.Showing.{fits, outside_of, shows}
+use Rattle.k_top_lemmas.proofs.Statuses.{all_made}
 
 -- what is known of files and input
 abbrev pub around : World → Around
@@ -246,7 +247,10 @@ module _ (words : List (List ℕ)) (old new : World) (view : View) (is_view : Is
   whole_is other is = ap (λ (a : Answer). all ++ saves_of a.saved) (unique other is)
 
   whole_asked : (status : ℕ) → GoesFar nothing status (IsAnswer words (outside_of old view)) all whole
-  whole_asked status = λ other is. (front_same whole (all ++ saves_of other.saved) (whole_is other is), λ not_8. whole_is other is)
+  whole_asked status = λ other is. (
+    front_same whole (all ++ saves_of other.saved) (whole_is other is),
+    λ not_8. subst (λ (a : Answer). AreMade a.failure (all ++ saves_of a.saved) whole) (unique other is) (all_made answer.failure whole whole is_end.low refl),
+  )
 
   -- all its bytes were put, and so were those of each answer
   part_of : Grows old.out.written answer.out new.out.written → (other : Answer) → IsAnswer words (outside_of old view) other

@@ -1,6 +1,10 @@
 -- What finding the answer to a job comes to that reads one file, and asks nothing else of the outside.
 use Rattle.std.proofs.Common.{ℕ, Bool, true, false, ◌≡◌, ◌≤◌, ap, arith, refl, sym, subst, ◌∙◌, List, [], ◌∷◌, length, Some, None, Result, Ok, Err, inl, inr}
 use Rattle.std.proofs.lemmas.Bool.{false≢true}
+use Rattle.std.proofs.lemmas.Option.{none-some}
+use Rattle.std.specs.Prelude.{codes}
+use Rattle.k_scan.specs.Pieces.{word_at}
+use Rattle.k_scan.proofs.Front.{word_again, word_takes}
 use Rattle.k_edge.specs.FilesWords.{Has, Loads, after}
 use Rattle.k_edge.specs.declared.request.Request.TheVariants.{Load}
 use Rattle.k_edge.specs.declared.files.LoadFault.{LoadFault}
@@ -8,7 +12,8 @@ use Rattle.k_edge.specs.declared.files.LoadFault.TheVariants as load
 use Rattle.k_dict_saved.specs.declared.fault.SavedFault.{SavedFault}
 use Rattle.k_dict_saved.specs.declared.fault.SavedFault.TheVariants as saved
 use Rattle.k_dict_saved.specs.Profile.{Reads}
-use Rattle.k_dict_saved.specs.declared.saved.Saved.{Saved}
+use Rattle.k_sum_read.specs.AnyFile.{BeginsSum}
+use Rattle.k_sum_read.specs.SumFile.{ReadsSum}
 use Rattle.k_words.specs.declared.job.Form.{Form}
 use Rattle.k_words.specs.declared.job.Job.{Job}
 use Rattle.k_words.specs.declared.job.Job.TheVariants as job
@@ -16,12 +21,12 @@ use Rattle.k_top_answers.specs.declared.answer.Answer.{Answer}
 use Rattle.k_top_answers.specs.declared.failure.Failure.{Failure}
 use Rattle.k_top_answers.specs.declared.failure.Failure.TheVariants as why
 use Rattle.k_top_lemmas.specs.declared.program.Program.{Program}
-use Rattle.k_top_answers.specs.Answers.{AnswersChecked, AnswersJob, AnswersProfile, JobCalls, JobLoads, checked, done, refusal}
+use Rattle.k_top_answers.specs.Answers.{AnswersChecked, AnswersJob, AnswersShown, JobCalls, JobLoads, checked, done, refusal}
 use Rattle.k_top_answers.specs.Checks.{refuses_source, told}
 use Rattle.k_top_answers.specs.Failures.{failure_of_load, failure_of_saved, status_of}
 use Rattle.k_top_answers.specs.Requests.{loads_of}
 use Rattle.k_top_answers.specs.Steps.{AnswersFile, Outside, file_limit, profile_limit}
-use Rattle.k_top_lemmas.specs.Parts.{AcceptsSource, ChecksFile, ChecksSource, LoadsFile, ShowsFile}
+use Rattle.k_top_lemmas.specs.Parts.{AcceptsSource, ChecksFile, ChecksSource, LoadsFile, RefusesShown, ShowsFile}
 use Rattle.k_top_lemmas.specs.Phases.{Around, Everywhere, FindsJob, IsEnd, of_files}
 use Rattle.k_top_lemmas.proofs.ProgramLemmas.{long_of, one_seen}
 use Rattle.k_top_lemmas.proofs.ReadyLemmas.{not_seen}
@@ -99,33 +104,46 @@ module _ (file : List ℕ) (limit : ℕ) (asked : Job) (next : Answer → List �
 
 -- SHOW
 module _ (file : List ℕ) (form : Form) (old new : Around) (same_input : new.input ≡ old.input) where
-  abbrev of_profile : Answer → List ℕ → Type 0
-  of_profile answer bytes = (read : Result Saved ℕ) × AnswersProfile form answer bytes read
-
-  -- bytes that spell no profile
-  show_refused : (bytes : List ℕ) → Has old.files.held file (Some bytes) → length bytes ≤ profile_limit → new.files ≡ after (Load file ∷ []) old.files → (fault : SavedFault)
-      → Reads bytes (Err fault) → FindsJob (Err (failure_of_saved fault)) (job.Show file form) old new
-  show_refused bytes has fits same (saved.NotSaved place) is = (
-    of_files (one_seen file (Some bytes)),
-    record { files = (has, tt, tt); input = not_seen old.input.left },
-    (
-      inl (tt, (Load file ∷ [], refl, (Load file ∷ [], refl, same)), same_input),
-      with_bytes file profile_limit (job.Show file form) of_profile tt refl (λ outside calls. calls) (λ outside answer holds. holds) old new same_input bytes has fits same
-          (refusal (why.Saved place)) (Err place, (is, refl)),
-    ),
-  )
-  show_refused bytes has fits same saved.Memory is =
-      file_short file profile_limit (job.Show file form) of_profile tt refl (λ outside calls. calls) (λ outside answer holds. holds) old new same_input bytes has fits same
+  -- bytes that are not shown
+  show_refused : (bytes : List ℕ) → Has old.files.held file (Some bytes) → length bytes ≤ profile_limit → new.files ≡ after (Load file ∷ []) old.files → (failure : Failure)
+      → RefusesShown failure bytes form → FindsJob (Err failure) (job.Show file form) old new
+  show_refused bytes has fits same failure (inl short) =
+      subst (λ f. FindsJob (Err f) (job.Show file form) old new) (sym short)
+      (file_short file profile_limit (job.Show file form) (AnswersShown form) tt refl (λ outside calls. calls) (λ outside answer holds. holds) old new same_input bytes has fits same)
+  show_refused bytes has fits same failure (inr (place, is, shown)) =
+      subst (λ f. FindsJob (Err f) (job.Show file form) old new) (sym is) (
+        of_files (one_seen file (Some bytes)),
+        record { files = (has, tt, tt); input = not_seen old.input.left },
+        (
+          inl (tt, (Load file ∷ [], refl, (Load file ∷ [], refl, same)), same_input),
+          with_bytes file profile_limit (job.Show file form) (AnswersShown form) tt refl (λ outside calls. calls) (λ outside answer holds. holds) old new same_input bytes has fits same
+              (refusal (why.Saved place)) shown,
+        ),
+      )
 
   pub show_found : (result : Result Answer Failure) → ShowsFile result file form old.files new.files → FindsJob result (job.Show file form) old new
-  show_found (Ok answer) (bytes, (has, fits, same), (profile, (reads, (text, report, is)))) =
-      file_told file profile_limit (job.Show file form) of_profile tt refl (λ outside calls. calls) (λ outside answer holds. holds) old new same_input bytes.items has fits same answer
-      (record { low = done_low answer.failure (ap (λ (a : Answer). a.failure) is); saves = inl (ap (λ (a : Answer). a.failure) is) })
-      (Ok profile, (reads, (text, report, is)))
-  show_found (Err failure) (inl (bytes, (has, fits, same), (fault, is, reads))) =
-      subst (λ f. FindsJob (Err f) (job.Show file form) old new) (sym is) (show_refused bytes.items has fits same fault reads)
+  show_found (Ok answer) (bytes, (has, fits, same), (shown, done)) =
+      file_told file profile_limit (job.Show file form) (AnswersShown form) tt refl (λ outside calls. calls) (λ outside answer holds. holds) old new same_input bytes.items has fits same answer
+      (record { low = done_low answer.failure done; saves = inl done }) shown
+  show_found (Err failure) (inl (bytes, (has, fits, same), refuses)) = show_refused bytes.items has fits same failure refuses
   show_found (Err failure) (inr unloaded) =
-      file_unloaded file profile_limit (job.Show file form) of_profile tt refl (λ outside calls. calls) (λ outside answer holds. holds) old new same_input failure unloaded
+      file_unloaded file profile_limit (job.Show file form) (AnswersShown form) tt refl (λ outside calls. calls) (λ outside answer holds. holds) old new same_input failure unloaded
+
+-- bytes begin as a sum, or they do not
+pub begins_sum : (bytes rest : List ℕ) → word_at (codes "kremlin sum 1\n") bytes ≡ Some rest → BeginsSum bytes
+begins_sum bytes rest is = (rest, word_takes (codes "kremlin sum 1\n") bytes rest is)
+
+pub begins_not : (bytes : List ℕ) → word_at (codes "kremlin sum 1\n") bytes ≡ None → ¬ BeginsSum bytes
+begins_not bytes none begins = none-some begins.0 (sym none ∙ ap (word_at (codes "kremlin sum 1\n")) begins.1 ∙ word_again (codes "kremlin sum 1\n") begins.0)
+
+-- a profile or a sum that is not read
+pub profile_refused : (form : Form) (bytes : List ℕ) (fault : SavedFault) → ¬ BeginsSum bytes → Reads bytes (Err fault) → RefusesShown (failure_of_saved fault) bytes form
+profile_refused form bytes (saved.NotSaved place) begins_not reads = inr (place, refl, inr (begins_not, (Err place, (reads, refl))))
+profile_refused form bytes saved.Memory begins_not reads = inl refl
+
+pub sum_refused : (form : Form) (bytes : List ℕ) (fault : SavedFault) → BeginsSum bytes → ReadsSum bytes (Err fault) → RefusesShown (failure_of_saved fault) bytes form
+sum_refused form bytes (saved.NotSaved place) begins reads = inr (place, refl, inl (begins, (Err place, (reads, refl))))
+sum_refused form bytes saved.Memory begins reads = inl refl
 
 -- a refusal that is told has status 3, and saves nothing
 refused_ends : (text : List ℕ) (failure : Failure) (answer : Answer) → status_of (Some failure) ≤ 3 → answer ≡ checked text failure → IsEnd answer

@@ -14,7 +14,7 @@ use Rattle.k_top_answers.specs.declared.failure.Failure.TheVariants as why
 use Rattle.k_top_answers.specs.Answers.{CallsForFiles, CallsForInput, IsAnswer, refusal}
 use Rattle.k_top_answers.specs.Clauses.{AsksFiles, Cause, HasRun, IsAnswered, GoesFar, IsOr8, Keeps, ReadsInput, TellsFault, World, faults_of, is_blame, load_fault, long, miss, nothing, read_fault}
 use Rattle.k_top_answers.specs.Failures.{failure_line, failure_status, status_of}
-use Rattle.k_top_answers.specs.Requests.{AreToLoad, EndsAt, IsFront, saves_of}
+use Rattle.k_top_answers.specs.Requests.{AreMade, AreToLoad, EndsAt, IsFront, saves_of}
 use Rattle.k_top_lemmas.specs.Parts.{Delivers, IfRefusal, Tells}
 use Rattle.k_top_lemmas.specs.Phases.{Around, Everywhere, FailsBefore, FilesAfter, InputAfter, IsQuiet, IsView, LoadsAll, LoadsStop, Stops, View}
 use Rattle.k_top_lemmas.specs.Streams.{Performs, behind}
@@ -41,15 +41,17 @@ module _ (words : List (List ℕ)) (old new : World) (view : View) (is_view : Is
       → AsksFiles words cause status (IsAnswer words (outside_of old view)) old.files new.files
   stopped cause status all named made far asked = record { loads = all; named = named; made = made; asked = asked; far = far }
 
-  -- all of them were, before a refusal
+  -- they were as far as a refusal asks
   refusal_asks : (status : ℕ) (failure : Failure) → IsAnswer words (outside_of old view) (refusal failure) → (all : List Request) → AreToLoad words all
-      → (made : List Request) → made ≡ all → new.files.requests ≡ old.files.requests ++ made
+      → (made : List Request) → IsFront made all → AreMade (Some failure) all made → new.files.requests ≡ old.files.requests ++ made
       → AsksFiles words nothing status (IsAnswer words (outside_of old view)) old.files new.files
-  refusal_asks status failure is all named made is_all =
-      stopped nothing status all named made (λ other other_is. (front_same made (all ++ saves_of other.saved) (same other other_is), λ not_8. same other other_is))
+  refusal_asks status failure is all named made front far =
+      stopped nothing status all named made (λ other other_is. (front_longer made all (saves_of other.saved) front, λ not_8. same other other_is))
     where
-      same : (other : Answer) → IsAnswer words (outside_of old view) other → made ≡ all ++ saves_of other.saved
-      same other other_is = is_all ∙ sym (append-nil all) ∙ ap (λ (a : Answer). all ++ saves_of a.saved) (unique (refusal failure) other is other_is)
+      same : (other : Answer) → IsAnswer words (outside_of old view) other → AreMade other.failure (all ++ saves_of other.saved) made
+      same other other_is =
+          subst (λ (a : Answer). AreMade a.failure (all ++ saves_of a.saved) made) (unique (refusal failure) other is other_is)
+          (subst (λ l. AreMade (Some failure) l made) (sym (append-nil all)) far)
 
   -- a front of them was, and then no memory was found
   asks_short : (status : ℕ) (all : List Request) → AreToLoad words all → (made : List Request) → IsFront made all
@@ -145,9 +147,9 @@ module _ (words : List (List ℕ)) (old new : World) (view : View) (is_view : Is
   -- a refusal that asks nothing more of the outside
   calm : (status : ℕ) (failure : Failure) → 3 ≤ failure_status failure → failure_status failure ≢ 6 → failure_status failure ≢ 7 → failure_status failure ≢ 8
       → failure_status failure ≢ 9 → is_blame (failure_status failure) ≡ false → IsAnswer words (outside_of old view) (refusal failure)
-      → (all : List Request) → AreToLoad words all → (made : List Request) → made ≡ all → new.files ≡ after made old.files
+      → (all : List Request) → AreToLoad words all → (made : List Request) → IsFront made all → AreMade (Some failure) all made → new.files ≡ after made old.files
       → new.input ≡ old.input → Tells (Err failure) status old.err new.err → Keeps words status old new
-  calm status failure low not_6 not_7 not_8 not_9 blame is all named made is_all files input tells = record {
+  calm status failure low not_6 not_7 not_8 not_9 blame is all named made front far files input tells = record {
     outside = outside_of old view;
     cause = nothing;
     fits = fits old view;
@@ -159,7 +161,7 @@ module _ (words : List (List ℕ)) (old new : World) (view : View) (is_view : Is
     answered = refused status failure is tells;
     part = nothing_put;
     files = inr held;
-    requests = refusal_asks status failure is all named made is_all (ap (λ (f : FilesState). f.requests) files);
+    requests = refusal_asks status failure is all named made front far (ap (λ (f : FilesState). f.requests) files);
     input = untouched status (never_9 (status_or_8 status failure tells)) (not_run status (failure_status failure) low not_7 (status_or_8 status failure tells)) input;
     told = refusal_told status failure not_6 not_7 not_8 tells;
   }
@@ -315,7 +317,7 @@ module _ (words : List (List ℕ)) (old new : World) (view : View) (is_view : Is
     answered = refused status why.InputLong is tells;
     part = nothing_put;
     files = inr held;
-    requests = refusal_asks status why.InputLong is all named all refl (ap (λ (f : FilesState). f.requests) same);
+    requests = refusal_asks status why.InputLong is all named all (front_same all all refl) refl (ap (λ (f : FilesState). f.requests) same);
     input = record {
       untouched = inr calls;
       read = λ called. record {
@@ -366,23 +368,29 @@ module _ (words : List (List ℕ)) (old new : World) (view : View) (is_view : Is
   by_files status (why.Trapped trap place) loads all named (made, stops, left) input is tells = absurd left
   by_files status (why.OutOfSteps steps) loads all named (made, stops, left) input is tells = absurd left
   by_files status (why.Lex fault) loads all named (made, stops, left) input is tells =
-      calm status (why.Lex fault) (omega arith) (λ e. omega (arith, e)) (λ e. omega (arith, e)) (λ e. omega (arith, e)) (λ e. omega (arith, e)) refl is all named made stops left input tells
+      calm status (why.Lex fault) (omega arith) (λ e. omega (arith, e)) (λ e. omega (arith, e)) (λ e. omega (arith, e)) (λ e. omega (arith, e)) refl is all named made (front_same made all stops) stops left input tells
   by_files status (why.Parse fault) loads all named (made, stops, left) input is tells =
-      calm status (why.Parse fault) (omega arith) (λ e. omega (arith, e)) (λ e. omega (arith, e)) (λ e. omega (arith, e)) (λ e. omega (arith, e)) refl is all named made stops left input tells
+      calm status (why.Parse fault) (omega arith) (λ e. omega (arith, e)) (λ e. omega (arith, e)) (λ e. omega (arith, e)) (λ e. omega (arith, e)) refl is all named made (front_same made all stops) stops left input tells
   by_files status (why.Types fault) loads all named (made, stops, left) input is tells =
-      calm status (why.Types fault) (omega arith) (λ e. omega (arith, e)) (λ e. omega (arith, e)) (λ e. omega (arith, e)) (λ e. omega (arith, e)) refl is all named made stops left input tells
+      calm status (why.Types fault) (omega arith) (λ e. omega (arith, e)) (λ e. omega (arith, e)) (λ e. omega (arith, e)) (λ e. omega (arith, e)) refl is all named made (front_same made all stops) stops left input tells
   by_files status (why.Usage fault) loads all named (made, stops, left) input is tells =
-      calm status (why.Usage fault) (omega arith) (λ e. omega (arith, e)) (λ e. omega (arith, e)) (λ e. omega (arith, e)) (λ e. omega (arith, e)) refl is all named made stops left input tells
+      calm status (why.Usage fault) (omega arith) (λ e. omega (arith, e)) (λ e. omega (arith, e)) (λ e. omega (arith, e)) (λ e. omega (arith, e)) refl is all named made (front_same made all stops) stops left input tells
   by_files status (why.Absent file) loads all named (made, stops, left) input is tells = missing status file is all named made stops left input tells
   by_files status why.ReadFault loads all named (made, stops, left) input is tells = unloaded status loads all named made stops left input tells
   by_files status why.WriteFault loads all named (made, stops, left) input is tells = absurd left
   by_files status why.NoMemory loads all named (made, stops, left) input is tells = short_of_memory status all named made stops left input tells
   by_files status why.InputLong loads all named (made, stops, left) input is tells = absurd left
   by_files status (why.Table fault) loads all named (made, stops, left) input is tells =
-      calm status (why.Table fault) (omega arith) (λ e. omega (arith, e)) (λ e. omega (arith, e)) (λ e. omega (arith, e)) (λ e. omega (arith, e)) refl is all named made stops left input tells
+      calm status (why.Table fault) (omega arith) (λ e. omega (arith, e)) (λ e. omega (arith, e)) (λ e. omega (arith, e)) (λ e. omega (arith, e)) refl is all named made (front_same made all stops) stops left input tells
   by_files status (why.Saved place) loads all named (made, stops, left) input is tells =
-      calm status (why.Saved place) (omega arith) (λ e. omega (arith, e)) (λ e. omega (arith, e)) (λ e. omega (arith, e)) (λ e. omega (arith, e)) refl is all named made stops left input tells
+      calm status (why.Saved place) (omega arith) (λ e. omega (arith, e)) (λ e. omega (arith, e)) (λ e. omega (arith, e)) (λ e. omega (arith, e)) refl is all named made (front_same made all stops) stops left input tells
   by_files status (why.FileLong file) loads all named (made, stops, left) input is tells = long_file status file is all named made stops left input tells
+  by_files status (why.SavedIn file place) loads all named (made, stops, left) input is tells =
+      calm status (why.SavedIn file place) (omega arith) (λ e. omega (arith, e)) (λ e. omega (arith, e)) (λ e. omega (arith, e)) (λ e. omega (arith, e)) refl is all named made stops.0 stops left input tells
+  by_files status (why.OtherProgram file) loads all named (made, stops, left) input is tells =
+      calm status (why.OtherProgram file) (omega arith) (λ e. omega (arith, e)) (λ e. omega (arith, e)) (λ e. omega (arith, e)) (λ e. omega (arith, e)) refl is all named made stops.0 stops left input tells
+  by_files status (why.SumLarge file) loads all named (made, stops, left) input is tells =
+      calm status (why.SumLarge file) (omega arith) (λ e. omega (arith, e)) (λ e. omega (arith, e)) (λ e. omega (arith, e)) (λ e. omega (arith, e)) refl is all named made stops.0 stops left input tells
 
   by_input : (status : ℕ) (failure : Failure) → CallsForInput words (outside_of old view) → LoadsAll (AreToLoad words) old.files new.files
       → InputAfter failure old.input new.input
@@ -401,6 +409,9 @@ module _ (words : List (List ℕ)) (old new : World) (view : View) (is_view : Is
   by_input status (why.Table fault) calls loaded left is tells = absurd left
   by_input status (why.Saved place) calls loaded left is tells = absurd left
   by_input status (why.FileLong file) calls loaded left is tells = absurd left
+  by_input status (why.SavedIn file place) calls loaded left is tells = absurd left
+  by_input status (why.OtherProgram file) calls loaded left is tells = absurd left
+  by_input status (why.SumLarge file) calls loaded left is tells = absurd left
 
   -- nothing was asked of the outside
   quiet : (status : ℕ) (failure : Failure) → IsQuiet failure → IfRefusal failure (AreToLoad words []) → new.files ≡ after [] old.files → new.input ≡ old.input
@@ -408,13 +419,13 @@ module _ (words : List (List ℕ)) (old new : World) (view : View) (is_view : Is
   quiet status (why.Trapped trap place) silent none files input is tells = absurd silent
   quiet status (why.OutOfSteps steps) silent none files input is tells = absurd silent
   quiet status (why.Lex fault) silent none files input is tells =
-      calm status (why.Lex fault) (omega arith) (λ e. omega (arith, e)) (λ e. omega (arith, e)) (λ e. omega (arith, e)) (λ e. omega (arith, e)) refl is [] none [] refl files input tells
+      calm status (why.Lex fault) (omega arith) (λ e. omega (arith, e)) (λ e. omega (arith, e)) (λ e. omega (arith, e)) (λ e. omega (arith, e)) refl is [] none [] (front_same [] [] refl) refl files input tells
   quiet status (why.Parse fault) silent none files input is tells =
-      calm status (why.Parse fault) (omega arith) (λ e. omega (arith, e)) (λ e. omega (arith, e)) (λ e. omega (arith, e)) (λ e. omega (arith, e)) refl is [] none [] refl files input tells
+      calm status (why.Parse fault) (omega arith) (λ e. omega (arith, e)) (λ e. omega (arith, e)) (λ e. omega (arith, e)) (λ e. omega (arith, e)) refl is [] none [] (front_same [] [] refl) refl files input tells
   quiet status (why.Types fault) silent none files input is tells =
-      calm status (why.Types fault) (omega arith) (λ e. omega (arith, e)) (λ e. omega (arith, e)) (λ e. omega (arith, e)) (λ e. omega (arith, e)) refl is [] none [] refl files input tells
+      calm status (why.Types fault) (omega arith) (λ e. omega (arith, e)) (λ e. omega (arith, e)) (λ e. omega (arith, e)) (λ e. omega (arith, e)) refl is [] none [] (front_same [] [] refl) refl files input tells
   quiet status (why.Usage fault) silent none files input is tells =
-      calm status (why.Usage fault) (omega arith) (λ e. omega (arith, e)) (λ e. omega (arith, e)) (λ e. omega (arith, e)) (λ e. omega (arith, e)) refl is [] none [] refl files input tells
+      calm status (why.Usage fault) (omega arith) (λ e. omega (arith, e)) (λ e. omega (arith, e)) (λ e. omega (arith, e)) (λ e. omega (arith, e)) refl is [] none [] (front_same [] [] refl) refl files input tells
   quiet status (why.Absent file) silent none files input is tells = absurd silent
   quiet status why.ReadFault silent none files input is tells = absurd silent
   quiet status why.WriteFault silent none files input is tells = absurd silent
@@ -424,6 +435,9 @@ module _ (words : List (List ℕ)) (old new : World) (view : View) (is_view : Is
   quiet status (why.Table fault) silent none files input is tells = absurd silent
   quiet status (why.Saved place) silent none files input is tells = absurd silent
   quiet status (why.FileLong file) silent none files input is tells = absurd silent
+  quiet status (why.SavedIn file place) silent none files input is tells = absurd silent
+  quiet status (why.OtherProgram file) silent none files input is tells = absurd silent
+  quiet status (why.SumLarge file) silent none files input is tells = absurd silent
 
   pub not_found : (status : ℕ) (failure : Failure) → FailsBefore failure (CallsForFiles words) (AreToLoad words) (CallsForInput words) view (around old) (around new)
       → IfRefusal failure (Everywhere view (λ outside. IsAnswer words outside (refusal failure))) → Tells (Err failure) status old.err new.err → Keeps words status old new
@@ -449,6 +463,9 @@ held_after why.InputLong made old new left = absurd left
 held_after (why.Table fault) made old new left = ap (λ (f : FilesState). f.held) left
 held_after (why.Saved place) made old new left = ap (λ (f : FilesState). f.held) left
 held_after (why.FileLong file) made old new (rose, same) = ap (λ (f : FilesState). f.held) same
+held_after (why.SavedIn file place) made old new left = ap (λ (f : FilesState). f.held) left
+held_after (why.OtherProgram file) made old new left = ap (λ (f : FilesState). f.held) left
+held_after (why.SumLarge file) made old new left = ap (λ (f : FilesState). f.held) left
 
 held_before : (failure : Failure) (loads : Type 0) (named : List Request → Type 0) (calls : Outside → Type 0) (view : View) (old new : Around) → FailsBefore failure loads named calls view old new
     → new.files.held ≡ old.files.held

@@ -21,6 +21,10 @@ mod OnePage
 mod OneAnnotation
 mod OneReport
 mod OneStorage
+pub mod OneSum
+pub mod Merging
+mod OneMerge
+pub mod MergeLemmas
 pub mod AskedLemmas
 pub mod ReplayLemmas
 pub mod FileLemmas

@@ -9,11 +9,13 @@ use Rattle.k_dict_saved.proofs.Files.{first_wrong_is_one}
 use Rattle.k_dict_saved.specs.declared.fault.SavedFault.TheVariants.{NotSaved}
 use Rattle.k_dict_saved.specs.declared.format.Accepts.TheVariants.{Both}
 use Rattle.k_report_profile.proofs.Reported.{report_is_unique}
-use Rattle.k_dict_saved.proofs.Profiles.{one_migration, read_migrated, read_of_write}
 use Rattle.k_data_profile.proofs.Texts.{document_is_unique, table_is_unique}
-use Rattle.k_dict_saved.specs.Profile.{IsSaved, Reads}
+use Rattle.k_dict_saved.specs.Profile.{IsSaved}
 use Rattle.k_dict_saved.specs.declared.saved.Saved.{Saved}
 use Rattle.k_regions.specs.Regions.{regions_of}
+use Rattle.k_sum.specs.declared.sum.Sum.{Sum}
+use Rattle.k_sum_report.proofs.Texts.{sum_document_is_unique, sum_report_is_unique, sum_table_is_unique}
+use Rattle.k_sum_saved.specs.SumRules.{IsSum}
 use Rattle.k_words.proofs.OneAnswer.{answer_is_unique}
 use Rattle.k_words.proofs.Within.{jobs_are_within}
 use Rattle.k_words.specs.About.{asked_for}
@@ -30,16 +32,18 @@ use Rattle.k_words.specs.declared.usage.Usage.TheVariants as usage
 use Rattle.k_top_answers.specs.declared.answer.Answer.{Answer}
 use Rattle.k_top_answers.specs.declared.failure.Failure.{Failure}
 use Rattle.k_top_answers.specs.declared.failure.Failure.TheVariants as why
-use Rattle.k_top_answers.specs.Answers.{AnswersAsked, AnswersCarried, AnswersChecked, AnswersJob, AnswersProfile, AnswersReplayed, AnswersRun, AnswersWords, IsAnnotated, IsListed, IsPaged, IsShown, checked, done, refusal}
+use Rattle.k_top_answers.specs.Answers.{AnswersAsked, AnswersCarried, AnswersChecked, AnswersJob, AnswersProfile, AnswersReplayed, AnswersRun, AnswersShown, AnswersSumShown, AnswersWords, IsAnnotated, IsListed, IsPaged, IsShown, IsSumShown, checked, done, refusal}
 use Rattle.k_top_answers.specs.Checks.{told}
 use Rattle.k_top_answers.specs.Laws.{AnswersAreUnique}
 use Rattle.k_top_answers.specs.Steps.{Outside, Running, file_limit, profile_limit, run_of}
 use Rattle.k_top_lemmas.proofs.Agreeing.{Agree, file_agrees, running_agrees, source_agrees}
 use Rattle.k_top_lemmas.proofs.OneListing.{one_listed}
+use Rattle.k_top_lemmas.proofs.OneMerge.{one_merged}
 use Rattle.k_top_lemmas.proofs.OnePage.{by_paged}
 use Rattle.k_top_lemmas.proofs.OneAnnotation.{by_annotated}
 use Rattle.k_top_lemmas.proofs.OneReport.{one_reported}
 use Rattle.k_top_lemmas.proofs.OneStorage.{one_written}
+use Rattle.k_top_lemmas.proofs.OneSum.{not_refused, one_wrong_line, spelled_same, sum_not_refused, sum_same}
 use Rattle.k_top_lemmas.proofs.OneSummary.{one_demo}
 use Rattle.k_top_lemmas.proofs.ReplayLemmas.{one_replayed}
 use Rattle.k_top_lemmas.proofs.RunLemmas.{IsSound, run_gives_int}
@@ -70,15 +74,6 @@ one_carried depth storage one other r (end.Trapped trap place) a b = a ∙ sym b
 one_carried depth storage one other r end.OutOfSteps a b = a ∙ sym b
 
 -- SHOW
-spelled_same : (bytes : List ℕ) (one other : Saved) → Reads bytes (Ok one) → Reads bytes (Ok other) → one ≡ other
-spelled_same bytes one other (is, inl spelled) b = sym (read_of_write one (Ok other) is (subst (λ t. Reads t (Ok other)) spelled b))
-spelled_same bytes one other (is, inr (old, is_old, spelled, migrated)) b =
-    one_migration old one other migrated (read_migrated old (Ok other) is_old (subst (λ t. Reads t (Ok other)) spelled b))
-
-not_refused : (bytes : List ℕ) (one : Saved) (place : ℕ) → Reads bytes (Ok one) → Reads bytes (Err (NotSaved place)) → ⊥
-not_refused bytes one place (is, inl spelled) b = read_of_write one (Err (NotSaved place)) is (subst (λ t. Reads t (Err (NotSaved place))) spelled b)
-not_refused bytes one place (is, inr (old, is_old, spelled, migrated)) b =
-    read_migrated old (Err (NotSaved place)) is_old (subst (λ t. Reads t (Err (NotSaved place))) spelled b)
 
 -- a profile has one text of each form
 one_text : (form : Form) (profile : Saved) (one other : List ℕ) → IsSaved profile → IsShown form profile one → IsShown form profile other → one ≡ other
@@ -95,10 +90,31 @@ one_profile form one other bytes (Err place) (Ok q) (reads, is) (reads', rest) =
 one_profile form one other bytes (Err place) (Err place') (reads, is) (reads', is') =
     is ∙ ap (λ n. refusal (why.Saved n)) (first_wrong_is_one Both bytes place place' reads reads') ∙ sym is'
 
+-- and so has a sum
+one_sum_text : (form : Form) (sum : Sum) (one other : List ℕ) → IsSum sum → IsSumShown form sum one → IsSumShown form sum other → one ≡ other
+one_sum_text (shown.Report dict) sum one other is a b = sum_report_is_unique sum dict one other is a b
+one_sum_text (shown.Json dict) sum one other is a b = sum_document_is_unique sum dict one other is a b
+one_sum_text shown.Csv sum one other is a b = sum_table_is_unique sum one other is a b
+
+one_sum : (form : Form) (one other : Answer) (bytes : List ℕ) (a b : Result Sum ℕ) → AnswersSumShown form one bytes a → AnswersSumShown form other bytes b → one ≡ other
+one_sum form one other bytes (Ok p) (Ok q) (reads, (text, report, is)) (reads', (text', report', is')) =
+    let same : q ≡ p = sum_same bytes q p reads' reads in
+    is ∙ ap done (one_sum_text form p text text' reads.0 report (subst (λ s. IsSumShown form s text') same report')) ∙ sym is'
+one_sum form one other bytes (Ok p) (Err place) (reads, rest) (reads', is') = absurd (sum_not_refused bytes p place reads reads')
+one_sum form one other bytes (Err place) (Ok q) (reads, is) (reads', rest) = absurd (sum_not_refused bytes q place reads' reads)
+one_sum form one other bytes (Err place) (Err place') (reads, is) (reads', is') =
+    is ∙ ap (λ n. refusal (why.Saved n)) (one_wrong_line bytes place place' reads reads') ∙ sym is'
+
+one_shown : (form : Form) (one other : Answer) (bytes : List ℕ) → AnswersShown form one bytes → AnswersShown form other bytes → one ≡ other
+one_shown form one other bytes (inl (begins, (x, a))) (inl (begins', (y, b))) = one_sum form one other bytes x y a b
+one_shown form one other bytes (inl (begins, a)) (inr (begins_not, b)) = absurd (begins_not begins)
+one_shown form one other bytes (inr (begins_not, a)) (inl (begins, b)) = absurd (begins_not begins)
+one_shown form one other bytes (inr (begins_not, (x, a))) (inr (begins_not', (y, b))) = one_profile form one other bytes x y a b
+
 by_file : (form : Form) (one other : Answer) → Agree {A = List ℕ} (λ failure. one ≡ refusal failure) (λ failure. other ≡ refusal failure)
-    (λ bytes. (read : Result Saved ℕ) × AnswersProfile form one bytes read) (λ bytes. (read : Result Saved ℕ) × AnswersProfile form other bytes read) → one ≡ other
+    (AnswersShown form one) (AnswersShown form other) → one ≡ other
 by_file form one other (inl (failure, a, b)) = a ∙ sym b
-by_file form one other (inr (bytes, (x, a), (y, b))) = one_profile form one other bytes x y a b
+by_file form one other (inr (bytes, a, b)) = one_shown form one other bytes a b
 
 -- CHECK
 both_same : {X : Type 0} (one other answer : Answer) (refused : Failure → Answer) → Agree {A = X} (λ failure. one ≡ refused failure) (λ failure. other ≡ refused failure)
@@ -145,7 +161,9 @@ one_job outside one other (job.Annotate file steps depth latency strict) within 
     (running_agrees (λ failure. one ≡ refusal failure) (λ failure. other ≡ refusal failure) _ _ outside steps file latency
     (running_sound (λ failure. one ≡ refusal failure) (IsAnnotated outside file depth strict one) outside steps within.steps.at_most file latency a) b)
 one_job outside one other (job.Show file form) within a b =
-    by_file form one other (file_agrees (λ failure. one ≡ refusal failure) (λ failure. other ≡ refusal failure) _ _ outside profile_limit file a b)
+    by_file form one other
+    (file_agrees (λ failure. one ≡ refusal failure) (λ failure. other ≡ refusal failure) (AnswersShown form one) (AnswersShown form other) outside profile_limit file a b)
+one_job outside one other (job.Merge save parts) within a b = one_merged save one other outside parts a b
 one_job outside one other (job.Check file) within a b =
     by_check file one other
     (file_agrees (λ failure. one ≡ refusal failure) (λ failure. other ≡ refusal failure) (AnswersChecked file one) (AnswersChecked file other) outside file_limit file a b)

@@ -40,6 +40,9 @@ refuses P why.InputLong p = p
 refuses P (why.Table fault) p = p
 refuses P (why.Saved place) p = p
 refuses P (why.FileLong file) p = p
+refuses P (why.SavedIn file place) p = p
+refuses P (why.OtherProgram file) p = p
+refuses P (why.SumLarge file) p = p
 
 -- a content that is too long, which a name may have
 pub long_of : (held : Option (List ℕ → Option (List ℕ))) (name : List ℕ) (limit : ℕ) → HasLonger held name limit

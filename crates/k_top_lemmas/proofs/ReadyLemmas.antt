@@ -38,6 +38,9 @@ refusal_maps A B why.InputLong f a = f a
 refusal_maps A B (why.Table fault) f a = f a
 refusal_maps A B (why.Saved place) f a = f a
 refusal_maps A B (why.FileLong file) f a = f a
+refusal_maps A B (why.SavedIn file place) f a = f a
+refusal_maps A B (why.OtherProgram file) f a = f a
+refusal_maps A B (why.SumLarge file) f a = f a
 
 -- an input that was not seen is told by anything
 pub not_seen : (left : Option (List ℕ)) → IsToldInput left None

@@ -1,3 +1,4 @@
+pub mod Merges
 pub mod Parts
 pub mod Phases
 pub mod Streams

@@ -35,9 +35,7 @@ use Rattle.k_hcpa.specs.declared.profile.RunFault.TheVariants as run_fault
 use Rattle.k_hcpa.specs.declared.profile.Summary.{Summary}
 use Rattle.k_hcpa.specs.declared.profile.Summary.TheVariants as summary
 use Rattle.k_dict_saved.specs.Files.{AreRegions}
-use Rattle.k_dict_saved.specs.declared.fault.SavedFault.{SavedFault}
 use Rattle.k_regions.specs.Regions.{regions_of}
-use Rattle.k_dict_saved.specs.Profile.{Reads}
 use Rattle.k_dict_saved.specs.declared.saved.Saved.{Saved}
 use Rattle.k_selfpar.specs.Contexts.{AreContexts}
 use Rattle.k_selfpar.specs.Rows.{AreRows}
@@ -53,9 +51,9 @@ use Rattle.k_top_answers.specs.declared.failure.Failure.{Failure}
 use Rattle.k_top_answers.specs.declared.failure.Failure.TheVariants as why
 use Rattle.k_top_lemmas.specs.declared.program.Program.{Program}
 use Rattle.k_top_lemmas.specs.declared.running.Ready.{Ready}
-use Rattle.k_top_answers.specs.Answers.{AnswersChecked, AnswersProfile, done}
+use Rattle.k_top_answers.specs.Answers.{AnswersChecked, AnswersShown, done, refusal}
 use Rattle.k_top_answers.specs.Clauses.{Told}
-use Rattle.k_top_answers.specs.Failures.{failure_line, failure_of_load, failure_of_put, failure_of_reading, failure_of_save, failure_of_saved, failure_of_table, failure_status}
+use Rattle.k_top_answers.specs.Failures.{failure_line, failure_of_load, failure_of_put, failure_of_reading, failure_of_save, failure_of_table, failure_status}
 use Rattle.k_top_answers.specs.Steps.{AnswersSource, Running, file_limit, input_limit, profile_limit, run_of}
 use Rattle.k_top_answers.specs.Storage.{MayBeMarked, WritesStorage}
 use Rattle.k_top_answers.specs.Texts.{plan_line, tree_lines}
@@ -187,16 +185,20 @@ abbrev pub GivesText : Result Answer Failure → List ℕ → Type 0
 GivesText (Ok answer) text = answer ≡ done text
 GivesText (Err failure) text = failure ≡ why.NoMemory
 
--- what showing a saved profile comes to
-abbrev pub ShowsProfile : Result Answer Failure → List ℕ → Form → Type 0
-ShowsProfile (Ok answer) bytes form = (profile : Saved) × AnswersProfile form answer bytes (Ok profile)
-ShowsProfile (Err failure) bytes form = (fault : SavedFault) × (failure ≡ failure_of_saved fault) × Reads bytes (Err fault)
+-- why a saved profile or a sum is not shown: it is refused, or no memory was found
+abbrev pub RefusesShown : Failure → List ℕ → Form → Type 0
+RefusesShown failure bytes form = (failure ≡ why.NoMemory) ⊎ ((place : ℕ) × (failure ≡ why.Saved place) × AnswersShown form (refusal (why.Saved place)) bytes)
 
--- what loading a saved profile and showing it comes to
+-- what showing a saved profile or a sum comes to
+abbrev pub ShowsBytes : Result Answer Failure → List ℕ → Form → Type 0
+ShowsBytes (Ok answer) bytes form = AnswersShown form answer bytes × (answer.failure ≡ None)
+ShowsBytes (Err failure) bytes form = RefusesShown failure bytes form
+
+-- what loading a saved profile or a sum and showing it comes to
 abbrev pub ShowsFile : Result Answer Failure → List ℕ → Form → FilesState → FilesState → Type 0
-ShowsFile (Ok answer) file form old new = (bytes : Vec ℕ Global) × Loads (Ok bytes) file profile_limit old new × ShowsProfile (Ok answer) bytes.items form
+ShowsFile (Ok answer) file form old new = (bytes : Vec ℕ Global) × Loads (Ok bytes) file profile_limit old new × ShowsBytes (Ok answer) bytes.items form
 ShowsFile (Err failure) file form old new =
-    ((bytes : Vec ℕ Global) × Loads (Ok bytes) file profile_limit old new × ShowsProfile (Err failure) bytes.items form)
+    ((bytes : Vec ℕ Global) × Loads (Ok bytes) file profile_limit old new × RefusesShown failure bytes.items form)
     ⊎ LoadsFile (Err failure) file profile_limit old new
 
 -- what checking a source comes to

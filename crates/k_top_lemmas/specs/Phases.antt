@@ -18,7 +18,7 @@ use Rattle.k_top_answers.specs.Answers.{AnswersJob, CallsForFiles, CallsForInput
 use Rattle.k_top_answers.specs.Clauses.{MayGive}
 use Rattle.k_top_answers.specs.Failures.{status_of}
 use Rattle.k_top_lemmas.specs.Parts.{IfRefusal, running_of}
-use Rattle.k_top_answers.specs.Requests.{AreToLoad, EndsAt, IsFront, files_of, loads_of}
+use Rattle.k_top_answers.specs.Requests.{AreToLoad, EndsWith, IsFront, files_of, loads_of}
 use Rattle.k_top_answers.specs.Steps.{AnswersProgram, AnswersRunning, Outside, input_limit}
 
 -- what was seen of a file: its name, and its content, where it has some
@@ -98,8 +98,11 @@ FilesAfter failure made old new = new ≡ after made old
 
 -- of the files to load, a failure comes behind these requests
 abbrev pub Stops : Failure → List Request → List Request → Type 0
-Stops (why.Absent file) loads made = IsFront made loads × EndsAt (Some (why.Absent file)) made
-Stops (why.FileLong file) loads made = IsFront made loads × EndsAt (Some (why.FileLong file)) made
+Stops (why.Absent file) loads made = IsFront made loads × EndsWith file made
+Stops (why.FileLong file) loads made = IsFront made loads × EndsWith file made
+Stops (why.SavedIn file place) loads made = IsFront made loads × EndsWith file made
+Stops (why.OtherProgram file) loads made = IsFront made loads × EndsWith file made
+Stops (why.SumLarge file) loads made = IsFront made loads × EndsWith file made
 Stops why.ReadFault loads made = IsFront made loads × (made ≢ [])
 Stops why.NoMemory loads made = IsFront made loads
 Stops failure loads made = made ≡ loads
