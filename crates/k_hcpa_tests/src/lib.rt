@@ -1,5 +1,5 @@
-//! The machine over lowered sources: worked examples, its levels from instruction to instruction, and its dictionary beside that of the explicit
-//! graph. There is nothing here but tests: in a crate of their own they prove no other crate a second time.
+//! The machine over the smallest program, and how often it reads times there. There is nothing here but tests: in a crate of their own they prove no other
+//! crate a second time. The machine's dictionary is compared with that of the explicit graph by tests/profiled.
 #![tactic(auto)]
 
 #[cfg(test)]

@@ -1,13 +1,2 @@
-//! Sources that the machine runs.
-mod account;
-mod compared;
-mod deep;
-mod examples;
-mod graph;
-mod levels;
-mod machine;
-mod objects;
-mod outputs;
+//! A program that the machine runs.
 mod smallest;
-mod source;
-mod stopped;

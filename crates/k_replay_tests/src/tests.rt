@@ -1,155 +1,28 @@
-//! Records that are made by hand, fired by workers in rounds and in other orders.
-ghost use Rattle.std.specs.Prelude.{◌≡◌, length, IfOk, OnOk};
+//! Records of the runs of sources, and of steps by hand. What the command makes of a run is compared with its listing by tests/replayed.
+ghost use Rattle.std.specs.Prelude.{◌≡◌, ◌≤◌, length, OnOk};
 ghost use Rattle.k_replay_record.specs.Recorded.{IsRecorded};
 ghost use Rattle.k_replay_record.specs.Records.{IsRecord};
 
+mod steps;
+
+use k_code::Code;
 use k_ending::End;
-use k_mem::Pointer;
-use k_num::{Bin, Kind, Seq, Un};
-use k_replay::{Core, Deal, FireFault, Tally, run_rounds};
-use k_replay_record::{Act, Datum, Operand, Piece, Record, Recorder, Step, StepFault};
+use k_marks_meaning::Marks;
+use k_num::Seq;
+use k_optab::standard;
+use k_replay::{Core, Deal, FireFault, run_rounds};
+use k_replay_record::{Act, Datum, Operand, Record, Recorder, Step, StepFault};
+use k_replay_run::record_run;
+use k_sources::{Reader, read_source};
+use k_types_meaning::TUnit;
 use std::alloc::Global;
-use std::test::Fail;
-
-/// What no operation gave, and has no value.
-const NONE: Operand = Operand::Fixed(Datum::Nothing);
-
-/// A constant.
-fn number(number: i128) -> Operand {
-    Operand::Fixed(Datum::Number(number))
-}
-
-/// A pointer to an element of an object, which no operation gave.
-fn pointer(object: u64, offset: u64) -> Operand {
-    Operand::Fixed(Datum::At(Pointer { object, offset }))
-}
-
-/// A step behind others, and its value.
-fn add(
-    alloc: Global,
-    recorder: &mut Recorder,
-    act: Act,
-    operands: &[Operand],
-) -> Result<Datum, Fail>
-    requires { IsRecorded recorder.old }
-    ensures { OnOk result (IsRecorded recorder.new) }
-{
-    let Ok(operands) = Seq::copy_of(alloc, operands) else {
-        drop(act);
-        return Err(Fail::from("no memory"));
-    };
-    match recorder.push(Step { act, operands }) {
-        Ok(value) => Ok(value),
-        Err(_fault) => Err(Fail::from("the step does not fit")),
-    }
-}
-
-/// The value of a step by itself.
-fn given(alloc: Global, act: Act, operands: &[Operand]) -> Result<Datum, Fail> {
-    let mut recorder = Recorder::new(alloc);
-    add(alloc, &mut recorder, act, operands)
-}
-
-/// `return 1+2;`: a sum, and the move of what is returned.
-fn sum(alloc: Global) -> Result<Record, Fail>
-    ensures { IfOk result (λ tape. IsRecord tape) }
-{
-    let mut recorder = Recorder::new(alloc);
-    let operands = [number(1), number(2), NONE];
-    add(
-        alloc,
-        &mut recorder,
-        Act::Binary(Bin::Add, Kind::I32),
-        &operands,
-    )?;
-    add(
-        alloc,
-        &mut recorder,
-        Act::Same(0),
-        &[Operand::From(0), NONE],
-    )?;
-    Ok(recorder.finish(End::Returned(3)))
-}
-
-/// The format `"x=%d %x"`, whose arguments are one operand.
-fn format(alloc: Global) -> Result<Seq<Piece>, Fail> {
-    let mut pieces = Seq::new(alloc);
-    add_text(alloc, &mut pieces, b"x=")?;
-    pieces.push(Piece::Decimal(0))?;
-    add_text(alloc, &mut pieces, b" ")?;
-    pieces.push(Piece::Hex(0))?;
-    Ok(pieces)
-}
-
-/// Bytes behind the parts of a format.
-fn add_text(alloc: Global, pieces: &mut Seq<Piece>, text: &[u8]) -> Result<(), Fail> {
-    let bytes = Seq::copy_of(alloc, text)?;
-    pieces.push(Piece::Bytes(bytes))?;
-    Ok(())
-}
-
-/// `c=getchar(); putchar(c);` on an `A`, without the moves.
-fn add_byte(alloc: Global, recorder: &mut Recorder) -> Result<(), Fail>
-    requires { IsRecorded recorder.old }
-    ensures { OnOk result (IsRecorded recorder.new) }
-{
-    add(alloc, recorder, Act::Input(65), &[NONE, NONE])?;
-    let operands = [Operand::From(0), NONE, NONE];
-    add(alloc, recorder, Act::Put, &operands)?;
-    Ok(())
-}
-
-/// `printf("x=%d %x",c,c);` behind that.
-fn add_print(alloc: Global, recorder: &mut Recorder) -> Result<(), Fail>
-    requires { IsRecorded recorder.old }
-    ensures { OnOk result (IsRecorded recorder.new) }
-{
-    let pieces = format(alloc)?;
-    let operands = [Operand::From(0), Operand::From(1), NONE];
-    add(alloc, recorder, Act::Print(pieces), &operands)?;
-    Ok(())
-}
-
-/// `puts("end");` behind that.
-fn add_line(alloc: Global, recorder: &mut Recorder) -> Result<(), Fail>
-    requires { IsRecorded recorder.old }
-    ensures { OnOk result (IsRecorded recorder.new) }
-{
-    let line = Seq::copy_of(alloc, b"end\n")?;
-    let operands = [Operand::From(2), NONE];
-    add(alloc, recorder, Act::Puts(line), &operands)?;
-    Ok(())
-}
-
-/// All three.
-fn outputs(alloc: Global) -> Result<Record, Fail>
-    ensures { IfOk result (λ tape. IsRecord tape) }
-{
-    let mut recorder = Recorder::new(alloc);
-    add_byte(alloc, &mut recorder)?;
-    add_print(alloc, &mut recorder)?;
-    add_line(alloc, &mut recorder)?;
-    Ok(recorder.finish(End::Returned(0)))
-}
 
 /// A call of a worker, and what it answers.
 #[derive(Clone, Copy)]
-pub(crate) enum Call {
+enum Call {
     Take(u32, Deal),
     Fire(u32, Result<u64, FireFault>),
 }
-
-/// Calls of two workers on a sum.
-static CALLS: [Call; 8] = [
-    Call::Take(0, Deal::Given(0)),
-    Call::Take(0, Deal::Held(0)),
-    Call::Take(1, Deal::Idle),
-    Call::Fire(1, Err(FireFault::NoneHeld)),
-    Call::Fire(0, Ok(0)),
-    Call::Take(1, Deal::Given(1)),
-    Call::Fire(1, Ok(1)),
-    Call::Take(0, Deal::Idle),
-];
 
 /// Whether a call answers this, where there are so many workers.
 fn answers(core: &mut Core<'_>, workers: u32, call: Call) -> bool
@@ -163,8 +36,9 @@ fn answers(core: &mut Core<'_>, workers: u32, call: Call) -> bool
 }
 
 /// Whether these calls, one behind the other, answer so.
-pub(crate) fn all_answer(core: &mut Core<'_>, workers: u32, calls: &[Call]) -> bool
+fn all_answer(core: &mut Core<'_>, workers: u32, calls: &[Call]) -> bool
     requires { length core.old.held ≡ workers }
+    ensures { length core.new.held ≡ workers }
 {
     for call in calls {
         if !answers(core, workers, *call) {
@@ -174,88 +48,193 @@ pub(crate) fn all_answer(core: &mut Core<'_>, workers: u32, calls: &[Call]) -> b
     true
 }
 
-#[test]
-fn two_workers_fire_a_sum_in_rounds(rt: HostRuntime) -> Result<(), Fail> {
-    let tape = sum(rt.alloc())?;
-    let mut core = Core::new(rt.alloc(), &tape, 2)?;
-    let schedule = run_rounds(rt.alloc(), &mut core, 2, 1)?;
-    assert_eq!(rt; schedule.rounds, 3);
-    let tallies = schedule.tallies.as_slice();
-    assert!(rt; tallies == [Tally { fired: 1, idle: 0 }, Tally { fired: 1, idle: 1 }].as_slice());
-    assert_eq!(rt; core.value(1), Some(Datum::Number(3)));
-    Ok(())
+/// A source, how many operations may be made, how many are, how the run ends, how many workers make these calls, and what operation 1 then gave.
+#[derive(Clone, Copy)]
+struct Row {
+    source: &'static str,
+    budget: u64,
+    made: u64,
+    end: End,
+    workers: u32,
+    calls: &'static [Call],
+    value: i128,
 }
 
-#[test]
-fn one_worker_fires_a_sum_in_rounds(rt: HostRuntime) -> Result<(), Fail> {
-    let tape = sum(rt.alloc())?;
-    let mut core = Core::new(rt.alloc(), &tape, 1)?;
-    let schedule = run_rounds(rt.alloc(), &mut core, 1, 1)?;
-    assert_eq!(rt; schedule.rounds, 4);
-    assert!(rt; schedule.tallies.as_slice() == [Tally { fired: 2, idle: 0 }].as_slice());
-    Ok(())
+/// A sum of two numbers, and what two workers do in rounds. The draws of seed 1 are 16838, 5758 and 10113, so worker 0 begins the first round and the second,
+/// and worker 1 the third.
+const SUM: Row = Row {
+    source: "int main(void){return 1+2;}",
+    budget: 1_000,
+    made: 2,
+    end: End::Returned(3),
+    workers: 2,
+    calls: &[
+        Call::Take(0, Deal::Given(0)),
+        Call::Take(1, Deal::Idle),
+        Call::Fire(0, Ok(0)),
+        Call::Take(1, Deal::Given(1)),
+        Call::Fire(1, Ok(1)),
+    ],
+    value: 3,
+};
+
+/// Sums, and a run that is cut off, whose operations are fired as far as they were made.
+static ROWS: [Row; 4] = [
+    SUM,
+    // what one worker does
+    Row {
+        workers: 1,
+        calls: &[
+            Call::Take(0, Deal::Given(0)),
+            Call::Fire(0, Ok(0)),
+            Call::Take(0, Deal::Given(1)),
+            Call::Fire(0, Ok(1)),
+        ],
+        ..SUM
+    },
+    // what two workers do who ask too often
+    Row {
+        calls: &[
+            Call::Take(0, Deal::Given(0)),
+            Call::Take(0, Deal::Held(0)),
+            Call::Take(1, Deal::Idle),
+            Call::Fire(1, Err(FireFault::NoneHeld)),
+            Call::Fire(0, Ok(0)),
+            Call::Take(1, Deal::Given(1)),
+            Call::Fire(1, Ok(1)),
+            Call::Take(0, Deal::Idle),
+        ],
+        ..SUM
+    },
+    Row {
+        source: "int main(void){while(1);return 0;}",
+        made: 1_000,
+        end: End::OutOfSteps,
+        workers: 3,
+        calls: &[],
+        value: 1,
+        ..SUM
+    },
+];
+
+/// Whether the calls answer so, and the rounds behind them fire what is left.
+fn is_fired(alloc: Global, core: &mut Core<'_>, row: &Row, output: &[u8]) -> bool
+    requires workers { length core.old.held ≡ row.now.workers }
+    requires some { 1 ≤ row.now.workers }
+    requires few { row.now.workers ≤ 16 }
+{
+    if !all_answer(core, row.workers, row.calls) {
+        return false;
+    }
+    match run_rounds(alloc, core, row.workers, 1) {
+        Ok(schedule) => drop(schedule),
+        Err(_) => return false,
+    }
+    core.left() == 0 && core.output() == output && core.value(1) == Some(Datum::Number(row.value))
 }
 
-#[test]
-fn calls_answer_what_stands(rt: HostRuntime) -> Result<(), Fail> {
-    let tape = sum(rt.alloc())?;
-    let mut core = Core::new(rt.alloc(), &tape, 2)?;
-    assert!(rt; all_answer(&mut core, 2, CALLS.as_slice()));
-    assert_eq!(rt; core.left(), 0);
-    Ok(())
+/// Whether a record is as a row says, and its operations are fired so.
+fn is_recorded(alloc: Global, tape: &Record, row: &Row) -> bool
+    requires tape { IsRecord tape.now }
+    requires some { 1 ≤ row.now.workers }
+    requires few { row.now.workers ≤ 16 }
+{
+    if tape.steps.len() as u64 != row.made || tape.end != row.end {
+        return false;
+    }
+    match Core::new(alloc, tape, row.workers) {
+        Ok(made) => {
+            let mut core = made;
+            let is = is_fired(alloc, &mut core, row, tape.output.as_slice());
+            drop(core);
+            is
+        }
+        Err(_) => false,
+    }
 }
 
-#[test]
-fn outputs_keep_their_order(rt: HostRuntime) -> Result<(), Fail> {
-    let tape = outputs(rt.alloc())?;
-    let mut core = Core::new(rt.alloc(), &tape, 3)?;
-    let schedule = run_rounds(rt.alloc(), &mut core, 3, 7)?;
-    assert_eq!(rt; schedule.rounds, 7);
-    assert!(rt; core.output() == b"Ax=65 41end\n".as_slice());
-    assert_eq!(rt; core.value(1), Some(Datum::Number(65)));
-    assert_eq!(rt; core.value(2), Some(Datum::Number(7)));
-    assert_eq!(rt; core.value(3), Some(Datum::Number(0)));
-    Ok(())
+/// Whether the run of a typed tree is as a row says.
+fn is_row(alloc: Global, unit: &TUnit, marks: &Marks, row: &Row) -> bool {
+    if row.workers < 1 || 16 < row.workers {
+        return false;
+    }
+    match record_run(alloc, unit, marks, &standard(), &[], row.budget) {
+        Ok(tape) => {
+            let is = is_recorded(alloc, &tape, row);
+            drop(tape);
+            is
+        }
+        Err(_) => false,
+    }
 }
 
-#[test]
-fn an_output_needs_the_one_before(rt: HostRuntime) -> Result<(), Fail> {
-    let mut recorder = Recorder::new(rt.alloc());
-    let operands = [number(65), NONE, NONE];
-    add(rt.alloc(), &mut recorder, Act::Put, &operands)?;
-    let operands = Seq::copy_of(rt.alloc(), &operands)?;
-    let refused = recorder.push(Step {
-        act: Act::Put,
-        operands,
-    });
-    assert!(rt; refused == Err(StepFault::Unfit));
-    Ok(())
+/// Whether the source that was read is as a row says.
+#[derive(Drop)]
+struct Trial {
+    alloc: Global,
+    row: Row,
+    is: bool,
 }
 
-#[test]
-fn acts_on_numbers(rt: HostRuntime) -> Result<(), Fail> {
-    let alloc = rt.alloc();
-    let division = Act::Binary(Bin::Div, Kind::I32);
-    assert!(rt; given(alloc, division, &[number(-7), number(2)])? == Datum::Number(-3));
-    let complement = Act::Unary(Un::Complement, Kind::U8);
-    assert!(rt; given(alloc, complement, &[number(1)])? == Datum::Number(254));
-    assert!(rt; given(alloc, Act::Convert(Kind::I8), &[number(200)])? == Datum::Number(-56));
-    assert!(rt; given(alloc, Act::Truth, &[number(-7)])? == Datum::Number(1));
-    Ok(())
+impl Reader for Trial {
+    fn take(&mut self, unit: &TUnit, marks: &Marks, _code: &Code) {
+        let row = self.row;
+        self.is = is_row(self.alloc, unit, marks, &row);
+    }
 }
 
-#[test]
-fn acts_on_pointers(rt: HostRuntime) -> Result<(), Fail> {
-    let alloc = rt.alloc();
-    let moved = given(alloc, Act::Offset(true, 2), &[pointer(1, 7), number(3)])?;
-    let there = Pointer {
-        object: 1,
-        offset: 1,
+/// Whether a row comes.
+fn comes(alloc: Global, row: Row) -> bool {
+    let mut trial = Trial {
+        alloc,
+        row,
+        is: false,
     };
-    assert!(rt; moved == Datum::At(there));
-    let two = [pointer(1, 2), pointer(1, 6)];
-    assert!(rt; given(alloc, Act::PtrCompare(Bin::Lt), &two)? == Datum::Number(1));
-    assert!(rt; given(alloc, Act::PtrCompare(Bin::Eq), &two)? == Datum::Number(0));
-    assert!(rt; given(alloc, Act::Distance(2), &two)? == Datum::Number(-2));
-    Ok(())
+    read_source(alloc, row.source.as_bytes(), &mut trial) && trial.is
+}
+
+#[test]
+fn runs(rt: HostRuntime) {
+    for row in &ROWS {
+        let Row {
+            source,
+            workers,
+            ..
+        } = *row;
+        assert!(rt; comes(rt.alloc(), *row), "{source}, {workers} workers");
+    }
+}
+
+/// A step comes that writes a byte that no operation gave, and that waits for nothing.
+fn push_byte(alloc: Global, recorder: &mut Recorder) -> Result<Datum, StepFault>
+    requires { IsRecorded recorder.old }
+    ensures { OnOk result (IsRecorded recorder.new) }
+{
+    let operands = [
+        Operand::Fixed(Datum::Number(65)),
+        Operand::Fixed(Datum::Nothing),
+    ];
+    match Seq::copy_of(alloc, &operands) {
+        Ok(operands) => recorder.push(Step {
+            act: Act::Put,
+            operands,
+        }),
+        Err(_) => Err(StepFault::Memory),
+    }
+}
+
+/// Whether a step that writes is refused behind one that wrote before, for which it does not wait.
+fn is_refused(alloc: Global) -> bool {
+    let mut recorder = Recorder::new(alloc);
+    let refused = match push_byte(alloc, &mut recorder) {
+        Ok(_) => push_byte(alloc, &mut recorder) == Err(StepFault::Unfit),
+        Err(_) => false,
+    };
+    drop(recorder);
+    refused
+}
+
+#[test]
+fn an_output_needs_the_one_before(rt: HostRuntime) {
+    assert!(rt; is_refused(rt.alloc()));
 }

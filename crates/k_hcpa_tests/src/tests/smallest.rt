@@ -1,22 +1,24 @@
 //! The smallest program, whose run reads the times of two operands: the constant that is returned, and the control source.
-ghost use Rattle.std.specs.Prelude.{◌≡◌, ◌+◌, ◌<◌, ◌≤◌, IfOk};
+ghost use Rattle.std.specs.Prelude.{◌≡◌, ◌+◌, ◌<◌, ◌≤◌, IfOk, IsTrue};
+ghost use Rattle.k_code.specs.Valid.{IsValid};
 ghost use Rattle.k_hcpa_tests.specs.Smallest.{smallest as smallest_code};
 
-use super::source::{is_valid, lowered};
-use k_code::{Arg, Code, CodeFunc, Do, Instr};
+use k_code::{Arg, Code, CodeFunc, Do, Instr, valid};
 use k_code_text::lines;
 use k_edge::SureSink;
 use k_ending::End;
 use k_hcpa::run_code;
+use k_marks_meaning::Marks;
 use k_num::{NoMemory, Place, Seq, Text};
 use k_optab::{Region, RegionKind};
 use k_shadow::Steps;
+use k_sources::{Reader, read_source};
 use k_spage::ShadowPages;
 use k_sreg::ShadowRegs;
+use k_types_meaning::TUnit;
 use std::alloc::Global;
 use std::marker::Brand;
 use std::sync::ledger::{Blank, Ledger};
-use std::test::Fail;
 
 /// The code of the smallest program.
 fn smallest(alloc: Global) -> Result<Code, NoMemory>
@@ -62,23 +64,61 @@ fn smallest(alloc: Global) -> Result<Code, NoMemory>
     })
 }
 
-/// It is what the source is lowered to.
-#[test]
-fn code_of_the_smallest(rt: HostRuntime) -> Result<(), Fail> {
-    let made = smallest(rt.alloc())?;
-    let code = lowered(rt.alloc(), "int main(void){return 0;}");
-    assert!(rt; code.is_some());
-    if let Some(code) = code {
-        assert_eq!(rt; code.funcs.as_slice(), made.funcs.as_slice());
-        assert_eq!(rt; code.regions.as_slice(), made.regions.as_slice());
-        let text = lines(rt.alloc(), code.instrs.as_slice())?;
-        let wanted = lines(rt.alloc(), made.instrs.as_slice())?;
-        assert_eq!(rt; text.as_str(), wanted.as_str());
-        assert_eq!(rt; code.objects.len(), 0);
-        assert_eq!(rt; code.main, 0);
-        drop(code);
+/// Whether both are the same lines.
+fn are_same_lines(alloc: Global, instrs: &[Instr], wanted: &[Instr]) -> bool {
+    let Ok(text) = lines(alloc, instrs) else {
+        return false;
+    };
+    match lines(alloc, wanted) {
+        Ok(expected) => text.as_str() == expected.as_str(),
+        Err(_) => false,
     }
-    Ok(())
+}
+
+/// Whether both are the same code, without objects.
+fn are_same(alloc: Global, code: &Code, wanted: &Code) -> bool {
+    code.funcs.as_slice() == wanted.funcs.as_slice()
+        && code.regions.as_slice() == wanted.regions.as_slice()
+        && code.objects.len() == 0
+        && code.main == wanted.main
+        && are_same_lines(alloc, code.instrs.as_slice(), wanted.instrs.as_slice())
+}
+
+/// Whether the source that was read is lowered to the code of the smallest program.
+#[derive(Drop)]
+struct Lowered {
+    alloc: Global,
+    is: bool,
+}
+
+impl Reader for Lowered {
+    fn take(&mut self, _unit: &TUnit, _marks: &Marks, code: &Code) {
+        self.is = match smallest(self.alloc) {
+            Ok(made) => {
+                let same = are_same(self.alloc, code, &made);
+                drop(made);
+                same
+            }
+            Err(_) => false,
+        };
+    }
+}
+
+#[test]
+fn code_of_the_smallest(rt: HostRuntime) {
+    let alloc = rt.alloc();
+    let mut lowered = Lowered { alloc, is: false };
+    assert!(rt; read_source(alloc, b"int main(void){return 0;}", &mut lowered) && lowered.is);
+}
+
+/// Whether code is valid. Where that can't be told for want of memory, it is not.
+fn is_valid(alloc: Global, code: &Code) -> bool
+    ensures { IsTrue result → IsValid code.now }
+{
+    match valid(alloc, code) {
+        Ok(is) => is,
+        Err(_) => false,
+    }
 }
 
 /// How its run ends. Times are read at most twice.

@@ -19,6 +19,11 @@ impl<'a, T> Noted<'a, T> {
     pub fn new(inner: T, what: &'static str, notes: &'a Notes) -> Noted<'a, T> {
         Noted { inner, what, notes }
     }
+
+    /// What it notes of.
+    pub fn inner(&self) -> &T {
+        &self.inner
+    }
 }
 
 /// Adds a line on a call that names a file.

@@ -1,0 +1,1 @@
+int a[64]; int main(void){int i; a[0]=0; for(i=1;i<64;i++) a[i]=a[i-1]+1; return a[63];}

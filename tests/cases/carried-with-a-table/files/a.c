@@ -1,0 +1,1 @@
+int main(void){int x=16; while(x>1) x=x/2; return 0;}

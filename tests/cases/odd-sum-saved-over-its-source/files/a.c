@@ -1,0 +1,1 @@
+int main(void){int i,s; s=0; for(i=0;i<6;i++) if(i&1) s+=i; return s;}

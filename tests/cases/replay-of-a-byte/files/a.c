@@ -1,0 +1,2 @@
+#include <stdio.h>
+int main(void){putchar(65); return 0;}

@@ -1,0 +1,1 @@
+int a[1]; int main(void){int i; for(i=0;i<2;i++) a[0]=i; return 0;}

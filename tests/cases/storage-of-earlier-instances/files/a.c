@@ -1,0 +1,1 @@
+int a[3]; int main(void){int i,j; for(i=0;i<2;i++) for(j=0;j<3;j++) a[j]=j; return a[0];}

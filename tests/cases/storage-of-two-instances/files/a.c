@@ -1,0 +1,1 @@
+int a[1]; int main(void){int i,j; for(i=0;i<2;i++){ a[0]=i; for(j=0;j<2;j++) a[0]=j; } return a[0];}

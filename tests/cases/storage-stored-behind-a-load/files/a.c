@@ -1,0 +1,1 @@
+int a[9]; int main(void){int i; for(i=0;i<8;i++) a[i]=a[i+1]; return a[0];}

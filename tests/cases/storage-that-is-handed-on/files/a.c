@@ -1,0 +1,1 @@
+int a[9]; int main(void){int i; a[0]=1; for(i=1;i<9;i++) a[i]=a[i-1]; return a[8];}
