@@ -1,43 +1,112 @@
 -- What the walk lists of a statement, by what it lists of its parts.
-use Rattle.std.proofs.Common.{◌≡◌, Bool, List, [], ◌∷◌, ◌++◌, Option, Some, None, Result, IfOk, OnOk, sym, ap, ◌∙◌, append_assoc, append-nil}
-use Rattle.std.specs.Option.{option_map}
+use Rattle.std.proofs.Common.{◌≡◌, Bool, List, [], ◌∷◌, ◌++◌, Option, Some, None, Result, Ok, Err, IfOk, OnOk, refl, sym, ap, ◌∙◌, append_assoc, append-nil}
 use Rattle.std.proofs.lemmas.Result.{IfOk-weaker, on_ok_weaker}
+use Rattle.std.specs.Option.{option_map}
+use Rattle.k_evaluation.specs.JumpLaws.{spot_in, spot_of}
 use Rattle.k_num.specs.declared.memory.NoMemory.{NoMemory}
 use Rattle.k_types_meaning.specs.declared.tree.expression.TExpr.{TExpr}
 use Rattle.k_types_meaning.specs.declared.tree.statement.Spot.{Spot}
-use Rattle.k_types_meaning.specs.declared.tree.statement.TStmt.{TStmt}
-use Rattle.k_types_meaning.specs.declared.tree.statement.TStmt.TheVariants as stmt
+use Rattle.k_types_meaning.specs.declared.tree.statement.TPart.{TPart}
+use Rattle.k_types_meaning.specs.declared.tree.statement.TPart.TheOpen.{TStmt-F}
+use Rattle.k_types_meaning.specs.declared.tree.statement.TStmt.{TStmt, fold_out-TStmt, map-TStmt, out-TStmt, out-roll-TStmt, roll-TStmt}
 use Rattle.k_types_meaning.specs.declared.tree.unit.TVariable.{TVariable}
-use Rattle.k_types_meaning.proofs.Folds.{done_alone, done_else}
 use Rattle.k_lower_extents.specs.declared.extent.Extent.{Extent}
 use Rattle.k_lower_extents.specs.declared.extent.NumberedExtent.{NumberedExtent}
 use Rattle.k_lower_extents.specs.ExpressionSums.{summed}
-use Rattle.k_lower_extents.specs.StatementSums.{PartSummed, Summed, if_else, numbered, option_itself, option_within, summed_at, summed_part_step, summed_step, summed_stmt}
+use Rattle.k_lower_extents.specs.StatementSums.{PartSummed, Summed, if_else, numbered, option_itself, option_within, own_step, summed_part, summed_part_step, summed_step, summed_stmt, within_step, within_stmt}
 
 module _ (vs : List TVariable) (counted : List Bool) where
-  -- the extent of a statement and the list with it, behind the list of its parts
-  pub listed_row : (s : TStmt) (spot : Spot) (within : List NumberedExtent) (e x : Extent) (before among after : List NumberedExtent) (r : Result Extent NoMemory)
-      → summed_stmt vs counted s ≡ summed_at spot within e → x ≡ e → among ≡ before ++ within
+  -- a statement, by how its parts are summed up
+  abbrev pub seen : TStmt-F TPart TStmt → TStmt-F PartSummed Summed
+  seen = map-TStmt TPart TStmt PartSummed Summed (summed_part vs counted) (summed_stmt vs counted)
+
+  spot_kept : (z : TStmt-F TPart TStmt) → spot_in (seen z) ≡ spot_in z
+  spot_kept (TStmt-F.Expr spot e) = refl
+  spot_kept (TStmt-F.Empty spot) = refl
+  spot_kept (TStmt-F.Block spot parts) = refl
+  spot_kept (TStmt-F.If spot test a b) = refl
+  spot_kept (TStmt-F.While spot n test body) = refl
+  spot_kept (TStmt-F.DoWhile spot n body test) = refl
+  spot_kept (TStmt-F.For spot n start test step body) = refl
+  spot_kept (TStmt-F.Switch spot kind on parts) = refl
+  spot_kept (TStmt-F.Break spot) = refl
+  spot_kept (TStmt-F.Continue spot) = refl
+  spot_kept (TStmt-F.Return spot value) = refl
+  spot_kept (TStmt-F.Declare spot list) = refl
+
+  summed_is : (s : TStmt) → summed_stmt vs counted s ≡ summed_step vs counted (seen (out-TStmt s))
+  summed_is = fold_out-TStmt PartSummed Summed summed_part_step (summed_step vs counted)
+
+  itself_is : (s : TStmt) → (summed_stmt vs counted s).itself ≡ own_step vs counted (seen (out-TStmt s))
+  itself_is s = ap (λ (z : Summed). z.itself) (summed_is s)
+
+  -- its own extent stands behind those of its parts
+  own_last : (s : TStmt) → (summed_stmt vs counted s).extents ≡ within_stmt vs counted s ++ numbered (spot_of s) (summed_stmt vs counted s).itself ∷ []
+  own_last s =
+      ap (λ (z : Summed). z.extents) (summed_is s)
+      ∙ (λ i. within_stmt vs counted s ++ numbered (spot_kept (out-TStmt s) i) (sym (itself_is s) i) ∷ [])
+
+  -- the extent of a statement is listed behind those of its parts
+  pub listed_last : (s : TStmt) (spot : Spot) (x : Extent) (before among after : List NumberedExtent) (r : Result Extent NoMemory)
+      → spot ≡ spot_of s → x ≡ (summed_stmt vs counted s).itself → among ≡ before ++ within_stmt vs counted s
       → IfOk r (λ y. y ≡ x) → OnOk r (after ≡ among ++ numbered spot x ∷ [])
       → record {
         extent : IfOk r (λ y. y ≡ (summed_stmt vs counted s).itself);
         found : OnOk r (after ≡ before ++ (summed_stmt vs counted s).extents);
       }
-  listed_row s spot within e x before among after r s_is x_is among_is extent found = record {
-    extent = IfOk-weaker r (λ y. y ≡ x) (λ y. y ≡ (summed_stmt vs counted s).itself) (λ y is. is ∙ (x_is ∙ ap (λ (z : Summed). z.itself) (sym s_is))) extent;
+  listed_last s spot x before among after r spot_is x_is among_is extent found = record {
+    extent = IfOk-weaker r (λ y. y ≡ x) (λ y. y ≡ (summed_stmt vs counted s).itself) (λ y is. is ∙ x_is) extent;
     found = on_ok_weaker r
         (λ is.
-        is ∙ ((λ i. among_is i ++ numbered spot (x_is i) ∷ [])
-        ∙ (append_assoc before within (numbered spot e ∷ []) ∙ ap (λ (z : Summed). before ++ z.extents) (sym s_is))))
+        is ∙ ((λ i. among_is i ++ numbered (spot_is i) (x_is i) ∷ [])
+        ∙ (append_assoc before (within_stmt vs counted s) (numbered (spot_of s) (summed_stmt vs counted s).itself ∷ [])
+        ∙ ap (λ (xs : List NumberedExtent). before ++ xs) (sym (own_last s)))))
         found;
   }
 
-  -- an `if`
-  pub if_is : (spot : Spot) (test : TExpr) (a : TStmt) (b : Option TStmt) → summed_stmt vs counted (stmt.If spot test a b)
-      ≡ summed_at spot ((summed_stmt vs counted a).extents ++ option_within (option_map (summed_stmt vs counted) b))
-      (if_else (summed vs test).used (summed_stmt vs counted a).itself (option_itself (option_map (summed_stmt vs counted) b)))
-  if_is spot test a None = done_alone PartSummed Summed summed_part_step (summed_step vs counted) spot test a
-  if_is spot test a (Some b) = done_else PartSummed Summed summed_part_step (summed_step vs counted) spot test a b
+  -- the extents of the parts of a statement, by its form
+  within_is : (s : TStmt) (z : TStmt-F TPart TStmt) → out-TStmt s ≡ z → within_step (seen z) ≡ within_stmt vs counted s
+  within_is s z is = ap (λ (x : TStmt-F TPart TStmt). within_step (seen x)) (sym is)
+
+  -- the extents of the parts of a statement were listed, by its form
+  pub within_row : (s : TStmt) (z : TStmt-F TPart TStmt) (before among : List NumberedExtent) (r : Result Extent NoMemory)
+      → out-TStmt s ≡ z → IfOk r (λ y. y ≡ own_step vs counted (seen z)) → OnOk r (among ≡ before ++ within_step (seen z))
+      → record {
+        extent : IfOk r (λ y. y ≡ (summed_stmt vs counted s).itself);
+        found : OnOk r (among ≡ before ++ within_stmt vs counted s);
+      }
+  within_row s z before among r is extent found = record {
+    extent = IfOk-weaker r (λ y. y ≡ own_step vs counted (seen z)) (λ y. y ≡ (summed_stmt vs counted s).itself)
+        (λ y y_is. y_is ∙ sym (itself_is s ∙ ap (λ (z : TStmt-F TPart TStmt). own_step vs counted (seen z)) is)) extent;
+    found = on_ok_weaker r onward found;
+  }
+    where
+      onward : among ≡ before ++ within_step (seen z) → among ≡ before ++ within_stmt vs counted s
+      onward all = all ∙ ap (λ (xs : List NumberedExtent). before ++ xs) (within_is s z is)
+
+  -- an `if`, of which the second arm may be left out
+  pub if_itself : (spot : Spot) (test : TExpr) (a : TStmt) (b : Option TStmt) → own_step vs counted (seen (TStmt-F.If spot test a b))
+      ≡ if_else (summed vs test).used (summed_stmt vs counted a).itself (option_itself (option_map (summed_stmt vs counted) b))
+  if_itself spot test a None = refl
+  if_itself spot test a (Some b) = refl
+
+  pub if_within : (spot : Spot) (test : TExpr) (a : TStmt) (b : Option TStmt) → within_step (seen (TStmt-F.If spot test a b))
+      ≡ (summed_stmt vs counted a).extents ++ option_within (option_map (summed_stmt vs counted) b)
+  if_within spot test a None = refl
+  if_within spot test a (Some b) = refl
+
+-- the form of a statement
+pub form_is : (s x : TStmt) (z : TStmt-F TPart TStmt) → s ≡ x → roll-TStmt z ≡ x → out-TStmt s ≡ z
+form_is s x z is rolls = ap out-TStmt (is ∙ sym rolls) ∙ out-roll-TStmt z
+
+-- a call answers this extent too
+pub answered : (r : Result Extent NoMemory) (x y : Extent) → IfOk r (λ z. z ≡ x) → x ≡ y → IfOk r (λ z. z ≡ y)
+answered r x y is same = IfOk-weaker r (λ z. z ≡ x) (λ z. z ≡ y) (λ z z_is. z_is ∙ same) is
+
+-- what is so anyway is so behind a call
+pub anyway : {P : Type 0} (r : Result Extent NoMemory) → P → OnOk r P
+anyway (Ok x) p = p
+anyway (Err e) p = tt
 
 -- a list behind nothing
 pub nothing_more : (xs : List NumberedExtent) → xs ≡ xs ++ []

@@ -186,6 +186,10 @@ one_operand a = record { first = a; second = none; third = none; args = 0 }
 abbrev pub two_operands : ExpressionExtent → ExpressionExtent → Operands
 two_operands a b = record { first = a; second = b; third = none; args = 0 }
 
+-- one with three
+abbrev pub three_operands : ExpressionExtent → ExpressionExtent → ExpressionExtent → Operands
+three_operands a b c = record { first = a; second = b; third = c; args = 0 }
+
 -- a call, whose arguments have the size of all together
 abbrev pub arguments : List ExpressionExtent → Operands
 arguments args = record { first = none; second = none; third = none; args = total args }
@@ -218,7 +222,7 @@ operands_step (TExpr-F.Onto node a b) = two_operands a b
 operands_step (TExpr-F.Back node a b) = two_operands a b
 operands_step (TExpr-F.PtrCompare node op a b) = two_operands a b
 operands_step (TExpr-F.PtrDistance node a b) = two_operands a b
-operands_step (TExpr-F.Cond node a b c) = record { first = a; second = b; third = c; args = 0 }
+operands_step (TExpr-F.Cond node a b c) = three_operands a b c
 operands_step (TExpr-F.Assign node a b) = two_operands a b
 operands_step (TExpr-F.AssignBy node change a b) = two_operands a b
 operands_step (TExpr-F.Comma node a b) = two_operands a b

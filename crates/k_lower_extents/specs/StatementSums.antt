@@ -12,12 +12,13 @@ use Rattle.k_types_meaning.specs.declared.tree.statement.TFirst.{TFirst}
 use Rattle.k_types_meaning.specs.declared.tree.statement.TFirst.TheVariants as first
 use Rattle.k_types_meaning.specs.declared.tree.statement.TPart.{TPart, fold-TPart}
 use Rattle.k_types_meaning.specs.declared.tree.statement.TPart.TheOpen.{TPart-F, TStmt-F}
-use Rattle.k_types_meaning.specs.declared.tree.statement.TStmt.{TStmt, fold-TStmt}
+use Rattle.k_types_meaning.specs.declared.tree.statement.TStmt.{TStmt, fold-TStmt, map-TStmt, out-TStmt}
 use Rattle.k_types_meaning.specs.declared.tree.unit.TFunc.{TFunc}
 use Rattle.k_types_meaning.specs.declared.tree.unit.TVariable.{TVariable}
 use Rattle.k_marks_meaning.specs.declared.jumps.Jumps.{Jumps}
 use Rattle.k_marks_meaning.specs.Jumps.{no_jumps, a_break, a_continue, a_return, jumps_of_both, out_of_loop, out_of_switch, is_left}
 use Rattle.k_evaluation.specs.Declarations.{elements_of}
+use Rattle.k_evaluation.specs.JumpLaws.{spot_in}
 use Rattle.k_evaluation.specs.Loops.{stays_behind_loop}
 use Rattle.k_evaluation.specs.Meanings.{flag}
 use Rattle.k_lower_code.specs.Loops.{one_if}
@@ -279,25 +280,46 @@ numbered spot a = record { number = spot.number; extent = a }
 abbrev pub summed_at : Spot → List NumberedExtent → Extent → Summed
 summed_at spot within a = record { itself = a; extents = within ++ numbered spot a ∷ [] }
 
+-- the extents in the parts of a statement
+abbrev pub within_step : TStmt-F PartSummed Summed → List NumberedExtent
+within_step (TStmt-F.Expr spot e) = []
+within_step (TStmt-F.Empty spot) = []
+within_step (TStmt-F.Block spot parts) = all_within parts
+within_step (TStmt-F.If spot test a b) = a.extents ++ option_within b
+within_step (TStmt-F.While spot n test body) = body.extents
+within_step (TStmt-F.DoWhile spot n body test) = body.extents
+within_step (TStmt-F.For spot n start test step body) = body.extents
+within_step (TStmt-F.Switch spot kind on parts) = parts_within parts
+within_step (TStmt-F.Break spot) = []
+within_step (TStmt-F.Continue spot) = []
+within_step (TStmt-F.Return spot value) = []
+within_step (TStmt-F.Declare spot list) = []
+
+-- a loop around a body of this extent; what is no loop is as its body
+abbrev pub loop_around : {P S : Type 0} → List TVariable → List Bool → Extent → TStmt-F P S → Extent
+loop_around vs counted body (TStmt-F.While spot n test s) = source_loop counted n true (summed vs test).used 0 body
+loop_around vs counted body (TStmt-F.DoWhile spot n s test) = source_loop counted n false (summed vs test).used 0 body
+loop_around vs counted body (TStmt-F.For spot n start test step s) = for_loop vs counted n start test step body
+loop_around vs counted body _ = body
+
+-- the extent of a statement itself, of whose statements and parts it is known
+abbrev pub own_step : List TVariable → List Bool → TStmt-F PartSummed Summed → Extent
+own_step vs counted (TStmt-F.Expr spot e) = of_size (summed vs e).unused
+own_step vs counted (TStmt-F.Empty spot) = of_size 0
+own_step vs counted (TStmt-F.Block spot parts) = in_order (themselves parts)
+own_step vs counted (TStmt-F.If spot test a b) = if_else (summed vs test).used a.itself (option_itself b)
+own_step vs counted (TStmt-F.While spot n test body) = source_loop counted n true (summed vs test).used 0 body.itself
+own_step vs counted (TStmt-F.DoWhile spot n body test) = source_loop counted n false (summed vs test).used 0 body.itself
+own_step vs counted (TStmt-F.For spot n start test step body) = for_loop vs counted n start test step body.itself
+own_step vs counted (TStmt-F.Switch spot kind on parts) = switch (summed vs on) (parts_themselves parts)
+own_step vs counted (TStmt-F.Break spot) = one_jump a_break
+own_step vs counted (TStmt-F.Continue spot) = one_jump a_continue
+own_step vs counted (TStmt-F.Return spot value) = returned vs value
+own_step vs counted (TStmt-F.Declare spot list) = all_declared vs list
+
 -- a statement, of whose statements and parts it is known
 abbrev pub summed_step : List TVariable → List Bool → TStmt-F PartSummed Summed → Summed
-summed_step vs counted (TStmt-F.Expr spot e) = summed_at spot [] (of_size (summed vs e).unused)
-summed_step vs counted (TStmt-F.Empty spot) = summed_at spot [] (of_size 0)
-summed_step vs counted (TStmt-F.Block spot parts) = summed_at spot (all_within parts) (in_order (themselves parts))
-summed_step vs counted (TStmt-F.If spot test a b) =
-    summed_at spot (a.extents ++ option_within b) (if_else (summed vs test).used a.itself (option_itself b))
-summed_step vs counted (TStmt-F.While spot n test body) =
-    summed_at spot body.extents (source_loop counted n true (summed vs test).used 0 body.itself)
-summed_step vs counted (TStmt-F.DoWhile spot n body test) =
-    summed_at spot body.extents (source_loop counted n false (summed vs test).used 0 body.itself)
-summed_step vs counted (TStmt-F.For spot n start test step body) =
-    summed_at spot body.extents (for_loop vs counted n start test step body.itself)
-summed_step vs counted (TStmt-F.Switch spot kind on parts) =
-    summed_at spot (parts_within parts) (switch (summed vs on) (parts_themselves parts))
-summed_step vs counted (TStmt-F.Break spot) = summed_at spot [] (one_jump a_break)
-summed_step vs counted (TStmt-F.Continue spot) = summed_at spot [] (one_jump a_continue)
-summed_step vs counted (TStmt-F.Return spot value) = summed_at spot [] (returned vs value)
-summed_step vs counted (TStmt-F.Declare spot list) = summed_at spot [] (all_declared vs list)
+summed_step vs counted y = summed_at (spot_in y) (within_step y) (own_step vs counted y)
 
 -- a part of a switch, of whose statement it is known
 abbrev pub summed_part_step : TPart-F PartSummed Summed → PartSummed
@@ -312,6 +334,11 @@ summed_stmt vs counted = fold-TStmt PartSummed Summed summed_part_step (summed_s
 -- a part of a switch
 abbrev pub summed_part : List TVariable → List Bool → TPart → PartSummed
 summed_part vs counted = fold-TPart PartSummed Summed summed_part_step (summed_step vs counted)
+
+-- the extents in the parts of a statement there
+abbrev pub within_stmt : List TVariable → List Bool → TStmt → List NumberedExtent
+within_stmt vs counted s =
+    within_step (map-TStmt TPart TStmt PartSummed Summed (summed_part vs counted) (summed_stmt vs counted) (out-TStmt s))
 
 -- the parameters that are memory
 abbrev pub served_size : List TVariable → ℕ

@@ -1,7 +1,7 @@
 //! How many instructions the code of an expression has (C17 6.5).
 ghost use Rattle.std.specs.Prelude.{◌≡◌, ◌+◌, IfOk, map};
 ghost use Rattle.k_evaluation.specs.Places.{is_register as register_meant};
-ghost use Rattle.k_lower_extents.specs.ExpressionSums.{arm_size as arm_meant, assign as assign_meant, assign_by as assign_by_meant, cast as cast_meant, choice as choice_meant, comma as comma_meant, conversion_size as conversion_meant, element as element_meant, in_memory as in_memory_meant, load_size as load_meant, no_place as no_place_meant, on_one as on_one_meant, on_two as on_two_meant, one_size as one_size_meant, operands_in, post as post_meant, pre as pre_meant, summed, total, variable as variable_meant};
+ghost use Rattle.k_lower_extents.specs.ExpressionSums.{arguments as arguments_meant, arm_size as arm_meant, assign as assign_meant, assign_by as assign_by_meant, cast as cast_meant, choice as choice_meant, comma as comma_meant, conversion_size as conversion_meant, element as element_meant, in_memory as in_memory_meant, load_size as load_meant, no_operand as no_operand_meant, no_place as no_place_meant, on_one as on_one_meant, on_two as on_two_meant, one_operand as one_operand_meant, one_size as one_size_meant, operands_in, post as post_meant, pre as pre_meant, summed, three_operands as three_operands_meant, total, two_operands as two_operands_meant, variable as variable_meant};
 ghost use Rattle.k_lower_extents.specs.Sized.{HasExtent};
 
 use crate::changes::{changing_size, kind_of};
@@ -314,28 +314,84 @@ pub(crate) fn boxed(e: &Box<TExpr>, variables: &[TVariable]) -> Result<Expressio
     extent(e.get(), variables)
 }
 
+/// No operand.
+fn no_operand() -> Operands
+    ensures { result ≡ no_operand_meant }
+{
+    let none = no_place(TType::Void, 0, 0);
+    Operands {
+        first: none,
+        second: none,
+        third: none,
+        args: 0,
+    }
+}
+
+/// The arguments of a call.
+#[cycle(expressions)]
+fn arguments(args: &Seq<TExpr>, variables: &[TVariable]) -> Result<Operands, NoMemory>
+    ensures { IfOk result (λ o. o ≡ arguments_meant (map (summed variables.now) args.now)) }
+{
+    let mut found = no_operand();
+    found.args = args_size(args, variables)?;
+    Ok(found)
+}
+
+/// The operand of an expression that has one.
+#[cycle(expressions)]
+fn one_operand(of: &Box<TExpr>, variables: &[TVariable]) -> Result<Operands, NoMemory>
+    ensures { IfOk result (λ o. o ≡ one_operand_meant (summed variables.now of.now)) }
+{
+    let mut found = no_operand();
+    found.first = boxed(of, variables)?;
+    Ok(found)
+}
+
+/// The operands of an expression that has two.
+#[cycle(expressions)]
+fn two_operands(
+    left: &Box<TExpr>,
+    right: &Box<TExpr>,
+    variables: &[TVariable],
+) -> Result<Operands, NoMemory>
+    ensures { IfOk result (λ o. o ≡ two_operands_meant (summed variables.now left.now) (summed variables.now right.now)) }
+{
+    let mut found = no_operand();
+    found.first = boxed(left, variables)?;
+    found.second = boxed(right, variables)?;
+    Ok(found)
+}
+
+/// The operands of `?:`.
+#[cycle(expressions)]
+fn three_operands(
+    test: &Box<TExpr>,
+    then: &Box<TExpr>,
+    other: &Box<TExpr>,
+    variables: &[TVariable],
+) -> Result<Operands, NoMemory>
+    ensures { IfOk result (λ o. o ≡ three_operands_meant (summed variables.now test.now) (summed variables.now then.now) (summed variables.now other.now)) }
+{
+    let mut found = no_operand();
+    found.first = boxed(test, variables)?;
+    found.second = boxed(then, variables)?;
+    found.third = boxed(other, variables)?;
+    Ok(found)
+}
+
 /// The operands of an expression.
 #[cycle(expressions)]
 fn operands_of(e: &TExpr, variables: &[TVariable]) -> Result<Operands, NoMemory>
     ensures { IfOk result (λ o. o ≡ operands_in variables.now e.now) }
 {
-    let none = no_place(TType::Void, 0, 0);
-    let mut found = Operands {
-        first: none,
-        second: none,
-        third: none,
-        args: 0,
-    };
     match e {
         TExpr::Number { .. }
         | TExpr::Str { .. }
         | TExpr::Object { .. }
         | TExpr::Variable { .. }
         | TExpr::Getchar { .. }
-        | TExpr::Puts { .. } => {}
-        TExpr::Call { args, .. } | TExpr::Printf { args, .. } => {
-            found.args = args_size(args, variables)?;
-        }
+        | TExpr::Puts { .. } => Ok(no_operand()),
+        TExpr::Call { args, .. } | TExpr::Printf { args, .. } => arguments(args, variables),
         TExpr::Putchar { of, .. }
         | TExpr::Post { of, .. }
         | TExpr::Pre { of, .. }
@@ -344,15 +400,9 @@ fn operands_of(e: &TExpr, variables: &[TVariable]) -> Result<Operands, NoMemory>
         | TExpr::Plus { of, .. }
         | TExpr::Unary { of, .. }
         | TExpr::Convert { of, .. }
-        | TExpr::Cast { of, .. } => {
-            found.first = boxed(of, variables)?;
-        }
-        TExpr::Index {
-            base: left,
-            index: right,
-            ..
-        }
-        | TExpr::Binary { left, right, .. }
+        | TExpr::Cast { of, .. } => one_operand(of, variables),
+        TExpr::Index { base, index, .. } => two_operands(base, index, variables),
+        TExpr::Binary { left, right, .. }
         | TExpr::Both { left, right, .. }
         | TExpr::Either { left, right, .. }
         | TExpr::Forward { left, right, .. }
@@ -362,22 +412,14 @@ fn operands_of(e: &TExpr, variables: &[TVariable]) -> Result<Operands, NoMemory>
         | TExpr::PtrDistance { left, right, .. }
         | TExpr::Assign { left, right, .. }
         | TExpr::AssignBy { left, right, .. }
-        | TExpr::Comma { left, right, .. } => {
-            found.first = boxed(left, variables)?;
-            found.second = boxed(right, variables)?;
-        }
+        | TExpr::Comma { left, right, .. } => two_operands(left, right, variables),
         TExpr::Cond {
             test,
             then,
             other,
             ..
-        } => {
-            found.first = boxed(test, variables)?;
-            found.second = boxed(then, variables)?;
-            found.third = boxed(other, variables)?;
-        }
+        } => three_operands(test, then, other, variables),
     }
-    Ok(found)
 }
 
 /// The extent of an expression, by those of its operands.

@@ -2,7 +2,8 @@
 ghost use Rattle.std.specs.Prelude.{◌≡◌, ◌+◌, ◌++◌, ◌∷◌, [], map, IfOk, OnOk};
 ghost use Rattle.std.specs.Option.{option_map};
 ghost use Rattle.k_marks_meaning.specs.Jumps.{a_break as a_break_meant, a_continue as a_continue_meant};
-ghost use Rattle.k_lower_extents.specs.StatementSums.{all_within, for_loop as for_loop_meant, in_order as in_order_meant, numbered, option_itself, option_within, parts_themselves, parts_within, returned as returned_meant, step_size as step_meant, summed_part, summed_stmt, test_size as test_meant, themselves};
+ghost use Rattle.k_lower_extents.specs.StatementSums.{all_within, for_loop as for_loop_meant, in_order as in_order_meant, loop_around as loop_around_meant, numbered, option_itself, option_within, parts_themselves, parts_within, returned as returned_meant, step_size as step_meant, summed_part, summed_stmt, test_size as test_meant, themselves, within_stmt};
+ghost use Rattle.k_types_meaning.specs.declared.tree.statement.TStmt.{out-TStmt};
 
 use crate::declaration::{all_declared, started};
 use crate::expression::boxed;
@@ -10,15 +11,16 @@ use crate::extent::{Extent, NumberedExtent, followed_by, if_else, in_order, of_s
 use crate::loops::source_loop;
 use crate::sums::sum;
 use crate::switches::{PartExtent, switch};
+use crate::table::spot_of;
 use k_marks_meaning::Jumps;
 use k_num::{Box, NoMemory, Seq};
 use k_types_meaning::{Spot, TExpr, TFirst, TPart, TStmt, TVariable};
 use std::alloc::Global;
 
 /// Lists the extent of a statement at a spot, and answers it.
-fn list(spot: &Spot, extent: Extent, found: &mut Vec<NumberedExtent>) -> Result<Extent, NoMemory>
+fn list(spot: Spot, extent: Extent, found: &mut Vec<NumberedExtent>) -> Result<Extent, NoMemory>
     ensures extent { IfOk result (λ x. x ≡ extent) }
-    ensures found { OnOk result (found.new.items ≡ found.old.items ++ numbered spot.now extent ∷ []) }
+    ensures found { OnOk result (found.new.items ≡ found.old.items ++ numbered spot extent ∷ []) }
 {
     found.push(NumberedExtent {
         number: spot.number,
@@ -117,6 +119,43 @@ fn for_loop(
     followed_by(start, text)
 }
 
+/// A loop around a body of this extent. What is no loop is as its body.
+fn loop_around(
+    stmt: &TStmt,
+    body: Extent,
+    variables: &[TVariable],
+    counted: &[bool],
+) -> Result<Extent, NoMemory>
+    ensures { IfOk result (λ x. x ≡ loop_around_meant variables.now counted.now body (out-TStmt stmt.now)) }
+{
+    match stmt {
+        TStmt::While { turns, test, .. } => {
+            let test = boxed(test, variables)?;
+            source_loop(counted, *turns, true, test.used, 0, body)
+        }
+        TStmt::DoWhile { turns, test, .. } => {
+            let test = boxed(test, variables)?;
+            source_loop(counted, *turns, false, test.used, 0, body)
+        }
+        TStmt::For {
+            turns,
+            first,
+            test,
+            step,
+            ..
+        } => for_loop(first, test, step, *turns, body, variables, counted),
+        TStmt::Expr { .. }
+        | TStmt::Empty { .. }
+        | TStmt::Block { .. }
+        | TStmt::If { .. }
+        | TStmt::Switch { .. }
+        | TStmt::Break { .. }
+        | TStmt::Continue { .. }
+        | TStmt::Return { .. }
+        | TStmt::Declare { .. } => Ok(body),
+    }
+}
+
 /// Lists the extents of a statement and of those in it, each behind those in it, in a function with these variables, where these loops
 /// are counted. Answers its own.
 #[cycle(statements)]
@@ -130,86 +169,70 @@ fn list_stmt(
     ensures extent { IfOk result (λ x. x ≡ (summed_stmt variables.now counted.now stmt.now).itself) }
     ensures found { OnOk result (found.new.items ≡ found.old.items ++ (summed_stmt variables.now counted.now stmt.now).extents) }
 {
+    let extent = list_within(stmt, variables, counted, alloc, found)?;
+    list(spot_of(stmt), extent, found)
+}
+
+/// Lists the extents of the statements in a statement, and answers its own.
+#[cycle(statements)]
+fn list_within(
+    stmt: &TStmt,
+    variables: &[TVariable],
+    counted: &[bool],
+    alloc: Global,
+    found: &mut Vec<NumberedExtent>,
+) -> Result<Extent, NoMemory>
+    ensures extent { IfOk result (λ x. x ≡ (summed_stmt variables.now counted.now stmt.now).itself) }
+    ensures found { OnOk result (found.new.items ≡ found.old.items ++ within_stmt variables.now counted.now stmt.now) }
+{
     match stmt {
-        TStmt::Expr { spot, value } => {
+        TStmt::Expr { value, .. } => {
             let e = boxed(value, variables)?;
-            list(spot, of_size(e.unused), found)
+            Ok(of_size(e.unused))
         }
-        TStmt::Empty { spot } => list(spot, of_size(0), found),
-        TStmt::Block { spot, parts } => {
-            let all = list_stmts(parts, variables, counted, alloc, found)?;
-            list(spot, all, found)
-        }
+        TStmt::Empty { .. } => Ok(of_size(0)),
+        TStmt::Block { parts, .. } => list_stmts(parts, variables, counted, alloc, found),
         TStmt::If {
-            spot,
             test,
             then,
             other,
+            ..
         } => {
             let test = boxed(test, variables)?;
             let one = list_boxed(then, variables, counted, alloc, found)?;
             let other = list_else(other, variables, counted, alloc, found)?;
-            list(spot, if_else(test.used, one, other)?, found)
+            if_else(test.used, one, other)
         }
-        TStmt::While {
-            spot,
-            turns,
-            test,
-            body,
-        } => {
-            let test = boxed(test, variables)?;
-            let body = list_boxed(body, variables, counted, alloc, found)?;
-            let all = source_loop(counted, *turns, true, test.used, 0, body)?;
-            list(spot, all, found)
-        }
-        TStmt::DoWhile {
-            spot,
-            turns,
-            body,
-            test,
-        } => {
-            let test = boxed(test, variables)?;
-            let body = list_boxed(body, variables, counted, alloc, found)?;
-            let all = source_loop(counted, *turns, false, test.used, 0, body)?;
-            list(spot, all, found)
-        }
-        TStmt::For {
-            spot,
-            turns,
-            first,
-            test,
-            step,
-            body,
-        } => {
-            let body = list_boxed(body, variables, counted, alloc, found)?;
-            let all = for_loop(first, test, step, *turns, body, variables, counted)?;
-            list(spot, all, found)
-        }
-        TStmt::Switch {
-            spot,
-            on,
-            parts,
-            ..
-        } => {
+        TStmt::While { body, .. } => list_loop(body, stmt, variables, counted, alloc, found),
+        TStmt::DoWhile { body, .. } => list_loop(body, stmt, variables, counted, alloc, found),
+        TStmt::For { body, .. } => list_loop(body, stmt, variables, counted, alloc, found),
+        TStmt::Switch { on, parts, .. } => {
             let on = boxed(on, variables)?;
             let parts = list_parts(parts, variables, counted, alloc, found)?;
-            let all = switch(alloc, on, parts.as_slice())?;
-            list(spot, all, found)
+            switch(alloc, on, parts.as_slice())
         }
-        TStmt::Break { spot } => list(spot, one_jump(a_break()), found),
-        TStmt::Continue { spot } => list(spot, one_jump(a_continue()), found),
-        TStmt::Return { spot, value } => {
-            let all = returned(value, variables)?;
-            list(spot, all, found)
-        }
-        TStmt::Declare {
-            spot,
-            list: declared,
-        } => {
-            let all = all_declared(declared, variables)?;
-            list(spot, all, found)
-        }
+        TStmt::Break { .. } => Ok(one_jump(a_break())),
+        TStmt::Continue { .. } => Ok(one_jump(a_continue())),
+        TStmt::Return { value, .. } => returned(value, variables),
+        TStmt::Declare { list, .. } => all_declared(list, variables),
     }
+}
+
+/// Lists the extents of the body of a loop, and answers that of the loop.
+#[cycle(statements)]
+fn list_loop(
+    body: &Box<TStmt>,
+    stmt: &TStmt,
+    variables: &[TVariable],
+    counted: &[bool],
+    alloc: Global,
+    found: &mut Vec<NumberedExtent>,
+) -> Result<Extent, NoMemory>
+    ensures extent { IfOk result (λ x. x ≡ loop_around_meant variables.now counted.now (summed_stmt variables.now counted.now body.now).itself (out-TStmt stmt.now)) }
+    ensures found { OnOk result (found.new.items ≡ found.old.items ++ (summed_stmt variables.now counted.now body.now).extents) }
+{
+    let body = list_boxed(body, variables, counted, alloc, found)?;
+    loop_around(stmt, body, variables, counted)
 }
 
 /// The same of a statement in a box.

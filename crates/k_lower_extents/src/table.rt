@@ -59,7 +59,7 @@ pub(crate) fn table_of(
 }
 
 /// The spot of a statement.
-fn spot_of(stmt: &TStmt) -> Spot
+pub(crate) fn spot_of(stmt: &TStmt) -> Spot
     ensures { result ≡ spot_meant stmt.now }
 {
     match stmt {

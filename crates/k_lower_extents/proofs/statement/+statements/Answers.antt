@@ -1,107 +1,135 @@
-use Rattle.std.proofs.Common.{true, false, ◌++◌, List, [], map, ap, ◌∙◌, append_assoc}
+use Rattle.std.proofs.Common.{◌≡◌, true, false, ◌++◌, List, Ok, map, sym, ap, ◌∙◌, append_assoc}
 use Rattle.std.specs.Option.{option_map}
-use Rattle.k_types_meaning.proofs.Folds.{done_Expr, done_Empty, done_Block, done_While, done_DoWhile, done_For, done_Switch, done_Break, done_Continue, done_Return, done_Declare}
+use Rattle.k_types_meaning.specs.declared.tree.statement.TPart.{TPart}
+use Rattle.k_types_meaning.specs.declared.tree.statement.TPart.TheOpen.{TStmt-F}
+use Rattle.k_types_meaning.specs.declared.tree.statement.TStmt.{TStmt, out-TStmt}
+use Rattle.k_types_meaning.specs.declared.tree.statement.TStmt.TheVariants as stmt
+use Rattle.k_lower_extents.specs.declared.extent.Extent.{Extent}
 use Rattle.k_lower_extents.specs.declared.extent.NumberedExtent.{NumberedExtent}
-use Rattle.k_lower_extents.specs.StatementSums.{PartSummed, Summed, all_within, for_loop, if_else, of_size, one_jump, option_within, parts_within, source_loop, summed_part, summed_part_step, summed_step, summed_stmt, switch}
-use Rattle.k_lower_extents.proofs.ListedRows.{if_is, listed_row, nothing_more}
+use Rattle.k_lower_extents.specs.StatementSums.{if_else, loop_around, of_size, one_jump, option_within, summed_stmt, switch}
+use Rattle.k_lower_extents.proofs.ListedRows.{answered, anyway, form_is, if_itself, if_within, listed_last, nothing_more, within_row}
 use Rattle.k_lower_extents.proofs.statement.+statements.Goals as goal
 
-pub list_stmt-returns-in_ok-e-in-Expr : goal.list_stmt-returns-in_ok-e-in-Expr
-list_stmt-returns-in_ok-e-in-Expr t c =
-    listed_row c.args.variables.now c.args.counted.now c.args.stmt.now c.in-Expr.spot [] _ _ c.args.found.now.items _ c.list.new.found.items c.list.result
-    (ap (summed_stmt c.args.variables.now c.args.counted.now) c.in-Expr.is ∙ done_Expr PartSummed Summed summed_part_step (summed_step c.args.variables.now c.args.counted.now) c.in-Expr.spot c.in-Expr.value)
+pub list_stmt-returns : goal.list_stmt-returns
+list_stmt-returns t c =
+    listed_last c.args.variables.now c.args.counted.now c.args.stmt.now c.spot_of.result c.in_ok-extent.extent c.args.found.now.items c.list_within.new.found.items c.list.new.found.items c.list.result
+    c.spot_of.ensures c.in_ok-extent.ensures.extent c.in_ok-extent.ensures.found c.list.ensures.extent c.list.ensures.found
+
+pub list_within-returns-in_ok-e-in-Expr : goal.list_within-returns-in_ok-e-in-Expr
+list_within-returns-in_ok-e-in-Expr t c =
+    let at = c.in-Expr in
+    let z : TStmt-F TPart TStmt = TStmt-F.Expr at.spot at.value in
+    let is : out-TStmt c.args.stmt.now ≡ z = form_is c.args.stmt.now _ z at.is (stmt.rolls-Expr at.spot at.value) in
+    within_row c.args.variables.now c.args.counted.now c.args.stmt.now z c.args.found.now.items c.args.found.now.items (Ok c.of_size.result) is
     (c.of_size.ensures ∙ (λ i. of_size (c.in_ok-e-in-Expr.ensures i).unused))
     (nothing_more c.args.found.now.items)
-    c.list.ensures.extent c.list.ensures.found
 
-pub list_stmt-returns-in-Empty : goal.list_stmt-returns-in-Empty
-list_stmt-returns-in-Empty t c =
-    listed_row c.args.variables.now c.args.counted.now c.args.stmt.now c.in-Empty.spot [] _ _ c.args.found.now.items _ c.list-in-Empty.new.found.items c.list-in-Empty.result
-    (ap (summed_stmt c.args.variables.now c.args.counted.now) c.in-Empty.is ∙ done_Empty PartSummed Summed summed_part_step (summed_step c.args.variables.now c.args.counted.now) c.in-Empty.spot)
+pub list_within-returns-in-Empty : goal.list_within-returns-in-Empty
+list_within-returns-in-Empty t c =
+    let at = c.in-Empty in
+    let z : TStmt-F TPart TStmt = TStmt-F.Empty at.spot in
+    let is : out-TStmt c.args.stmt.now ≡ z = form_is c.args.stmt.now _ z at.is (stmt.rolls-Empty at.spot) in
+    within_row c.args.variables.now c.args.counted.now c.args.stmt.now z c.args.found.now.items c.args.found.now.items (Ok c.of_size-in-Empty.result) is
     (c.of_size-in-Empty.ensures)
     (nothing_more c.args.found.now.items)
-    c.list-in-Empty.ensures.extent c.list-in-Empty.ensures.found
 
-pub list_stmt-returns-in_ok-all-in-Block : goal.list_stmt-returns-in_ok-all-in-Block
-list_stmt-returns-in_ok-all-in-Block t c =
-    listed_row c.args.variables.now c.args.counted.now c.args.stmt.now c.in-Block.spot (all_within (map (summed_stmt c.args.variables.now c.args.counted.now) c.in-Block.parts)) _ _ c.args.found.now.items _ c.list-in-Block.new.found.items c.list-in-Block.result
-    (ap (summed_stmt c.args.variables.now c.args.counted.now) c.in-Block.is ∙ done_Block PartSummed Summed summed_part_step (summed_step c.args.variables.now c.args.counted.now) c.in-Block.spot c.in-Block.parts)
-    (c.in_ok-all-in-Block.ensures.extent)
-    c.in_ok-all-in-Block.ensures.found
-    c.list-in-Block.ensures.extent c.list-in-Block.ensures.found
+pub list_within-returns-in-Block : goal.list_within-returns-in-Block
+list_within-returns-in-Block t c =
+    let at = c.in-Block in
+    let z : TStmt-F TPart TStmt = TStmt-F.Block at.spot at.parts in
+    let is : out-TStmt c.args.stmt.now ≡ z = form_is c.args.stmt.now _ z at.is (stmt.rolls-Block at.spot at.parts) in
+    within_row c.args.variables.now c.args.counted.now c.args.stmt.now z c.args.found.now.items c.list_stmts.new.found.items c.list_stmts.result is
+    (c.list_stmts.ensures.extent)
+    (c.list_stmts.ensures.found)
 
-pub list_stmt-returns-in_ok-if_else-in-If : goal.list_stmt-returns-in_ok-if_else-in-If
-list_stmt-returns-in_ok-if_else-in-If t c =
-    listed_row c.args.variables.now c.args.counted.now c.args.stmt.now c.in-If.spot ((summed_stmt c.args.variables.now c.args.counted.now c.in-If.then).extents ++ option_within (option_map (summed_stmt c.args.variables.now c.args.counted.now) c.in-If.other)) _ _ c.args.found.now.items _ c.list-in-If.new.found.items c.list-in-If.result
-    (ap (summed_stmt c.args.variables.now c.args.counted.now) c.in-If.is ∙ if_is c.args.variables.now c.args.counted.now c.in-If.spot c.in-If.test c.in-If.then c.in-If.other)
-    (c.in_ok-if_else-in-If.ensures ∙ (λ i. if_else (c.in_ok-test-in-If.ensures i).used (c.in_ok-one-in-If.ensures.extent i) (c.in_ok-other-in-If.ensures.extent i)))
-    (c.in_ok-other-in-If.ensures.found ∙ (ap (λ (xs : List NumberedExtent). xs ++ option_within (option_map (summed_stmt c.args.variables.now c.args.counted.now) c.in-If.other)) c.in_ok-one-in-If.ensures.found
-    ∙ append_assoc c.args.found.now.items (summed_stmt c.args.variables.now c.args.counted.now c.in-If.then).extents (option_within (option_map (summed_stmt c.args.variables.now c.args.counted.now) c.in-If.other))))
-    c.list-in-If.ensures.extent c.list-in-If.ensures.found
+pub list_within-returns-in_ok-other-in-If : goal.list_within-returns-in_ok-other-in-If
+list_within-returns-in_ok-other-in-If t c =
+    let at = c.in-If in
+    let z : TStmt-F TPart TStmt = TStmt-F.If at.spot at.test at.then at.other in
+    let is : out-TStmt c.args.stmt.now ≡ z = form_is c.args.stmt.now _ z at.is (stmt.rolls-If at.spot at.test at.then at.other) in
+    within_row c.args.variables.now c.args.counted.now c.args.stmt.now z c.args.found.now.items _ c.if_else.result is
+    (answered c.if_else.result _ _ c.if_else.ensures
+    ((λ i. if_else (c.in_ok-test-in-If.ensures i).used (c.in_ok-one-in-If.ensures.extent i) (c.in_ok-other-in-If.ensures.extent i)) ∙ sym (if_itself c.args.variables.now c.args.counted.now at.spot at.test at.then at.other)))
+    (anyway c.if_else.result
+    (c.in_ok-other-in-If.ensures.found
+    ∙ (ap (λ (xs : List NumberedExtent). xs ++ option_within (option_map (summed_stmt c.args.variables.now c.args.counted.now) at.other)) c.in_ok-one-in-If.ensures.found
+    ∙ (append_assoc c.args.found.now.items (summed_stmt c.args.variables.now c.args.counted.now at.then).extents (option_within (option_map (summed_stmt c.args.variables.now c.args.counted.now) at.other))
+    ∙ ap (λ (xs : List NumberedExtent). c.args.found.now.items ++ xs) (sym (if_within c.args.variables.now c.args.counted.now at.spot at.test at.then at.other))))))
 
-pub list_stmt-returns-in_ok-all-in-While : goal.list_stmt-returns-in_ok-all-in-While
-list_stmt-returns-in_ok-all-in-While t c =
-    listed_row c.args.variables.now c.args.counted.now c.args.stmt.now c.in-While.spot (summed_stmt c.args.variables.now c.args.counted.now c.in-While.body).extents _ _ c.args.found.now.items _ c.list-in-While.new.found.items c.list-in-While.result
-    (ap (summed_stmt c.args.variables.now c.args.counted.now) c.in-While.is ∙ done_While PartSummed Summed summed_part_step (summed_step c.args.variables.now c.args.counted.now) c.in-While.spot c.in-While.turns c.in-While.test c.in-While.body)
-    (c.in_ok-all-in-While.ensures
-    ∙ (λ i. source_loop c.args.counted.now c.in-While.turns true (c.in_ok-test-in-While.ensures i).used 0 (c.in_ok-body-in-While.ensures.extent i)))
-    c.in_ok-body-in-While.ensures.found
-    c.list-in-While.ensures.extent c.list-in-While.ensures.found
+pub list_within-returns-in-While : goal.list_within-returns-in-While
+list_within-returns-in-While t c =
+    let at = c.in-While in
+    let z : TStmt-F TPart TStmt = TStmt-F.While at.spot at.turns at.test at.body in
+    let is : out-TStmt c.args.stmt.now ≡ z = form_is c.args.stmt.now _ z at.is (stmt.rolls-While at.spot at.turns at.test at.body) in
+    within_row c.args.variables.now c.args.counted.now c.args.stmt.now z c.args.found.now.items c.list_loop.new.found.items c.list_loop.result is
+    (answered c.list_loop.result _ _ c.list_loop.ensures.extent (ap (loop_around c.args.variables.now c.args.counted.now (summed_stmt c.args.variables.now c.args.counted.now at.body).itself) is))
+    (c.list_loop.ensures.found)
 
-pub list_stmt-returns-in_ok-all-in-DoWhile : goal.list_stmt-returns-in_ok-all-in-DoWhile
-list_stmt-returns-in_ok-all-in-DoWhile t c =
-    listed_row c.args.variables.now c.args.counted.now c.args.stmt.now c.in-DoWhile.spot (summed_stmt c.args.variables.now c.args.counted.now c.in-DoWhile.body).extents _ _ c.args.found.now.items _ c.list-in-DoWhile.new.found.items c.list-in-DoWhile.result
-    (ap (summed_stmt c.args.variables.now c.args.counted.now) c.in-DoWhile.is ∙ done_DoWhile PartSummed Summed summed_part_step (summed_step c.args.variables.now c.args.counted.now) c.in-DoWhile.spot c.in-DoWhile.turns c.in-DoWhile.body c.in-DoWhile.test)
-    (c.in_ok-all-in-DoWhile.ensures
-    ∙ (λ i. source_loop c.args.counted.now c.in-DoWhile.turns false (c.in_ok-test-in-DoWhile.ensures i).used 0 (c.in_ok-body-in-DoWhile.ensures.extent i)))
-    c.in_ok-body-in-DoWhile.ensures.found
-    c.list-in-DoWhile.ensures.extent c.list-in-DoWhile.ensures.found
+pub list_within-returns-in-DoWhile : goal.list_within-returns-in-DoWhile
+list_within-returns-in-DoWhile t c =
+    let at = c.in-DoWhile in
+    let z : TStmt-F TPart TStmt = TStmt-F.DoWhile at.spot at.turns at.body at.test in
+    let is : out-TStmt c.args.stmt.now ≡ z = form_is c.args.stmt.now _ z at.is (stmt.rolls-DoWhile at.spot at.turns at.body at.test) in
+    within_row c.args.variables.now c.args.counted.now c.args.stmt.now z c.args.found.now.items c.list_loop-in-DoWhile.new.found.items c.list_loop-in-DoWhile.result is
+    (answered c.list_loop-in-DoWhile.result _ _ c.list_loop-in-DoWhile.ensures.extent (ap (loop_around c.args.variables.now c.args.counted.now (summed_stmt c.args.variables.now c.args.counted.now at.body).itself) is))
+    (c.list_loop-in-DoWhile.ensures.found)
 
-pub list_stmt-returns-in_ok-all-in-For : goal.list_stmt-returns-in_ok-all-in-For
-list_stmt-returns-in_ok-all-in-For t c =
-    listed_row c.args.variables.now c.args.counted.now c.args.stmt.now c.in-For.spot (summed_stmt c.args.variables.now c.args.counted.now c.in-For.body).extents _ _ c.args.found.now.items _ c.list-in-For.new.found.items c.list-in-For.result
-    (ap (summed_stmt c.args.variables.now c.args.counted.now) c.in-For.is ∙ done_For PartSummed Summed summed_part_step (summed_step c.args.variables.now c.args.counted.now) c.in-For.spot c.in-For.turns c.in-For.first c.in-For.test c.in-For.step c.in-For.body)
-    (c.in_ok-all-in-For.ensures
-    ∙ ap (for_loop c.args.variables.now c.args.counted.now c.in-For.turns c.in-For.first c.in-For.test c.in-For.step) c.in_ok-body-in-For.ensures.extent)
-    c.in_ok-body-in-For.ensures.found
-    c.list-in-For.ensures.extent c.list-in-For.ensures.found
+pub list_within-returns-in-For : goal.list_within-returns-in-For
+list_within-returns-in-For t c =
+    let at = c.in-For in
+    let z : TStmt-F TPart TStmt = TStmt-F.For at.spot at.turns at.first at.test at.step at.body in
+    let is : out-TStmt c.args.stmt.now ≡ z = form_is c.args.stmt.now _ z at.is (stmt.rolls-For at.spot at.turns at.first at.test at.step at.body) in
+    within_row c.args.variables.now c.args.counted.now c.args.stmt.now z c.args.found.now.items c.list_loop-in-For.new.found.items c.list_loop-in-For.result is
+    (answered c.list_loop-in-For.result _ _ c.list_loop-in-For.ensures.extent (ap (loop_around c.args.variables.now c.args.counted.now (summed_stmt c.args.variables.now c.args.counted.now at.body).itself) is))
+    (c.list_loop-in-For.ensures.found)
 
-pub list_stmt-returns-in_ok-all-in-Switch : goal.list_stmt-returns-in_ok-all-in-Switch
-list_stmt-returns-in_ok-all-in-Switch t c =
-    listed_row c.args.variables.now c.args.counted.now c.args.stmt.now c.in-Switch.spot (parts_within (map (summed_part c.args.variables.now c.args.counted.now) c.in-Switch.parts)) _ _ c.args.found.now.items _ c.list-in-Switch.new.found.items c.list-in-Switch.result
-    (ap (summed_stmt c.args.variables.now c.args.counted.now) c.in-Switch.is ∙ done_Switch PartSummed Summed summed_part_step (summed_step c.args.variables.now c.args.counted.now) c.in-Switch.spot c.in-Switch.kind c.in-Switch.on c.in-Switch.parts)
-    (c.in_ok-all-in-Switch.ensures ∙ (λ i. switch (c.in_ok-on-in-Switch.ensures i) ((c.as_slice.ensures.value ∙ c.in_ok-parts-in-Switch.ensures.extents) i)))
-    c.in_ok-parts-in-Switch.ensures.found
-    c.list-in-Switch.ensures.extent c.list-in-Switch.ensures.found
+pub list_within-returns-in_ok-parts-in-Switch : goal.list_within-returns-in_ok-parts-in-Switch
+list_within-returns-in_ok-parts-in-Switch t c =
+    let at = c.in-Switch in
+    let z : TStmt-F TPart TStmt = TStmt-F.Switch at.spot at.kind at.on at.parts in
+    let is : out-TStmt c.args.stmt.now ≡ z = form_is c.args.stmt.now _ z at.is (stmt.rolls-Switch at.spot at.kind at.on at.parts) in
+    within_row c.args.variables.now c.args.counted.now c.args.stmt.now z c.args.found.now.items _ c.switch.result is
+    (answered c.switch.result _ _ c.switch.ensures (λ i. switch (c.in_ok-on-in-Switch.ensures i) ((c.as_slice.ensures.value ∙ c.in_ok-parts-in-Switch.ensures.extents) i)))
+    (anyway c.switch.result c.in_ok-parts-in-Switch.ensures.found)
 
-pub list_stmt-returns-in-Break : goal.list_stmt-returns-in-Break
-list_stmt-returns-in-Break t c =
-    listed_row c.args.variables.now c.args.counted.now c.args.stmt.now c.in-Break.spot [] _ _ c.args.found.now.items _ c.list-in-Break.new.found.items c.list-in-Break.result
-    (ap (summed_stmt c.args.variables.now c.args.counted.now) c.in-Break.is ∙ done_Break PartSummed Summed summed_part_step (summed_step c.args.variables.now c.args.counted.now) c.in-Break.spot)
+pub list_within-returns-in-Break : goal.list_within-returns-in-Break
+list_within-returns-in-Break t c =
+    let at = c.in-Break in
+    let z : TStmt-F TPart TStmt = TStmt-F.Break at.spot in
+    let is : out-TStmt c.args.stmt.now ≡ z = form_is c.args.stmt.now _ z at.is (stmt.rolls-Break at.spot) in
+    within_row c.args.variables.now c.args.counted.now c.args.stmt.now z c.args.found.now.items c.args.found.now.items (Ok c.one_jump.result) is
     (c.one_jump.ensures ∙ ap one_jump c.a_break.ensures)
     (nothing_more c.args.found.now.items)
-    c.list-in-Break.ensures.extent c.list-in-Break.ensures.found
 
-pub list_stmt-returns-in-Continue : goal.list_stmt-returns-in-Continue
-list_stmt-returns-in-Continue t c =
-    listed_row c.args.variables.now c.args.counted.now c.args.stmt.now c.in-Continue.spot [] _ _ c.args.found.now.items _ c.list-in-Continue.new.found.items c.list-in-Continue.result
-    (ap (summed_stmt c.args.variables.now c.args.counted.now) c.in-Continue.is ∙ done_Continue PartSummed Summed summed_part_step (summed_step c.args.variables.now c.args.counted.now) c.in-Continue.spot)
+pub list_within-returns-in-Continue : goal.list_within-returns-in-Continue
+list_within-returns-in-Continue t c =
+    let at = c.in-Continue in
+    let z : TStmt-F TPart TStmt = TStmt-F.Continue at.spot in
+    let is : out-TStmt c.args.stmt.now ≡ z = form_is c.args.stmt.now _ z at.is (stmt.rolls-Continue at.spot) in
+    within_row c.args.variables.now c.args.counted.now c.args.stmt.now z c.args.found.now.items c.args.found.now.items (Ok c.one_jump-in-Continue.result) is
     (c.one_jump-in-Continue.ensures ∙ ap one_jump c.a_continue.ensures)
     (nothing_more c.args.found.now.items)
-    c.list-in-Continue.ensures.extent c.list-in-Continue.ensures.found
 
-pub list_stmt-returns-in_ok-all-in-Return : goal.list_stmt-returns-in_ok-all-in-Return
-list_stmt-returns-in_ok-all-in-Return t c =
-    listed_row c.args.variables.now c.args.counted.now c.args.stmt.now c.in-Return.spot [] _ _ c.args.found.now.items _ c.list-in-Return.new.found.items c.list-in-Return.result
-    (ap (summed_stmt c.args.variables.now c.args.counted.now) c.in-Return.is ∙ done_Return PartSummed Summed summed_part_step (summed_step c.args.variables.now c.args.counted.now) c.in-Return.spot c.in-Return.value)
-    (c.in_ok-all-in-Return.ensures)
-    (nothing_more c.args.found.now.items)
-    c.list-in-Return.ensures.extent c.list-in-Return.ensures.found
+pub list_within-returns-in-Return : goal.list_within-returns-in-Return
+list_within-returns-in-Return t c =
+    let at = c.in-Return in
+    let z : TStmt-F TPart TStmt = TStmt-F.Return at.spot at.value in
+    let is : out-TStmt c.args.stmt.now ≡ z = form_is c.args.stmt.now _ z at.is (stmt.rolls-Return at.spot at.value) in
+    within_row c.args.variables.now c.args.counted.now c.args.stmt.now z c.args.found.now.items c.args.found.now.items c.returned.result is
+    (c.returned.ensures)
+    (anyway c.returned.result (nothing_more c.args.found.now.items))
 
-pub list_stmt-returns-in_ok-all-in-Declare : goal.list_stmt-returns-in_ok-all-in-Declare
-list_stmt-returns-in_ok-all-in-Declare t c =
-    listed_row c.args.variables.now c.args.counted.now c.args.stmt.now c.in-Declare.spot [] _ _ c.args.found.now.items _ c.list-in-Declare.new.found.items c.list-in-Declare.result
-    (ap (summed_stmt c.args.variables.now c.args.counted.now) c.in-Declare.is ∙ done_Declare PartSummed Summed summed_part_step (summed_step c.args.variables.now c.args.counted.now) c.in-Declare.spot c.in-Declare.declared)
-    (c.in_ok-all-in-Declare.ensures)
-    (nothing_more c.args.found.now.items)
-    c.list-in-Declare.ensures.extent c.list-in-Declare.ensures.found
+pub list_within-returns-in-Declare : goal.list_within-returns-in-Declare
+list_within-returns-in-Declare t c =
+    let at = c.in-Declare in
+    let z : TStmt-F TPart TStmt = TStmt-F.Declare at.spot at.list in
+    let is : out-TStmt c.args.stmt.now ≡ z = form_is c.args.stmt.now _ z at.is (stmt.rolls-Declare at.spot at.list) in
+    within_row c.args.variables.now c.args.counted.now c.args.stmt.now z c.args.found.now.items c.args.found.now.items c.all_declared.result is
+    (c.all_declared.ensures)
+    (anyway c.all_declared.result (nothing_more c.args.found.now.items))
+
+pub list_loop-returns : goal.list_loop-returns
+list_loop-returns t c = record {
+  extent = answered c.loop_around.result _ _ c.loop_around.ensures (ap (λ (x : Extent). loop_around c.args.variables.now c.args.counted.now x (out-TStmt c.args.stmt.now)) c.in_ok-body.ensures.extent);
+  found = anyway c.loop_around.result c.in_ok-body.ensures.found;
+}
