@@ -72,8 +72,7 @@ pub fn by_tasks<'a>(
         Form::Place(designator) => read(designator, node, used, state, around, tasks),
         Form::Same(of) => by_tasks(of.get(), used, state, around, tasks),
         Form::Unused(of) => {
-            let task = Task::OfValue(ValueTask::Unused);
-            first_by_tasks(of, false, task, state, around, tasks)
+            first_by_tasks(of, false, Task::OfValue(ValueTask::Unused), state, around, tasks)
         }
         Form::One(how, of) => {
             let task = Task::OfValue(ValueTask::One(node.place, how));
@@ -84,24 +83,20 @@ pub fn by_tasks<'a>(
             first_by_tasks(left, true, task, state, around, tasks)
         }
         Form::OnPlace(how, of) => {
-            let task = AssignTask::OnPlace(*node, how, used);
-            place_first(of, task, state, around, tasks)
+            place_first(of, AssignTask::OnPlace(*node, how, used), state, around, tasks)
         }
         Form::Assign(left, right) => {
-            let task = AssignTask::Assign(node.place, right);
-            place_first(left, task, state, around, tasks)
+            place_first(left, AssignTask::Assign(node.place, right), state, around, tasks)
         }
         Form::AssignBy(change, left, right) => {
             let task = AssignTask::AssignBy(*node, change, right);
             place_first(left, task, state, around, tasks)
         }
         Form::Logic(decides, left, right) => {
-            let task = BranchTask::Logic(*node, decides, right);
-            test_first(left, task, state, around, tasks)
+            test_first(left, BranchTask::Logic(*node, decides, right), state, around, tasks)
         }
         Form::Choice(test, then, other) => {
-            let task = BranchTask::Choose(*node, then, other);
-            test_first(test, task, state, around, tasks)
+            test_first(test, BranchTask::Choose(*node, then, other), state, around, tasks)
         }
         Form::Comma(left, right) => {
             let task = Task::OfValue(ValueTask::Value(right, used));
