@@ -15,6 +15,24 @@ use Rattle.k_lower_extents.specs.declared.extent.NumberedExtent.{NumberedExtent}
 use Rattle.k_lower_extents.specs.ExpressionSums.{summed}
 use Rattle.k_lower_extents.specs.StatementSums.{PartSummed, Summed, if_else, numbered, option_itself, option_within, own_step, summed_part, summed_part_step, summed_step, summed_stmt, within_step, within_stmt}
 
+-- the form of a statement
+pub form_is : (s x : TStmt) (z : TStmt-F TPart TStmt) → s ≡ x → roll-TStmt z ≡ x → out-TStmt s ≡ z
+form_is s x z is rolls = ap out-TStmt (is ∙ sym rolls) ∙ out-roll-TStmt z
+
+-- a call answers this extent too
+pub answered : (r : Result Extent NoMemory) (x y : Extent) → IfOk r (λ z. z ≡ x) → x ≡ y → IfOk r (λ z. z ≡ y)
+answered r x y is same = IfOk-weaker r (λ z. z ≡ x) (λ z. z ≡ y) (λ z z_is. z_is ∙ same) is
+
+-- what is so anyway is so behind a call
+pub anyway : {P : Type 0} (r : Result Extent NoMemory) → P → OnOk r P
+anyway (Ok x) p = p
+anyway (Err e) p = tt
+
+-- what was listed of a form was listed of what has that form
+listed_of : {F : Type 0} (within : F → List NumberedExtent) (x z : F) (before among : List NumberedExtent) (r : Result Extent NoMemory)
+    → x ≡ z → OnOk r (among ≡ before ++ within z) → OnOk r (among ≡ before ++ within x)
+listed_of within x z before among r is found = on_ok_weaker r (λ all. all ∙ (λ i. before ++ within (sym is i))) found
+
 module _ (vs : List TVariable) (counted : List Bool) where
   -- a statement, by how its parts are summed up
   abbrev pub seen : TStmt-F TPart TStmt → TStmt-F PartSummed Summed
@@ -64,10 +82,6 @@ module _ (vs : List TVariable) (counted : List Bool) where
         found;
   }
 
-  -- the extents of the parts of a statement, by its form
-  within_is : (s : TStmt) (z : TStmt-F TPart TStmt) → out-TStmt s ≡ z → within_step (seen z) ≡ within_stmt vs counted s
-  within_is s z is = ap (λ (x : TStmt-F TPart TStmt). within_step (seen x)) (sym is)
-
   -- the extents of the parts of a statement were listed, by its form
   pub within_row : (s : TStmt) (z : TStmt-F TPart TStmt) (before among : List NumberedExtent) (r : Result Extent NoMemory)
       → out-TStmt s ≡ z → IfOk r (λ y. y ≡ own_step vs counted (seen z)) → OnOk r (among ≡ before ++ within_step (seen z))
@@ -76,13 +90,10 @@ module _ (vs : List TVariable) (counted : List Bool) where
         found : OnOk r (among ≡ before ++ within_stmt vs counted s);
       }
   within_row s z before among r is extent found = record {
-    extent = IfOk-weaker r (λ y. y ≡ own_step vs counted (seen z)) (λ y. y ≡ (summed_stmt vs counted s).itself)
-        (λ y y_is. y_is ∙ sym (itself_is s ∙ ap (λ (z : TStmt-F TPart TStmt). own_step vs counted (seen z)) is)) extent;
-    found = on_ok_weaker r onward found;
+    extent = answered r (own_step vs counted (seen z)) (summed_stmt vs counted s).itself extent
+        (sym (itself_is s ∙ ap (λ (x : TStmt-F TPart TStmt). own_step vs counted (seen x)) is));
+    found = listed_of (λ (x : TStmt-F TPart TStmt). within_step (seen x)) (out-TStmt s) z before among r is found;
   }
-    where
-      onward : among ≡ before ++ within_step (seen z) → among ≡ before ++ within_stmt vs counted s
-      onward all = all ∙ ap (λ (xs : List NumberedExtent). before ++ xs) (within_is s z is)
 
   -- an `if`, of which the second arm may be left out
   pub if_itself : (spot : Spot) (test : TExpr) (a : TStmt) (b : Option TStmt) → own_step vs counted (seen (TStmt-F.If spot test a b))
@@ -94,19 +105,6 @@ module _ (vs : List TVariable) (counted : List Bool) where
       ≡ (summed_stmt vs counted a).extents ++ option_within (option_map (summed_stmt vs counted) b)
   if_within spot test a None = refl
   if_within spot test a (Some b) = refl
-
--- the form of a statement
-pub form_is : (s x : TStmt) (z : TStmt-F TPart TStmt) → s ≡ x → roll-TStmt z ≡ x → out-TStmt s ≡ z
-form_is s x z is rolls = ap out-TStmt (is ∙ sym rolls) ∙ out-roll-TStmt z
-
--- a call answers this extent too
-pub answered : (r : Result Extent NoMemory) (x y : Extent) → IfOk r (λ z. z ≡ x) → x ≡ y → IfOk r (λ z. z ≡ y)
-answered r x y is same = IfOk-weaker r (λ z. z ≡ x) (λ z. z ≡ y) (λ z z_is. z_is ∙ same) is
-
--- what is so anyway is so behind a call
-pub anyway : {P : Type 0} (r : Result Extent NoMemory) → P → OnOk r P
-anyway (Ok x) p = p
-anyway (Err e) p = tt
 
 -- a list behind nothing
 pub nothing_more : (xs : List NumberedExtent) → xs ≡ xs ++ []
