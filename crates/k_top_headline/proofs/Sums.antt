@@ -1,5 +1,5 @@
 -- What `merge` saves, and what `show` tells of a sum.
-use Rattle.std.proofs.Common.{ℕ, zero, suc, ◌≡◌, refl, sym, subst, ◌∙◌, ap, List, [], ◌∷◌, length, Option, Some, None, Result, Ok, Err, inl, inr}
+use Rattle.std.proofs.Common.{ℕ, zero, suc, ◌≡◌, refl, sym, subst, ◌∙◌, ap, List, [], ◌∷◌, Option, Some, None, Result, Ok, Err, inl, inr}
 use Rattle.k_edge.specs.SinkWords.{Grows}
 use Rattle.k_sum.specs.SumText.{sum_text}
 use Rattle.k_sum.specs.Sums.{both}
@@ -21,7 +21,7 @@ use Rattle.k_top_answers.specs.Failures.{status_of}
 use Rattle.k_top_answers.specs.Merges.{AnswersAdded, AnswersFinished, AnswersFirst, AnswersOthers, AnswersSumFile, AnswersSumRead, IsMerge}
 use Rattle.k_top_answers.specs.Steps.{AnswersFound, Outside, profile_limit}
 use Rattle.k_top_lemmas.proofs.OneSum.{begins_of, one_read, read_not_refused, sum_not_refused, sum_same}
-use Rattle.k_top_headline.specs.Sums.{AddUp, HoldsRuns, MayAdd, MergeIsTold, MergeTells, SumIsTold, one_fewer, with_runs}
+use Rattle.k_top_headline.specs.Sums.{AddUp, HoldsRuns, MayAdd, MergeIsTold, SumIsTold, one_fewer, with_runs}
 use Rattle.k_top_headline.proofs.Given.{job_given}
 use Rattle.k_top_headline.proofs.Ready.{found_answered, held_outside}
 

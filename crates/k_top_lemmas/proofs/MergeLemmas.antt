@@ -1,5 +1,5 @@
 -- What finding the answer of `merge` comes to.
-use Rattle.std.proofs.Common.{ℕ, zero, suc, ◌≡◌, ◌≤◌, refl, ap, sym, subst, List, [], ◌∷◌, ◌++◌, Option, Some, None, Result, Ok, Err, inl, inr}
+use Rattle.std.proofs.Common.{ℕ, ◌≡◌, refl, ap, sym, subst, List, [], ◌∷◌, ◌++◌, Option, Some, None, Result, Ok, Err, inl, inr}
 use Rattle.std.proofs.lemmas.List.{append-nil}
 use Rattle.k_edge.specs.declared.request.Request.{Request}
 use Rattle.k_sum.specs.SumText.{sum_text}
@@ -18,7 +18,6 @@ use Rattle.k_top_lemmas.specs.Merges.{FindsSum, MergesFiles}
 use Rattle.k_top_lemmas.specs.Phases.{Around, FindsJob, of_files}
 use Rattle.k_top_lemmas.proofs.Merging.{added_maps, first_maps}
 use Rattle.k_top_lemmas.proofs.ReadyLemmas.{not_seen, refusal_maps}
-use Rattle.k_top_lemmas.proofs.Requesting.{after_none}
 use Rattle.k_top_lemmas.proofs.Statuses.{done_low}
 
 -- what files answer is carried over, where its failures and its sums are

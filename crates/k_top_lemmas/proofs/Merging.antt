@@ -1,5 +1,5 @@
 -- The runs of files put together: what the calls of `merge` come to, step by step.
-use Rattle.std.proofs.Common.{ℕ, zero, suc, ◌≡◌, ◌≢◌, ◌+◌, ◌-◌, ◌<◌, ◌≤◌, ◌⊎◌, refl, ap, arith, sym, subst, ◌∙◌, List, [], ◌∷◌, ◌++◌, length, Option, Some, None, Result, Ok, Err, Vec, Global, inl, inr}
+use Rattle.std.proofs.Common.{ℕ, zero, suc, ◌≡◌, ◌+◌, ◌≤◌, ◌⊎◌, refl, ap, arith, sym, subst, ◌∙◌, List, [], ◌∷◌, ◌++◌, length, Some, None, Result, Ok, Err, Vec, Global, inl, inr}
 use Rattle.std.proofs.lemmas.List.{append-nil, append_assoc}
 use Rattle.std.proofs.lemmas.Option.{none-some}
 use Rattle.k_edge.specs.Fault.{Rose}
@@ -11,7 +11,6 @@ use Rattle.k_edge.specs.declared.request.Request.TheVariants.{Load}
 use Rattle.k_dict.specs.Dictionary.{refusal}
 use Rattle.k_dict.specs.Entries.{AreInterned}
 use Rattle.k_dict.specs.declared.dict.DictFault.TheVariants as dict_fault
-use Rattle.k_dict.specs.declared.dict.Which.{Which}
 use Rattle.k_dict.specs.declared.entry.Entry.{Entry}
 use Rattle.k_dict.proofs.Refusals.{refusal-behind}
 use Rattle.k_dict_saved.specs.declared.fault.SavedFault.{SavedFault}
@@ -31,9 +30,9 @@ use Rattle.k_top_answers.specs.Failures.{failure_of_finish, failure_of_load, fai
 use Rattle.k_top_answers.specs.Merges.{AnswersAdded, AnswersFinished, AnswersFirst, AnswersOthers, AnswersSum, AnswersSumFile, AnswersSumRead, PassesLimit}
 use Rattle.k_top_answers.specs.Requests.{EndsWith, IsFront, parts_to_load}
 use Rattle.k_top_answers.specs.Steps.{Outside, profile_limit}
-use Rattle.k_top_lemmas.specs.Merges.{AddsFromHere, AddsOnce, AddsTimes, AreOfParts, FindsOthers, FindsSum, FinishesSum, GivesRuns, IsOrShort, LoadsBehind, LoadsRuns, OthersFromHere, OthersSeen, ReadsRuns, StopsBehind, SumSeen, added_to, first_runs_of}
+use Rattle.k_top_lemmas.specs.Merges.{AddsFromHere, AddsOnce, AddsTimes, AreOfParts, FindsOthers, FindsSum, FinishesSum, GivesRuns, IsOrShort, LoadsBehind, LoadsRuns, OthersFromHere, ReadsRuns, StopsBehind, added_to, first_runs_of}
 use Rattle.k_top_lemmas.specs.Parts.{IfRefusal, LoadsFile}
-use Rattle.k_top_lemmas.specs.Phases.{AreTold, Everywhere, FilesAfter, IsNew, LoadsStop, Seen, Shows, Stops, of_files}
+use Rattle.k_top_lemmas.specs.Phases.{AreTold, Everywhere, FilesAfter, IsNew, LoadsStop, Seen, Stops, of_files}
 use Rattle.k_top_lemmas.proofs.OneSum.{one_read}
 use Rattle.k_top_lemmas.proofs.ProgramLemmas.{long_of, refuses}
 use Rattle.k_top_lemmas.proofs.ReadyLemmas.{refusal_maps}

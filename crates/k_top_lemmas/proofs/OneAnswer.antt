@@ -3,10 +3,8 @@ use Rattle.std.proofs.Common.{ℕ, ◌≡◌, ◌≤◌, Bool, ap, refl, sym, su
 use Rattle.k_ending.specs.declared.ending.End.{End}
 use Rattle.k_ending.specs.declared.ending.End.TheVariants as end
 use Rattle.k_carry_pairs.proofs.Answer.{one_answer}
-use Rattle.k_carry_pairs.specs.declared.pairs.LoopPairs.{LoopPairs}
 use Rattle.k_carry_text.specs.Lines.{carried_text}
 use Rattle.k_dict_saved.proofs.Files.{first_wrong_is_one}
-use Rattle.k_dict_saved.specs.declared.fault.SavedFault.TheVariants.{NotSaved}
 use Rattle.k_dict_saved.specs.declared.format.Accepts.TheVariants.{Both}
 use Rattle.k_report_profile.proofs.Reported.{report_is_unique}
 use Rattle.k_data_profile.proofs.Texts.{document_is_unique, table_is_unique}

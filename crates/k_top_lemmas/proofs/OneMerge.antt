@@ -1,7 +1,6 @@
 -- Files that are put together have one answer.
-use Rattle.std.proofs.Common.{ℕ, zero, suc, ◌≡◌, ◌≢◌, ◌≤◌, ◌<◌, ◌⊎◌, refl, ap, sym, ◌∙◌, subst, arith, List, [], ◌∷◌, length, Option, Some, None, Result, Ok, Err, inl, inr}
+use Rattle.std.proofs.Common.{ℕ, zero, suc, ◌≡◌, refl, ap, sym, ◌∙◌, subst, arith, List, [], ◌∷◌, Option, Some, None, Result, Ok, Err, inl, inr}
 use Rattle.k_dict.proofs.Forests.{Alike-refl}
-use Rattle.k_dict_saved.specs.declared.fault.SavedFault.TheVariants.{NotSaved}
 use Rattle.k_sum.proofs.Bounds.{bounds_both}
 use Rattle.k_sum.specs.Laws.{forest_of}
 use Rattle.k_sum.specs.SumText.{sum_text}
@@ -11,7 +10,6 @@ use Rattle.k_sum_merge.proofs.Kept.{kept, merged_have_bounds}
 use Rattle.k_sum_order.proofs.Left.{text_is_one}
 use Rattle.k_sum_order.specs.Order.{IsOrdered}
 use Rattle.k_sum_read.proofs.AnyFiles.{any_merged}
-use Rattle.k_sum_read.specs.AnyFile.{ReadsAny}
 use Rattle.k_sum_saved.specs.Merged.{IsMerged, of_both}
 use Rattle.k_words.specs.declared.merging.Part.{Part}
 use Rattle.k_top_answers.specs.declared.answer.Answer.{Answer}

@@ -1,5 +1,5 @@
 -- A run from which main returned has one page.
-use Rattle.std.proofs.Common.{ℕ, ◌≡◌, ◌≤◌, Bool, ap, sym, subst, ◌∙◌, List, Some, inl, inr}
+use Rattle.std.proofs.Common.{ℕ, ◌≡◌, ◌≤◌, Bool, ap, sym, subst, ◌∙◌, List, inl, inr}
 use Rattle.std.proofs.lemmas.Option.{same_Some}
 use Rattle.k_ending.specs.declared.ending.End.{End}
 use Rattle.k_ending.specs.declared.ending.End.TheVariants as end

@@ -1,5 +1,5 @@
 -- A run has one list of storage pairs.
-use Rattle.std.proofs.Common.{ℕ, ◌≡◌, ◌∙◌, Bool, true, false, List, [], Option, ap, sym, subst}
+use Rattle.std.proofs.Common.{ℕ, ◌≡◌, ◌∙◌, Bool, true, false, List, Option, ap, sym, subst}
 use Rattle.k_regions.specs.Regions.{regions_of}
 use Rattle.k_carry_pairs.specs.declared.pairs.LoopPairs.{LoopPairs}
 use Rattle.k_carry_storage_pairs.specs.Storage.{AreShared}

@@ -1,5 +1,5 @@
 -- The bytes of a file of runs tell one sum, or have one first wrong line.
-use Rattle.std.proofs.Common.{ℕ, ◌≡◌, refl, ap, sym, subst, ◌∙◌, List, ◌++◌, drop, Some, None, Result, Ok, Err, inl, inr}
+use Rattle.std.proofs.Common.{ℕ, ◌≡◌, refl, ap, sym, subst, ◌∙◌, List, ◌++◌, drop, None, Ok, Err, inl, inr}
 use Rattle.std.proofs.lemmas.Option.{none-some}
 use Rattle.std.specs.Prelude.{codes}
 use Rattle.k_scan.specs.Pieces.{word_at}
