@@ -72,7 +72,14 @@ pub fn by_tasks<'a>(
         Form::Place(designator) => read(designator, node, used, state, around, tasks),
         Form::Same(of) => by_tasks(of.get(), used, state, around, tasks),
         Form::Unused(of) => {
-            first_by_tasks(of, false, Task::OfValue(ValueTask::Unused), state, around, tasks)
+            first_by_tasks(
+                of,
+                false,
+                Task::OfValue(ValueTask::Unused),
+                state,
+                around,
+                tasks,
+            )
         }
         Form::One(how, of) => {
             let task = Task::OfValue(ValueTask::One(node.place, how));
@@ -83,20 +90,44 @@ pub fn by_tasks<'a>(
             first_by_tasks(left, true, task, state, around, tasks)
         }
         Form::OnPlace(how, of) => {
-            place_first(of, AssignTask::OnPlace(*node, how, used), state, around, tasks)
+            place_first(
+                of,
+                AssignTask::OnPlace(*node, how, used),
+                state,
+                around,
+                tasks,
+            )
         }
         Form::Assign(left, right) => {
-            place_first(left, AssignTask::Assign(node.place, right), state, around, tasks)
+            place_first(
+                left,
+                AssignTask::Assign(node.place, right),
+                state,
+                around,
+                tasks,
+            )
         }
         Form::AssignBy(change, left, right) => {
             let task = AssignTask::AssignBy(*node, change, right);
             place_first(left, task, state, around, tasks)
         }
         Form::Logic(decides, left, right) => {
-            test_first(left, BranchTask::Logic(*node, decides, right), state, around, tasks)
+            test_first(
+                left,
+                BranchTask::Logic(*node, decides, right),
+                state,
+                around,
+                tasks,
+            )
         }
         Form::Choice(test, then, other) => {
-            test_first(test, BranchTask::Choose(*node, then, other), state, around, tasks)
+            test_first(
+                test,
+                BranchTask::Choose(*node, then, other),
+                state,
+                around,
+                tasks,
+            )
         }
         Form::Comma(left, right) => {
             let task = Task::OfValue(ValueTask::Value(right, used));
