@@ -12,6 +12,9 @@ ghost use Rattle.k_plain_tasks.specs.Leads.{Leads, placed, branched, valued};
 ghost use Rattle.k_plain_tasks.specs.Tasks.{assignment_task, works};
 
 use crate::given::{Given, give};
+use crate::task::BranchTask::{Choose, Logic};
+use crate::task::Task::OfValue;
+use crate::task::ValueTask::Unused;
 use crate::task::{AssignTask, BranchTask, CallTask, Task, ValueTask};
 use crate::text::put_text;
 use k_evaluation::{Flow, Operand, Target};
@@ -71,66 +74,35 @@ pub fn by_tasks<'a>(
         Form::Leaf(leaf) => give(answer(state, around, node.place, leaf)),
         Form::Place(designator) => read(designator, node, used, state, around, tasks),
         Form::Same(of) => by_tasks(of.get(), used, state, around, tasks),
-        Form::Unused(of) => {
-            first_by_tasks(
-                of,
-                false,
-                Task::OfValue(ValueTask::Unused),
-                state,
-                around,
-                tasks,
-            )
-        }
+        Form::Unused(of) => first_by_tasks(of, false, OfValue(Unused), state, around, tasks),
         Form::One(how, of) => {
-            let task = Task::OfValue(ValueTask::One(node.place, how));
+            let task = OfValue(ValueTask::One(node.place, how));
             first_by_tasks(of, true, task, state, around, tasks)
         }
         Form::Two(making, swapped, left, right) => {
-            let task = Task::OfValue(ValueTask::Second(making, swapped, right));
+            let task = OfValue(ValueTask::Second(making, swapped, right));
             first_by_tasks(left, true, task, state, around, tasks)
         }
         Form::OnPlace(how, of) => {
-            place_first(
-                of,
-                AssignTask::OnPlace(*node, how, used),
-                state,
-                around,
-                tasks,
-            )
+            let task = AssignTask::OnPlace(*node, how, used);
+            place_first(of, task, state, around, tasks)
         }
         Form::Assign(left, right) => {
-            place_first(
-                left,
-                AssignTask::Assign(node.place, right),
-                state,
-                around,
-                tasks,
-            )
+            let task = AssignTask::Assign(node.place, right);
+            place_first(left, task, state, around, tasks)
         }
         Form::AssignBy(change, left, right) => {
             let task = AssignTask::AssignBy(*node, change, right);
             place_first(left, task, state, around, tasks)
         }
         Form::Logic(decides, left, right) => {
-            test_first(
-                left,
-                BranchTask::Logic(*node, decides, right),
-                state,
-                around,
-                tasks,
-            )
+            test_first(left, Logic(*node, decides, right), state, around, tasks)
         }
         Form::Choice(test, then, other) => {
-            test_first(
-                test,
-                BranchTask::Choose(*node, then, other),
-                state,
-                around,
-                tasks,
-            )
+            test_first(test, Choose(*node, then, other), state, around, tasks)
         }
         Form::Comma(left, right) => {
-            let task = Task::OfValue(ValueTask::Value(right, used));
+            let task = OfValue(ValueTask::Value(right, used));
             first_by_tasks(left, false, task, state, around, tasks)
         }
         Form::List(how, args) => list(how, node.place, args, tasks),
@@ -203,16 +175,16 @@ fn read<'a>(
 ) -> Result<Given, Stop>
     ensures { Leads (within_of around.now) result (follow (follow (designated_meant (within_of around.now) node.now designator.entry state.old) (value_at (program_of around.now) node.now used)) gives_operand) tasks.old tasks.new state.new }
 {
-    let behind = Task::OfValue(ValueTask::Read(*node, used));
+    let behind = OfValue(ValueTask::Read(*node, used));
     match designator {
         Designator::Object(object) => give(object_value(state, around, node, used, object)),
         Designator::Variable(variable) => give(variable_value(state, around, node, used, variable)),
         Designator::Element(scale, base, index) => {
-            let task = Task::OfValue(ValueTask::Index(node.place, scale, index));
+            let task = OfValue(ValueTask::Index(node.place, scale, index));
             two_behind(base, task, behind, state, around, tasks)
         }
         Designator::Pointed(of) => {
-            let task = Task::OfValue(ValueTask::Pointed);
+            let task = OfValue(ValueTask::Pointed);
             two_behind(of, task, behind, state, around, tasks)
         }
     }
@@ -267,13 +239,13 @@ fn designated<'a>(
         }
         Designator::Element(scale, base, index) => wait(
             tasks,
-            Task::OfValue(ValueTask::Value(base, true)),
-            Task::OfValue(ValueTask::Index(node.place, scale, index)),
+            OfValue(ValueTask::Value(base, true)),
+            OfValue(ValueTask::Index(node.place, scale, index)),
         ),
         Designator::Pointed(of) => wait(
             tasks,
-            Task::OfValue(ValueTask::Value(of, true)),
-            Task::OfValue(ValueTask::Pointed),
+            OfValue(ValueTask::Value(of, true)),
+            OfValue(ValueTask::Pointed),
         ),
     }
 }
