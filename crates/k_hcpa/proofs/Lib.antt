@@ -7,6 +7,7 @@ pub mod Growing
 pub mod Held
 pub mod Moving
 pub mod Now
+pub mod Pieces
 pub mod Returned
 pub mod Steps
 pub mod Telling

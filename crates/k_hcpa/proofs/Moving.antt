@@ -1,20 +1,23 @@
 -- Bytes are handed on piece by piece.
-use Rattle.std.proofs.Common.{◌≡◌, ◌≢◌, ℕ, ◌+◌, ◌<◌, ◌≤◌, List, [], ◌++◌, length, Ok, refl, sym, ◌∙◌, ap, subst, arith}
+use Rattle.std.proofs.Common.{◌≡◌, ℕ, ◌+◌, ◌<◌, ◌≤◌, List, [], ◌++◌, length, Ok, refl, sym, ◌∙◌, ap, subst, arith}
 use Rattle.std.proofs.lemmas.List.{append-nil, append_assoc, length-append}
 use Rattle.k_edge.specs.Fault.{Rose}
 use Rattle.k_edge.specs.SinkWords.{SinkState, GrowsInPart}
 use Rattle.k_hcpa.specs.Outflows.{AreMoved, HandsOn, KeepsLast, WasCut}
+use Rattle.k_hcpa.specs.Profiles.{AreWholePieces}
 use Rattle.k_hcpa.specs.declared.output.Outflow.{Outflow}
 use Rattle.k_hcpa.specs.declared.profile.RunFault.{RunFault}
 use Rattle.k_hcpa.specs.declared.profile.RunFault.TheVariants as fault
 use Rattle.k_hcpa.proofs.Empty.{first_none, long_some, second_none}
 use Rattle.k_hcpa.proofs.Growing.{grows_in_second, grows_no_part, grows_nothing, grows_twice, part_of_longer}
+use Rattle.k_hcpa.proofs.Pieces.{no_pieces, one_piece, pieces_twice}
 
--- a part of the bytes was handed on, and this rest was not yet
+-- a part of the bytes was handed on, in whole pieces, and this rest was not yet
 pub record IsPassing (old : Outflow) (bytes rest : List ℕ) (now : Outflow) (before at : SinkState) : Type 0 where
   pub gone : List ℕ
   pub cut : bytes ≡ gone ++ rest
   pub moved : AreMoved old gone now before at
+  pub pieces : AreWholePieces moved.piece
   pub short : length now.held.items ≤ 65536
   pub last : KeepsLast old moved.piece (now.held.items ++ rest)
 
@@ -29,10 +32,17 @@ none_moved old at = record {
 
 pub none_passed : (old : Outflow) (bytes : List ℕ) (at : SinkState) → length old.held.items ≤ 65536 → IsPassing old bytes bytes old at at
 none_passed old bytes at short =
-    record { gone = []; cut = refl; moved = none_moved old at; short = short; last = λ none. (refl, first_none old.held.items bytes none) }
+    record {
+      gone = [];
+      cut = refl;
+      moved = none_moved old at;
+      pieces = no_pieces;
+      short = short;
+      last = λ none. (refl, first_none old.held.items bytes none);
+    }
 
 -- what is moved behind what was moved
-pub moved_twice : (old mid new : Outflow) (first second : List ℕ) (before at behind : SinkState) → AreMoved old first mid before at → AreMoved mid second new at behind
+abbrev moved_twice : (old mid new : Outflow) (first second : List ℕ) (before at behind : SinkState) → AreMoved old first mid before at → AreMoved mid second new at behind
     → AreMoved old (first ++ second) new before behind
 moved_twice old mid new first second before at behind one two =
     let long : length (one.piece ++ two.piece) ≡ length one.piece + length two.piece = length-append one.piece two.piece in
@@ -76,15 +86,27 @@ cut_longer fault.Write bytes more before behind (some, grown, rose) =
     (λ none. some (first_none bytes more none), part_of_longer before.written behind.written bytes more grown, rose)
 cut_longer fault.Memory bytes more before behind (grown, same) = (part_of_longer before.written behind.written bytes more grown, same)
 
--- a front of the rest was handed on
+-- what fills a piece is put as one
+filled_piece : (old new : Outflow) (bytes : List ℕ) (before behind : SinkState) (moved : AreMoved old bytes new before behind) → new.held.items ≡ []
+    → length old.held.items + length bytes ≡ 65536 → AreWholePieces moved.piece
+filled_piece old new bytes before behind moved none full =
+    let empty : length new.held.items ≡ 0 = ap (λ (l : List ℕ). length l) none in
+    let put : length (moved.piece ++ new.held.items) ≡ length moved.piece + length new.held.items = length-append moved.piece new.held.items in
+    let all : length (old.held.items ++ bytes) ≡ length old.held.items + length bytes = length-append old.held.items bytes in
+    let same : length (moved.piece ++ new.held.items) ≡ length (old.held.items ++ bytes) = ap (λ (l : List ℕ). length l) moved.whole in
+    one_piece moved.piece (omega (arith, empty, put, all, same, full))
+
+-- a front of the rest that fills a piece was handed on
 pub passing_on : (old : Outflow) (bytes rest front later : List ℕ) (mid new : Outflow) (before at behind : SinkState) → IsPassing old bytes rest mid before at
-    → rest ≡ front ++ later → 0 < length later → AreMoved mid front new at behind → new.held.items ≡ [] → IsPassing old bytes later new before behind
-passing_on old bytes rest front later mid new before at behind passing cut more moved none =
+    → rest ≡ front ++ later → 0 < length later → length mid.held.items + length front ≡ 65536 → AreMoved mid front new at behind → new.held.items ≡ []
+    → IsPassing old bytes later new before behind
+passing_on old bytes rest front later mid new before at behind passing cut more full moved none =
     let empty : length new.held.items ≡ 0 = ap (λ (l : List ℕ). length l) none in
     record {
       gone = passing.gone ++ front;
       cut = passing.cut ∙ (ap (λ (l : List ℕ). passing.gone ++ l) cut ∙ sym (append_assoc passing.gone front later));
       moved = moved_twice old mid new passing.gone front before at behind passing.moved moved;
+      pieces = pieces_twice passing.moved.piece moved.piece passing.pieces (filled_piece mid new front at behind moved none full);
       short = omega (arith, empty);
       last = λ nothing. absurd (long_some later more (second_none new.held.items later nothing));
     }
@@ -123,4 +145,5 @@ rest_held old bytes rest mid new before at passing put held short = (
   },
   subst (λ (l : List ℕ). length l ≤ 65536) (sym held) short,
   λ none. passing.last (sym held ∙ none),
+  passing.pieces,
 )

@@ -3,6 +3,7 @@
 use Rattle.std.specs.Prelude.{ℕ, ⊤, ◌≡◌, ◌≢◌, ◌+◌, ◌<◌, ◌≤◌, ◌⊎◌, List, [], ◌++◌, length, Result, Ok, Err}
 use Rattle.k_edge.specs.Fault.{Rose}
 use Rattle.k_edge.specs.SinkWords.{SinkState, Grows, GrowsInPart}
+use Rattle.k_hcpa.specs.Profiles.{AreWholePieces}
 use Rattle.k_hcpa.specs.declared.output.Outflow.{Outflow}
 use Rattle.k_hcpa.specs.declared.profile.Profile.{Profile}
 use Rattle.k_hcpa.specs.declared.profile.RunFault.{RunFault}
@@ -35,15 +36,15 @@ Fills old bytes (Err why) new before behind = WasCut why (old.held.items ++ byte
 abbrev pub KeepsLast : Outflow → List ℕ → List ℕ → Type 0
 KeepsLast old piece held = held ≡ [] → (piece ≡ []) × (old.held.items ≡ [])
 
--- what fills pieces was put, but for the last byte, and a piece or less is held; or it was cut short
+-- whole pieces were put, but not the last byte, and a piece or less is held; or it was cut short
 abbrev pub HandsOn : Outflow → List ℕ → Result ⊤ RunFault → Outflow → SinkState → SinkState → Type 0
 HandsOn old bytes (Ok done) new before behind =
-    (moved : AreMoved old bytes new before behind) × (length new.held.items ≤ 65536) × KeepsLast old moved.piece new.held.items
+    (moved : AreMoved old bytes new before behind) × (length new.held.items ≤ 65536) × KeepsLast old moved.piece new.held.items × AreWholePieces moved.piece
 HandsOn old bytes (Err why) new before behind = WasCut why (old.held.items ++ bytes) before behind
 
 -- the rest of a run's output was put where it fills a piece, or was cut short
 abbrev pub PutsFull : Profile → Result Profile RunFault → SinkState → SinkState → Type 0
 PutsFull old (Ok p) before behind =
     ((length old.rest < 65536) × (p ≡ old) × (behind ≡ before))
-    ⊎ ((p ≡ record old { rest = [] }) × Grows before.written old.rest behind.written × (behind.faults ≡ before.faults))
+    ⊎ ((65536 ≤ length old.rest) × (p ≡ record old { rest = [] }) × Grows before.written old.rest behind.written × (behind.faults ≡ before.faults))
 PutsFull old (Err why) before behind = WasCut why old.rest before behind

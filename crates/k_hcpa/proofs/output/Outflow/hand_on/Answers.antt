@@ -1,21 +1,16 @@
-use Rattle.std.proofs.Common.{◌≡◌, ◌+◌, ◌-◌, ◌≤◌, ◌++◌, length, arith, rules}
-use Rattle.std.proofs.lemmas.List.{length-append, take-append-drop}
+use Rattle.std.proofs.Common.{◌≡◌, ◌+◌, ◌≤◌, ◌++◌, length, rules}
+use Rattle.std.proofs.lemmas.List.{length-append}
 use Rattle.k_hcpa.proofs.Moving.{cut_passing, none_for_rest, none_passed, passing_on, rest_held}
 use Rattle.k_hcpa.proofs.output.Outflow.hand_on.Goals as goal
 
 pub loop-rest-preserved : goal.loop-rest-preserved
 loop-rest-preserved g c =
-    let rest = c.loop-rest.rest.now in
-    let whole = take-append-drop (65536 - c.len-in-loop-rest.result) rest in
-    let cut : rest ≡ c.split_at.result.0.now ++ c.split_at.result.1.now = cc in
-    passing_on _ _ rest _ _ _ _ _ _ _ c.loop-rest.invariant cut (search rules) c.in-Ok.ensures.0 c.in-Ok.ensures.1
+    let full : length c.loop-rest.self.held.items + length c.split_at.result.0.now ≡ 65536 = search rules in
+    passing_on _ _ c.loop-rest.rest.now _ _ _ _ _ _ _ c.loop-rest.invariant c.split_at.ensures.by_index.0 (search rules) full c.in-Ok.ensures.0 c.in-Ok.ensures.1
 
 pub returns-in-Err : goal.returns-in-Err
 returns-in-Err g c =
-    let rest = c.loop-rest.rest.now in
-    let whole = take-append-drop (65536 - c.len-in-loop-rest.result) rest in
-    let cut : rest ≡ c.split_at.result.0.now ++ c.split_at.result.1.now = cc in
-    cut_passing _ _ _ rest _ _ _ _ _ _ c.loop-rest.invariant cut c.in-Err.ensures
+    cut_passing _ _ _ c.loop-rest.rest.now _ _ _ _ _ _ c.loop-rest.invariant c.split_at.ensures.by_index.0 c.in-Err.ensures
 
 pub returns-in-Err-hold : goal.returns-in-Err-hold
 returns-in-Err-hold g c = none_for_rest _ _ _ _ _ _ c.loop-rest.invariant
