@@ -15,3 +15,5 @@ pub mod Running
 pub mod Settling
 pub mod Standing
 pub mod Stepping
+pub mod Telling
+pub mod Unseen

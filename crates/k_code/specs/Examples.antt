@@ -98,6 +98,7 @@ op class k sources = Op class k sources (col k)
 abbrev pub on : ℕ → Src
 on n = record { number = n; broken = false }
 
+-- the same by a broken edge
 abbrev pub broken : ℕ → Src
 broken n = record { number = n; broken = true }
 

@@ -5,6 +5,7 @@ pub mod Endings
 pub mod Examples
 pub mod Finds
 pub mod Named
+pub mod Telling
 pub mod Reads
 pub mod Runs
 pub mod Stands

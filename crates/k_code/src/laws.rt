@@ -4,6 +4,7 @@ ghost use Rattle.k_code.specs.Endings.{CyclesMakeOperations, EndsOnce, OneOutcom
 ghost use Rattle.k_code.specs.Examples.{Runs, StaysWithoutMain};
 ghost use Rattle.k_code.specs.Examples as run;
 ghost use Rattle.k_code.specs.Finds.{InstructionsFind};
+ghost use Rattle.k_code.specs.Telling.{TellingChangesNothing};
 ghost use Rattle.k_code.specs.Reads.{LevelsAreRegions, SourcesAreRead};
 ghost use Rattle.k_code.specs.Stands.{BalancesAreUnique, StaysBalanced};
 
@@ -23,6 +24,11 @@ pub fn valid_code_ends()
 /// A smaller budget only cuts the run short.
 pub fn budget_cuts_short()
     ensures { BudgetCutsShort }
+{}
+
+/// A run in which it is told what operations do goes through the configurations of the run.
+pub fn telling_changes_nothing()
+    ensures { TellingChangesNothing }
 {}
 
 /// Before each step of valid code, each live call has open what the balance of its function says, and each function has one balance.

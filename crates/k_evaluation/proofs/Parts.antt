@@ -27,6 +27,7 @@ use Rattle.k_world.specs.declared.value.Value.TheVariants as value
 use Rattle.k_world.specs.Acts.{Given, work, effect, hidden, output_effect, pointer_and_number, store_effect, written}
 use Rattle.k_world.specs.Changes.{with_elements, with_string, object_filled, objects_kept, without_origins}
 use Rattle.k_world.specs.Operands.{source_in, held_by, are_set, values_of, sources}
+use Rattle.k_world.specs.Deeds.{deed, deeds_behind}
 use Rattle.k_world.specs.Operations.{Made, Gives, Ends, operation, acted, counted, event_of}
 use Rattle.k_world.specs.Worlds.{World, with_event}
 use Rattle.k_world.specs.WorldLaws.{IsMade, AreMade, AllComeFrom, IsSound, HasOneMore, LeavesSound, WhereMade, IsCounted}
@@ -211,12 +212,16 @@ module _ (k : ℕ) (class : Class) (latency : ℕ) (place : Place) (what : Act) 
   same_effect : (vs : List Value) → nat_eq w.left 0 ≡ false
       → effect what w.made vs (counted class latency place what reads there) ≡ more_world k (effect what w.made vs (counted class latency place what reads w))
   same_effect vs some =
-      let hid : hidden what (values_of reads) there ≡ hidden what (values_of reads) w = hidden_framed w.events w.made (w.left + k) w.calls w.size w what (values_of reads) in
+      let hid : hidden what (values_of reads) there ≡ hidden what (values_of reads) w = hidden_framed w.events w.made (w.left + k) w.calls w.size w.telling w.deeds w what (values_of reads) in
+      let given : work what (values_of reads) there ≡ work what (values_of reads) w = work_framed w.events w.made (w.left + k) w.calls w.size w.telling w.deeds w what (values_of reads) in
       let none : w.left ≡ 0 → ⊥ = eqb-false w.left 0 some in
       let fewer : (w.left + k) - 1 ≡ (w.left - 1) + k = omega (arith, none) in
-      effect_framed (w.events ++ event_of class latency place what reads there ∷ []) (w.made + 1) ((w.left + k) - 1) w.calls w.size w what w.made vs
-      ∙ (λ i. framed (w.events ++ Op class latency (sources reads (hid i) w.control) place ∷ []) (w.made + 1) (fewer i) w.calls w.size (effect what w.made vs w))
-      ∙ sym (ap (more_world k) (effect_framed (w.events ++ event_of class latency place what reads w ∷ []) (w.made + 1) (w.left - 1) w.calls w.size w what w.made vs))
+      effect_framed (w.events ++ event_of class latency place what reads there ∷ []) (w.made + 1) ((w.left + k) - 1) w.calls w.size
+      w.telling (counted class latency place what reads there).deeds w what w.made vs
+      ∙ (λ i. framed (w.events ++ Op class latency (sources reads (hid i) w.control) place ∷ []) (w.made + 1) (fewer i) w.calls w.size
+      w.telling (deeds_behind w.telling w.deeds (deed what reads (hid i) w.control (given i))) (effect what w.made vs w))
+      ∙ sym (ap (more_world k) (effect_framed (w.events ++ event_of class latency place what reads w ∷ []) (w.made + 1) (w.left - 1) w.calls w.size
+      w.telling (counted class latency place what reads w).deeds w what w.made vs))
 
   acted_cut : (r : Given) → nat_eq w.left 0 ≡ false → MadeCut k w (acted class latency place what reads w r) (acted class latency place what reads there r)
   acted_cut (Ok v) some = ap (λ (x : World). Gives (record { value = v; source = Some w.made }) x) (same_effect (values_of reads) some)
@@ -232,7 +237,7 @@ module _ (k : ℕ) (class : Class) (latency : ℕ) (place : Place) (what : Act) 
       by true is =
           let one = operation_acts class latency place what reads w some is in
           let two = operation_acts class latency place what reads there more_left is in
-          let same : work what (values_of reads) there ≡ work what (values_of reads) w = work_framed w.events w.made (w.left + k) w.calls w.size w what (values_of reads) in
+          let same : work what (values_of reads) there ≡ work what (values_of reads) w = work_framed w.events w.made (w.left + k) w.calls w.size w.telling w.deeds w what (values_of reads) in
           let both : operation class latency place what reads there ≡ acted class latency place what reads there (work what (values_of reads) w) =
           two ∙ ap (acted class latency place what reads there) same in
           subst (λ (m : Made). MadeCut k w m (operation class latency place what reads there)) (sym one)

@@ -8,6 +8,7 @@ pub mod Laws
 pub mod Library
 pub mod Loops
 pub mod Meanings
+pub mod Deeds
 pub mod Objects
 pub mod Operators
 pub mod Places

@@ -224,7 +224,7 @@ module _ (code : Code) (depth : ℕ) (c c' : Configuration) (t : Timing) (what :
       (operation_making code depth c t what class latency place does gave.value traced is few gave.set gave.works (given_short short))
       traced.laid
       (work_framed (c.world.events ++ event_of class latency place does (reads_of c what) c.world ∷ []) (c.world.made + 1) (c.world.left - 1) c.world.calls c.world.size
-      c.world does (values_of (reads_of c what)) ∙ gave.works)
+      c.world.telling counted_world.deeds c.world does (values_of (reads_of c what)) ∙ gave.works)
 
   -- and where a register holds it
   pub given_times : total_latency (operations w.events) < 2 ^ 64 → Lands (with_register (register_set what) (Some held) c.frame) c.waiting w c'

@@ -20,6 +20,7 @@ use Rattle.k_world.specs.declared.value.Value.{Value}
 use Rattle.k_world.specs.Acts.{Given, work, effect, hidden, pointer_and_number, written, store_effect, output_effect}
 use Rattle.k_world.specs.Answers.{Makes}
 use Rattle.k_world.specs.Operands.{are_set, values_of, sources}
+use Rattle.k_world.specs.Deeds.{deed, deeds_behind}
 use Rattle.k_world.specs.Operations.{Made, Gives, Ends, operation, acted, counted}
 use Rattle.k_world.specs.Worlds.{World, with_events}
 use Rattle.k_hcpa_meaning.specs.Behind.{world_behind}
@@ -91,19 +92,20 @@ made_with f (Gives held w) = Gives held (f w)
 made_with f (Ends end w) = Ends end (f w)
 
 module _ (taken : List ℕ) (class : Class) (latency : ℕ) (place : Place) (what : Act) (reads : List Read) (w : World) where
-  -- the world behind the operation, before its act's effect, by its hidden source
-  behind_hidden : Option ℕ → World
-  behind_hidden hid = record (longer taken w) {
+  -- the world behind the operation, before its act's effect, by its hidden source and by what its act gives
+  behind_given : Option ℕ → Given → World
+  behind_given hid given = record (longer taken w) {
     events = w.events ++ Op class latency (sources reads hid w.control) place ∷ [];
     made = w.made + 1;
     left = w.left - 1;
+    deeds = deeds_behind w.telling w.deeds (deed what reads hid w.control given);
   }
 
   acted_longer : (given : Given) → acted class latency place what reads (longer taken w) given ≡ made_with (longer taken) (acted class latency place what reads w given)
-  unfolding behind_hidden
+  unfolding behind_given
   acted_longer (Ok v) =
       ap (λ (x : World). Gives (record { value = v; source = Some w.made }) x)
-      (ap (λ (hid : Option ℕ). effect what w.made (values_of reads) (behind_hidden hid)) (hidden_longer taken w what (values_of reads))
+      ((λ i. effect what w.made (values_of reads) (behind_given (hidden_longer taken w what (values_of reads) i) (work_longer taken w what (values_of reads) i)))
       ∙ effect_longer taken (counted class latency place what reads w) what w.made (values_of reads))
   acted_longer (Err t) = refl
 

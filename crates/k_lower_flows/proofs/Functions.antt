@@ -134,6 +134,7 @@ module _ (code : Code) (deep : ℕ) (program : Program) (number : ℕ) (f : TFun
         (suc zero, alone_steps code site pc (objects_kept s.world live) closed.registers program f.close do_.FallOff has refl);
     events = refl;
     output = refl;
+    deeds = refl;
   }
 
   end_comes : (of : TType) (site : Site) (from : Run) (pc live : ℕ) (s : State) → f.result ≡ of → site.base ≤ live → nat_eq site.func code.main ≡ nat_eq number program.unit.main

@@ -12,15 +12,17 @@ use Rattle.k_world.specs.declared.value.Held.{Held}
 use Rattle.k_world.specs.Changes.{object_made, object_filled, string_made}
 use Rattle.k_world.specs.Limits.{call_limit}
 use Rattle.k_world.specs.Values.{exit_of}
-use Rattle.k_world.specs.Worlds.{World}
+use Rattle.k_world.specs.Worlds.{World, fresh_telling}
 use Rattle.k_code.specs.declared.code.Code.{Code}
 use Rattle.k_code.specs.declared.code.CodeObject.{CodeObject}
 use Rattle.k_code.specs.declared.instruction.Do.TheVariants as do_
 use Rattle.k_code.specs.declared.instruction.Instr.{Instr}
-use Rattle.k_code.specs.Runs.{HasOutcome, start, begun_with, with_object, with_objects, or_limit, main_called}
+use Rattle.k_code.specs.Telling.{HasToldOutcome}
+use Rattle.k_code.specs.Runs.{HasOutcome, start, start_in, begun_with, with_object, with_objects, or_limit, main_called}
 use Rattle.k_code.specs.Steps.{Run, Over}
 use Rattle.k_code.specs.Steps.{entered as code_entered}
 use Rattle.k_evaluation.specs.Calls.{calls}
+use Rattle.k_evaluation.specs.Deeds.{deeds_in, telling_run}
 use Rattle.k_evaluation.specs.Runs.{starts_object, starts_objects, starts_strings, runs_main, whole, ended, initial, run}
 use Rattle.k_evaluation.specs.Objects.{made_object, fills}
 use Rattle.k_evaluation.specs.States.{Program, State, Outcome, Goes, Stops, follow, ◌>>=◌}
@@ -34,7 +36,7 @@ use Rattle.k_lower_code.specs.Programs.{code_func, code_funcs, functions_code, f
 use Rattle.k_lower_runs.specs.Sound.{calls_fit}
 use Rattle.k_lower_runs.proofs.Leads.{HasAt, Reaches, EndsSo, has_first, has_rest}
 use Rattle.k_lower_flows.specs.Functions.{IsSound}
-use Rattle.k_lower_flows.specs.Laws.{IsReady, CodeRunsAsItsProgram}
+use Rattle.k_lower_flows.specs.Laws.{IsReady, CodeDoesAsItsProgram, CodeRunsAsItsProgram}
 use Rattle.k_lower_flows.proofs.Calls.{Has, AllFollow, Back, calls_do, runs_back}
 use Rattle.k_lower_flows.proofs.Functions.{function_sized}
 use Rattle.k_lower_flows.proofs.Landing.{handed}
@@ -175,6 +177,7 @@ module _ (program : Program) (ready : IsReady program) where
     reaches = subst (λ z. Reaches its_code r (Over (Returned z) (record t.world { calls = before.calls; size = before.size; control = back.0 }))) (exit_same (nat_eq number its_code.main) v) back.1;
     events = refl;
     output = refl;
+    deeds = refl;
   }
 
   abbrev main_of : Option TFunc
@@ -202,7 +205,7 @@ module _ (program : Program) (ready : IsReady program) where
 
   strings_end : (r : Run) (before : Option ℕ) (o : Outcome (Unit {0})) → Begun program ready r on o → Leaves 0 false before o → EndsAs r (follow o (λ strings. runs_main program main_of))
   strings_end r before (Goes done s) begun leaves = subst (λ (x : Run). EndsAs x (runs_main program main_of s)) (sym begun) (main_ends s leaves.0)
-  strings_end r before (Stops end w) begun leaves = record { last = w; reaches = (zero, begun); events = refl; output = refl }
+  strings_end r before (Stops end w) begun leaves = record { last = w; reaches = (zero, begun); events = refl; output = refl; deeds = refl }
 
   objects_end : (r : Run) (before : Option ℕ) (o : Outcome (Unit {0})) → Begun program ready r (with_objects (map literal program.unit.strings) on) o → Leaves 0 false before o
       → EndsAs r (follow o (λ objects. starts_strings program.unit.strings >>= λ strings. runs_main program main_of))
@@ -210,19 +213,36 @@ module _ (program : Program) (ready : IsReady program) where
       strings_end r s.world.control (starts_strings program.unit.strings s)
       (then_begin program ready r (with_objects (map literal program.unit.strings) on s.world) on begun (starts_strings program.unit.strings s) (strings_begin program ready program.unit.strings on s))
       ((starts_strings_tidies program.unit.strings).leaves 0 s leaves.0)
-  objects_end r before (Stops end w) begun leaves = record { last = w; reaches = (zero, begun); events = refl; output = refl }
+  objects_end r before (Stops end w) begun leaves = record { last = w; reaches = (zero, begun); events = refl; output = refl; deeds = refl }
 
-  run_ends : (input : List ℕ) (budget : ℕ) → EndsAs (start its_code input budget) (whole program (initial input budget))
-  unfolding start whole flattened
-  run_ends input budget =
-      objects_end (start its_code input budget) None (starts_objects program.unit.objects (initial input budget))
-      (objects_begin program ready program.unit.objects (map literal program.unit.strings) on (initial input budget))
-      ((starts_objects_tidies program.unit.objects).leaves 0 (initial input budget) (fresh_is_tidy budget input))
+  -- the run ends as the program's does, from each tidy world
+  run_ends : (s : State) → IsTidy 0 s.world → EndsAs (start_in its_code s.world) (whole program s)
+  unfolding whole flattened
+  run_ends s tidy =
+      objects_end (start_in its_code s.world) s.world.control (starts_objects program.unit.objects s)
+      (objects_begin program ready program.unit.objects (map literal program.unit.strings) on s)
+      ((starts_objects_tidies program.unit.objects).leaves 0 s tidy)
 
   outcome_is : (input : List ℕ) (budget : ℕ) (o : Outcome (Option Held)) → EndsAs (start its_code input budget) o → HasOutcome its_code input budget (ended o).events (ended o).output (ended o).end
   outcome_is input budget (Goes v t) ends = record { count = ends.reaches.0; world = ends.last; is = ends.reaches.1; events_are = ends.events; output_is = ends.output }
   outcome_is input budget (Stops end w) ends = record { count = ends.reaches.0; world = ends.last; is = ends.reaches.1; events_are = ends.events; output_is = ends.output }
 
+  -- so does the run in which it is told what operations do
+  told_is : (input : List ℕ) (budget : ℕ) (o : Outcome (Option Held)) → EndsAs (start_in its_code (fresh_telling budget input)) o
+      → HasToldOutcome its_code input budget (deeds_in o) (ended o).events (ended o).output (ended o).end
+  told_is input budget (Goes v t) ends =
+      record { count = ends.reaches.0; world = ends.last; is = ends.reaches.1; deeds_are = ends.deeds; events_are = ends.events; output_is = ends.output }
+  told_is input budget (Stops end w) ends =
+      record { count = ends.reaches.0; world = ends.last; is = ends.reaches.1; deeds_are = ends.deeds; events_are = ends.events; output_is = ends.output }
+
 pub code_runs_as_its_program : CodeRunsAsItsProgram
-unfolding run
-code_runs_as_its_program program input budget ready = outcome_is program ready input budget (whole program (initial input budget)) (run_ends program ready input budget)
+unfolding run start
+code_runs_as_its_program program input budget ready =
+    outcome_is program ready input budget (whole program (initial input budget)) (run_ends program ready (initial input budget) (fresh_is_tidy budget input))
+
+pub code_does_as_its_program : CodeDoesAsItsProgram
+unfolding telling_run
+code_does_as_its_program program input budget ready =
+    let tidy = fresh_is_tidy budget input in
+    let s : State = record { vars = []; world = fresh_telling budget input } in
+    told_is program ready input budget (whole program s) (run_ends program ready s (record { laid = tidy.laid; origins = tidy.origins; calls = tidy.calls }))

@@ -95,11 +95,12 @@ module _ (code : Code) where
     reaches = reaches_both before from (Over end ends.last) reaches ends.reaches;
     events = ends.events;
     output = ends.output;
+    deeds = ends.deeds;
   }
 
   -- or one that ends in that world
   pub ends_at : (from : Run) (end : End) (w : World) → Reaches code from (Over end w) → EndsSo code from end w
-  ends_at from end w reaches = record { last = w; reaches = reaches; events = refl; output = refl }
+  ends_at from end w reaches = record { last = w; reaches = reaches; events = refl; output = refl; deeds = refl }
 
   module _ (deep count : ℕ) where
     -- it leads on from where another run leads to

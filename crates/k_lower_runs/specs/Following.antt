@@ -72,12 +72,13 @@ module _ (code : Code) where
   abbrev pub Reaches : Run → Run → Type 0
   Reaches from to = (count : ℕ) × (steps code count from ≡ to)
 
-  -- The run ends so, with the events and the output of this world: where it ends by a function's end, objects that *Evaluation* keeps are dead.
+  -- The run ends so, with the events, the output and the deeds of this world: where it ends by a function's end, objects that *Evaluation* keeps are dead.
   pub record EndsSo (from : Run) (end : End) (w : World) : Type 0 where
     pub last : World
     pub reaches : Reaches from (Over end last)
     pub events : last.events ≡ w.events
     pub output : last.output ≡ w.output
+    pub deeds : last.deeds ≡ w.deeds
 
   module _ (deep count : ℕ) where
     -- Where a part of a run leads to: it goes on at an instruction, with registers that agree with the state and of which those below this one are

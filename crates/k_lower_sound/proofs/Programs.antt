@@ -18,7 +18,7 @@ use Rattle.k_lower_flows.specs.Functions.{IsSound}
 use Rattle.k_lower_flows.specs.Sound.{jumps_in, soundness}
 use Rattle.k_lower_accepted.specs.Accepted.{IsAccepted}
 use Rattle.k_lower_valid.proofs.Programs.{flattened_is_valid}
-use Rattle.k_lower_flows.proofs.Programs.{code_runs_as_its_program}
+use Rattle.k_lower_flows.proofs.Programs.{code_does_as_its_program, code_runs_as_its_program}
 use Rattle.k_lower_accepted.proofs.Programs.{programs_are_sound, programs_fit}
 use Rattle.k_lower_sound.specs.Laws.{AcceptedProgramsAreLowered, AcceptedProgramsAreReady}
 use Rattle.k_lower_sound.proofs.Jumps.{Land, body_lands}
@@ -57,4 +57,5 @@ pub programs_are_lowered : AcceptedProgramsAreLowered
 programs_are_lowered unit program h marked = record {
   valid = flattened_is_valid program (programs_fit unit program h);
   runs = λ input budget. code_runs_as_its_program program input budget (programs_are_ready unit program h marked);
+  tells = λ input budget. code_does_as_its_program program input budget (programs_are_ready unit program h marked);
 }

@@ -3,8 +3,10 @@
 use Rattle.std.specs.Prelude.{ℕ, ◌≡◌, List}
 use Rattle.k_tree.specs.declared.tree.unit.Unit as source
 use Rattle.k_marks_meaning.specs.Marking.{marks_of}
-use Rattle.k_evaluation.specs.Runs.{run}
+use Rattle.k_evaluation.specs.Deeds.{deeds, telling_run}
+use Rattle.k_evaluation.specs.Runs.{ended, run}
 use Rattle.k_evaluation.specs.States.{Program}
+use Rattle.k_code.specs.Telling.{HasToldOutcome}
 use Rattle.k_code.specs.Runs.{HasOutcome}
 use Rattle.k_code.specs.Valid.{IsValid}
 use Rattle.k_lower_code.specs.Programs.{flattened}
@@ -17,11 +19,13 @@ abbrev pub AcceptedProgramsAreReady : Type 0
 AcceptedProgramsAreReady = (unit : source.Unit) (program : Program) → IsAccepted unit program → program.marks ≡ marks_of program.unit → IsReady program
 
 -- ITS FLAT CODE is valid, and the run of it is the program's, on each input and under each budget: the same events in the same order, the same
--- output and the same end
+-- output and the same end; where it is told what operations do, they do what those of the program do
 pub record IsLowered (program : Program) : Type 0 where
   pub valid : IsValid (flattened program)
   pub runs : (input : List ℕ) (budget : ℕ)
       → HasOutcome (flattened program) input budget (run program input budget).events (run program input budget).output (run program input budget).end
+  pub tells : (input : List ℕ) (budget : ℕ)
+      → (let it = ended (telling_run program input budget) in HasToldOutcome (flattened program) input budget (deeds program input budget) it.events it.output it.end)
 
 -- so it is of each accepted program, with the marks of its source
 abbrev pub AcceptedProgramsAreLowered : Type 0

@@ -9,10 +9,11 @@ use Rattle.k_world.specs.declared.act.Act.{Act}
 use Rattle.k_world.specs.declared.value.Read.{Read}
 use Rattle.k_world.specs.declared.value.Value.{Value}
 use Rattle.k_world.specs.Acts.{Given, work, effect}
+use Rattle.k_world.specs.Deeds.{Deed}
 use Rattle.k_world.specs.Operands.{are_set, values_of}
 use Rattle.k_world.specs.Operations.{Made, Gives, Ends, operation, acted, counted, event_of}
 use Rattle.k_world.specs.Worlds.{World, with_events}
-use Rattle.k_world.specs.WorldLaws.{GoAlike, EqualReadsGoAlike}
+use Rattle.k_world.specs.WorldLaws.{forgotten, GoAlike, EqualReadsGoAlike}
 use Rattle.k_world.proofs.Effects.{framed, work_framed, effect_framed}
 use Rattle.k_world.proofs.Operations.{operation_out, operation_unset, operation_acts}
 
@@ -21,20 +22,21 @@ module _ (class : Class) (latency : ℕ) (place : Place) (what : Act) (some othe
   abbrev there : World
   there = with_events events w
 
-  -- where an act has a value, the worlds behind it are equal but for their events
-  same_effect : (vs us : List Value) (first second : List Event) → vs ≡ us
-      → with_events [] (effect what w.made vs (framed first (w.made + 1) (w.left - 1) w.calls w.size w))
-      ≡ with_events [] (effect what w.made us (framed second (w.made + 1) (w.left - 1) w.calls w.size w))
-  same_effect vs us first second same =
-      ap (with_events []) (effect_framed first (w.made + 1) (w.left - 1) w.calls w.size w what w.made vs)
-      ∙ ap (λ (xs : List Value). framed [] (w.made + 1) (w.left - 1) w.calls w.size (effect what w.made xs w)) same
-      ∙ sym (ap (with_events []) (effect_framed second (w.made + 1) (w.left - 1) w.calls w.size w what w.made us))
+  -- where an act has a value, the worlds behind it are equal but for their events and deeds
+  same_effect : (vs us : List Value) (first second : List Event) (one two : List Deed) → vs ≡ us
+      → forgotten (effect what w.made vs (framed first (w.made + 1) (w.left - 1) w.calls w.size w.telling one w))
+      ≡ forgotten (effect what w.made us (framed second (w.made + 1) (w.left - 1) w.calls w.size w.telling two w))
+  same_effect vs us first second one two same =
+      ap forgotten (effect_framed first (w.made + 1) (w.left - 1) w.calls w.size w.telling one w what w.made vs)
+      ∙ ap (λ (xs : List Value). framed [] (w.made + 1) (w.left - 1) w.calls w.size w.telling [] (effect what w.made xs w)) same
+      ∙ sym (ap forgotten (effect_framed second (w.made + 1) (w.left - 1) w.calls w.size w.telling two w what w.made us))
 
   acted_alike : (r : Given) → GoAlike (acted class latency place what some w r) (acted class latency place what others there r)
   acted_alike (Ok v) = (
     refl,
     same_effect (values_of some) (values_of others)
-        (w.events ++ event_of class latency place what some w ∷ []) (events ++ event_of class latency place what others there ∷ []) values,
+        (w.events ++ event_of class latency place what some w ∷ []) (events ++ event_of class latency place what others there ∷ [])
+        (counted class latency place what some w).deeds (counted class latency place what others there).deeds values,
   )
   acted_alike (Err t) = (refl, refl)
 
@@ -43,7 +45,7 @@ module _ (class : Class) (latency : ℕ) (place : Place) (what : Act) (some othe
       let one = operation_acts class latency place what some w more is in
       let two = operation_acts class latency place what others there more (sym set ∙ is) in
       let same : work what (values_of others) there ≡ work what (values_of some) w =
-      work_framed events w.made w.left w.calls w.size w what (values_of others) ∙ ap (λ (xs : List Value). work what xs w) (sym values) in
+      work_framed events w.made w.left w.calls w.size w.telling w.deeds w what (values_of others) ∙ ap (λ (xs : List Value). work what xs w) (sym values) in
       let both : operation class latency place what others there ≡ acted class latency place what others there (work what (values_of some) w) =
       two ∙ ap (acted class latency place what others there) same in
       subst (λ (m : Made). GoAlike m (operation class latency place what others there)) (sym one)

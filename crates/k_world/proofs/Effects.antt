@@ -1,5 +1,5 @@
 -- How acts see a world, and what they leave of it.
-use Rattle.std.proofs.Common.{◌≡◌, ◌≢◌, ℕ, ℤ, List, length, Option, Some, None, Result, Ok, Err, refl, sym, ◌∙◌, ap}
+use Rattle.std.proofs.Common.{◌≡◌, ◌≢◌, ℕ, Bool, ℤ, List, length, Option, Some, None, Result, Ok, Err, refl, sym, ◌∙◌, ap}
 use Rattle.std.proofs.Math.ListN.{length-set}
 use Rattle.k_optab.specs.declared.event.Event.{Event}
 use Rattle.k_ending.specs.declared.ending.Trap.{Trap}
@@ -12,15 +12,16 @@ use Rattle.k_world.specs.declared.act.Act.{Act}
 use Rattle.k_world.specs.declared.act.Act.TheVariants as act
 use Rattle.k_world.specs.declared.value.Value.{Value}
 use Rattle.k_world.specs.Acts.{work, effect, hidden, pointer_and_number, written, store_effect, output_effect, with_origin, element_written}
+use Rattle.k_world.specs.Deeds.{Deed}
 use Rattle.k_world.specs.Worlds.{World, HasOrigins}
 
--- a world with these events, counts and calls in place of its own, which no act sees
-abbrev pub framed : List Event → ℕ → ℕ → ℕ → ℕ → World → World
-framed events made left calls size w = record w { events = events; made = made; left = left; calls = calls; size = size }
+-- a world with these events, counts, calls and deeds in place of its own, which no act sees
+abbrev pub framed : List Event → ℕ → ℕ → ℕ → ℕ → Bool → List Deed → World → World
+framed events made left calls size telling deeds w = record w { events = events; made = made; left = left; calls = calls; size = size; telling = telling; deeds = deeds }
 
-module _ (events : List Event) (made left calls size : ℕ) (w : World) where
+module _ (events : List Event) (made left calls size : ℕ) (telling : Bool) (deeds : List Deed) (w : World) where
   -- what an act gives
-  pub work_framed : (what : Act) (values : List Value) → work what values (framed events made left calls size w) ≡ work what values w
+  pub work_framed : (what : Act) (values : List Value) → work what values (framed events made left calls size telling deeds w) ≡ work what values w
   unfolding work
   work_framed (act.Binary op kind) values = refl
   work_framed (act.Unary op kind) values = refl
@@ -37,7 +38,7 @@ module _ (events : List Event) (made left calls size : ℕ) (w : World) where
   work_framed act.Call values = refl
 
   -- the source of what the construct does not write
-  pub hidden_framed : (what : Act) (values : List Value) → hidden what values (framed events made left calls size w) ≡ hidden what values w
+  pub hidden_framed : (what : Act) (values : List Value) → hidden what values (framed events made left calls size telling deeds w) ≡ hidden what values w
   unfolding hidden
   hidden_framed (act.Binary op kind) values = refl
   hidden_framed (act.Unary op kind) values = refl
@@ -53,16 +54,16 @@ module _ (events : List Event) (made left calls size : ℕ) (w : World) where
   hidden_framed act.Test values = refl
   hidden_framed act.Call values = refl
 
-  store_framed : (number : ℕ) (s : Option (Pointer × ℤ)) → store_effect number s (framed events made left calls size w) ≡ framed events made left calls size (store_effect number s w)
+  store_framed : (number : ℕ) (s : Option (Pointer × ℤ)) → store_effect number s (framed events made left calls size telling deeds w) ≡ framed events made left calls size telling deeds (store_effect number s w)
   store_framed number None = refl
   store_framed number (Some s) = refl
 
-  output_framed : (number : ℕ) (bytes : Result (List ℕ) Trap) → output_effect number bytes (framed events made left calls size w) ≡ framed events made left calls size (output_effect number bytes w)
+  output_framed : (number : ℕ) (bytes : Result (List ℕ) Trap) → output_effect number bytes (framed events made left calls size telling deeds w) ≡ framed events made left calls size telling deeds (output_effect number bytes w)
   output_framed number (Ok bytes) = refl
   output_framed number (Err t) = refl
 
   -- what an act changes
-  pub effect_framed : (what : Act) (number : ℕ) (values : List Value) → effect what number values (framed events made left calls size w) ≡ framed events made left calls size (effect what number values w)
+  pub effect_framed : (what : Act) (number : ℕ) (values : List Value) → effect what number values (framed events made left calls size telling deeds w) ≡ framed events made left calls size telling deeds (effect what number values w)
   unfolding effect
   effect_framed (act.Binary op kind) number values = refl
   effect_framed (act.Unary op kind) number values = refl
@@ -78,10 +79,10 @@ module _ (events : List Event) (made left calls size : ℕ) (w : World) where
   effect_framed act.Test number values = refl
   effect_framed act.Call number values = refl
 
--- an act leaves events, counts and calls as they are
+-- an act leaves events, counts, calls and deeds as they are
 pub effect_frame : (what : Act) (number : ℕ) (values : List Value) (w : World)
-    → effect what number values w ≡ framed w.events w.made w.left w.calls w.size (effect what number values w)
-effect_frame what number values w = effect_framed w.events w.made w.left w.calls w.size w what number values
+    → effect what number values w ≡ framed w.events w.made w.left w.calls w.size w.telling w.deeds (effect what number values w)
+effect_frame what number values w = effect_framed w.events w.made w.left w.calls w.size w.telling w.deeds w what number values
 
 store_control : (number : ℕ) (s : Option (Pointer × ℤ)) (w : World) → (store_effect number s w).control ≡ w.control
 store_control number None w = refl

@@ -20,10 +20,11 @@ use Rattle.k_world.specs.declared.value.Held.{Held}
 use Rattle.k_world.specs.declared.value.Read.{Read}
 use Rattle.k_world.specs.declared.value.Value.{Value}
 use Rattle.k_world.specs.Acts.{Given, work, effect, hidden, pointer_and_number, one_pointer, written, store_effect, output_effect, with_origin, element_written, element_read, origin_of, origin_or_none}
+use Rattle.k_world.specs.Deeds.{deed, deeds_behind}
 use Rattle.k_world.specs.Operands.{are_set, values_of, source_in, source_before, sources_before, sources}
 use Rattle.k_world.specs.Operations.{Made, Gives, Ends, operation, acted, counted, event_of}
 use Rattle.k_world.specs.Worlds.{World, HasOrigins}
-use Rattle.k_world.specs.WorldLaws.{IsMade, AreMade, AllComeFrom, IsEarly, IsSound, HasOneMore, IsCounted, LeavesSound, OperationsStaySound, WhereMade, OperationsCount, ControlStays, TestsControl, CallsStay, OriginsStay}
+use Rattle.k_world.specs.WorldLaws.{IsMade, AreMade, AllComeFrom, IsEarly, IsSound, HasOneMore, IsCounted, LeavesSound, OperationsStaySound, WhereMade, OperationsCount, ControlStays, TestsControl, CallsStay, TellsDeed, OperationsTellDeeds, OriginsStay}
 use Rattle.k_world.proofs.Effects.{framed, effect_frame, effect_control, test_control, effect_objects, effect_origins}
 use Rattle.k_world.proofs.MoreOperations.{earlier_more, total-append}
 use Rattle.k_world.proofs.Operations.{operation_out, operation_unset, operation_acts}
@@ -134,23 +135,31 @@ sources_earlier made reads hid control come one two =
     (source_earlier made hid false (source_before control false []) one (source_earlier made control false [] two tt))
 
 -- an operation goes one of four ways
-pub operation_cases : (P : Made → Type 0) (class : Class) (latency : ℕ) (place : Place) (what : Act) (reads : List Read) (w : World)
+pub operation_ways : (P : Made → Type 0) (class : Class) (latency : ℕ) (place : Place) (what : Act) (reads : List Read) (w : World)
     → ((end : End) → IsEarly end → P (Ends end w))
-    → (nat_eq w.left 0 ≡ false → (v : Value) → P (Gives (record { value = v; source = Some w.made }) (effect what w.made (values_of reads) (counted class latency place what reads w))))
+    → (nat_eq w.left 0 ≡ false → (v : Value) → work what (values_of reads) w ≡ Ok v
+    → P (Gives (record { value = v; source = Some w.made }) (effect what w.made (values_of reads) (counted class latency place what reads w))))
     → P (operation class latency place what reads w)
-operation_cases P class latency place what reads w ends gives = left (nat_eq w.left 0) refl
+operation_ways P class latency place what reads w ends gives = left (nat_eq w.left 0) refl
   where
-    given : nat_eq w.left 0 ≡ false → (r : Given) → P (acted class latency place what reads w r)
-    given some (Ok v) = gives some v
-    given some (Err t) = ends (Trapped t place) tt
+    given : nat_eq w.left 0 ≡ false → (r : Given) → work what (values_of reads) w ≡ r → P (acted class latency place what reads w r)
+    given some (Ok v) is = gives some v is
+    given some (Err t) is = ends (Trapped t place) tt
 
     set : nat_eq w.left 0 ≡ false → (b : Bool) → are_set reads ≡ b → P (operation class latency place what reads w)
-    set some true is = subst P (sym (operation_acts class latency place what reads w some is)) (given some (work what (values_of reads) w))
+    set some true is = subst P (sym (operation_acts class latency place what reads w some is)) (given some (work what (values_of reads) w) refl)
     set some false is = subst P (sym (operation_unset class latency place what reads w some is)) (ends (Trapped Uninit place) tt)
 
     left : (b : Bool) → nat_eq w.left 0 ≡ b → P (operation class latency place what reads w)
     left true none = subst P (sym (operation_out class latency place what reads w none)) (ends OutOfSteps tt)
     left false some = set some (are_set reads) refl
+
+-- the same, whatever value the act has
+pub operation_cases : (P : Made → Type 0) (class : Class) (latency : ℕ) (place : Place) (what : Act) (reads : List Read) (w : World)
+    → ((end : End) → IsEarly end → P (Ends end w))
+    → (nat_eq w.left 0 ≡ false → (v : Value) → P (Gives (record { value = v; source = Some w.made }) (effect what w.made (values_of reads) (counted class latency place what reads w))))
+    → P (operation class latency place what reads w)
+operation_cases P class latency place what reads w ends gives = operation_ways P class latency place what reads w ends (λ some v is. gives some v)
 
 module _ (class : Class) (latency : ℕ) (place : Place) (what : Act) (reads : List Read) (w : World) where
   -- the world behind an operation that gives a value
@@ -158,7 +167,7 @@ module _ (class : Class) (latency : ℕ) (place : Place) (what : Act) (reads : L
   behind = effect what w.made (values_of reads) (counted class latency place what reads w)
 
   -- its events, counts and calls are those of the world in which the operation was counted
-  behind_frame : behind ≡ framed (w.events ++ event_of class latency place what reads w ∷ []) (w.made + 1) (w.left - 1) w.calls w.size behind
+  behind_frame : behind ≡ framed (w.events ++ event_of class latency place what reads w ∷ []) (w.made + 1) (w.left - 1) w.calls w.size w.telling (counted class latency place what reads w).deeds behind
   behind_frame = effect_frame what w.made (values_of reads) (counted class latency place what reads w)
 
   behind_counted : nat_eq w.left 0 ≡ false → IsCounted w behind
@@ -169,6 +178,15 @@ module _ (class : Class) (latency : ℕ) (place : Place) (what : Act) (reads : L
 
   pub where_counted : WhereMade IsCounted w (operation class latency place what reads w)
   where_counted = operation_cases (WhereMade IsCounted w) class latency place what reads w (λ end early. tt) (λ some v. behind_counted some)
+
+  -- what the operation did is told
+  pub where_told : TellsDeed what reads w (operation class latency place what reads w)
+  where_told = operation_ways (TellsDeed what reads w) class latency place what reads w (λ end early. tt)
+      (λ some v is. (
+        ap (λ (x : World). x.telling) behind_frame,
+        ap (λ (x : World). x.deeds) behind_frame
+            ∙ ap (λ (g : Given). deeds_behind w.telling w.deeds (deed what reads (hidden what (values_of reads) w) w.control g)) is,
+      ))
 
   pub where_control : what ≢ act.Test → WhereMade (λ before after. after.control ≡ before.control) w (operation class latency place what reads w)
   where_control other = operation_cases (WhereMade (λ before after. after.control ≡ before.control) w) class latency place what reads w (λ end early. tt)
@@ -215,7 +233,7 @@ module _ (class : Class) (latency : ℕ) (place : Place) (what : Act) (reads : L
         let steps : w.made + w.left ≡ budget = sound.steps in
         let work : total_latency before ≤ w.made * most = sound.work in
         let count : length before ≡ w.made = sound.counted in
-        let framed_sound : IsSound budget most (framed (w.events ++ event_of class latency place what reads w ∷ []) (w.made + 1) (w.left - 1) w.calls w.size behind) = record {
+        let framed_sound : IsSound budget most (framed (w.events ++ event_of class latency place what reads w ∷ []) (w.made + 1) (w.left - 1) w.calls w.size w.telling (counted class latency place what reads w).deeds behind) = record {
           earlier = subst SourcesAreEarlier (sym grown) (earlier_more before op sound.earlier own);
           counted = ap length grown ∙ length-append before (op ∷ []) ∙ omega (arith, count);
           steps = omega (arith, steps, left);
@@ -249,6 +267,9 @@ operations_stay_sound budget most class latency place what reads w short sound c
 
 pub operations_count : OperationsCount
 operations_count class latency place what reads w = where_counted class latency place what reads w
+
+pub operations_tell_deeds : OperationsTellDeeds
+operations_tell_deeds class latency place what reads w = where_told class latency place what reads w
 
 pub control_stays : ControlStays
 control_stays class latency place what reads w other = where_control class latency place what reads w other

@@ -2,6 +2,7 @@ pub mod Acts
 pub mod Answers
 pub mod Changes
 pub mod Classes
+pub mod Deeds
 pub mod Limits
 pub mod Operands
 pub mod Operations

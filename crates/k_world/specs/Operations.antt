@@ -12,6 +12,7 @@ use Rattle.k_world.specs.declared.act.Act.{Act}
 use Rattle.k_world.specs.declared.value.Held.{Held}
 use Rattle.k_world.specs.declared.value.Read.{Read}
 use Rattle.k_world.specs.Acts.{Given, work, effect, hidden}
+use Rattle.k_world.specs.Deeds.{deed, deeds_behind}
 use Rattle.k_world.specs.Operands.{are_set, values_of, sources}
 use Rattle.k_world.specs.Worlds.{World}
 
@@ -19,12 +20,13 @@ use Rattle.k_world.specs.Worlds.{World}
 abbrev pub event_of : Class → ℕ → Place → Act → List Read → World → Event
 event_of class latency place act reads w = Op class latency (sources reads (hidden act (values_of reads) w) w.control) place
 
--- an operation was made with these operands
+-- an operation was made with these operands, and where it is told what operations do, so is what this one does
 abbrev pub counted : Class → ℕ → Place → Act → List Read → World → World
 counted class latency place act reads w = record w {
   events = w.events ++ event_of class latency place act reads w ∷ [];
   made = w.made + 1;
   left = w.left - 1;
+  deeds = deeds_behind w.telling w.deeds (deed act reads (hidden act (values_of reads) w) w.control (work act (values_of reads) w));
 }
 
 -- how an operation goes: it gives a value, or the run ends before it is made

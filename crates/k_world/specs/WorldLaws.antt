@@ -13,6 +13,8 @@ use Rattle.k_world.specs.declared.act.Act.{Act}
 use Rattle.k_world.specs.declared.act.Act.TheVariants as act
 use Rattle.k_world.specs.declared.value.Held.{Held}
 use Rattle.k_world.specs.declared.value.Read.{Read}
+use Rattle.k_world.specs.Acts.{hidden}
+use Rattle.k_world.specs.Deeds.{deeds_behind}
 use Rattle.k_world.specs.Operands.{are_set, values_of, source_in}
 use Rattle.k_world.specs.Operations.{Made, Gives, Ends, operation}
 use Rattle.k_world.specs.Worlds.{World, HasOrigins, with_events}
@@ -96,6 +98,20 @@ OperationsCount =
     (class : Class) (latency : ℕ) (place : Place) (what : Act) (reads : List Read) (w : World)
     → WhereMade IsCounted w (operation class latency place what reads w)
 
+-- what an operation did is told, with the value that it gave, where that is told of operations; and it stays told, or not
+abbrev pub TellsDeed : Act → List Read → World → Made → Type 0
+TellsDeed what reads before (Gives held after) =
+    (after.telling ≡ before.telling)
+    × (after.deeds ≡ deeds_behind before.telling before.deeds
+    (record { what = what; reads = reads; hidden = hidden what (values_of reads) before; control = before.control; value = held.value } ∷ []))
+TellsDeed what reads before (Ends end after) = Unit {0}
+
+-- so it is of each operation
+abbrev pub OperationsTellDeeds : Type 0
+OperationsTellDeeds =
+    (class : Class) (latency : ℕ) (place : Place) (what : Act) (reads : List Read) (w : World)
+    → TellsDeed what reads w (operation class latency place what reads w)
+
 -- a test alone changes the control source
 abbrev pub ControlStays : Type 0
 ControlStays =
@@ -123,12 +139,16 @@ OriginsStay =
     → HasOrigins w
     → WhereMade (λ before after. HasOrigins after) w (operation class latency place what reads w)
 
--- both go the same way, up to the events before the worlds
+-- a world without its events and deeds
+abbrev pub forgotten : World → World
+forgotten w = record w { events = []; deeds = [] }
+
+-- both go the same way, but for events and deeds
 abbrev pub GoAlike : Made → Made → Type 0
-GoAlike (Gives a v) (Gives b w) = (a ≡ b) × (with_events [] v ≡ with_events [] w)
+GoAlike (Gives a v) (Gives b w) = (a ≡ b) × (forgotten v ≡ forgotten w)
 GoAlike (Gives a v) (Ends end w) = ⊥
 GoAlike (Ends end v) (Gives a w) = ⊥
-GoAlike (Ends a v) (Ends b w) = (a ≡ b) × (with_events [] v ≡ with_events [] w)
+GoAlike (Ends a v) (Ends b w) = (a ≡ b) × (forgotten v ≡ forgotten w)
 
 -- operands of equal values give equal results, wherever their values came from, in worlds that are equal but for their events
 abbrev pub EqualReadsGoAlike : Type 0

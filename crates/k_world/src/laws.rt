@@ -1,5 +1,5 @@
 //! What holds of every world: each function's contract is a law, and its body does nothing.
-ghost use Rattle.k_world.specs.WorldLaws.{CallsStay, ControlStays, EqualReadsGoAlike, OperationsCount, OperationsStaySound, OriginsStay, TestsControl};
+ghost use Rattle.k_world.specs.WorldLaws.{CallsStay, ControlStays, EqualReadsGoAlike, OperationsTellDeeds, OperationsCount, OperationsStaySound, OriginsStay, TestsControl};
 
 /// Operations on what earlier ones gave have earlier sources, are counted, and take bounded work.
 pub fn operations_stay_sound()
@@ -9,6 +9,7 @@ pub fn operations_stay_sound()
 /// What an operation changes, and what stays.
 pub fn what_stays()
     ensures counted { OperationsCount }
+    ensures deeds { OperationsTellDeeds }
     ensures control { ControlStays }
     ensures tests { TestsControl }
     ensures calls { CallsStay }

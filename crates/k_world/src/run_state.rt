@@ -1,5 +1,5 @@
 //! The state of a running program, but for the list of its events.
-ghost use Rattle.std.specs.Prelude.{◌≡◌, ◌+◌, ◌-◌, ◌<◌, ℕ, List, [], ◌∷◌, length, Bool, true, IfOk};
+ghost use Rattle.std.specs.Prelude.{◌≡◌, ◌+◌, ◌-◌, ◌<◌, ℕ, List, [], ◌∷◌, length, Bool, true, false, IfOk};
 ghost use Rattle.k_num.specs.declared.place.Place.{Place};
 ghost use Rattle.k_optab.specs.declared.class.Class.{Class};
 ghost use Rattle.k_world.specs.Acts.{behind_byte as behind_byte_of, next_byte as next_byte_of, origin_of, touched, with_origin};
@@ -23,7 +23,7 @@ use std::marker::Model;
 mod counts;
 mod objects;
 
-/// A running program's state, which contracts see as a world without events. Each live element has an origin, and there are no others.
+/// A running program's state, which contracts see as a world without events in which nothing is told. Each live element has an origin, and there are no others.
 #[derive(Drop)]
 pub struct RunState<'a> {
     alloc: Global,
@@ -42,7 +42,7 @@ pub struct RunState<'a> {
 }
 
 impl<'a> Model for RunState<'a> {
-    ghost use Rattle.std.specs.Prelude.{◌≡◌, [], ◌-◌, length};
+    ghost use Rattle.std.specs.Prelude.{◌≡◌, false, [], ◌-◌, length};
     ghost use Rattle.k_mem.specs.Memory.{live_elements};
     ghost use Rattle.k_world.specs.Worlds.{World};
 
@@ -61,6 +61,8 @@ impl<'a> Model for RunState<'a> {
       origins = s.origins.items;
       calls = s.calls;
       size = s.size;
+      telling = false;
+      deeds = [];
     } };
 
     ghost invariant = { λ s. length s.origins.items ≡ live_elements s.objects };
@@ -88,9 +90,10 @@ impl<'a> RunState<'a> {
         }
     }
 
-    /// The control source now.
+    /// The control source now. Nothing is told here.
     pub fn control(&self) -> Option<u64>
-        ensures { result ≡ self.now.control }
+        ensures source { result ≡ self.now.control }
+        ensures quiet { self.now.telling ≡ false }
     {
         self.control
     }

@@ -30,9 +30,10 @@ returns-in-Ok-clause-made c =
     let left : c.self.inside.budget - c.self.inside.made ≡ c.args.self.now.left = ap (λ (v : World). v.left) c.self.view_is in
     let some : nat_eq c.args.self.now.left 0 ≡ false = ne_eqb c.args.self.now.left 0 (λ e. omega (arith, e, left, c.if-self.false)) in
     let set : are_set c.args.reads.now ≡ true = grind (arith, c.are_set.ensures, c.if-not-are_set.false) in
+    let quiet : c.args.self.now.telling ≡ false = sym (ap (λ (v : World). v.telling) c.self.view_is) in
     let control : c.self.inside.control ≡ c.args.self.now.control = ap (λ (v : World). v.control) c.self.view_is in
     λ class latency. operation_told class latency c.args.place (act_of c.args.act) c.args.reads.now c.args.self.now c.perform.new.self c.in-Ok.performed
-    c.self.inside.control c.count.result c.count.new.self some set c.in-Ok.ensures control c.count.ensures.done c.count.ensures.state
+    c.self.inside.control c.count.result c.count.new.self quiet some set c.in-Ok.ensures control c.count.ensures.done c.count.ensures.state
 
 pub returns-in-Err-clause-made : goal.returns-in-Err-clause-made
 returns-in-Err-clause-made c =
