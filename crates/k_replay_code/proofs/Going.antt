@@ -10,6 +10,7 @@ use Rattle.k_optab.proofs.Trees.{operations-append}
 use Rattle.k_ending.specs.declared.ending.End.{End}
 use Rattle.k_world.specs.declared.answer.Stop.{Stop}
 use Rattle.k_world.specs.declared.answer.Stop.TheVariants as stop
+use Rattle.k_world.specs.Deeds.{Deed}
 use Rattle.k_world.specs.Worlds.{World}
 use Rattle.k_code.specs.declared.code.Code.{Code}
 use Rattle.k_code.specs.declared.code.CodeFunc.{CodeFunc}
@@ -33,7 +34,7 @@ use Rattle.k_replay_record.specs.Recorded.{IsRecorded, Recorded}
 use Rattle.k_replay_record.specs.Records.{IsRecord}
 use Rattle.k_replay_record.specs.Serial.{serial, serial_bytes, values_with}
 use Rattle.k_replay_recording.specs.Laws.{from_numbers}
-use Rattle.k_replay_code.specs.Performed.{Performed, performed, performed_next}
+use Rattle.k_replay_code.specs.Performed.{performed, performed_next}
 use Rattle.k_replay_code.specs.Recorded.{IsRecordOf, numbers, source_numbers, step_for, step_numbers, value_for}
 use Rattle.k_replay_code.specs.Running.{AreTaped, HasEnded, Setting, Stands, Stepped, left_to_go}
 use Rattle.k_replay_code.specs.Steps.{Advanced, GoesOrEnds, IsTaped}
@@ -68,10 +69,10 @@ source_numbers-append xs ys =
 step_numbers-append : (xs ys : List Step) → step_numbers (xs ++ ys) ≡ step_numbers xs ++ step_numbers ys
 step_numbers-append xs ys = map-append (λ (s : Step). from_numbers s.operands) xs ys
 
-performed_on : (s : Setting) (count : ℕ) (ps : List Performed) → performed_next s.code (run_of s.code s.input s.budget count) ≡ ps
+performed_on : (s : Setting) (count : ℕ) (ps : List Deed) → performed_next s.code (run_of s.code s.input s.budget count) ≡ ps
     → performed s.code s.input s.budget (suc count) ≡ performed s.code s.input s.budget count ++ ps
 unfolding performed
-performed_on s count ps is = ap (λ (more : List Performed). performed s.code s.input s.budget count ++ more) is
+performed_on s count ps is = ap (λ (more : List Deed). performed s.code s.input s.budget count ++ more) is
 
 performed_none : (s : Setting) → performed s.code s.input s.budget 0 ≡ []
 unfolding performed
@@ -135,7 +136,7 @@ module _ (s : Setting) (k : Kept) (r : Recorded) (valid : IsValid s.code) (here 
         ∙ sym (source_numbers-append here.events did.more)
 
     next_taped : AreTaped s (suc here.count) (here.events ++ did.more) r'
-    next_taped = record { taped = subst (λ (ps : List Performed). IsTaped ps r') (sym next_performed) taped; sources = next_sources }
+    next_taped = record { taped = subst (λ (ps : List Deed). IsTaped ps r') (sym next_performed) taped; sources = next_sources }
 
   -- one instruction more
   pub stepped : (end : Option End) (k' : Kept) (r' : Recorded) → Advanced k end k' r r' → Stepped s k end k' r'
@@ -166,7 +167,7 @@ no_values = refl
 
 -- nothing is recorded
 none_taped : (s : Setting) (r : Recorded) → r.steps ≡ [] → IsRecorded r → IsTaped (performed s.code s.input s.budget 0) r
-none_taped s r none fits = subst (λ (ps : List Performed). IsTaped ps r) (sym (performed_none s)) (record {
+none_taped s r none fits = subst (λ (ps : List Deed). IsTaped ps r) (sym (performed_none s)) (record {
   steps = none;
   values = ap serial none ∙ no_values;
   fits = fits;

@@ -17,6 +17,7 @@ use Rattle.k_world.specs.declared.answer.Stop.TheVariants as stop
 use Rattle.k_world.specs.declared.value.Held.{Held}
 use Rattle.k_world.specs.declared.value.Read.{Read}
 use Rattle.k_world.specs.Acts.{hidden}
+use Rattle.k_world.specs.Deeds.{Deed}
 use Rattle.k_world.specs.Operands.{are_set, is_set, sources, values_of}
 use Rattle.k_world.specs.Worlds.{World}
 use Rattle.k_code.specs.declared.code.CodeFunc.{CodeFunc}
@@ -33,7 +34,7 @@ use Rattle.k_hcpa_store.specs.declared.answer.Calling.TheVariants as calling
 use Rattle.k_hcpa_store.specs.Kept.{Kept, configuration_of}
 use Rattle.k_hcpa_store.specs.Leads.{Calls, EndsHere, GoesAlone, GoesOn, IsNext, Leaves, alone_events, call_event, event_told, goes_alone, may_leave, moved_events, return_events}
 use Rattle.k_replay_record.specs.Recorded.{Recorded}
-use Rattle.k_replay_code.specs.Performed.{Performed, performed_by, performed_next}
+use Rattle.k_replay_code.specs.Performed.{performed_by, performed_next}
 use Rattle.k_replay_code.specs.Recorded.{numbers, source_numbers, step_for, step_numbers}
 use Rattle.k_replay_code.specs.Steps.{Adds, Advanced, GoesOrEnds, IsPerformed, called_by, held_alone, moved_by, moved_of}
 use Rattle.k_replay_code.proofs.Adding.{adds_none}
@@ -122,7 +123,7 @@ module _ (s : Kept) (i : Instr) (next : IsNext s i) (func : ℕ) (args : List Ar
   makes : operation_of i.act ≡ Some (class.Call, does.Call)
   makes = ap operation_of is ∙ call_makes func args to
 
-  abbrev pub it : Performed
+  abbrev pub it : Deed
   it = called_by (reads_of (configuration_of s) i.act) (configuration_of s).world.control
 
   it_sourced : step_numbers (map step_for (it ∷ [])) ≡ numbers (sources (reads_of (configuration_of s) i.act) None (configuration_of s).world.control) ∷ []

@@ -3,3 +3,4 @@ pub mod Made
 pub mod Making
 pub mod Leaving
 pub mod Going
+pub mod Deeds

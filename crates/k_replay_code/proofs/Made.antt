@@ -15,6 +15,7 @@ use Rattle.k_world.specs.declared.value.Held.{Held}
 use Rattle.k_world.specs.declared.value.Read.{Read}
 use Rattle.k_world.specs.declared.value.Value.{Value}
 use Rattle.k_world.specs.Acts.{effect, hidden, work}
+use Rattle.k_world.specs.Deeds.{Deed}
 use Rattle.k_world.specs.Operands.{are_set, is_set, value_before, values_of}
 use Rattle.k_world.specs.Operations.{Made, Gives, Ends, acted, counted, event_of, operation}
 use Rattle.k_world.specs.Worlds.{World}
@@ -28,7 +29,7 @@ use Rattle.k_code.specs.Runs.{world_of}
 use Rattle.k_code.specs.Steps.{Configuration, Run, Going, Over, by_operation, operation_of, reads_of, step}
 use Rattle.k_code.proofs.Growing.{Grows, behind_grows}
 use Rattle.k_hcpa_store.proofs.Stepping.{step_by}
-use Rattle.k_replay_code.specs.Performed.{Performed, if_made, performed_at, performed_by, performed_next}
+use Rattle.k_replay_code.specs.Performed.{if_made, performed_at, performed_by, performed_next}
 use Rattle.k_replay_code.specs.Steps.{called_by, moved_by}
 
 -- what an operation leaves behind an event; where it ends the run, nothing has changed

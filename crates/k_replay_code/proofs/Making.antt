@@ -15,6 +15,7 @@ use Rattle.k_world.specs.declared.answer.Stop.TheVariants as stop
 use Rattle.k_world.specs.declared.value.Held.{Held}
 use Rattle.k_world.specs.declared.value.Read.{Read}
 use Rattle.k_world.specs.Acts.{hidden}
+use Rattle.k_world.specs.Deeds.{Deed}
 use Rattle.k_world.specs.Operands.{source_before, source_in, sources, sources_before, values_of}
 use Rattle.k_world.specs.Operations.{Made, Gives, Ends, event_of, operation}
 use Rattle.k_world.specs.Worlds.{World}
@@ -30,14 +31,14 @@ use Rattle.k_replay_record.specs.declared.record.Step.{Step}
 use Rattle.k_replay_record.specs.Recorded.{Recorded}
 use Rattle.k_replay_recording.specs.Laws.{from_numbers}
 use Rattle.k_replay_recording.proofs.Sourced.{steps_have_sources}
-use Rattle.k_replay_code.specs.Performed.{Performed, if_made, performed_next}
+use Rattle.k_replay_code.specs.Performed.{if_made, performed_next}
 use Rattle.k_replay_code.specs.Recorded.{numbers, source_numbers, step_for, step_numbers}
 use Rattle.k_replay_code.specs.Steps.{Adds, Advanced, IsPerformed}
 use Rattle.k_replay_code.proofs.Adding.{adds_none}
 use Rattle.k_replay_code.proofs.Made.{LeavesBehind, next_ended, next_made, operation_leaves}
 
 -- the step of an operation comes from the operation's sources
-pub sourced : (p : Performed) (w : World) → p.hidden ≡ hidden p.what (values_of p.reads) w
+pub sourced : (p : Deed) (w : World) → p.hidden ≡ hidden p.what (values_of p.reads) w
     → step_numbers (map step_for (p ∷ [])) ≡ numbers (sources p.reads p.hidden p.control) ∷ []
 sourced p w is = ap (λ (ns : List ℕ). ns ∷ [])
     (subst (λ (h : Option ℕ). from_numbers (step_for (record p { hidden = h })).operands ≡ numbers (sources p.reads h p.control)) (sym is)
@@ -114,7 +115,7 @@ the_some None is = absurd (cc is)
 the_some (Some x) is = (x, refl)
 
 -- the operation that was made
-abbrev pub made_by : Kept → Instr → Class × Act → Done → Performed
+abbrev pub made_by : Kept → Instr → Class × Act → Done → Deed
 made_by s i o done = record { what = o.1; reads = reads_of (configuration_of s) i.act; hidden = done.hidden; control = done.control; value = done.held.value }
 
 module _ (s : Kept) (i : Instr) (next : IsNext s i) (o : Class × Act) (is : goes_by i.act ≡ Some o) where

@@ -7,6 +7,7 @@ use Rattle.k_optab.specs.Events.{Operation, operations}
 use Rattle.k_world.specs.declared.act.Act.{Act}
 use Rattle.k_world.specs.declared.act.Act.TheVariants as does
 use Rattle.k_world.specs.declared.value.Value.{Value}
+use Rattle.k_world.specs.Deeds.{Deed}
 use Rattle.k_world.specs.Worlds.{World}
 use Rattle.k_code.specs.declared.code.Code.{Code}
 use Rattle.k_code.specs.Runs.{EndsAfter}
@@ -18,10 +19,10 @@ use Rattle.k_replay_record.specs.Records.{IsRecord}
 use Rattle.k_replay_record.specs.Serial.{serial, serial_bytes}
 use Rattle.k_replay_recording.specs.Laws.{from_numbers}
 use Rattle.k_replay_recording.specs.Steps.{datum_of, step_of}
-use Rattle.k_replay_code.specs.Performed.{Performed, performed}
+use Rattle.k_replay_code.specs.Performed.{performed}
 
 -- the step of an operation
-abbrev pub step_for : Performed → Step
+abbrev pub step_for : Deed → Step
 step_for p = step_of p.what p.reads p.hidden p.control p.value
 
 -- the value that a record has of an operation: a call gives none
@@ -30,7 +31,7 @@ recorded_value does.Call v = datum.Nothing
 recorded_value what v = datum_of v
 
 -- the value that a record has of an operation that was performed
-abbrev pub value_for : Performed → Datum
+abbrev pub value_for : Deed → Datum
 value_for p = recorded_value p.what p.value
 
 -- the numbers of sources, broken ones too, in order

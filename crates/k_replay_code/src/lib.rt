@@ -3,6 +3,7 @@
 
 mod advance;
 mod kind;
+pub mod laws;
 mod program;
 mod running;
 mod tape;

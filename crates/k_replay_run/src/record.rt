@@ -16,9 +16,9 @@ use k_replay_record::Record;
 use k_types_meaning::TUnit;
 use std::alloc::Global;
 
-/// The record of the run of a typed source with its marks, on an input, in which at most `budget` operations are made. The steps have the acts, the
-/// operands and the values of the operations that the source's flat code makes. Where a source is accepted as this program, the operations with their sources,
-/// the output and the end are those of its run. Where none is, want of memory may be answered.
+/// The record of the run of a typed source with its marks, on an input, in which at most `budget` operations are made. Where a source is accepted as this
+/// program, the steps have the acts, the operands and the values of the operations of its run, in order, and the output and the end are the run's. Where none
+/// is, they have those of the operations that the source's flat code makes, and want of memory may be answered.
 pub fn record_run(
     alloc: Global,
     unit: &TUnit,
