@@ -5,6 +5,7 @@ pub mod Empty
 pub mod Filling
 pub mod Growing
 pub mod Held
+pub mod Listed
 pub mod Moving
 pub mod Now
 pub mod Pieces

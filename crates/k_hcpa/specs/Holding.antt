@@ -1,13 +1,14 @@
 -- For contracts between crates: nobody has to believe it.
 -- What a machine keeps, and where in a run it stands by that.
-use Rattle.std.specs.Prelude.{ℕ, ◌≡◌, Bool, true, false, List, [], Option, Some, None}
+use Rattle.std.specs.Prelude.{ℕ, ◌≡◌, Bool, true, false, List, [], map, Option, Some, None}
+use Rattle.std.specs.List.{range_with_len}
 use Rattle.k_ending.specs.declared.ending.End.{End}
 use Rattle.k_ending.specs.declared.ending.End.TheVariants.{Returned}
 use Rattle.k_world.specs.Worlds.{World}
 use Rattle.k_code.specs.Runs.{start}
 use Rattle.k_code.specs.Steps.{Over}
 use Rattle.k_dict.specs.declared.entry.Entry.{Entry}
-use Rattle.k_hcpa_meaning.specs.Summing.{Summing}
+use Rattle.k_hcpa_meaning.specs.Summing.{Summing, nothing_entered}
 use Rattle.k_hcpa_standing.specs.Standing.{IsSetting, Setting}
 use Rattle.k_hcpa_store.specs.Kept.{configuration_of}
 use Rattle.k_hcpa_times.specs.Seen.{Seen}
@@ -17,16 +18,57 @@ use Rattle.k_hcpa_steps.specs.declared.turn.Turn.TheVariants as turn
 use Rattle.k_hcpa_steps.specs.Keeping.{Keeping, StandsAt, StopsAt, keeping}
 use Rattle.k_hcpa.specs.declared.profile.Summary.{Summary}
 use Rattle.k_hcpa.specs.declared.profile.Summary.TheVariants as summary
-use Rattle.k_hcpa.specs.Machines.{Moment}
+use Rattle.k_hcpa.specs.Machines.{KeptTimes, Moment}
 
 -- the output that waits to be taken
 abbrev pub pending_in : {T : Type 0} → Option (Parts T) → List ℕ
 pending_in None = []
 pending_in (Some p) = let w : World = (configuration_of p.store).world in w.output
 
+-- the times of each location below a limit, for each level one
+unfoldable pub listed : ℕ → List (ℕ → ℕ) → List (List ℕ)
+listed limit levels = map (λ (times : ℕ → ℕ). map times (range_with_len 0 limit)) levels
+
+-- the times of all locations, but for those of the operation that is being made
+abbrev pub times_of : Seen → KeptTimes
+times_of s = record {
+  registers = listed s.registers s.timing.registers;
+  elements = listed s.elements s.timing.elements;
+  in_cell = s.timing.in_cell;
+  out_cell = s.timing.out_cell;
+  control = s.timing.control;
+  saved = s.timing.saved;
+}
+
+-- no level is live
+abbrev pub no_times : KeptTimes
+no_times = record { registers = []; elements = []; in_cell = []; out_cell = []; control = []; saved = [] }
+
+-- the times of the parts
+abbrev pub times_in : {T : Type 0} → (T → Seen) → Option (Parts T) → KeptTimes
+times_in seen None = no_times
+times_in seen (Some p) = times_of (seen p.times)
+
+-- their paths
+abbrev pub paths_in : {T : Type 0} → (T → Seen) → Option (Parts T) → List ℕ
+paths_in seen None = []
+paths_in seen (Some p) = (seen p.times).timing.paths
+
+-- their summaries
+abbrev pub summing_in : {T : Type 0} → Option (Parts T) → Summing
+summing_in None = nothing_entered
+summing_in (Some p) = p.summaries
+
 -- where a machine is that has this
-abbrev pub moment_of : {T : Type 0} → Setting → ℕ → Option (Parts T) → Moment
-moment_of s count parts = record { setting = s; count = count; pending = pending_in parts }
+abbrev pub moment_of : {T : Type 0} → (T → Seen) → Setting → ℕ → Option (Parts T) → Moment
+moment_of seen s count parts = record {
+  setting = s;
+  count = count;
+  pending = pending_in parts;
+  times = times_in seen parts;
+  paths = paths_in seen parts;
+  summing = summing_in parts;
+}
 
 -- what the parts keep
 abbrev pub kept_by : {T : Type 0} → (T → Seen) → Parts T → Keeping
