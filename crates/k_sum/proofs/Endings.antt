@@ -1,5 +1,5 @@
 -- How many runs of two sums together ended with a value.
-use Rattle.std.proofs.Common.{◌≡◌, ℕ, ℤ, ◌+◌, Bool, true, false, List, [], ◌∷◌, refl, sym, ap, ◌∙◌, subst, arith, int_lt, if◌then◌else◌}
+use Rattle.std.proofs.Common.{◌≡◌, ℕ, ℤ, ◌+◌, Bool, true, false, List, [], ◌∷◌, refl, sym, ap, subst, arith, int_lt, if◌then◌else◌}
 use Rattle.std.specs.Ordering.{int_eq, is_eq}
 use Rattle.std.proofs.lemmas.Bool.Decides.{Decides-int_eq}
 use Rattle.k_sum.specs.Exits.{counted, with_exits}

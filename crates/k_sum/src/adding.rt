@@ -1,6 +1,6 @@
 //! Runs put together with others.
 ghost use Rattle.std.specs.Prelude.{◌≡◌, ◌+◌, ◌^◌, ◌<◌, [], length, IsTrue, ◌↔◌, IfOk, OnOk};
-ghost use Rattle.k_dict.specs.Entries.{NameBelow};
+ghost use Rattle.k_dict.specs.Entries.{AreInterned, NameBelow};
 ghost use Rattle.k_dict.specs.Tallies.{total};
 ghost use Rattle.k_dict_saved.specs.Migration.{renumbered};
 ghost use Rattle.k_sum.specs.Joining.{counted_all};
@@ -101,7 +101,9 @@ fn join(
 ) -> Result<(Seq<Exit>, Seq<Run>), DictFault>
     requires more { HasBounds other.now }
     requires can { CanJoin exits.now roots.now other.now }
-    ensures { Joins dict.old exits.now roots.now other.now result dict.new }
+    requires interned { AreInterned dict.old }
+    ensures joins { Joins dict.old exits.now roots.now other.now result dict.new }
+    ensures interned { AreInterned dict.new }
 {
     let numbers = add_entries(alloc, dict, other.dict.entries())?;
     let Ok(all_exits) = join_exits(alloc, exits, other.exits.as_slice()) else {
@@ -118,15 +120,16 @@ impl Sum {
     pub fn add(&mut self, alloc: Global, other: &Sum) -> Result<(), SumFault>
         requires bounds { HasBounds self.old }
         requires more { HasBounds other.now }
-        ensures { AddsTo self.old other.now result self.new }
+        ensures adds { AddsTo self.old other.now result self.new }
+        ensures interned { AreInterned self.new.dict }
     {
+        let keep = self.dict.len();
         if !are_same(self.regions.as_slice(), other.regions.as_slice()) {
             return Err(SumFault::Other);
         }
         if is_large(self, other) {
             return Err(SumFault::Large);
         }
-        let keep = self.dict.len();
         match join(
             alloc,
             &mut self.dict,

@@ -1,6 +1,6 @@
 //! The entries of one dictionary, added to those of another.
 ghost use Rattle.std.specs.Prelude.{◌≡◌, ◌+◌, ◌^◌, ◌<◌, [], length, slice_index_or, IfOk, OnOk};
-ghost use Rattle.k_dict.specs.Entries.{NameBelow, NameEarlier};
+ghost use Rattle.k_dict.specs.Entries.{AreInterned, NameBelow, NameEarlier};
 ghost use Rattle.k_dict.specs.Tallies.{total};
 ghost use Rattle.k_dict_saved.specs.Migration.{HaveFewChildren, renumbered, renumbered_entry};
 ghost use Rattle.k_sum.specs.Joining.{AreKnown, JoinsAll, JoinsOne, counted_all};
@@ -74,7 +74,9 @@ fn add_entry(
     requires below { NameBelow (length numbers.now) entry.now.runs }
     requires few { total entry.now.runs < 2 ^ 64 }
     requires known { AreKnown (length dict.old) numbers.now }
-    ensures { JoinsOne dict.old numbers.now entry.now result dict.new }
+    requires interned { AreInterned dict.old }
+    ensures joins { JoinsOne dict.old numbers.now entry.now result dict.new }
+    ensures interned { AreInterned dict.new }
 {
     match renumber(alloc, numbers, entry) {
         Ok(renumbered) => dict.intern(renumbered),
@@ -90,7 +92,9 @@ pub(crate) fn add_entries(
 ) -> Result<Seq<u32>, DictFault>
     requires earlier { NameEarlier entries.now }
     requires few { HaveFewChildren entries.now }
-    ensures { JoinsAll dict.old entries.now result dict.new }
+    requires interned { AreInterned dict.old }
+    ensures joins { JoinsAll dict.old entries.now result dict.new }
+    ensures interned { AreInterned dict.new }
 {
     let mut numbers: Seq<u32> = Seq::new(alloc);
     let mut rest = entries;

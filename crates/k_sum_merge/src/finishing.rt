@@ -1,5 +1,5 @@
 //! A sum as its file has it.
-ghost use Rattle.std.specs.Prelude.{◌<◌, ◌⊎◌, ◌↔◌, IsTrue, IfOk, Ok};
+ghost use Rattle.std.specs.Prelude.{◌<◌, ◌⊎◌, ◌↔◌, IsTrue, IfOk};
 ghost use Rattle.k_sum_merge.specs.Merges.{Finishes, IsPast};
 ghost use Rattle.k_sum_saved.specs.Merged.{IsMerged};
 ghost use Rattle.k_sum_saved.specs.SumLines.{AreOfOneRegion};
@@ -43,15 +43,16 @@ fn is_past(alloc: Global, sum: &Sum) -> Result<bool, NoMemory>
 }
 
 /// The sum in order, where its roots are of one region and its runs are within the limits of a file.
-fn order(alloc: Global, sum: Sum) -> Result<Sum, DictFault>
+fn order(alloc: Global, sum: Sum) -> Result<Sum, SumFault>
     requires merged { IsMerged sum }
     requires one { AreOfOneRegion sum.dict sum.roots }
     requires within { ¬ IsPast sum }
-    ensures { IfOk result (λ ordered. Finishes sum (Ok ordered)) }
+    ensures { Finishes sum result }
 {
-    let ordered = in_order(alloc, sum)?;
-    let _count = ordered.dict.len();
-    Ok(ordered)
+    match in_order(alloc, sum) {
+        Ok(ordered) => Ok(ordered),
+        Err(fault) => Err(SumFault::Dict(fault)),
+    }
 }
 
 /// The sum with its entries in order, which can be saved. A refusal tells that its roots are not of one region that is main, that
@@ -73,9 +74,6 @@ pub fn finish(alloc: Global, sum: Sum) -> Result<Sum, SumFault>
             drop(sum);
             Err(SumFault::Large)
         }
-        Ok(false) => match order(alloc, sum) {
-            Ok(ordered) => Ok(ordered),
-            Err(fault) => Err(SumFault::Dict(fault)),
-        },
+        Ok(false) => order(alloc, sum),
     }
 }

@@ -1,4 +1,5 @@
 //! Files, put together one after the other.
+ghost use Rattle.k_dict.specs.Entries.{AreInterned};
 ghost use Rattle.k_sum.specs.Sums.{AddsTo};
 ghost use Rattle.k_sum_saved.specs.Merged.{IsMerged};
 
@@ -11,6 +12,7 @@ pub fn merge(alloc: Global, all: &mut Sum, more: &Sum) -> Result<(), SumFault>
     requires more { IsMerged more.now }
     ensures adds { AddsTo all.old more.now result all.new }
     ensures merged { IsMerged all.new }
+    ensures interned { AreInterned all.new.dict }
 {
     all.add(alloc, more)
 }

@@ -12,7 +12,7 @@ use Rattle.std.specs.List.Sorted.{IsSortedBy}
 use Rattle.std.specs.Ordering.{is_lt, nat_cmp, ordering_then}
 use Rattle.std.specs.declared.cmp.Ordering.{Ordering as Order}
 use Rattle.std.specs.declared.cmp.Ordering.TheVariants.{Less, Equal, Greater}
-use Rattle.k_dict.specs.Entries.{AreApart, AreRuns, NameBelow, NameEarlier}
+use Rattle.k_dict.specs.Entries.{AreApart, AreDistinct, AreRuns, NameBelow, NameEarlier}
 use Rattle.k_dict.specs.Gathering.{number_of, with_entry}
 use Rattle.k_dict.specs.Interning.{HasNumber}
 use Rattle.k_dict.specs.Rules.{entry_of}
@@ -22,6 +22,7 @@ use Rattle.k_dict.specs.declared.entry.Run.{Run}
 use Rattle.k_dict.proofs.EntryTrees.{below_bound}
 use Rattle.k_dict.proofs.Numbers.{IsAbsent, not_contained, number_absent, number_found, with_absent, with_there}
 use Rattle.k_dict.proofs.Places.{place_behind}
+use Rattle.k_dict.proofs.Pushes.{none_interned}
 use Rattle.k_dict.proofs.Sound.{AreRuns-wider}
 use Rattle.k_dict_saved.specs.Migration.{HaveFewChildren, renumbered, renumbered_entry}
 use Rattle.k_sum.specs.Exits.{total as ends_total}
@@ -75,6 +76,10 @@ placed_is entries numbers old new n found e d same is has apart =
     let dict : new ≡ with_entry old (entry_with entries numbers n) = both.0 ∙ ap (with_entry old) renumbered' in
     let number : found ≡ number_of old (entry_with entries numbers n) = both.1 ∙ ap (number_of old) renumbered' in
     λ i. record { dict = dict i; numbers = set numbers n (number i) }
+
+-- no entries are those of a table
+pub none_distinct : (entries : List Entry) → entries ≡ [] → AreDistinct entries
+none_distinct entries none = let are = none_interned entries none in record { few = are.few; few_runs = are.few_runs; apart = are.apart }
 
 -- ---- sorting
 

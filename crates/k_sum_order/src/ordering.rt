@@ -1,6 +1,6 @@
 //! The entries of a sum in order.
 ghost use Rattle.std.specs.Prelude.{ℕ, ◌≡◌, ◌^◌, ◌<◌, [], length, slice_index_or, IfOk, OnOk};
-ghost use Rattle.k_dict.specs.Entries.{AreInterned, NameBelow};
+ghost use Rattle.k_dict.specs.Entries.{AreDistinct, AreInterned, NameBelow};
 ghost use Rattle.k_dict.specs.Tallies.{total};
 ghost use Rattle.k_dict_saved.specs.Migration.{HaveFewChildren};
 ghost use Rattle.k_dict_saved.specs.Migration as spec;
@@ -40,7 +40,8 @@ fn order_levels(
     requires levels { AreLevels entries.now levels.now }
     requires count { length numbers.old ≡ length entries.now }
     requires none { table.old ≡ [] }
-    ensures { OnOk result (AreOrdered entries.now numbers.new table.new) }
+    ensures ordered { OnOk result (AreOrdered entries.now numbers.new table.new) }
+    ensures distinct { AreDistinct table.new }
 {
     for level in 0..end_of(levels) {
         order_level(alloc, entries, levels, level, numbers, table)?;
@@ -52,7 +53,8 @@ fn order_levels(
 fn order(alloc: Global, entries: &[Entry]) -> Result<(Dict, Vec<u32>), DictFault>
     requires interned { AreInterned entries.now }
     requires few { HaveFewChildren entries.now }
-    ensures { IfOk result (λ found. AreOrdered entries.now found.1.items found.0) }
+    ensures ordered { IfOk result (λ found. AreOrdered entries.now found.1.items found.0) }
+    ensures interned { IfOk result (λ found. AreInterned found.0) }
 {
     let Ok(levels) = levels_of(alloc, entries) else {
         return Err(DictFault::Memory);
@@ -81,7 +83,8 @@ fn order_roots(alloc: Global, numbers: &[u32], roots: &[Run]) -> Result<Seq<Run>
 /// The dictionary and the roots of a sum in order.
 fn ordered_parts(alloc: Global, sum: &Sum) -> Result<(Dict, Seq<Run>), DictFault>
     requires { HasBounds sum.now }
-    ensures { IfOk result (λ found. HasParts sum.now found.0 found.1) }
+    ensures parts { IfOk result (λ found. HasParts sum.now found.0 found.1) }
+    ensures interned { IfOk result (λ found. AreInterned found.0) }
 {
     let (dict, numbers) = order(alloc, sum.dict.entries())?;
     match order_roots(alloc, numbers.as_slice(), sum.roots.as_slice()) {
@@ -98,6 +101,7 @@ pub fn in_order(alloc: Global, sum: Sum) -> Result<Sum, DictFault>
     requires { HasBounds sum }
     ensures ordered { IfOk result (IsOrdered sum) }
     ensures bounds { IfOk result HasBounds }
+    ensures interned { IfOk result (λ ordered. AreInterned ordered.dict) }
 {
     let (dict, roots) = ordered_parts(alloc, &sum)?;
     let Sum {

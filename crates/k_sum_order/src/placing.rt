@@ -1,6 +1,6 @@
 //! Entries, added to those that are in order.
 ghost use Rattle.std.specs.Prelude.{◌≡◌, ◌<◌, ◌≤◌, All, length, map, OnOk};
-ghost use Rattle.k_dict.specs.Entries.{NameEarlier};
+ghost use Rattle.k_dict.specs.Entries.{AreDistinct, NameEarlier};
 ghost use Rattle.k_dict_saved.specs.Migration.{HaveFewChildren};
 ghost use Rattle.k_sum_order.specs.Placing.{AreLevels, OrdersLevel, placed, placed_all};
 
@@ -22,7 +22,9 @@ fn place(
     requires few { HaveFewChildren entries.now }
     requires count { length numbers.old ≡ length entries.now }
     requires within { number < length entries.now }
-    ensures { OnOk result (record { dict = table.new; numbers = numbers.new } ≡ placed entries.now (record { dict = table.old; numbers = numbers.old }) number) }
+    requires distinct { AreDistinct table.old }
+    ensures placed { OnOk result (record { dict = table.new; numbers = numbers.new } ≡ placed entries.now (record { dict = table.old; numbers = numbers.old }) number) }
+    ensures distinct { AreDistinct table.new }
 {
     let entry = &entries[number as usize];
     match renumber(alloc, numbers, entry) {
@@ -47,7 +49,9 @@ fn place_all(
     requires few { HaveFewChildren entries.now }
     requires count { length numbers.old ≡ length entries.now }
     requires within { All (λ r. r.number < length entries.now) batch.now }
-    ensures { OnOk result (record { dict = table.new; numbers = numbers.new } ≡ placed_all entries.now (record { dict = table.old; numbers = numbers.old }) (map (λ r. r.number) batch.now)) }
+    requires distinct { AreDistinct table.old }
+    ensures placed { OnOk result (record { dict = table.new; numbers = numbers.new } ≡ placed_all entries.now (record { dict = table.old; numbers = numbers.old }) (map (λ r. r.number) batch.now)) }
+    ensures distinct { AreDistinct table.new }
 {
     let mut rest = batch;
     while let Some((ranked, later)) = rest.split_first() {
@@ -71,7 +75,9 @@ pub(crate) fn order_level(
     requires short { length entries.now ≤ 1048576 }
     requires levels { AreLevels entries.now levels.now }
     requires count { length numbers.old ≡ length entries.now }
-    ensures { OnOk result (OrdersLevel entries.now levels.now level (record { dict = table.old; numbers = numbers.old }) (record { dict = table.new; numbers = numbers.new })) }
+    requires distinct { AreDistinct table.old }
+    ensures orders { OnOk result (OrdersLevel entries.now levels.now level (record { dict = table.old; numbers = numbers.old }) (record { dict = table.new; numbers = numbers.new })) }
+    ensures distinct { AreDistinct table.new }
 {
     let Ok(mut batch) = entries_of(alloc, entries, levels, numbers, level) else {
         return Err(DictFault::Memory);

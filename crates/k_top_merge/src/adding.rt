@@ -30,9 +30,7 @@ fn add(alloc: Global, sum: &mut Sum, other: &Sum) -> Result<(), SumFault>
     ensures adds { AddsOnce result sum.old other.now sum.new }
     ensures merged { IsMerged sum.new }
 {
-    let result = merge(alloc, sum, other);
-    let _entries = sum.dict.len();
-    result
+    merge(alloc, sum, other)
 }
 
 /// Puts the runs of a sum, of a file of this name, to those of another so many times.

@@ -9,5 +9,5 @@ join_roots-requires-clause-below c =
     let P : ℕ → Type 0 = λ n. NameBelow n c.args.other.now.roots in
     let Q : List Run → Type 0 = NameBelow (length c.as_slice-2.result.now) in
     subst Q (sym c.as_slice-3.ensures)
-    (subst P (sym (ap length c.as_slice-2.ensures ∙ c.in_ok-numbers.ensures.2 ∙ ap length c.entries.ensures.value))
+    (subst P (sym (ap length c.as_slice-2.ensures ∙ c.in_ok-numbers.ensures.joins.2 ∙ ap length c.entries.ensures.value))
     (below_bound 0 (length c.args.other.now.dict) c.args.other.now.roots c.requires.more.roots))

@@ -9,28 +9,31 @@ add_entry-requires-clause-below c =
     let P : List ℕ → Type 0 = λ l. NameBelow (length l) c.in-Some.entry.now.runs in
     subst P (sym c.as_slice.ensures)
     (next_below c.args.dict.now c.args.entries.now c.loop-entry.rest.now c.in-Some.later.now c.loop-entry.dict c.loop-entry.numbers c.in-Some.entry.now
-    c.loop-entry.invariant c.in-Some.ensures.cases.0 c.requires.earlier)
+    c.loop-entry.invariant.joining c.in-Some.ensures.cases.0 c.requires.earlier)
 
 pub add_entry-requires-clause-few : goal.add_entry-requires-clause-few
 add_entry-requires-clause-few c =
     next_few c.args.dict.now c.args.entries.now c.loop-entry.rest.now c.in-Some.later.now c.loop-entry.dict c.loop-entry.numbers c.in-Some.entry.now
-    c.loop-entry.invariant c.in-Some.ensures.cases.0 c.requires.few
+    c.loop-entry.invariant.joining c.in-Some.ensures.cases.0 c.requires.few
 
-pub returns-in-Err : goal.returns-in-Err
-returns-in-Err c =
+pub returns-in-Err-clause-joins : goal.returns-in-Err-clause-joins
+returns-in-Err-clause-joins c =
     let P : List ℕ → Type 0 = λ l. JoinsOne c.loop-entry.dict l c.in-Some.entry.now (Err c.in-Err.fault) c.add_entry.new.dict in
     joining_refused c.args.dict.now c.args.entries.now c.loop-entry.rest.now c.in-Some.later.now c.loop-entry.dict c.loop-entry.numbers c.in-Some.entry.now
-    c.loop-entry.invariant c.in-Some.ensures.cases.0 c.in-Err.fault c.add_entry.new.dict (subst P c.as_slice.ensures c.in-Err.ensures)
+    c.loop-entry.invariant.joining c.in-Some.ensures.cases.0 c.in-Err.fault c.add_entry.new.dict (subst P c.as_slice.ensures c.in-Err.ensures.joins)
 
-pub returns-in-Err-push : goal.returns-in-Err-push
-returns-in-Err-push c =
+pub returns-in-Err-push-clause-joins : goal.returns-in-Err-push-clause-joins
+returns-in-Err-push-clause-joins c =
     let P : List ℕ → Type 0 = λ l. JoinsOne c.loop-entry.dict l c.in-Some.entry.now (Ok c.in-Ok.number) c.add_entry.new.dict in
     goes_on_unpushed c.args.dict.now c.args.entries.now c.loop-entry.rest.now c.in-Some.later.now c.loop-entry.dict c.loop-entry.numbers c.in-Some.entry.now
-    c.loop-entry.invariant c.in-Some.ensures.cases.0 c.add_entry.new.dict c.in-Ok.number (subst P c.as_slice.ensures c.in-Ok.ensures)
+    c.loop-entry.invariant.joining c.in-Some.ensures.cases.0 c.add_entry.new.dict c.in-Ok.number (subst P c.as_slice.ensures c.in-Ok.ensures.joins)
 
 pub loop-entry-preserved : goal.loop-entry-preserved
 loop-entry-preserved c =
     let P : List ℕ → Type 0 = λ l. JoinsOne c.loop-entry.dict l c.in-Some.entry.now (Ok c.in-Ok.number) c.add_entry.new.dict in
-    joining_more c.args.dict.now c.args.entries.now c.loop-entry.rest.now c.in-Some.later.now c.loop-entry.dict c.loop-entry.numbers c.in-Some.entry.now
-    c.loop-entry.invariant c.in-Some.ensures.cases.0 c.add_entry.new.dict c.in-Ok.number c.push.new.self (subst P c.as_slice.ensures c.in-Ok.ensures)
-    c.in_default-push.ensures.ok
+    record {
+      joining = joining_more c.args.dict.now c.args.entries.now c.loop-entry.rest.now c.in-Some.later.now c.loop-entry.dict c.loop-entry.numbers
+          c.in-Some.entry.now c.loop-entry.invariant.joining c.in-Some.ensures.cases.0 c.add_entry.new.dict c.in-Ok.number c.push.new.self
+          (subst P c.as_slice.ensures c.in-Ok.ensures.joins) c.in_default-push.ensures.ok;
+      interned = c.in-Ok.ensures.interned;
+    }

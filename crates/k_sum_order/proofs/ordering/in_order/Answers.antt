@@ -14,5 +14,5 @@ returns-clause-bounds c =
       dict = c.in_ok-dict.dict;
       roots = c.in_ok-dict.roots;
     } in
-    let parts = c.in_ok-dict.ensures in
+    let parts = c.in_ok-dict.ensures.parts in
     bounds_stay c.args.sum ordered parts.0 c.requires parts.3 parts.1 parts.2 refl refl refl refl

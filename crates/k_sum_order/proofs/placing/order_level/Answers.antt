@@ -12,11 +12,11 @@ place_all-requires-clause-within c =
     let P : List Ranked → Type 0 = All (λ (r : Ranked). r.number < length c.args.entries.now) in
     subst P (sym c.as_slice.ensures.value) (λ k d less. (are.each k d less).0)
 
-pub returns : goal.returns
-returns c =
+pub returns-clause-orders : goal.returns-clause-orders
+returns-clause-orders c =
     let are = ranked_sorted c.args.entries.now c.args.levels.now c.args.numbers.now c.args.level (length c.args.entries.now) c.in-Ok.batch.items c.sort.new.batch.items c.in-Ok.ensures
     c.in_default-sort.ensures.permutation in
     let old : Ordering = record { dict = c.args.table.now; numbers = c.args.numbers.now } in
     on_ok_weaker c.place_all.result
     (λ whole. (c.sort.new.batch.items, are, c.in_default-sort.ensures.sorted, whole ∙ ap (λ (l : List Ranked). placed_all c.args.entries.now old (numbers_of l)) c.as_slice.ensures.value))
-    c.place_all.ensures
+    c.place_all.ensures.placed

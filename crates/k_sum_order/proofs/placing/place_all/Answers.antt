@@ -11,8 +11,9 @@ loop-ranked-preserved c =
     let rest : c.loop-ranked.rest.now ≡ c.in-Some.ranked.now ∷ c.in-Some.later.now = c.in-Some.ensures.cases.0 in
     let P : List Ranked → Type 0 = All (λ (r : Ranked). r.number < length c.args.entries.now) in
     record {
-      whole = ap (λ (o : Ordering). placed_all c.args.entries.now o (numbers_of c.in-Some.later.now)) c.in_ok-place.ensures
+      whole = ap (λ (o : Ordering). placed_all c.args.entries.now o (numbers_of c.in-Some.later.now)) c.in_ok-place.ensures.placed
           ∙ sym (ap (λ (l : List Ranked). placed_all c.args.entries.now before (numbers_of l)) rest) ∙ c.loop-ranked.invariant.whole;
       count = c.place.auto.numbers ∙ c.loop-ranked.invariant.count;
       within = All-tail (λ (r : Ranked). r.number < length c.args.entries.now) c.in-Some.ranked.now c.in-Some.later.now (subst P rest c.loop-ranked.invariant.within);
+      distinct = c.in_ok-place.ensures.distinct;
     }

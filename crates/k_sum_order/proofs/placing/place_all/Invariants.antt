@@ -1,4 +1,5 @@
 use Rattle.std.proofs.Common.{◌≡◌, ◌<◌, All, length}
+use Rattle.k_dict.specs.Entries.{AreDistinct}
 use Rattle.k_sum_order.specs.Placing.{placed_all}
 use Rattle.k_sum_order.specs.declared.batch.Ranked.{Ranked}
 use Rattle.k_sum_order.proofs.Batches.{numbers_of}
@@ -10,6 +11,7 @@ invariant-loop-ranked l = record {
       ≡ placed_all l.entries (record { dict = l.fn.table; numbers = l.fn.numbers }) (numbers_of l.batch);
   count : length l.numbers ≡ length l.entries;
   within : All (λ (r : Ranked). r.number < length l.entries) l.rest;
+  distinct : AreDistinct l.table;
 }
 
 abbrev pub decreases-loop-ranked : goal.decreases-loop-ranked
