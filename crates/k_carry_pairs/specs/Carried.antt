@@ -72,6 +72,7 @@ abbrev pub is_loop_kind : Option Region → Bool
 is_loop_kind None = false
 is_loop_kind (Some region) = is_loop region.kind
 
+-- so is the region of this number among these
 abbrev pub is_loop_at : List Region → ℕ → Bool
 is_loop_at regions n = is_loop_kind (slice_get regions n)
 

@@ -103,6 +103,7 @@ left_of made (region ∷ outer) g = record g {
   levels = turned made region (length outer) (without_level (length outer) g.levels);
 }
 
+-- the innermost instance is left
 abbrev pub left : ℕ → Gathered → Gathered
 left made g = left_of made g.opened g
 

@@ -16,7 +16,7 @@ use Rattle.k_carry_pairs.proofs.Lists.{get_last}
 use Rattle.k_carry_storage_pairs.specs.declared.access.Access.{Access}
 use Rattle.k_carry_storage_pairs.specs.Firsts.{IsNoted, listed}
 use Rattle.k_carry_storage_pairs.specs.Kept.{Keeps, Kept, Knows, both_left}
-use Rattle.k_carry_storage_pairs.specs.Storage.{Makes, access}
+use Rattle.k_carry_storage_pairs.specs.Storage.{MakesAccess, access}
 use Rattle.k_carry_storage_pairs.proofs.Going.{access_here, knows_on}
 use Rattle.k_carry_storage_pairs.proofs.Keeping.{AreFirsts, keeps_entered, keeps_left, keeps_operation}
 use Rattle.k_carry_storage_pairs.proofs.Known.{access_is, known_firsts, no_firsts, same_pointer}
@@ -57,7 +57,7 @@ module _ (regions : List Region) (depth : ℕ) (events : List Event) (accesses :
         of_stores = λ element. knows_on events e accesses [] numbered depth (access true element) (kept_at stores element) (quiet (access true element)) (is.knows.of_stores element);
       })
     where
-      quiet : (a : Access) (op : Operation) → Makes (events ++ e ∷ []) (accesses ++ []) (length events) op a → ⊥
+      quiet : (a : Access) (op : Operation) → MakesAccess (events ++ e ∷ []) (accesses ++ []) (length events) op a → ⊥
       quiet a op made =
           let both : Some e ≡ Some (Op op.class op.latency op.sources op.place) = sym (get_last events e) ∙ made.stands in
           no_operation op (cc both)

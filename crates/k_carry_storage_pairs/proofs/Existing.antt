@@ -19,7 +19,7 @@ use Rattle.k_carry_storage_pairs.specs.declared.pairs.LoopStorage.{LoopStorage}
 use Rattle.k_carry_storage_pairs.specs.declared.pairs.Shared.{Shared}
 use Rattle.k_carry_storage_pairs.specs.Firsts.{listed}
 use Rattle.k_carry_storage_pairs.specs.Kept.{Keeps, Kept, Knows, both_entered, both_left, both_shared, none_shared, storage_of}
-use Rattle.k_carry_storage_pairs.specs.Storage.{AreShared, IsFirst, IsStorageOf, Makes, Shares, access}
+use Rattle.k_carry_storage_pairs.specs.Storage.{AreShared, IsFirst, IsStorageOf, MakesAccess, Shares, access}
 use Rattle.k_carry_storage_pairs.proofs.Going.{access_here, knows_on}
 use Rattle.k_carry_storage_pairs.proofs.Keeping.{AreFirsts, keeps_entered, keeps_left, keeps_nothing, keeps_operation, storage_is_shared}
 use Rattle.k_carry_storage_pairs.proofs.Knowing.{noted_knows, tracked_starts}
@@ -178,7 +178,7 @@ module _ (regions : List Region) (depth : ℕ) (accesses : List (Option Access))
 
   -- the operations make the same accesses
   module _ (events : List Event) (k : Known events) where
-    made_too : (at : ℕ) (op : Operation) (a : Access) → Makes events k.so at op a → Makes events accesses at op a
+    made_too : (at : ℕ) (op : Operation) (a : Access) → MakesAccess events k.so at op a → MakesAccess events accesses at op a
     made_too at op a is =
         let low : made_before at events < length k.so = slice_get_within k.so (made_before at events) (Some a) is.accessed in
         record {
@@ -187,7 +187,7 @@ module _ (regions : List Region) (depth : ℕ) (accesses : List (Option Access))
               (same_Some (one_of (slice_get accesses (made_before at events))) (Some a) (sym (k.same (made_before at events) low) ∙ is.accessed));
         }
 
-    made_so : (at : ℕ) (op : Operation) (a : Access) → Makes events accesses at op a → Makes events k.so at op a
+    made_so : (at : ℕ) (op : Operation) (a : Access) → MakesAccess events accesses at op a → MakesAccess events k.so at op a
     made_so at op a is =
         let few : made_before at events < length (operations events) = numbered_below events at op is.stands in
         let long : length k.so ≡ length (operations events) = numbered events k in

@@ -14,7 +14,7 @@ use Rattle.k_carry_pairs.proofs.Turning.{more_length, stands_next}
 use Rattle.k_carry_pairs.proofs.Lists.{get_front, get_last, take_whole}
 use Rattle.k_carry_storage_pairs.specs.declared.access.Access.{Access}
 use Rattle.k_carry_storage_pairs.specs.Kept.{AreAlike, IsAlike, IsListed, IsOrigin, Knows}
-use Rattle.k_carry_storage_pairs.specs.Storage.{IsFirst, Makes, access}
+use Rattle.k_carry_storage_pairs.specs.Storage.{IsFirst, MakesAccess, access}
 use Rattle.k_carry_storage_pairs.proofs.Within.{entered_before, lies_down}
 
 -- events that are alike with one more that is
@@ -56,13 +56,13 @@ module _ (events : List Event) (e : Event) (accesses more : List (Option Access)
       let same : made_before at behind ≡ made_before at events = made_same events (e ∷ []) at (let low : at < length events = within at op is in omega (arith, low)) in
       ap (λ (n : ℕ). slice_get all n) same ∙ get_front (made_before at events) accesses more below
 
-  pub makes_on : (at : ℕ) (op : Operation) (a : Access) → Makes events accesses at op a → Makes behind all at op a
+  pub makes_on : (at : ℕ) (op : Operation) (a : Access) → MakesAccess events accesses at op a → MakesAccess behind all at op a
   makes_on at op a is = record {
     stands = get_front at events (e ∷ []) (within at op is.stands) ∙ is.stands;
     accessed = access_same at op is.stands ∙ is.accessed;
   }
 
-  pub makes_back : (at : ℕ) (op : Operation) (a : Access) → at < length events → Makes behind all at op a → Makes events accesses at op a
+  pub makes_back : (at : ℕ) (op : Operation) (a : Access) → at < length events → MakesAccess behind all at op a → MakesAccess events accesses at op a
   makes_back at op a low is =
       let stands : StandsAt events at op = sym (get_front at events (e ∷ []) low) ∙ is.stands in
       record { stands = stands; accessed = sym (access_same at op stands) ∙ is.accessed }
@@ -87,7 +87,7 @@ module _ (events : List Event) (e : Event) (accesses more : List (Option Access)
       ∙ (ap (λ (new : List (Option Access)). slice_get (accesses ++ new) (length accesses)) is ∙ get_last accesses made)
 
   -- it is that which an operation there makes
-  pub access_here : (made : Option Access) → more ≡ made ∷ [] → (op : Operation) (a : Access) → Makes behind all (length events) op a → made ≡ Some a
+  pub access_here : (made : Option Access) → more ≡ made ∷ [] → (op : Operation) (a : Access) → MakesAccess behind all (length events) op a → made ≡ Some a
   access_here made is op a it =
       let both : Some made ≡ Some (Some a) = sym (last_access made is) ∙ it.accessed in
       cc both
@@ -156,7 +156,7 @@ module _ (events : List Event) (e : Event) (accesses more : List (Option Access)
       subst (λ (es : List Event). IsAmong o (open_after es)) (take_whole (length events) events (omega arith)) (lies_less events (e ∷ []) (length events) o (omega arith) down)
 
   -- what is known of an access that the event does not make
-  pub knows_on : (depth : ℕ) (a : Access) (origins : List Origin) → ((op : Operation) → Makes behind all (length events) op a → ⊥)
+  pub knows_on : (depth : ℕ) (a : Access) (origins : List Origin) → ((op : Operation) → MakesAccess behind all (length events) op a → ⊥)
       → Knows depth events accesses a origins → Knows depth behind all a origins
   knows_on depth a origins quiet is = record {
     sound = λ x among. origin_on a x (is.sound x among);
@@ -166,6 +166,6 @@ module _ (events : List Event) (e : Event) (accesses more : List (Option Access)
           let known = is.complete o at op (open_before o at low lies alive) shallow (lies_less events (e ∷ []) at o (omega (arith, low)) lies)
           (makes_back at op a low made) (first_back o at a (omega (arith, low)) first) in
           (known.0, (known.1.0, known.1.1 ∙ sym (made_same events (e ∷ []) at (omega (arith, low))))))
-      | inr new ↦ absurd (quiet op (subst (λ (n : ℕ). Makes behind all n op a) new.0 made))
+      | inr new ↦ absurd (quiet op (subst (λ (n : ℕ). MakesAccess behind all n op a) new.0 made))
     ];
   }

@@ -25,7 +25,7 @@ use Rattle.k_carry_pairs.proofs.Turning.{lies_last, stands_next}
 use Rattle.k_carry_pairs.proofs.Lists.{get_last, last_or_none, take_front, take_whole}
 use Rattle.k_carry_storage_pairs.specs.declared.access.Access.{Access}
 use Rattle.k_carry_storage_pairs.specs.Kept.{Follows, IsAlike, IsListed, Keeps, Kept, Relists, both_entered, both_left, both_shared, none_shared, storage_of}
-use Rattle.k_carry_storage_pairs.specs.Storage.{AreShared, IsFirst, Makes, access}
+use Rattle.k_carry_storage_pairs.specs.Storage.{AreShared, IsFirst, MakesAccess, access}
 use Rattle.k_carry_storage_pairs.proofs.Alike.{made_alike, same_places, stands_as}
 use Rattle.k_carry_storage_pairs.proofs.Going.{access_here, alike_next, first_back, first_on, last_access, listed_back, listed_on, makes_back, makes_on}
 use Rattle.k_carry_storage_pairs.proofs.Joined.{joined_are_shared}
@@ -65,7 +65,7 @@ pub record IsFirstOf (writes : Bool) (events : List Event) (accesses : List (Opt
   pub stores : access_is ≡ Some (access true element)
   pub at : ℕ
   pub op : Operation
-  pub made : Makes events accesses at op (access writes element)
+  pub made : MakesAccess events accesses at op (access writes element)
   pub number : made_before at events ≡ x.number
   pub place : op.place ≡ x.place
   pub o : Open
@@ -77,7 +77,7 @@ pub record IsFirstOf (writes : Bool) (events : List Event) (accesses : List (Opt
 pub record AreFirsts (writes : Bool) (depth : ℕ) (events : List Event) (accesses : List (Option Access)) (access_is : Option Access) (origins : List Origin) : Type 0 where
   pub sound : (x : Origin) → IsAmong x origins → IsFirstOf writes events accesses access_is x
   pub complete : (element : Pointer) (o : Open) (at : ℕ) (op : Operation) → access_is ≡ Some (access true element) → IsAmong o (open_after events) → o.depth < depth
-      → LiesIn events at o → Makes events accesses at op (access writes element) → IsFirst events accesses o at (access writes element)
+      → LiesIn events at o → MakesAccess events accesses at op (access writes element) → IsFirst events accesses o at (access writes element)
       → (x : Origin) × (IsAmong x origins × (x.number ≡ made_before at events))
 
 module _ (writes : Bool) (regions : List Region) (depth : ℕ) (events : List Event) (accesses : List (Option Access)) (g : Gathered)
@@ -119,7 +119,7 @@ module _ (writes : Bool) (regions : List Region) (depth : ℕ) (events : List Ev
 
     -- the new operation makes its access
     here_is : (element : Pointer) → made ≡ Some (access true element)
-        → Makes behind all (length events) (record { class = class; latency = latency; sources = sources; place = place }) (access true element)
+        → MakesAccess behind all (length events) (record { class = class; latency = latency; sources = sources; place = place }) (access true element)
     here_is element stores = record {
       stands = get_last events done;
       accessed = last_access events done accesses (made ∷ []) numbered_are made refl ∙ ap (λ (m : Option Access). Some m) stores;

@@ -21,7 +21,7 @@ use Rattle.k_carry_pairs.proofs.Lists.{among_either, among_left, among_right, ge
 use Rattle.k_carry_storage_pairs.specs.declared.access.Access.{Access}
 use Rattle.k_carry_storage_pairs.specs.Firsts.{IsNoted, OneIsBehind, least, listed}
 use Rattle.k_carry_storage_pairs.specs.Kept.{IsOrigin, Knows}
-use Rattle.k_carry_storage_pairs.specs.Storage.{IsFirst, Makes}
+use Rattle.k_carry_storage_pairs.specs.Storage.{IsFirst, MakesAccess}
 use Rattle.k_carry_storage_pairs.proofs.Firsting.{IsLeast, least_is, listed_either, listed_there}
 use Rattle.k_carry_storage_pairs.proofs.Going.{first_back, makes_back, makes_on, origin_on}
 use Rattle.k_carry_storage_pairs.proofs.Within.{lies_in, made_before_later}
@@ -90,7 +90,7 @@ module _ (depth : ℕ) (events : List Event) (accesses : List (Option Access)) (
   module _ (o : Open) (alive : IsAmong o (open_after events)) (shallow : o.depth < depth) (x : Origin) (of : IsOrigin events accesses a x)
       (least_is_x : least o.start origins None ≡ Some x) where
     -- none makes the access before the least that is kept
-    none_earlier : (n i : ℕ) (op : Operation) → i < n → i < of.at → LiesIn events i o → Makes events accesses i op a → ⊥
+    none_earlier : (n i : ℕ) (op : Operation) → i < n → i < of.at → LiesIn events i o → MakesAccess events accesses i op a → ⊥
     none_earlier zero i op below before lies made = omega (arith, below)
     none_earlier (suc n) i op below before lies made =
         let first : IsFirst events accesses o i a =
@@ -143,7 +143,7 @@ module _ (depth : ℕ) (events : List Event) (accesses : List (Option Access)) (
               }
 
   -- and the first of each tracked instance is listed
-  pub first_listed : (o : Open) (at : ℕ) (op : Operation) → IsAmong o (open_after events) → o.depth < depth → LiesIn events at o → Makes events accesses at op a
+  pub first_listed : (o : Open) (at : ℕ) (op : Operation) → IsAmong o (open_after events) → o.depth < depth → LiesIn events at o → MakesAccess events accesses at op a
       → IsFirst events accesses o at a → (x : Origin) × (IsAmong x (listed (tracked_starts depth starts) origins []) × (x.number ≡ made_before at events))
   first_listed o at op alive shallow lies made first =
       let known = is.complete o at op alive shallow lies made first in
@@ -209,10 +209,10 @@ module _ (depth : ℕ) (events : List Event) (accesses : List (Option Access)) (
 
     -- what is known of what was made before
     old_known : (new : List Origin)
-        → ((o : Open) (at : ℕ) (op : Operation) → IsAmong o (open_after events) → o.depth < depth → LiesIn events at o → Makes events accesses at op a
+        → ((o : Open) (at : ℕ) (op : Operation) → IsAmong o (open_after events) → o.depth < depth → LiesIn events at o → MakesAccess events accesses at op a
         → IsFirst events accesses o at a → (x : Origin) × (IsAmong x new × (x.number ≡ made_before at events)))
         → (o : Open) (at : ℕ) (op : Operation) → at < length events → IsAmong o (open_after behind) → o.depth < depth → LiesIn behind at o
-        → Makes behind all at op a → IsFirst behind all o at a → (x : Origin) × (IsAmong x new × (x.number ≡ made_before at behind))
+        → MakesAccess behind all at op a → IsFirst behind all o at a → (x : Origin) × (IsAmong x new × (x.number ≡ made_before at behind))
     old_known new known o at op low alive shallow lies made first =
         let x = known o at op (alive_before o alive) shallow (lies_less events (done ∷ []) at o (omega (arith, low)) lies)
         (makes_back events done accesses (Some a ∷ []) numbered at op a low made) (first_back events done accesses (Some a ∷ []) numbered o at a (omega (arith, low)) first) in

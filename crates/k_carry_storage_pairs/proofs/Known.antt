@@ -8,7 +8,7 @@ use Rattle.k_carry_pairs.specs.declared.origin.Origin.{Origin}
 use Rattle.k_carry_storage_pairs.specs.declared.access.Access.{Access}
 use Rattle.k_carry_storage_pairs.specs.Firsts.{listed}
 use Rattle.k_carry_storage_pairs.specs.Kept.{Knows}
-use Rattle.k_carry_storage_pairs.specs.Storage.{Makes, access}
+use Rattle.k_carry_storage_pairs.specs.Storage.{MakesAccess, access}
 use Rattle.k_carry_storage_pairs.proofs.Keeping.{AreFirsts}
 use Rattle.k_carry_storage_pairs.proofs.Knowing.{first_listed, listed_first, tracked_starts}
 
@@ -57,6 +57,6 @@ module _ (depth : ℕ) (events : List Event) (accesses : List (Option Access)) w
     complete = λ other o at op stores_is alive shallow lies makes first.
         (let same : other ≡ element = sym (ap (λ (a : Access). a.element) (access_is (access true element) (access true other) stores_is)) in
         first_listed depth events accesses (access writes element) origins starts starts_are known o at op alive shallow lies
-        (subst (λ (p : Pointer). Makes events accesses at op (access writes p)) same makes)
-        (λ i x before within made. first i x before within (subst (λ (p : Pointer). Makes events accesses i x (access writes p)) (sym same) made)));
+        (subst (λ (p : Pointer). MakesAccess events accesses at op (access writes p)) same makes)
+        (λ i x before within made. first i x before within (subst (λ (p : Pointer). MakesAccess events accesses i x (access writes p)) (sym same) made)));
   }

@@ -11,7 +11,7 @@ use Rattle.k_carry_pairs.specs.Carried.{Carries, IsPair, LiesIn, turn}
 use Rattle.k_carry_storage_pairs.specs.declared.access.Access.{Access}
 use Rattle.k_carry_storage_pairs.specs.declared.pairs.Shared.{Shared}
 use Rattle.k_carry_storage_pairs.specs.Kept.{IsListed, Relists}
-use Rattle.k_carry_storage_pairs.specs.Storage.{IsFirst, IsShared, Makes, Shares, access, as_shared, kind_behind, places_of}
+use Rattle.k_carry_storage_pairs.specs.Storage.{IsFirst, IsShared, MakesAccess, Shares, access, as_shared, kind_behind, places_of}
 use Rattle.k_carry_storage_pairs.proofs.Alike.{lies_alike, lies_as, made_alike, same_places, stands_alike, stands_as, tracked_alike, tracked_as, turn_alike}
 use Rattle.k_carry_storage_pairs.proofs.Within.{first_moves, one_place}
 
@@ -27,8 +27,8 @@ module _ (writes : Bool) (depth : ℕ) (events : List Event) (accesses : List (O
       let there = stands_as events others is.alike c.j c.earlier c.made in
       let at : l.at ≡ c.j =
       one_place events l.at c.j l.earlier there.0 l.made.stands there.1.0 (l.number ∙ made_alike events others is.alike c.j (omega (arith, j_low, long))) in
-      let made : Makes events accesses c.j l.earlier (access writes l.element) =
-      subst (λ (n : ℕ). Makes events accesses n l.earlier (access writes l.element)) at l.made in
+      let made : MakesAccess events accesses c.j l.earlier (access writes l.element) =
+      subst (λ (n : ℕ). MakesAccess events accesses n l.earlier (access writes l.element)) at l.made in
       let low : c.j < c.k = omega (arith, at, l.before) in
       let begins : LiesIn events c.j o = lies_as events others is.alike c.j o c.begins_in in
       let turns : turn events o c.j < turn events o c.k =
@@ -78,7 +78,7 @@ module _ (writes : Bool) (depth : ℕ) (events : List Event) (accesses : List (O
         o = o;
         number = sym (made_alike events others is.alike x.j (omega (arith, j_low)));
         before = x.before;
-        made = subst (λ (w : Bool). Makes events accesses x.j x.earlier (access w x.element)) same x.made;
+        made = subst (λ (w : Bool). MakesAccess events accesses x.j x.earlier (access w x.element)) same x.made;
         stores = x.stores;
         begins_in = x.begins_in;
         ends_in = x.ends_in;

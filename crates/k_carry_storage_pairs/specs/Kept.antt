@@ -18,7 +18,7 @@ use Rattle.k_carry_storage_pairs.specs.declared.pairs.LoopStorage.{LoopStorage}
 use Rattle.k_carry_storage_pairs.specs.declared.pairs.Shared.{Shared}
 use Rattle.k_carry_storage_pairs.specs.declared.pairs.Sharing.{Sharing}
 use Rattle.k_carry_storage_pairs.specs.declared.pairs.Sharing.TheVariants as sharing
-use Rattle.k_carry_storage_pairs.specs.Storage.{IsFirst, Makes, access, as_shared}
+use Rattle.k_carry_storage_pairs.specs.Storage.{IsFirst, MakesAccess, access, as_shared}
 
 -- The pairs that follow a load, those that follow a store, the numbers of the first operations of the open instances, the outermost first, and how deep
 -- instances are tracked. Both are gathered as dependences are, of events in which a store lists the operations that it shares an element with.
@@ -86,8 +86,8 @@ pub record IsListed (writes : Bool) (events : List Event) (accesses : List (Opti
   pub o : Open
   pub number : made_before at events ≡ n
   pub before : at < k
-  pub made : Makes events accesses at earlier (access writes element)
-  pub stores : Makes events accesses k later (access true element)
+  pub made : MakesAccess events accesses at earlier (access writes element)
+  pub stores : MakesAccess events accesses k later (access true element)
   pub begins_in : LiesIn events at o
   pub ends_in : LiesIn events k o
   pub first : IsFirst events accesses o at (access writes element)
@@ -118,12 +118,12 @@ pub record Keeps (regions : List Region) (depth : ℕ) (events : List Event) (ac
 pub record IsOrigin (events : List Event) (accesses : List (Option Access)) (a : Access) (x : Origin) : Type 0 where
   pub at : ℕ
   pub op : Operation
-  pub made : Makes events accesses at op a
+  pub made : MakesAccess events accesses at op a
   pub number : made_before at events ≡ x.number
   pub place : op.place ≡ x.place
 
 -- WHAT IS KEPT OF AN ACCESS: operations that make it, and among them the first of each open tracked instance
 pub record Knows (depth : ℕ) (events : List Event) (accesses : List (Option Access)) (a : Access) (origins : List Origin) : Type 0 where
   pub sound : (x : Origin) → IsAmong x origins → IsOrigin events accesses a x
-  pub complete : (o : Open) (at : ℕ) (op : Operation) → IsAmong o (open_after events) → o.depth < depth → LiesIn events at o → Makes events accesses at op a
+  pub complete : (o : Open) (at : ℕ) (op : Operation) → IsAmong o (open_after events) → o.depth < depth → LiesIn events at o → MakesAccess events accesses at op a
       → IsFirst events accesses o at a → (x : Origin) × (IsAmong x origins × (x.number ≡ made_before at events))

@@ -20,13 +20,13 @@ access writes element = record { writes = writes; element = element }
 
 -- The operation at this place among the events makes this access. The accesses are those of the operations by their numbers, none for an operation that
 -- makes none.
-pub record Makes (events : List Event) (accesses : List (Option Access)) (at : ℕ) (op : Operation) (a : Access) : Type 0 where
+pub record MakesAccess (events : List Event) (accesses : List (Option Access)) (at : ℕ) (op : Operation) (a : Access) : Type 0 where
   pub stands : StandsAt events at op
   pub accessed : slice_get accesses (made_before at events) ≡ Some (Some a)
 
 -- no operation of the instance makes this access before this place
 abbrev pub IsFirst : List Event → List (Option Access) → Open → ℕ → Access → Type 0
-IsFirst events accesses o at a = (i : ℕ) (op : Operation) → i < at → LiesIn events i o → Makes events accesses i op a → ⊥
+IsFirst events accesses o at a = (i : ℕ) (op : Operation) → i < at → LiesIn events i o → MakesAccess events accesses i op a → ⊥
 
 -- a store that follows a load, and one that follows a store
 abbrev pub kind_behind : Bool → Sharing
@@ -42,8 +42,8 @@ pub record Shares (events : List Event) (accesses : List (Option Access)) (o : O
   pub later : Operation
   pub writes : Bool
   pub element : Pointer
-  pub made : Makes events accesses j earlier (access writes element)
-  pub stores : Makes events accesses k later (access true element)
+  pub made : MakesAccess events accesses j earlier (access writes element)
+  pub stores : MakesAccess events accesses k later (access true element)
   pub begins_in : LiesIn events j o
   pub ends_in : LiesIn events k o
   pub before : j < k

@@ -257,7 +257,7 @@ module _ (w : Inside) where
   unfolding continue
   continue_row spot = refl
 
-  pub return_row : (spot : Spot) (value : Option TExpr) → extent_of (return w spot value) ≡ sums.returned w.vars value
+  pub return_row : (spot : Spot) (value : Option TExpr) → extent_of (return w spot value) ≡ sums.return_extent w.vars value
   unfolding return
   return_row spot None = refl
   return_row spot (Some e) =

@@ -228,9 +228,9 @@ abbrev pub switch : ExpressionExtent → List PartExtent → Extent
 switch on ps = switched on (cases_size ps) (before_default ps) (in_order (statements_in ps))
 
 -- `return`
-abbrev pub returned : List TVariable → Option TExpr → Extent
-returned vs None = one_jump a_return
-returned vs (Some e) = record { size = (summed vs e).used + 1; jumps = a_return; opens = 0 }
+abbrev pub return_extent : List TVariable → Option TExpr → Extent
+return_extent vs None = one_jump a_return
+return_extent vs (Some e) = record { size = (summed vs e).used + 1; jumps = a_return; opens = 0 }
 
 -- The extent of a statement, and the extents of the statements in it and its own, each behind those in it, with their numbers.
 pub record Summed : Type 0 where
@@ -314,7 +314,7 @@ own_step vs counted (TStmt-F.For spot n start test step body) = for_loop vs coun
 own_step vs counted (TStmt-F.Switch spot kind on parts) = switch (summed vs on) (parts_themselves parts)
 own_step vs counted (TStmt-F.Break spot) = one_jump a_break
 own_step vs counted (TStmt-F.Continue spot) = one_jump a_continue
-own_step vs counted (TStmt-F.Return spot value) = returned vs value
+own_step vs counted (TStmt-F.Return spot value) = return_extent vs value
 own_step vs counted (TStmt-F.Declare spot list) = all_declared vs list
 
 -- a statement, of whose statements and parts it is known

@@ -2,7 +2,7 @@
 ghost use Rattle.std.specs.Prelude.{◌≡◌, ◌+◌, ◌++◌, ◌∷◌, [], map, IfOk, OnOk};
 ghost use Rattle.std.specs.Option.{option_map};
 ghost use Rattle.k_marks_meaning.specs.Jumps.{a_break as a_break_meant, a_continue as a_continue_meant};
-ghost use Rattle.k_lower_extents.specs.StatementSums.{all_within, for_loop as for_loop_meant, in_order as in_order_meant, loop_around as loop_around_meant, numbered, option_itself, option_within, parts_themselves, parts_within, returned as returned_meant, step_size as step_meant, summed_part, summed_stmt, test_size as test_meant, themselves, within_stmt};
+ghost use Rattle.k_lower_extents.specs.StatementSums.{all_within, for_loop as for_loop_meant, in_order as in_order_meant, loop_around as loop_around_meant, numbered, option_itself, option_within, parts_themselves, parts_within, return_extent, step_size as step_meant, summed_part, summed_stmt, test_size as test_meant, themselves, within_stmt};
 ghost use Rattle.k_types_meaning.specs.declared.tree.statement.TStmt.{out-TStmt};
 
 use crate::declaration::{all_declared, started};
@@ -79,7 +79,7 @@ fn a_continue() -> Jumps
 
 /// `return`, with its value, if there is one.
 fn returned(value: &Option<Box<TExpr>>, variables: &[TVariable]) -> Result<Extent, NoMemory>
-    ensures { IfOk result (λ x. x ≡ returned_meant variables.now value.now) }
+    ensures { IfOk result (λ x. x ≡ return_extent variables.now value.now) }
 {
     let jumps = Jumps {
         breaks: false,

@@ -1,7 +1,7 @@
 -- Believed with a public law.
 -- REDUCTION: what a variable that a loop reduces holds behind the loop.
 use Rattle.std.specs.Prelude.{ℕ, Bool, true, ◌≤◌, ◌≡◌, ℤ, List, [], ◌∷◌, ◌++◌, IsSome, Option, Some, None}
-use Rattle.std.specs.List.{fold}
+use Rattle.std.specs.List.{flat_map, fold}
 use Rattle.std.specs.List.Sorted.{IsPermutation}
 use Rattle.k_num.specs.declared.numbers.Bin.{Bin}
 use Rattle.k_num.specs.declared.numbers.Bin.TheVariants.{Add, Mul, And, Or, Xor}
@@ -53,8 +53,7 @@ IsTypedAssignment kind _ = Unit {0}
 
 -- several lists, one behind another
 abbrev pub joined : List (List TExpr) → List TExpr
-joined [] = []
-joined (xs ∷ rest) = xs ++ joined rest
+joined parts = flat_map (λ part. part) parts
 
 -- a list that may not be there
 abbrev pub if_listed : Option (List TExpr) → List TExpr

@@ -74,13 +74,13 @@ options Check = []
 options Demo = []
 
 -- this option is among those
-abbrev pub is_among : List Setting → Setting → Bool
-is_among [] setting = false
-is_among (o ∷ others) setting = rank setting == rank o || is_among others setting
+abbrev pub has_setting : List Setting → Setting → Bool
+has_setting [] setting = false
+has_setting (o ∷ others) setting = rank setting == rank o || has_setting others setting
 
 -- the command has this option
 abbrev pub is_taken : Command → Setting → Bool
-is_taken command setting = is_among (options command) setting
+is_taken command setting = has_setting (options command) setting
 
 -- an option that the command takes
 abbrev pub taken_by : Command → (Setting × List ℕ) → Option (Setting × List ℕ)

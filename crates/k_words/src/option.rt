@@ -1,6 +1,6 @@
 //! The options of the commands, each by itself.
 ghost use Rattle.std.specs.Prelude.{◌≡◌, option_map};
-ghost use Rattle.k_words.specs.Setting.{after, flag_of, is_among, is_taken, most_steps, named, option_of, options, written_as};
+ghost use Rattle.k_words.specs.Setting.{after, flag_of, has_setting, is_taken, most_steps, named, option_of, options, written_as};
 
 /// What the first word asks for.
 #[derive(Clone, Copy, Debug, PartialEq, Eq)]
@@ -140,7 +140,7 @@ fn is_taken(command: Command, setting: Setting) -> bool
 
 /// Whether each command that runs a program takes an option.
 fn is_of_run(setting: Setting) -> bool
-    ensures { result ≡ is_among (options Command.Graph) setting }
+    ensures { result ≡ has_setting (options Command.Graph) setting }
 {
     matches!(setting, Setting::Steps | Setting::Depth | Setting::Latency)
 }
