@@ -7,8 +7,8 @@ use Rattle.k_lex_pieces.specs.declared.fault.Refusal.{Refusal}
 use Rattle.k_lex_pieces.specs.declared.fault.Stop.{Stop}
 use Rattle.k_lex_pieces.specs.declared.fault.Stop.TheVariants as stop
 
--- go on with the value, or keep the first fault
 infixl 10 ◌>>=◌
+-- go on with the value, or keep the first fault
 abbrev pub ◌>>=◌ : {A B : Type 0} → Result A Fault → (A → Result B Fault) → Result B Fault
 (Ok x) >>= f = f x
 (Err e) >>= f = Err e

@@ -28,8 +28,8 @@ IsSized piece = (first : ℕ) → length (piece.code first) ≡ piece.size
 abbrev pub only : {A : Type 0} → A → Piece A
 only a = record { size = 0; code = λ first. []; gives = a }
 
--- one piece behind another, of which it has to know what it gives
 infixl 10 ◌>>>◌
+-- one piece behind another, of which it has to know what it gives
 abbrev pub ◌>>>◌ : {A B : Type 0} → Piece A → (A → Piece B) → Piece B
 (piece >>> next) = record {
   size = piece.size + (next piece.gives).size;

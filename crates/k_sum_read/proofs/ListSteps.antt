@@ -87,18 +87,18 @@ wrong_region count text rest regions left at less left_is none head =
 -- ---- entries
 
 -- the last two of entries
-goes_on_push : (before : List Entry) (d e : Entry) → AreLinked (before ++ d ∷ []) → ComesBefore d e → AreLinked ((before ++ d ∷ []) ++ e ∷ [])
+pub goes_on_push : (before : List Entry) (d e : Entry) → AreLinked (before ++ d ∷ []) → ComesBefore d e → AreLinked ((before ++ d ∷ []) ++ e ∷ [])
 goes_on_push [] d e linked first = (first, (tt, tt))
 goes_on_push (c ∷ []) d e linked first = (linked.0, (first, (tt, tt)))
 goes_on_push (c ∷ b ∷ before) d e linked first = (linked.0, goes_on_push (b ∷ before) d e linked.1 first)
 
-last_of_push : (before : List Entry) (d e : Entry) → AreLinked ((before ++ d ∷ []) ++ e ∷ []) → ComesBefore d e
+pub last_of_push : (before : List Entry) (d e : Entry) → AreLinked ((before ++ d ∷ []) ++ e ∷ []) → ComesBefore d e
 last_of_push [] d e linked = linked.0
 last_of_push (c ∷ []) d e linked = linked.1.0
 last_of_push (c ∷ b ∷ before) d e linked = last_of_push (b ∷ before) d e linked.1
 
 -- the list is empty, or has a last item
-split : (entries : List Entry) → (entries ≡ []) ⊎ ((before : List Entry) × (d : Entry) × (entries ≡ before ++ d ∷ []))
+pub split : (entries : List Entry) → (entries ≡ []) ⊎ ((before : List Entry) × (d : Entry) × (entries ≡ before ++ d ∷ []))
 split [] = inl refl
 split (e ∷ entries) = elim (split entries) [
   | inl none ↦ inr ([], e, ap (λ l. e ∷ l) none)

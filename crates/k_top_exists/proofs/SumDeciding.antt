@@ -15,6 +15,7 @@ use Rattle.k_sum_order.proofs.Comparing.{before_itself, before_not, before_or, l
 use Rattle.k_sum_order.specs.Order.{AreInOrder, ComesBefore}
 use Rattle.k_sum_order.specs.Placing.{AreLinked}
 use Rattle.k_sum_read.proofs.ExitSteps.{last_lower, lower_all}
+use Rattle.k_sum_read.proofs.ListSteps.{goes_on_push, last_of_push, split}
 use Rattle.k_sum_read.proofs.RootSteps.{are_within, marks_tell, roots_are, some_roots}
 use Rattle.k_sum_read.specs.Reading.{AreWithin, LastIsLower, NoneIsLeft, are_all}
 use Rattle.k_sum_saved.specs.SumLines.{AreLower, AreOfMain, AreOfRegion, AreRoots}
@@ -51,24 +52,6 @@ before_decided d e = elim (before_or d e) [
     | inl same ↦ inr (λ first. before_itself e (let P : Entry → Type 0 = λ x. ComesBefore x e in subst P same first))
     | inr second ↦ inr (λ first. before_not d e first second)
   ]
-]
-
--- the last two of entries
-goes_on_push : (before : List Entry) (d e : Entry) → AreLinked (before ++ d ∷ []) → ComesBefore d e → AreLinked ((before ++ d ∷ []) ++ e ∷ [])
-goes_on_push [] d e linked first = (first, (tt, tt))
-goes_on_push (c ∷ []) d e linked first = (linked.0, (first, (tt, tt)))
-goes_on_push (c ∷ b ∷ before) d e linked first = (linked.0, goes_on_push (b ∷ before) d e linked.1 first)
-
-last_of_push : (before : List Entry) (d e : Entry) → AreLinked ((before ++ d ∷ []) ++ e ∷ []) → ComesBefore d e
-last_of_push [] d e linked = linked.0
-last_of_push (c ∷ []) d e linked = linked.1.0
-last_of_push (c ∷ b ∷ before) d e linked = last_of_push (b ∷ before) d e linked.1
-
-split : (entries : List Entry) → (entries ≡ []) ⊎ ((before : List Entry) × (d : Entry) × (entries ≡ before ++ d ∷ []))
-split [] = inl refl
-split (e ∷ entries) = elim (split entries) [
-  | inl none ↦ inr ([], e, ap (λ l. e ∷ l) none)
-  | inr some ↦ inr (e ∷ some.0, some.1, ap (λ l. e ∷ l) some.2)
 ]
 
 -- entries in order with one more are in order, or are not
