@@ -1,52 +1,51 @@
 -- What the calls of a shadow whose locations have rows make of its content.
 use Rattle.std.proofs.Common.{◌≡◌, ℕ, ◌+◌, ◌<◌, ◌≤◌, ◌≢◌, List, length, ap, sym, ◌∙◌, arith}
 use Rattle.std.specs.Prelude.{slice_index}
-use Rattle.k_shadow.specs.declared.row.Row.{Row}
 use Rattle.k_shadow.specs.Content.{depth, time_at, at_levels, entered, level_dropped, written, written_by, cleared}
 use Rattle.k_shadow.specs.Numbers.{Numbers, number_given, number_left, WereGiven}
-use Rattle.k_shadow.specs.Rows.{row_time, content_of}
+use Rattle.k_shadow.specs.Rows.{Seen, row_time, content_of}
 use Rattle.k_shadow.proofs.Levels.{length-at_levels, get_or-at_levels}
 use Rattle.k_shadow.proofs.Places.{length-with_places}
 use Rattle.k_shadow.proofs.Rows.{time_from_rows, levels-entered, levels-left, levels_same, IsWritten, levels-written, IsCleared, levels-cleared, levels-set, row_time_since, given_at}
 
 -- how many levels are live
-pub depth_counted : (rows : ℕ → Row) (v : Numbers) (limit : ℕ) → depth (content_of rows v limit) ≡ length v.live
+pub depth_counted : (rows : ℕ → Seen) (v : Numbers) (limit : ℕ) → depth (content_of rows v limit) ≡ length v.live
 depth_counted rows v limit = length-with_places (λ n j at. row_time (rows at) n j) 0 v.live
 
 -- the time of a location at a live level is that of its row
-pub time_at_row : (rows : ℕ → Row) (v : Numbers) (limit level loc : ℕ) → level < length v.live → time_at (content_of rows v limit) level loc ≡ row_time (rows loc) (slice_index v.live level) level
+pub time_at_row : (rows : ℕ → Seen) (v : Numbers) (limit level loc : ℕ) → level < length v.live → time_at (content_of rows v limit) level loc ≡ row_time (rows loc) (slice_index v.live level) level
 time_at_row rows v limit level loc h = time_from_rows rows v.live level loc h
 
-pub content-entered : (rows : ℕ → Row) (v : Numbers) (limit : ℕ) → ((loc : ℕ) → (rows loc).stamp ≤ v.given) → content_of rows (number_given v) limit ≡ entered (content_of rows v limit)
+pub content-entered : (rows : ℕ → Seen) (v : Numbers) (limit : ℕ) → ((loc : ℕ) → (rows loc).stamp ≤ v.given) → content_of rows (number_given v) limit ≡ entered (content_of rows v limit)
 content-entered rows v limit h = λ i. record { levels = levels-entered rows v.live v.given h i; entries = v.given + 1; limit = limit }
 
-pub content-left : (rows : ℕ → Row) (v : Numbers) (limit : ℕ) → content_of rows (number_left v) limit ≡ level_dropped (content_of rows v limit)
+pub content-left : (rows : ℕ → Seen) (v : Numbers) (limit : ℕ) → content_of rows (number_left v) limit ≡ level_dropped (content_of rows v limit)
 content-left rows v limit = λ i. record { levels = levels-left rows v.live i; entries = v.given; limit = limit }
 
-pub content_same : (rows others : ℕ → Row) (v : Numbers) (limit : ℕ) → ((loc : ℕ) → others loc ≡ rows loc) → content_of others v limit ≡ content_of rows v limit
+pub content_same : (rows others : ℕ → Seen) (v : Numbers) (limit : ℕ) → ((loc : ℕ) → others loc ≡ rows loc) → content_of others v limit ≡ content_of rows v limit
 content_same rows others v limit h = λ i. record { levels = levels_same rows others v.live h i; entries = v.given; limit = limit }
 
-pub content-written : (rows others : ℕ → Row) (v : Numbers) (limit loc : ℕ) (times : List ℕ) → IsWritten rows others loc v.given times → WereGiven v.given v.live → length times ≡ depth (content_of rows v limit) → content_of others v limit ≡ written loc times (content_of rows v limit)
+pub content-written : (rows others : ℕ → Seen) (v : Numbers) (limit loc : ℕ) (times : List ℕ) → IsWritten rows others loc v.given times → WereGiven v.given v.live → length times ≡ depth (content_of rows v limit) → content_of others v limit ≡ written loc times (content_of rows v limit)
 content-written rows others v limit loc times w given same = λ i. record { levels = levels-written rows others loc v.given times v.live w given (same ∙ depth_counted rows v limit) i; entries = v.given; limit = limit }
 
-pub content-cleared : (rows others : ℕ → Row) (v : Numbers) (limit first count : ℕ) → IsCleared rows others first count → WereGiven v.given v.live → content_of others v limit ≡ cleared first count (content_of rows v limit)
+pub content-cleared : (rows others : ℕ → Seen) (v : Numbers) (limit first count : ℕ) → IsCleared rows others first count → WereGiven v.given v.live → content_of others v limit ≡ cleared first count (content_of rows v limit)
 content-cleared rows others v limit first count h given = λ i. record { levels = levels-cleared rows others first count v.given v.live h given i; entries = v.given; limit = limit }
 
 -- the time of a location's row at a live level
-pub time_here : (rows : ℕ → Row) (v : Numbers) (limit loc : ℕ) (row : Row) (numbers : List ℕ) → row ≡ rows loc → numbers ≡ v.live → (level : ℕ) → level < depth (content_of rows v limit) → row_time row (slice_index numbers level) level ≡ time_at (content_of rows v limit) level loc
+pub time_here : (rows : ℕ → Seen) (v : Numbers) (limit loc : ℕ) (row : Seen) (numbers : List ℕ) → row ≡ rows loc → numbers ≡ v.live → (level : ℕ) → level < depth (content_of rows v limit) → row_time row (slice_index numbers level) level ≡ time_at (content_of rows v limit) level loc
 time_here rows v limit loc row numbers here same level h =
     let live : level < length v.live = omega (arith, depth_counted rows v limit) in
     (λ i. row_time (here i) (slice_index (same i) level) level) ∙ sym (time_at_row rows v limit level loc live)
 
 -- times that come of a row's come of its location's
-pub by_location : (F : ℕ → ℕ → ℕ) (rows : ℕ → Row) (v : Numbers) (limit loc : ℕ) (row : Row) (numbers new : List ℕ) → row ≡ rows loc → numbers ≡ v.live → ((k : ℕ) → k < length numbers → slice_index new k ≡ F k (row_time row (slice_index numbers k) k))
+pub by_location : (F : ℕ → ℕ → ℕ) (rows : ℕ → Seen) (v : Numbers) (limit loc : ℕ) (row : Seen) (numbers new : List ℕ) → row ≡ rows loc → numbers ≡ v.live → ((k : ℕ) → k < length numbers → slice_index new k ≡ F k (row_time row (slice_index numbers k) k))
     → (level : ℕ) → level < depth (content_of rows v limit) → slice_index new level ≡ F level (time_at (content_of rows v limit) level loc)
 by_location F rows v limit loc row numbers new here same each level h =
     let inside : level < length numbers = omega (arith, depth_counted rows v limit, ap (λ ns. length ns) same) in
     each level inside ∙ ap (λ t. F level t) (time_here rows v limit loc row numbers here same level h)
 
 -- times that come of two rows' come of their locations'
-pub by_locations : (F : ℕ → ℕ → ℕ → ℕ) (rows : ℕ → Row) (v : Numbers) (limit left right : ℕ) (left_row right_row : Row) (numbers new : List ℕ) → left_row ≡ rows left → right_row ≡ rows right → numbers ≡ v.live → ((k : ℕ) → k < length numbers → slice_index new k ≡ F k (row_time left_row (slice_index numbers k) k) (row_time right_row (slice_index numbers k) k))
+pub by_locations : (F : ℕ → ℕ → ℕ → ℕ) (rows : ℕ → Seen) (v : Numbers) (limit left right : ℕ) (left_row right_row : Seen) (numbers new : List ℕ) → left_row ≡ rows left → right_row ≡ rows right → numbers ≡ v.live → ((k : ℕ) → k < length numbers → slice_index new k ≡ F k (row_time left_row (slice_index numbers k) k) (row_time right_row (slice_index numbers k) k))
     → (level : ℕ) → level < depth (content_of rows v limit) → slice_index new level ≡ F level (time_at (content_of rows v limit) level left) (time_at (content_of rows v limit) level right)
 by_locations F rows v limit left right left_row right_row numbers new here there same each level h =
     let inside : level < length numbers = omega (arith, depth_counted rows v limit, ap (λ ns. length ns) same) in
@@ -55,7 +54,7 @@ by_locations F rows v limit left right left_row right_row numbers new here there
     each level inside ∙ (λ i. F level (first i) (second i))
 
 -- a location whose row has these times at all live levels
-pub content-set : (rows others : ℕ → Row) (v : Numbers) (limit loc : ℕ) (f : ℕ → ℕ) → ((at : ℕ) → at ≢ loc → others at ≡ rows at) → ((k : ℕ) → k < length v.live → row_time (others loc) (slice_index v.live k) k ≡ f k) → content_of others v limit ≡ written_by loc f (content_of rows v limit)
+pub content-set : (rows others : ℕ → Seen) (v : Numbers) (limit loc : ℕ) (f : ℕ → ℕ) → ((at : ℕ) → at ≢ loc → others at ≡ rows at) → ((k : ℕ) → k < length v.live → row_time (others loc) (slice_index v.live k) k ≡ f k) → content_of others v limit ≡ written_by loc f (content_of rows v limit)
 content-set rows others v limit loc f rest each =
     let n = depth (content_of rows v limit) in
     let counted : n ≡ length v.live = depth_counted rows v limit in
@@ -63,11 +62,11 @@ content-set rows others v limit loc f rest each =
     λ i. record { levels = levels-set rows others loc times v.live rest (λ k lt. each k lt ∙ sym (get_or-at_levels n f k (omega (arith, counted)))) (length-at_levels n f ∙ counted) i; entries = v.given; limit = limit }
 
 -- a location that got another's row
-pub content-passed : (rows others : ℕ → Row) (v : Numbers) (limit from to : ℕ) → ((at : ℕ) → at ≢ to → others at ≡ rows at) → others to ≡ rows from → content_of others v limit ≡ written_by to (λ level. time_at (content_of rows v limit) level from) (content_of rows v limit)
+pub content-passed : (rows others : ℕ → Seen) (v : Numbers) (limit from to : ℕ) → ((at : ℕ) → at ≢ to → others at ≡ rows at) → others to ≡ rows from → content_of others v limit ≡ written_by to (λ level. time_at (content_of rows v limit) level from) (content_of rows v limit)
 content-passed rows others v limit from to rest here =
     content-set rows others v limit to (λ level. time_at (content_of rows v limit) level from) rest (λ k lt. ap (λ r. row_time r (slice_index v.live k) k) here ∙ sym (time_at_row rows v limit k from lt))
 
 -- a location that was given these times and the last number's stamp
-pub content-stamped : (rows others : ℕ → Row) (v : Numbers) (limit loc : ℕ) (f : ℕ → ℕ) → WereGiven v.given v.live → ((at : ℕ) → at ≢ loc → others at ≡ rows at) → (others loc).stamp ≡ v.given → ((k : ℕ) → k < length v.live → slice_index (others loc).times k ≡ f k) → content_of others v limit ≡ written_by loc f (content_of rows v limit)
+pub content-stamped : (rows others : ℕ → Seen) (v : Numbers) (limit loc : ℕ) (f : ℕ → ℕ) → WereGiven v.given v.live → ((at : ℕ) → at ≢ loc → others at ≡ rows at) → (others loc).stamp ≡ v.given → ((k : ℕ) → k < length v.live → (others loc).time k ≡ f k) → content_of others v limit ≡ written_by loc f (content_of rows v limit)
 content-stamped rows others v limit loc f given rest stamp each =
     content-set rows others v limit loc f rest (λ k lt. row_time_since (others loc) (slice_index v.live k) k (let most : slice_index v.live k ≤ v.given = given_at v.given v.live given k lt in omega (arith, stamp)) ∙ each k lt)

@@ -7,7 +7,7 @@ use Rattle.std.proofs.lemmas.List.{ext_get_or, get_or-replicate, get_or_past, le
 use Rattle.k_shadow.specs.declared.row.Row.{Row}
 use Rattle.k_shadow.specs.Content.{with_time, set_times, without}
 use Rattle.k_shadow.specs.Numbers.{AreRising, WereGiven}
-use Rattle.k_shadow.specs.Rows.{row_time, blank_row, with_places, times_of, levels_of, row_at, WereStamped}
+use Rattle.k_shadow.specs.Rows.{Seen, seen, row_time, blank_row, unwritten, with_places, times_of, levels_of, row_at, WereStamped}
 use Rattle.k_shadow.proofs.Places.{length-with_places, with_places-append, with_places-take, get_or-with_places, with_places_same}
 
 -- a number that was given later is above every stamp
@@ -72,47 +72,47 @@ from_first ns stamp rising first k lt =
     let low : stamp < get_or ns 0 0 = is_below stamp (get_or ns 0 0) first in
     omega arith
 
-pub WereStamped-later : (given later : ℕ) (rows : List Row) → given ≤ later → WereStamped given rows → WereStamped later rows
+pub WereStamped-later : {levels : ℕ} (given later : ℕ) (rows : List (Row levels)) → given ≤ later → WereStamped given rows → WereStamped later rows
 WereStamped-later given later [] le h = tt
 WereStamped-later given later (row ∷ rows) le h = (omega arith, WereStamped-later given later rows le h.1)
 
-pub WereStamped-append : (given : ℕ) (rows more : List Row) → WereStamped given rows → WereStamped given more → WereStamped given (rows ++ more)
+pub WereStamped-append : {levels : ℕ} (given : ℕ) (rows more : List (Row levels)) → WereStamped given rows → WereStamped given more → WereStamped given (rows ++ more)
 WereStamped-append given [] more h m = m
 WereStamped-append given (row ∷ rows) more h m = (h.0, WereStamped-append given rows more h.1 m)
 
-pub WereStamped-take : (given k : ℕ) (rows : List Row) → WereStamped given rows → WereStamped given (take k rows)
+pub WereStamped-take : {levels : ℕ} (given k : ℕ) (rows : List (Row levels)) → WereStamped given rows → WereStamped given (take k rows)
 WereStamped-take given zero rows h = tt
 WereStamped-take given (suc k) [] h = tt
 WereStamped-take given (suc k) (row ∷ rows) h = (h.0, WereStamped-take given k rows h.1)
 
 -- a row that was written before an instance began has no time at its level
-pub row_time_later : (row : Row) (n level : ℕ) → row.stamp < n → row_time row n level ≡ 0
+pub row_time_later : (row : Seen) (n level : ℕ) → row.stamp < n → row_time row n level ≡ 0
 row_time_later row n level h = grind (arith, nat_tests)
 
 -- a row that was written since has the time that was written
-pub row_time_since : (row : Row) (n level : ℕ) → n ≤ row.stamp → row_time row n level ≡ slice_index row.times level
+pub row_time_since : (row : Seen) (n level : ℕ) → n ≤ row.stamp → row_time row n level ≡ row.time level
 row_time_since row n level h = grind (arith, nat_tests)
 
 -- the time at a level that is live, by the maps
-pub time_from_rows : (rows : ℕ → Row) (live : List ℕ) (level loc : ℕ) → level < length live → get_or (levels_of rows live) level (λ _. 0) loc ≡ row_time (rows loc) (get_or live level 0) level
+pub time_from_rows : (rows : ℕ → Seen) (live : List ℕ) (level loc : ℕ) → level < length live → get_or (levels_of rows live) level (λ _. 0) loc ≡ row_time (rows loc) (get_or live level 0) level
 time_from_rows rows live level loc h =
     ap (λ (m : ℕ → ℕ). m loc) (get_or-with_places (λ n j at. row_time (rows at) n j) 0 live level (λ _. 0) h ∙ ap (λ j at. row_time (rows at) (get_or live level 0) j) (omega arith))
 
 -- a level is entered: no row has a time there
-pub levels-entered : (rows : ℕ → Row) (live : List ℕ) (given : ℕ) → ((loc : ℕ) → (rows loc).stamp ≤ given) → levels_of rows (live ++ (given + 1) ∷ []) ≡ levels_of rows live ++ (λ _. 0) ∷ []
+pub levels-entered : (rows : ℕ → Seen) (live : List ℕ) (given : ℕ) → ((loc : ℕ) → (rows loc).stamp ≤ given) → levels_of rows (live ++ (given + 1) ∷ []) ≡ levels_of rows live ++ (λ _. 0) ∷ []
 levels-entered rows live given h =
     let apart : (at : ℕ) → (rows at).stamp < given + 1 = λ at. omega (arith, h at) in
     with_places-append (λ n j at. row_time (rows at) n j) 0 live (given + 1)
     ∙ ap (λ (m : ℕ → ℕ). levels_of rows live ++ m ∷ []) (λ i at. row_time_later (rows at) (given + 1) (0 + length live) (apart at) i)
 
 -- the innermost level is left
-pub levels-left : (rows : ℕ → Row) (live : List ℕ) → levels_of rows (take (length live - 1) live) ≡ take (length (levels_of rows live) - 1) (levels_of rows live)
+pub levels-left : (rows : ℕ → Seen) (live : List ℕ) → levels_of rows (take (length live - 1) live) ≡ take (length (levels_of rows live) - 1) (levels_of rows live)
 levels-left rows live =
     with_places-take (λ n j at. row_time (rows at) n j) 0 (length live - 1) live
     ∙ ap (λ n. take (n - 1) (levels_of rows live)) (sym (length-with_places (λ n j at. row_time (rows at) n j) 0 live))
 
 -- rows that agree stand for the same maps
-pub levels_same : (rows others : ℕ → Row) (live : List ℕ) → ((loc : ℕ) → others loc ≡ rows loc) → levels_of others live ≡ levels_of rows live
+pub levels_same : (rows others : ℕ → Seen) (live : List ℕ) → ((loc : ℕ) → others loc ≡ rows loc) → levels_of others live ≡ levels_of rows live
 levels_same rows others live h = with_places_same (λ n j at. row_time (others at) n j) (λ n j at. row_time (rows at) n j) 0 live (λ n j. λ i at. row_time (h at i) n j)
 
 -- a map that was set at a location, there and elsewhere
@@ -123,13 +123,13 @@ pub with_time_there : (loc t : ℕ) (m : ℕ → ℕ) (at : ℕ) → at ≢ loc 
 with_time_there loc t m at ne = grind (arith, nat_tests)
 
 -- rows of which one was written, and the others are as before
-pub record IsWritten (rows others : ℕ → Row) (loc given : ℕ) (times : List ℕ) : Type 0 where
+pub record IsWritten (rows others : ℕ → Seen) (loc given : ℕ) (times : List ℕ) : Type 0 where
   pub stamp : (others loc).stamp ≡ given
-  pub each : (k : ℕ) → k < length times → slice_index (others loc).times k ≡ slice_index times k
+  pub each : (k : ℕ) → k < length times → (others loc).time k ≡ slice_index times k
   pub rest : (at : ℕ) → at ≢ loc → others at ≡ rows at
 
 -- one map after a write
-with_time_row : (rows others : ℕ → Row) (loc n j t given : ℕ) → n ≤ given → (others loc).stamp ≡ given → slice_index (others loc).times j ≡ t → ((at : ℕ) → at ≢ loc → others at ≡ rows at) → (at : ℕ) → row_time (others at) n j ≡ with_time loc t (λ l. row_time (rows l) n j) at
+with_time_row : (rows others : ℕ → Seen) (loc n j t given : ℕ) → n ≤ given → (others loc).stamp ≡ given → (others loc).time j ≡ t → ((at : ℕ) → at ≢ loc → others at ≡ rows at) → (at : ℕ) → row_time (others at) n j ≡ with_time loc t (λ l. row_time (rows l) n j) at
 with_time_row rows others loc n j t given low stamp time rest at =
     let m : ℕ → ℕ = λ l. row_time (rows l) n j in
     let P : ℕ → Type 0 = λ x. row_time (others x) n j ≡ with_time loc t m x in
@@ -140,26 +140,26 @@ with_time_row rows others loc n j t given low stamp time rest at =
     (cases_eq at loc)
 
 -- the maps after a write, from the place k on
-levels-written-from : (rows others : ℕ → Row) (loc given k : ℕ) (times live : List ℕ) → (others loc).stamp ≡ given → ((at : ℕ) → at ≢ loc → others at ≡ rows at) → ((i : ℕ) → i < length times → slice_index (others loc).times (k + i) ≡ slice_index times i) → WereGiven given live → length times ≡ length live
+levels-written-from : (rows others : ℕ → Seen) (loc given k : ℕ) (times live : List ℕ) → (others loc).stamp ≡ given → ((at : ℕ) → at ≢ loc → others at ≡ rows at) → ((i : ℕ) → i < length times → (others loc).time (k + i) ≡ slice_index times i) → WereGiven given live → length times ≡ length live
     → with_places (λ n j at. row_time (others at) n j) k live ≡ set_times loc times (with_places (λ n j at. row_time (rows at) n j) k live)
 levels-written-from rows others loc given k [] [] stamp rest each live same = refl
 levels-written-from rows others loc given k [] (n ∷ ns) stamp rest each live same = absurd (omega arith)
 levels-written-from rows others loc given k (t ∷ ts) [] stamp rest each live same = absurd (omega arith)
 levels-written-from rows others loc given k (t ∷ ts) (n ∷ ns) stamp rest each live same =
     let zero_more : k ≡ k + 0 = omega arith in
-    let here : slice_index (others loc).times k ≡ t = ap (λ j. slice_index (others loc).times j) zero_more ∙ each 0 (omega arith) in
-    let later : (i : ℕ) → i < length ts → slice_index (others loc).times (k + 1 + i) ≡ slice_index ts i = λ i h.
-    let more : k + 1 + i ≡ k + suc i = omega arith in ap (λ j. slice_index (others loc).times j) more ∙ each (suc i) (omega arith) in
+    let here : (others loc).time k ≡ t = ap (λ j. (others loc).time j) zero_more ∙ each 0 (omega arith) in
+    let later : (i : ℕ) → i < length ts → (others loc).time (k + 1 + i) ≡ slice_index ts i = λ i h.
+    let more : k + 1 + i ≡ k + suc i = omega arith in ap (λ j. (others loc).time j) more ∙ each (suc i) (omega arith) in
     let fewer : length ts ≡ length ns = omega arith in
     λ i. (λ at. with_time_row rows others loc n k t given live.1 stamp here rest at i) ∷ levels-written-from rows others loc given (k + 1) ts ns stamp rest later live.2 fewer i
 
 -- a write to all live levels
-pub levels-written : (rows others : ℕ → Row) (loc given : ℕ) (times live : List ℕ) → IsWritten rows others loc given times → WereGiven given live → length times ≡ length live → levels_of others live ≡ set_times loc times (levels_of rows live)
+pub levels-written : (rows others : ℕ → Seen) (loc given : ℕ) (times live : List ℕ) → IsWritten rows others loc given times → WereGiven given live → length times ≡ length live → levels_of others live ≡ set_times loc times (levels_of rows live)
 levels-written rows others loc given times live w given_all same =
-    levels-written-from rows others loc given 0 times live w.stamp w.rest (λ i h. ap (λ j. slice_index (others loc).times j) (omega arith) ∙ w.each i h) given_all same
+    levels-written-from rows others loc given 0 times live w.stamp w.rest (λ i h. ap (λ j. (others loc).time j) (omega arith) ∙ w.each i h) given_all same
 
 -- one map after a location got a time
-with_time_set : (rows others : ℕ → Row) (loc n j t : ℕ) → row_time (others loc) n j ≡ t → ((at : ℕ) → at ≢ loc → others at ≡ rows at) → (at : ℕ) → row_time (others at) n j ≡ with_time loc t (λ l. row_time (rows l) n j) at
+with_time_set : (rows others : ℕ → Seen) (loc n j t : ℕ) → row_time (others loc) n j ≡ t → ((at : ℕ) → at ≢ loc → others at ≡ rows at) → (at : ℕ) → row_time (others at) n j ≡ with_time loc t (λ l. row_time (rows l) n j) at
 with_time_set rows others loc n j t time rest at =
     let m : ℕ → ℕ = λ l. row_time (rows l) n j in
     let P : ℕ → Type 0 = λ x. row_time (others x) n j ≡ with_time loc t m x in
@@ -169,7 +169,7 @@ with_time_set rows others loc n j t time rest at =
     (cases_eq at loc)
 
 -- the maps after a location got times, from the place k on
-levels-set-from : (rows others : ℕ → Row) (loc k : ℕ) (times live : List ℕ) → ((at : ℕ) → at ≢ loc → others at ≡ rows at) → ((i : ℕ) → i < length live → row_time (others loc) (slice_index live i) (k + i) ≡ slice_index times i) → length times ≡ length live
+levels-set-from : (rows others : ℕ → Seen) (loc k : ℕ) (times live : List ℕ) → ((at : ℕ) → at ≢ loc → others at ≡ rows at) → ((i : ℕ) → i < length live → row_time (others loc) (slice_index live i) (k + i) ≡ slice_index times i) → length times ≡ length live
     → with_places (λ n j at. row_time (others at) n j) k live ≡ set_times loc times (with_places (λ n j at. row_time (rows at) n j) k live)
 levels-set-from rows others loc k [] [] rest each same = refl
 levels-set-from rows others loc k [] (n ∷ ns) rest each same = absurd (omega arith)
@@ -183,18 +183,18 @@ levels-set-from rows others loc k (t ∷ ts) (n ∷ ns) rest each same =
     λ i. (λ at. with_time_set rows others loc n k t here rest at i) ∷ levels-set-from rows others loc (k + 1) ts ns rest later fewer i
 
 -- a location that got these times at all live levels
-pub levels-set : (rows others : ℕ → Row) (loc : ℕ) (times live : List ℕ) → ((at : ℕ) → at ≢ loc → others at ≡ rows at) → ((i : ℕ) → i < length live → row_time (others loc) (slice_index live i) i ≡ slice_index times i) → length times ≡ length live → levels_of others live ≡ set_times loc times (levels_of rows live)
+pub levels-set : (rows others : ℕ → Seen) (loc : ℕ) (times live : List ℕ) → ((at : ℕ) → at ≢ loc → others at ≡ rows at) → ((i : ℕ) → i < length live → row_time (others loc) (slice_index live i) i ≡ slice_index times i) → length times ≡ length live → levels_of others live ≡ set_times loc times (levels_of rows live)
 levels-set rows others loc times live rest each same =
     levels-set-from rows others loc 0 times live rest (λ i h. ap (λ j. row_time (others loc) (slice_index live i) j) (omega arith) ∙ each i h) same
 
 -- rows of which some have the stamp 0, and the others are as before
-pub record IsCleared (rows others : ℕ → Row) (first count : ℕ) : Type 0 where
+pub record IsCleared (rows others : ℕ → Seen) (first count : ℕ) : Type 0 where
   pub among : (at : ℕ) → first ≤ at → at < first + count → (others at).stamp ≡ 0
   pub before : (at : ℕ) → at < first → others at ≡ rows at
   pub behind : (at : ℕ) → first + count ≤ at → others at ≡ rows at
 
 -- one map after a clear
-without_row : (rows others : ℕ → Row) (first count n j : ℕ) → 0 < n → IsCleared rows others first count → (at : ℕ) → row_time (others at) n j ≡ without first count (λ l. row_time (rows l) n j) at
+without_row : (rows others : ℕ → Seen) (first count n j : ℕ) → 0 < n → IsCleared rows others first count → (at : ℕ) → row_time (others at) n j ≡ without first count (λ l. row_time (rows l) n j) at
 without_row rows others first count n j low h at =
     let m : ℕ → ℕ = λ l. row_time (rows l) n j in
     ⊎_elim
@@ -214,97 +214,105 @@ without_row rows others first count n j low h at =
     without_behind : (first count : ℕ) (m : ℕ → ℕ) (at : ℕ) → first + count ≤ at → m at ≡ without first count m at
     without_behind first count m at past = grind (arith, nat_tests)
 
-levels-cleared-from : (rows others : ℕ → Row) (first count given k : ℕ) (live : List ℕ) → IsCleared rows others first count → WereGiven given live
+levels-cleared-from : (rows others : ℕ → Seen) (first count given k : ℕ) (live : List ℕ) → IsCleared rows others first count → WereGiven given live
     → with_places (λ n j at. row_time (others at) n j) k live ≡ map (without first count) (with_places (λ n j at. row_time (rows at) n j) k live)
 levels-cleared-from rows others first count given k [] h live = refl
 levels-cleared-from rows others first count given k (n ∷ ns) h live =
     λ i. (λ at. without_row rows others first count n k live.0 h at i) ∷ levels-cleared-from rows others first count given (k + 1) ns h live.2 i
 
 -- locations are cleared at all live levels
-pub levels-cleared : (rows others : ℕ → Row) (first count given : ℕ) (live : List ℕ) → IsCleared rows others first count → WereGiven given live → levels_of others live ≡ map (without first count) (levels_of rows live)
+pub levels-cleared : (rows others : ℕ → Seen) (first count given : ℕ) (live : List ℕ) → IsCleared rows others first count → WereGiven given live → levels_of others live ≡ map (without first count) (levels_of rows live)
 levels-cleared rows others first count given live h given_all = levels-cleared-from rows others first count given 0 live h given_all
 
 -- the times of one row, as those of a control entry: a level is entered
-pub times-entered : (row : Row) (live : List ℕ) (given : ℕ) → row.stamp ≤ given → times_of row (live ++ (given + 1) ∷ []) ≡ times_of row live ++ 0 ∷ []
+pub times-entered : (row : Seen) (live : List ℕ) (given : ℕ) → row.stamp ≤ given → times_of row (live ++ (given + 1) ∷ []) ≡ times_of row live ++ 0 ∷ []
 times-entered row live given h =
     with_places-append (row_time row) 0 live (given + 1)
     ∙ ap (λ t. times_of row live ++ t ∷ []) (row_time_later row (given + 1) (0 + length live) (omega arith))
 
 -- the innermost level is left
-pub times-left : (row : Row) (live : List ℕ) → times_of row (take (length live - 1) live) ≡ take (length (times_of row live) - 1) (times_of row live)
+pub times-left : (row : Seen) (live : List ℕ) → times_of row (take (length live - 1) live) ≡ take (length (times_of row live) - 1) (times_of row live)
 times-left row live =
     with_places-take (row_time row) 0 (length live - 1) live
     ∙ ap (λ n. take (n - 1) (times_of row live)) (sym (length-with_places (row_time row) 0 live))
 
 -- the time at a live level
-pub time_from_row : (row : Row) (live : List ℕ) (level : ℕ) → level < length live → slice_index (times_of row live) level ≡ row_time row (slice_index live level) level
+pub time_from_row : (row : Seen) (live : List ℕ) (level : ℕ) → level < length live → slice_index (times_of row live) level ≡ row_time row (slice_index live level) level
 time_from_row row live level h = get_or-with_places (row_time row) 0 live level 0 h ∙ ap (λ j. row_time row (slice_index live level) j) (omega arith)
 
-times-written-from : (row : Row) (given k : ℕ) (times live : List ℕ) → row.stamp ≡ given → ((i : ℕ) → i < length times → slice_index row.times (k + i) ≡ slice_index times i) → WereGiven given live → length times ≡ length live → with_places (row_time row) k live ≡ times
+times-written-from : (row : Seen) (given k : ℕ) (times live : List ℕ) → row.stamp ≡ given → ((i : ℕ) → i < length times → row.time (k + i) ≡ slice_index times i) → WereGiven given live → length times ≡ length live → with_places (row_time row) k live ≡ times
 times-written-from row given k [] [] stamp each live same = refl
 times-written-from row given k [] (n ∷ ns) stamp each live same = absurd (omega arith)
 times-written-from row given k (t ∷ ts) [] stamp each live same = absurd (omega arith)
 times-written-from row given k (t ∷ ts) (n ∷ ns) stamp each live same =
     let zero_more : k ≡ k + 0 = omega arith in
-    let here : slice_index row.times k ≡ t = ap (λ j. slice_index row.times j) zero_more ∙ each 0 (omega arith) in
-    let later : (i : ℕ) → i < length ts → slice_index row.times (k + 1 + i) ≡ slice_index ts i = λ i h.
-    let more : k + 1 + i ≡ k + suc i = omega arith in ap (λ j. slice_index row.times j) more ∙ each (suc i) (omega arith) in
+    let here : row.time k ≡ t = ap (λ j. row.time j) zero_more ∙ each 0 (omega arith) in
+    let later : (i : ℕ) → i < length ts → row.time (k + 1 + i) ≡ slice_index ts i = λ i h.
+    let more : k + 1 + i ≡ k + suc i = omega arith in ap (λ j. row.time j) more ∙ each (suc i) (omega arith) in
     let low : n ≤ row.stamp = omega (arith, live.1, stamp) in
     λ i. (row_time_since row n k low ∙ here) i ∷ times-written-from row given (k + 1) ts ns stamp later live.2 (omega arith) i
 
 -- a row that was written at all live levels has the times that were written
-pub times-written : (row : Row) (given : ℕ) (times live : List ℕ) → row.stamp ≡ given → ((i : ℕ) → i < length times → slice_index row.times i ≡ slice_index times i) → WereGiven given live → length times ≡ length live → times_of row live ≡ times
+pub times-written : (row : Seen) (given : ℕ) (times live : List ℕ) → row.stamp ≡ given → ((i : ℕ) → i < length times → row.time i ≡ slice_index times i) → WereGiven given live → length times ≡ length live → times_of row live ≡ times
 times-written row given times live stamp each given_all same =
-    times-written-from row given 0 times live stamp (λ i h. ap (λ j. slice_index row.times j) (omega arith) ∙ each i h) given_all same
+    times-written-from row given 0 times live stamp (λ i h. ap (λ j. row.time j) (omega arith) ∙ each i h) given_all same
 
 -- the rows of a list have stamps
-pub row_at_stamp : (given : ℕ) (rows : List Row) → WereStamped given rows → (loc : ℕ) → (row_at rows loc).stamp ≤ given
+pub row_at_stamp : {levels : ℕ} (given : ℕ) (rows : List (Row levels)) → WereStamped given rows → (loc : ℕ) → (row_at rows loc).stamp ≤ given
 row_at_stamp given [] h loc = omega arith
 row_at_stamp given (row ∷ rows) h zero = h.0
 row_at_stamp given (row ∷ rows) h (suc loc) = row_at_stamp given rows h.1 loc
 
 -- a write to one row of a list
-pub one_row_written : (rows others : List Row) (loc given : ℕ) (times : List ℕ) (row : Row) → loc < length rows → others ≡ set rows loc row → row.stamp ≡ given → ((k : ℕ) → k < length times → slice_index row.times k ≡ slice_index times k) → IsWritten (row_at rows) (row_at others) loc given times
-one_row_written rows others loc given times row h same stamp each =
-    let here : row_at others loc ≡ row = ap (λ rs. get_or rs loc blank_row) same ∙ get_or-set_same rows loc row blank_row h in
+pub one_row_written : {levels : ℕ} (rows others : List (Row levels)) (loc given : ℕ) (times : List ℕ) (row : Row levels) → loc < length rows → others ≡ set rows loc row → row.stamp ≡ given → ((k : ℕ) → k < length times → slice_index row.times k ≡ slice_index times k) → IsWritten (row_at rows) (row_at others) loc given times
+one_row_written {levels} rows others loc given times row h same stamp each =
+    let here : row_at others loc ≡ seen row = ap (λ rs. row_at rs loc) same ∙ ap seen (get_or-set_same rows loc row (blank_row levels) h) in
     record {
       stamp = ap (λ r. r.stamp) here ∙ stamp;
-      each = λ k lt. ap (λ r. slice_index r.times k) here ∙ each k lt;
-      rest = λ at ne. ap (λ rs. get_or rs at blank_row) same ∙ get_or-set_other rows loc at row blank_row ne;
+      each = λ k lt. ap (λ r. r.time k) here ∙ each k lt;
+      rest = λ at ne. ap (λ rs. row_at rs at) same ∙ ap seen (get_or-set_other rows loc at row (blank_row levels) ne);
     }
 
 -- a list that was filled with a row's times
-pub times_filled : (row : Row) (live times : List ℕ) → length times ≡ length live → ((k : ℕ) → k < length live → slice_index times k ≡ row_time row (slice_index live k) k) → times ≡ times_of row live
+pub times_filled : (row : Seen) (live times : List ℕ) → length times ≡ length live → ((k : ℕ) → k < length live → slice_index times k ≡ row_time row (slice_index live k) k) → times ≡ times_of row live
 times_filled row live times same h =
     let counted : length (times_of row live) ≡ length live = length-with_places (row_time row) 0 live in
     ext_get_or 0 times (times_of row live) (same ∙ sym counted) (λ k lt.
     let inside : k < length live = omega (arith, same) in h k inside ∙ sym (time_from_row row live k inside))
 
--- a row that was never written has time 0
-pub blank_time : (n level : ℕ) → row_time blank_row n level ≡ 0
-blank_time n level = cond_same (nat_le n 0) (get_or (replicate 32 0) level 0) (zeros level)
+-- what is seen of a row that was never written
+pub unwritten_seen : (levels : ℕ) → seen (blank_row levels) ≡ unwritten
+unwritten_seen levels = λ i. record { stamp = 0; time = λ level. zeros level i }
   where
-    zeros : (level : ℕ) → ◌≡◌ {A = ℕ} (get_or (replicate 32 0) level 0) 0
+    zeros : (level : ℕ) → ◌≡◌ {A = ℕ} (get_or (replicate levels 0) level 0) 0
     zeros level = ⊎_elim
-        (λ (lt : level < 32). get_or-replicate 32 level 0 0 lt)
-        (λ (ge : 32 ≤ level). get_or_past (replicate 32 0) level 0 (omega (arith, length-replicate {A = ℕ} 32 0)))
-        (cases_lt level 32)
+        (λ (lt : level < levels). get_or-replicate levels level 0 0 lt)
+        (λ (ge : levels ≤ level). get_or_past (replicate levels 0) level 0 (omega (arith, length-replicate {A = ℕ} levels 0)))
+        (cases_lt level levels)
 
-    cond_same : (b : Bool) (t : ℕ) → ◌≡◌ {A = ℕ} t 0 → ◌≡◌ {A = ℕ} (cond b t 0) 0
-    cond_same true t e = e
-    cond_same false t e = refl
+-- a location that has no row
+pub unwritten_at : {levels : ℕ} (rows : List (Row levels)) (loc : ℕ) → length rows ≤ loc → row_at rows loc ≡ unwritten
+unwritten_at {levels} rows loc h = ap seen (get_or_past rows loc (blank_row levels) h) ∙ unwritten_seen levels
+
+-- a row that was never written has time 0
+pub unwritten_time : (number level : ℕ) → row_time unwritten number level ≡ 0
+unwritten_time number level = cond_same (nat_le number 0)
+  where
+    cond_same : (b : Bool) → ◌≡◌ {A = ℕ} (cond b 0 0) 0
+    cond_same true = refl
+    cond_same false = refl
 
 -- stamps after a write
-pub stamped-written : (rows others : ℕ → Row) (loc given : ℕ) (times : List ℕ) → IsWritten rows others loc given times → ((at : ℕ) → (rows at).stamp ≤ given) → (at : ℕ) → (others at).stamp ≤ given
+pub stamped-written : (rows others : ℕ → Seen) (loc given : ℕ) (times : List ℕ) → IsWritten rows others loc given times → ((at : ℕ) → (rows at).stamp ≤ given) → (at : ℕ) → (others at).stamp ≤ given
 stamped-written rows others loc given times w h at = ⊎_elim
     (λ (e : at ≡ loc). let P : ℕ → Type 0 = λ x. (others x).stamp ≤ given in subst P (sym e) (omega (arith, w.stamp)))
-    (λ (ne : at ≢ loc). let P : Row → Type 0 = λ r. r.stamp ≤ given in subst P (sym (w.rest at ne)) (h at))
+    (λ (ne : at ≢ loc). let P : Seen → Type 0 = λ r. r.stamp ≤ given in subst P (sym (w.rest at ne)) (h at))
     (cases_eq at loc)
 
 -- stamps after a clear
-pub stamped-cleared : (rows others : ℕ → Row) (first count given : ℕ) → IsCleared rows others first count → ((at : ℕ) → (rows at).stamp ≤ given) → (at : ℕ) → (others at).stamp ≤ given
+pub stamped-cleared : (rows others : ℕ → Seen) (first count given : ℕ) → IsCleared rows others first count → ((at : ℕ) → (rows at).stamp ≤ given) → (at : ℕ) → (others at).stamp ≤ given
 stamped-cleared rows others first count given c h at =
-    let P : Row → Type 0 = λ r. r.stamp ≤ given in
+    let P : Seen → Type 0 = λ r. r.stamp ≤ given in
     ⊎_elim
     (λ (lt : at < first). subst P (sym (c.before at lt)) (h at))
     (λ (ge : first ≤ at). ⊎_elim

@@ -21,7 +21,7 @@ pub struct Control {
     /// At each live level.
     current: [u64; 32],
     /// The saved entries, and free rows behind them.
-    rows: Vec<Row>,
+    rows: Vec<Row<32>>,
     /// How many entries are saved.
     count: usize,
     /// Whether the first free row has the current entry's times.

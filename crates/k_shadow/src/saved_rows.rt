@@ -7,7 +7,7 @@ use k_num::NoMemory;
 
 /// Makes a free row behind so many, where there is none. A refusal changes nothing.
 #[inline]
-pub fn add_row(rows: &mut Vec<Row>, count: usize) -> Result<(), NoMemory>
+pub fn add_row(rows: &mut Vec<Row<32>>, count: usize) -> Result<(), NoMemory>
     requires { count ≤ vec_len rows.old }
     ensures front { take count rows.new.items ≡ take count rows.old.items }
     ensures at { row_at rows.new.items count ≡ row_at rows.old.items count }
@@ -25,7 +25,7 @@ pub fn add_row(rows: &mut Vec<Row>, count: usize) -> Result<(), NoMemory>
 /// Makes the row at a place have the times of the live levels, unless it has them.
 #[inline]
 pub fn write_entry(
-    rows: &mut Vec<Row>,
+    rows: &mut Vec<Row<32>>,
     at: usize,
     kept: bool,
     versions: &Versions,
@@ -46,7 +46,7 @@ pub fn write_entry(
 
 /// Copies the times of the row at a place to the front of a list. The levels' instances have these numbers.
 #[inline]
-pub fn copy_entry(rows: &Vec<Row>, at: usize, numbers: &[u64], to: &mut [u64])
+pub fn copy_entry(rows: &Vec<Row<32>>, at: usize, numbers: &[u64], to: &mut [u64])
     requires within { at < vec_len rows.now }
     requires few { length numbers.now ≤ 32 }
     requires room { length numbers.now ≤ length to.old }

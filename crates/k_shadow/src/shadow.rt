@@ -3,7 +3,7 @@ ghost use Rattle.std.specs.Prelude.{◌≡◌, ℕ, ◌+◌, ◌*◌, ◌^◌, �
 ghost use Rattle.k_shadow.specs.Content.{Content, depth, time_at, after_none, after_one, after_two, entered, level_dropped, written, written_by, cleared};
 
 use crate::lists::no_times;
-use crate::{Steps, Times, raise_each, times_after};
+use crate::{Steps, Times, advance, raise_each, times_after};
 use k_num::NoMemory;
 use std::sync::ledger::Ledger;
 
@@ -94,14 +94,8 @@ pub trait Shadow: Drop {
         ensures paths { (level : ℕ) → level < depth (content self.now) → slice_index paths.new level ≡ max (slice_index paths.old level) (after_one (content self.now) from before.now latency level) }
         ensures steps { steps.new ≡ steps.old + depth (content self.now) }
     {
-        for level in 0..times.len() {
-            let time = self
-                .read(from, level, steps)
-                .max(before[level])
-                .wrapping_add(latency);
-            times[level] = time;
-            paths[level] = paths[level].max(time);
-        }
+        self.latest(from, before, times, steps);
+        advance(times, latency, paths);
     }
 
     /// `times_after_one` with two locations, in two steps a level.
@@ -124,13 +118,9 @@ pub trait Shadow: Drop {
         ensures paths { (level : ℕ) → level < depth (content self.now) → slice_index paths.new level ≡ max (slice_index paths.old level) (after_two (content self.now) left right before.now latency level) }
         ensures steps { steps.new ≡ steps.old + 2 * depth (content self.now) }
     {
-        for level in 0..times.len() {
-            let a = self.read(left, level, steps);
-            let b = self.read(right, level, steps);
-            let time = a.max(b).max(before[level]).wrapping_add(latency);
-            times[level] = time;
-            paths[level] = paths[level].max(time);
-        }
+        self.latest(left, before, times, steps);
+        self.raise(right, times, steps);
+        advance(times, latency, paths);
     }
 
     /// Gives a location the times of an operation that waits for these times alone, and raises each level's path to

@@ -172,7 +172,7 @@ struct Case {
     times: &'static [u64],
 }
 
-static CASES: [Case; 33] = [
+static CASES: [Case; 39] = [
     Case {
         levels: 0,
         calls: &[],
@@ -281,6 +281,55 @@ static CASES: [Case; 33] = [
         ],
         loc: 5,
         times: &[4, 3, 0],
+    },
+    // A row that was written while eight levels were live has its times while more are, and none at the ninth.
+    Case {
+        levels: 8,
+        calls: &[Call::Write(3, 20), Call::Enter],
+        loc: 3,
+        times: &[20, 19, 18, 17, 16, 15, 14, 13, 0],
+    },
+    Case {
+        levels: 8,
+        calls: &[Call::Write(3, 20), Call::Enter, Call::Write(4, 30)],
+        loc: 3,
+        times: &[20, 19, 18, 17, 16, 15, 14, 13, 0],
+    },
+    Case {
+        levels: 8,
+        calls: &[Call::Write(3, 20), Call::Enter, Call::Write(4, 30)],
+        loc: 4,
+        times: &[30, 29, 28, 27, 26, 25, 24, 23, 22],
+    },
+    Case {
+        levels: 8,
+        calls: &[Call::Write(3, 20), Call::Enter, Call::One(3, 4, 5)],
+        loc: 4,
+        times: &[25, 24, 23, 22, 21, 20, 19, 18, 5],
+    },
+    Case {
+        levels: 8,
+        calls: &[
+            Call::Write(3, 20),
+            Call::Enter,
+            Call::Enter,
+            Call::Pass(3, 4),
+            Call::Leave,
+            Call::Leave,
+        ],
+        loc: 4,
+        times: &[20, 19, 18, 17, 16, 15, 14, 13],
+    },
+    Case {
+        levels: 9,
+        calls: &[
+            Call::Write(3, 20),
+            Call::Leave,
+            Call::Enter,
+            Call::Write(600, 1),
+        ],
+        loc: 3,
+        times: &[20, 19, 18, 17, 16, 15, 14, 13, 0],
     },
     // Room is asked for again after a level was entered.
     Case {

@@ -1,9 +1,8 @@
 -- How many keys a table has.
-use Rattle.std.proofs.Common.{◌≡◌, ℕ, ◌+◌, ◌<◌, ◌≤◌, zero, suc, List, ◌++◌, length, take, set, replicate, get_or, cond, Bool, true, false, Option, Some, None, is_some, count_by, refl, ap, sym, ◌∙◌, arith, ⊎_elim}
+use Rattle.std.proofs.Common.{◌≡◌, ℕ, ◌+◌, ◌<◌, ◌≤◌, zero, suc, List, length, take, set, get_or, cond, Bool, true, false, Option, Some, None, is_some, count_by, refl, ap, sym, ◌∙◌, arith, ⊎_elim}
 use Rattle.std.proofs.lemmas.Bool.{cases_lt}
 use Rattle.std.proofs.lemmas.List.{take_all, get_or_past}
-use Rattle.std.proofs.lemmas.List.Sums.{count_by_more_yes, count_by_more_no, sum_by-set, sum_by-append}
-use Rattle.std.proofs.lemmas.List.Folds.{sum_by-replicate}
+use Rattle.std.proofs.lemmas.List.Sums.{count_by_more_yes, count_by_more_no, sum_by-set}
 use Rattle.k_spage.specs.Pages.{key_of}
 use Rattle.k_spage.specs.ShadowPages.{count_below}
 
@@ -37,17 +36,3 @@ count_by-set table page key h e =
     let one = sum_by-set (λ (o : Option ℕ). cond (is_some o) 1 0) table page (Some key) None h in
     let none : ◌≡◌ {A = ℕ} (cond (is_some (get_or table page None)) 1 0) 0 = ap (λ (o : Option ℕ). cond (is_some o) 1 0) e in
     omega (arith, one, none)
-
--- entries without a key
-pub count_by-none : (table : List (Option ℕ)) (n : ℕ) → count_by is_some (table ++ replicate n None) ≡ count_by is_some table
-count_by-none table n =
-    let both = sum_by-append (λ (o : Option ℕ). cond (is_some o) 1 0) table (replicate n None) in
-    let none = sum_by-replicate (λ (o : Option ℕ). cond (is_some o) 1 0) n None in
-    omega (arith, both, none)
-
--- a value in the place of another
-pub count_by-kept : {A : Type 0} (slots : List (Option A)) (key : ℕ) (old new : A) → key < length slots → get_or slots key None ≡ Some old → count_by is_some (set slots key (Some new)) ≡ count_by is_some slots
-count_by-kept {A} slots key old new h e =
-    let one = sum_by-set (λ (o : Option A). cond (is_some o) 1 0) slots key (Some new) None h in
-    let some : ◌≡◌ {A = ℕ} (cond (is_some (get_or slots key None)) 1 0) 1 = ap (λ (o : Option A). cond (is_some o) 1 0) e in
-    omega (arith, one, some)

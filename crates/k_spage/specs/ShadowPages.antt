@@ -1,18 +1,18 @@
 -- For contracts between crates: nobody has to believe it.
 -- Which pages a paged shadow has.
-use Rattle.std.specs.Prelude.{◌≡◌, ℕ, ◌+◌, ◌-◌, ◌/◌, ◌<◌, ◌≤◌, zero, suc, Bool, is_some, IsSome, if◌then◌else◌}
+use Rattle.std.specs.Prelude.{◌≡◌, ℕ, ◌+◌, ◌-◌, ◌/◌, ◌<◌, ◌≤◌, zero, suc, Bool, length, is_some, if◌then◌else◌}
 use Rattle.k_shadow.specs.Content.{Content}
 use Rattle.k_shadow.specs.Rows.{content_of}
 use Rattle.k_spage.specs.declared.shadow_pages.ShadowPages.{ShadowPages}
-use Rattle.k_spage.specs.Pages.{key_of, paged_row}
+use Rattle.k_spage.specs.Pages.{key_of, paged_row, IsWide}
 
--- the content: the rows of the pages that are there, and blank rows elsewhere
+-- the content: the rows of the pages that are there, and rows that were never written elsewhere
 abbrev pub pages_content : ShadowPages → Content
 pages_content s = content_of (paged_row s.pages.slots s.table.items) s.versions 4194304
 
--- the page of the location is there
+-- the page of the location is there, and its rows have times for each live level
 abbrev pub has_room : ShadowPages → ℕ → Type 0
-has_room s loc = IsSome (key_of s.table.items (loc / 256))
+has_room s loc = IsWide s.pages.slots s.table.items (length s.versions.live) (loc / 256)
 
 -- the page of that number is there
 abbrev pub has_page : ShadowPages → ℕ → Bool

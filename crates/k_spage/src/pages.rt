@@ -1,20 +1,25 @@
 //! Pages of rows, and the table that names them.
-ghost use Rattle.std.specs.Prelude.{◌≡◌, ◌≢◌, ℕ, ◌-◌, ◌/◌, ◌<◌, ◌≤◌, length, max, replicate, None, slice_index, count_by, IfOk, IsSome, is_some, OnOk, Some};
+ghost use Rattle.std.specs.Prelude.{◌≡◌, ◌≢◌, ℕ, ◌+◌, ◌-◌, ◌*◌, ◌/◌, ◌%◌, ◌<◌, ◌≤◌, length, max, None, true, slice_index, option_copied, count_by, IfOk, IsSome, is_some, OnOk, Some};
 ghost use Rattle.slab.specs.Slab.{HasRoomFor};
-ghost use Rattle.k_shadow.specs.Rows.{row_at, blank_row};
-ghost use Rattle.k_spage.specs.Pages.{rows_under, key_of, paged_row, ArePages, IsOneRow};
+ghost use Rattle.k_shadow.specs.Numbers.{AreRising};
+ghost use Rattle.k_shadow.specs.Rows.{row_time, unwritten};
+ghost use Rattle.k_shadow_rows.specs.Given.{IsGiven};
+ghost use Rattle.k_shadow_rows.specs.Rows.{row_in, size, width};
+ghost use Rattle.k_spage.specs.Pages.{rows_under, key_of, page_row, page_size, page_width, paged_row, paged_width, ArePages, IsOnePage, IsWide};
 
 use k_num::NoMemory;
-use k_shadow::Row;
+use k_shadow::{Steps, copy_to};
+use k_shadow_rows::Rows;
 use slab::Slab;
 use std::alloc::Global;
+use std::sync::ledger::Ledger;
 
 /// How many locations a page has.
 pub const PAGE: usize = 256;
 
 /// The key of the page of that number, if it is there.
 #[inline]
-pub fn key_of(table: &[Option<usize>], page: usize) -> Option<usize>
+fn key_of(table: &[Option<usize>], page: usize) -> Option<usize>
     ensures { result ≡ key_of table.now page }
 {
     match table.get(page) {
@@ -35,92 +40,225 @@ pub fn key_of_page(table: &[Option<usize>], page: usize) -> usize
     }
 }
 
-/// The row of a location, a blank one where its page is not there.
+/// The rows of the page of that number, if it is there.
 #[inline]
-pub fn row_of<'a>(pages: &'a Slab<Vec<Row>>, table: &[Option<usize>], loc: usize) -> &'a Row
-    requires { ArePages pages.now.slots table.now }
-    ensures { result.now ≡ paged_row pages.now.slots table.now loc }
+fn rows_of<'a>(pages: &'a Slab<Rows>, table: &[Option<usize>], page: usize) -> Option<&'a Rows>
+    ensures { option_copied result ≡ rows_under pages.now.slots (key_of table.now page) }
 {
-    match key_of(table, loc / PAGE) {
-        Some(key) => row_in(pages, key, loc % PAGE),
-        None => Row::or_blank(None),
+    match key_of(table, page) {
+        Some(key) => pages.get(key),
+        None => None,
     }
 }
 
-/// The row at a place of the page at a key.
+/// Tells that the page of that number is there, and that its rows have times for `depth` levels.
 #[inline]
-fn row_in(pages: &Slab<Vec<Row>>, key: usize, place: usize) -> &Row
-    requires { place < length (rows_under pages.now.slots (Some key)) }
-    ensures { result.now ≡ row_at (rows_under pages.now.slots (Some key)) place }
+pub fn is_wide(pages: &Slab<Rows>, table: &[Option<usize>], page: usize, depth: usize) -> bool
+    ensures { result ≡ true → IsWide pages.now.slots table.now depth page }
 {
-    match pages.get(key) {
-        Some(page) => &page[place],
-        None => unreachable!(),
+    match rows_of(pages, table, page) {
+        Some(rows) => depth <= rows.width(),
+        None => false,
+    }
+}
+
+/// The time of a location at a level, whose instance has that number: 0 where its page is not there.
+#[inline]
+pub fn time_of(
+    pages: &Slab<Rows>,
+    table: &[Option<usize>],
+    loc: usize,
+    number: u64,
+    level: usize,
+) -> u64
+    ensures { result ≡ row_time (paged_row pages.now.slots table.now loc) number level }
+{
+    match rows_of(pages, table, loc / PAGE) {
+        Some(rows) => rows.time(loc % PAGE, number, level),
+        None => 0,
+    }
+}
+
+/// Raises each of these times to the location's at its level, where it is lower, in one step a level. The levels'
+/// instances have these numbers.
+#[inline]
+pub fn raise<L: Ledger>(
+    pages: &Slab<Rows>,
+    table: &[Option<usize>],
+    loc: usize,
+    numbers: &[u64],
+    times: &mut [u64],
+    steps: &mut Steps<L>,
+)
+    requires each { length times.old ≡ length numbers.now }
+    requires rising { AreRising 0 numbers.now }
+    ensures raised { (k : ℕ) → k < length numbers.now → slice_index times.new k ≡ max (slice_index times.old k) (row_time (paged_row pages.now.slots table.now loc) (slice_index numbers.now k) k) }
+    ensures steps { steps.new ≡ steps.old + length numbers.now }
+{
+    match rows_of(pages, table, loc / PAGE) {
+        Some(rows) => rows.raise(loc % PAGE, numbers, times, steps),
+        None => steps.tick_each(numbers),
+    }
+}
+
+/// Fills the list with the later of two times at each level, `before`'s and the location's, in one step a level. The
+/// levels' instances have these numbers.
+#[inline]
+pub fn latest<L: Ledger>(
+    pages: &Slab<Rows>,
+    table: &[Option<usize>],
+    loc: usize,
+    numbers: &[u64],
+    before: &[u64],
+    times: &mut [u64],
+    steps: &mut Steps<L>,
+)
+    requires each { length before.now ≡ length numbers.now }
+    requires times { length times.old ≡ length numbers.now }
+    requires rising { AreRising 0 numbers.now }
+    ensures times { (k : ℕ) → k < length numbers.now → slice_index times.new k ≡ max (row_time (paged_row pages.now.slots table.now loc) (slice_index numbers.now k) k) (slice_index before.now k) }
+    ensures steps { steps.new ≡ steps.old + length numbers.now }
+{
+    match rows_of(pages, table, loc / PAGE) {
+        Some(rows) => rows.latest(loc % PAGE, numbers, before, times, steps),
+        None => {
+            steps.tick_each(numbers);
+            copy_to(times, before);
+        }
     }
 }
 
 /// Writes the times of the row at a place of the page at a key.
 #[inline]
-pub fn write_row(pages: &mut Slab<Vec<Row>>, key: usize, place: usize, stamp: u64, times: &[u64])
-    requires within { place < length (rows_under pages.old.slots (Some key)) }
-    requires few { length times.now ≤ 32 }
-    ensures one { IsOneRow pages.old.slots pages.new.slots key place }
-    ensures stamp { (row_at (rows_under pages.new.slots (Some key)) place).stamp ≡ stamp }
-    ensures times { (k : ℕ) → k < length times.now → slice_index (row_at (rows_under pages.new.slots (Some key)) place).times k ≡ slice_index times.now k }
+pub fn put(pages: &mut Slab<Rows>, key: usize, place: usize, stamp: u64, times: &[u64])
+    requires within { place < page_size (rows_under pages.old.slots (Some key)) }
+    requires few { length times.now ≤ page_width (rows_under pages.old.slots (Some key)) }
+    ensures page { IsOnePage pages.old.slots pages.new.slots key }
+    ensures given { IsGiven (slice_index times.now) place stamp (length times.now) (page_row (rows_under pages.old.slots (Some key))) (page_row (rows_under pages.new.slots (Some key))) }
 {
-    let page = &mut pages[key];
-    let row = &mut page[place];
-    row.write(stamp, times);
+    let rows = &mut pages[key];
+    rows.put(place, stamp, times);
 }
 
-/// Makes the row at a place of the page at a key read 0 at every level.
-#[inline]
-pub fn clear_row(pages: &mut Slab<Vec<Row>>, key: usize, place: usize)
-    requires within { place < length (rows_under pages.old.slots (Some key)) }
-    ensures one { IsOneRow pages.old.slots pages.new.slots key place }
-    ensures stamp { (row_at (rows_under pages.new.slots (Some key)) place).stamp ≡ 0 }
+/// Makes the rows at the places from `first` to before `end` of the page at a key read 0 at every level.
+fn clear_rows(pages: &mut Slab<Rows>, key: usize, first: usize, end: usize)
+    requires there { IsSome (rows_under pages.old.slots (Some key)) }
+    ensures page { IsOnePage pages.old.slots pages.new.slots key }
+    ensures among { (k : ℕ) → first ≤ k → k < end → (page_row (rows_under pages.new.slots (Some key)) k).stamp ≡ 0 }
+    ensures before { (k : ℕ) → k < first → page_row (rows_under pages.new.slots (Some key)) k ≡ page_row (rows_under pages.old.slots (Some key)) k }
+    ensures behind { (k : ℕ) → end ≤ k → page_row (rows_under pages.new.slots (Some key)) k ≡ page_row (rows_under pages.old.slots (Some key)) k }
 {
-    let page = &mut pages[key];
-    let row = &mut page[place];
-    row.stamp = 0;
+    let rows = &mut pages[key];
+    rows.clear(first, end);
 }
 
-/// The rows of a page that was never written.
-fn blank_page(alloc: Global) -> Result<Vec<Row>, NoMemory>
-    ensures { IfOk result (λ page. page.items ≡ replicate 256 blank_row) }
+/// Makes the rows of the page at a key have times for `depth` levels. A refusal leaves them as they were seen.
+fn widen_rows(
+    alloc: Global,
+    pages: &mut Slab<Rows>,
+    key: usize,
+    depth: usize,
+) -> Result<(), NoMemory>
+    requires size { page_size (rows_under pages.old.slots (Some key)) ≡ 256 }
+    requires shallow { depth ≤ 32 }
+    ensures page { IsOnePage pages.old.slots pages.new.slots key }
+    ensures same { (k : ℕ) → page_row (rows_under pages.new.slots (Some key)) k ≡ page_row (rows_under pages.old.slots (Some key)) k }
+    ensures ok { OnOk result (depth ≤ page_width (rows_under pages.new.slots (Some key))) }
 {
-    let mut page = Vec::new(alloc);
-    page.resize(PAGE, Row::blank())?;
-    Ok(page)
+    let rows = &mut pages[key];
+    rows.reserve(PAGE, depth, alloc)
 }
 
-/// Makes the page of that number, where it is not there. A refusal leaves all rows as they were.
+/// The rows of a page that was never written, with times for `depth` levels.
+fn blank_page(alloc: Global, depth: usize) -> Result<Rows, NoMemory>
+    requires { depth ≤ 32 }
+    ensures size { IfOk result (λ rows. size rows ≡ 256) }
+    ensures blank { IfOk result (λ rows. (place : ℕ) → row_in rows place ≡ unwritten) }
+    ensures wide { IfOk result (λ rows. depth ≤ width rows) }
+{
+    let mut rows = Rows::new(alloc);
+    if let Err(NoMemory) = rows.reserve(PAGE, depth, alloc) {
+        drop(rows);
+        return Err(NoMemory);
+    }
+    Ok(rows)
+}
+
+/// Makes the rows of the page of that number have times for `depth` levels, and makes the page where it is not there. A
+/// refusal leaves all rows as they were seen.
 fn make_page(
     alloc: Global,
-    pages: &mut Slab<Vec<Row>>,
+    pages: &mut Slab<Rows>,
     table: &mut Vec<Option<usize>>,
     page: usize,
+    depth: usize,
 ) -> Result<(), NoMemory>
     requires pages { ArePages pages.old.slots table.old.items }
     requires few { page < 16384 }
+    requires shallow { depth ≤ 32 }
     ensures pages { ArePages pages.new.slots table.new.items }
     ensures same { (loc : ℕ) → paged_row pages.new.slots table.new.items loc ≡ paged_row pages.old.slots table.old.items loc }
     ensures kept { (other : ℕ) → IsSome (key_of table.old.items other) → IsSome (key_of table.new.items other) }
+    ensures wider { (other : ℕ) → paged_width pages.old.slots table.old.items other ≤ paged_width pages.new.slots table.new.items other }
     ensures others { (other : ℕ) → other ≢ page → key_of table.new.items other ≡ key_of table.old.items other }
-    ensures ok { OnOk result (IsSome (key_of table.new.items page)) }
+    ensures ok { OnOk result (IsWide pages.new.slots table.new.items depth page) }
 {
-    if key_of(table, page).is_some() {
-        return Ok(());
+    if let Some(key) = key_of(table, page) {
+        return widen_page(alloc, pages, table, page, key, depth);
     }
-    let rows = blank_page(alloc)?;
+    new_page(alloc, pages, table, page, depth)
+}
+
+/// Makes the rows of the page of that number, which is at that key, have times for `depth` levels. A refusal leaves all
+/// rows as they were seen.
+fn widen_page(
+    alloc: Global,
+    pages: &mut Slab<Rows>,
+    table: &[Option<usize>],
+    page: usize,
+    key: usize,
+    depth: usize,
+) -> Result<(), NoMemory>
+    requires pages { ArePages pages.old.slots table.now }
+    requires named { key_of table.now page ≡ Some key }
+    requires shallow { depth ≤ 32 }
+    ensures pages { ArePages pages.new.slots table.now }
+    ensures same { (loc : ℕ) → paged_row pages.new.slots table.now loc ≡ paged_row pages.old.slots table.now loc }
+    ensures wider { (other : ℕ) → paged_width pages.old.slots table.now other ≤ paged_width pages.new.slots table.now other }
+    ensures ok { OnOk result (IsWide pages.new.slots table.now depth page) }
+{
+    widen_rows(alloc, pages, key, depth)
+}
+
+/// Makes the page of that number, which is not there, with times for `depth` levels. A refusal leaves all rows as they
+/// were.
+fn new_page(
+    alloc: Global,
+    pages: &mut Slab<Rows>,
+    table: &mut Vec<Option<usize>>,
+    page: usize,
+    depth: usize,
+) -> Result<(), NoMemory>
+    requires pages { ArePages pages.old.slots table.old.items }
+    requires absent { key_of table.old.items page ≡ None }
+    requires few { page < 16384 }
+    requires shallow { depth ≤ 32 }
+    ensures pages { ArePages pages.new.slots table.new.items }
+    ensures same { (loc : ℕ) → paged_row pages.new.slots table.new.items loc ≡ paged_row pages.old.slots table.old.items loc }
+    ensures kept { (other : ℕ) → IsSome (key_of table.old.items other) → IsSome (key_of table.new.items other) }
+    ensures wider { (other : ℕ) → paged_width pages.old.slots table.old.items other ≤ paged_width pages.new.slots table.new.items other }
+    ensures others { (other : ℕ) → other ≢ page → key_of table.new.items other ≡ key_of table.old.items other }
+    ensures ok { OnOk result (IsWide pages.new.slots table.new.items depth page) }
+{
     make_room(pages, table, page + 1)?;
+    let rows = blank_page(alloc, depth)?;
     add_page(pages, table, page, rows);
     Ok(())
 }
 
 /// Makes room for one page more, and for `count` numbers of pages. A refusal leaves all rows as they were.
 fn make_room(
-    pages: &mut Slab<Vec<Row>>,
+    pages: &mut Slab<Rows>,
     table: &mut Vec<Option<usize>>,
     count: usize,
 ) -> Result<(), NoMemory>
@@ -136,16 +274,19 @@ fn make_room(
 }
 
 /// Adds a page that is not there.
-fn add_page(pages: &mut Slab<Vec<Row>>, table: &mut Vec<Option<usize>>, page: usize, rows: Vec<Row>)
+fn add_page(pages: &mut Slab<Rows>, table: &mut Vec<Option<usize>>, page: usize, rows: Rows)
     requires pages { ArePages pages.old.slots table.old.items }
     requires named { page < length table.old.items }
     requires absent { key_of table.old.items page ≡ None }
     requires room { HasRoomFor pages.old 1 }
-    requires rows { rows.items ≡ replicate 256 blank_row }
+    requires size { size rows ≡ 256 }
+    requires blank { (place : ℕ) → row_in rows place ≡ unwritten }
     ensures pages { ArePages pages.new.slots table.new.items }
     ensures same { (loc : ℕ) → paged_row pages.new.slots table.new.items loc ≡ paged_row pages.old.slots table.old.items loc }
+    ensures kept { (other : ℕ) → IsSome (key_of table.old.items other) → IsSome (key_of table.new.items other) }
+    ensures wider { (other : ℕ) → paged_width pages.old.slots table.old.items other ≤ paged_width pages.new.slots table.new.items other }
     ensures others { (other : ℕ) → other ≢ page → key_of table.new.items other ≡ key_of table.old.items other }
-    ensures here { IsSome (key_of table.new.items page) }
+    ensures here { IsWide pages.new.slots table.new.items (width rows) page }
 {
     let key = pages.insert_reserved(rows);
     table[page] = Some(key);
@@ -164,40 +305,40 @@ fn grow_to(table: &mut Vec<Option<usize>>, count: usize) -> Result<(), NoMemory>
     Ok(())
 }
 
-/// Makes the pages of the `count` locations from `first` on that are not there. A refusal may have made some.
+/// Makes the rows of the locations from `first` to before `end` have times for `depth` levels, and makes the pages of these
+/// that are not there. A refusal may have done it for some.
 pub fn make_pages(
     alloc: Global,
-    pages: &mut Slab<Vec<Row>>,
+    pages: &mut Slab<Rows>,
     table: &mut Vec<Option<usize>>,
     first: usize,
     end: usize,
+    depth: usize,
 ) -> Result<(), NoMemory>
     requires pages { ArePages pages.old.slots table.old.items }
     requires few { end ≤ 4194304 }
+    requires shallow { depth ≤ 32 }
     ensures pages { ArePages pages.new.slots table.new.items }
     ensures same { (loc : ℕ) → paged_row pages.new.slots table.new.items loc ≡ paged_row pages.old.slots table.old.items loc }
-    ensures kept { (page : ℕ) → IsSome (key_of table.old.items page) → IsSome (key_of table.new.items page) }
+    ensures kept { (other : ℕ) → IsSome (key_of table.old.items other) → IsSome (key_of table.new.items other) }
+    ensures wider { (other : ℕ) → paged_width pages.old.slots table.old.items other ≤ paged_width pages.new.slots table.new.items other }
     ensures others { (page : ℕ) → (first < end → first / 256 ≤ page → page ≤ (end - 1) / 256 → ⊥) → key_of table.new.items page ≡ key_of table.old.items page }
-    ensures ok { OnOk result ((loc : ℕ) → first ≤ loc → loc < end → IsSome (key_of table.new.items (loc / 256))) }
+    ensures ok { OnOk result ((loc : ℕ) → first ≤ loc → loc < end → IsWide pages.new.slots table.new.items depth (loc / 256)) }
 {
     if first < end {
         for page in first / PAGE..(end - 1) / PAGE + 1 {
-            make_page(alloc, pages, table, page)?;
+            make_page(alloc, pages, table, page, depth)?;
         }
     }
     Ok(())
 }
 
 /// Makes the rows of the locations from `first` to before `end` read 0 at every level.
-pub fn clear_locations(
-    pages: &mut Slab<Vec<Row>>,
-    table: &[Option<usize>],
-    first: usize,
-    end: usize,
-)
+pub fn clear_locations(pages: &mut Slab<Rows>, table: &[Option<usize>], first: usize, end: usize)
     requires pages { ArePages pages.old.slots table.now }
     requires few { end ≤ 4194304 }
     ensures pages { ArePages pages.new.slots table.now }
+    ensures wider { (other : ℕ) → paged_width pages.old.slots table.now other ≤ paged_width pages.new.slots table.now other }
     ensures among { (loc : ℕ) → first ≤ loc → loc < end → (paged_row pages.new.slots table.now loc).stamp ≡ 0 }
     ensures before { (loc : ℕ) → loc < first → paged_row pages.new.slots table.now loc ≡ paged_row pages.old.slots table.now loc }
     ensures behind { (loc : ℕ) → end ≤ loc → paged_row pages.new.slots table.now loc ≡ paged_row pages.old.slots table.now loc }
@@ -211,34 +352,23 @@ pub fn clear_locations(
 /// Makes the rows of the locations from `first` to before `end`, which lie in the page of that number, read 0 at every
 /// level, if the page is there.
 fn clear_page(
-    pages: &mut Slab<Vec<Row>>,
+    pages: &mut Slab<Rows>,
     table: &[Option<usize>],
     page: usize,
     first: usize,
     end: usize,
 )
     requires pages { ArePages pages.old.slots table.now }
-    requires inside { (loc : ℕ) → first ≤ loc → loc < end → loc / 256 ≡ page }
+    requires low { page * 256 ≤ first }
+    requires some { page * 256 ≤ end }
+    requires high { end ≤ (page + 1) * 256 }
     ensures pages { ArePages pages.new.slots table.now }
+    ensures wider { (other : ℕ) → paged_width pages.old.slots table.now other ≤ paged_width pages.new.slots table.now other }
     ensures among { (loc : ℕ) → first ≤ loc → loc < end → (paged_row pages.new.slots table.now loc).stamp ≡ 0 }
     ensures before { (loc : ℕ) → loc < first → paged_row pages.new.slots table.now loc ≡ paged_row pages.old.slots table.now loc }
     ensures behind { (loc : ℕ) → end ≤ loc → paged_row pages.new.slots table.now loc ≡ paged_row pages.old.slots table.now loc }
 {
     if let Some(key) = key_of(table, page) {
-        for loc in first..end {
-            clear_location(pages, table, key, loc);
-        }
+        clear_rows(pages, key, first - page * PAGE, end - page * PAGE);
     }
-}
-
-/// Makes the row of a location, whose page is at that key, read 0 at every level.
-#[inline]
-fn clear_location(pages: &mut Slab<Vec<Row>>, table: &[Option<usize>], key: usize, loc: usize)
-    requires pages { ArePages pages.old.slots table.now }
-    requires named { key_of table.now (loc / 256) ≡ Some key }
-    ensures pages { ArePages pages.new.slots table.now }
-    ensures here { (paged_row pages.new.slots table.now loc).stamp ≡ 0 }
-    ensures rest { (at : ℕ) → at ≢ loc → paged_row pages.new.slots table.now at ≡ paged_row pages.old.slots table.now at }
-{
-    clear_row(pages, key, loc % PAGE);
 }

@@ -3,20 +3,24 @@ ghost use Rattle.std.specs.Prelude.{◌≡◌, ℕ, ◌≤◌};
 ghost use Rattle.k_shadow.specs.Content.{empty};
 ghost use Rattle.k_spage.specs.Pages.{paged_row, ArePages};
 
-use crate::pages::{PAGE, clear_locations, key_of, key_of_page, make_pages, row_of, write_row};
+use crate::pages;
+use crate::pages::PAGE;
 use k_num::NoMemory;
-use k_shadow::{Row, Shadow, Steps, Times, Versions};
+use k_shadow::{Shadow, Steps, Times, Versions};
+use k_shadow_rows::Rows;
 use slab::Slab;
 use std::alloc::Global;
 use std::sync::ledger::Ledger;
 
 /// A shadow over element numbers, which are below 4,194,304.
 ///
-/// Pages of 256 locations stand in a slab, and a table names the page of a location. `reserve` alone makes pages. A
-/// row's stamp tells at which levels its times are live, so entering or leaving a level writes no row.
+/// Pages of 256 locations stand in a slab, and a table names the page of a location. `reserve` alone makes pages. The rows
+/// of a page have times for 8 levels, in 72 bytes each, until it is reserved while more are live; from then on they have
+/// times for 32, in 264 bytes each. A row's stamp tells at which levels its times are live, so entering or leaving a level
+/// writes no row.
 #[derive(Drop)]
 pub struct ShadowPages {
-    pages: Slab<Vec<Row>>,
+    pages: Slab<Rows>,
     table: Vec<Option<usize>>,
     versions: Versions,
     alloc: Global,
@@ -93,72 +97,51 @@ impl Shadow for ShadowPages {
         ensures pages_kept { (page : ℕ) → has_page self.old page ≡ true → has_page self.new page ≡ true }
         ensures no_other { (page : ℕ) → (IsTouched first count page → ⊥) → has_page self.new page ≡ has_page self.old page }
     {
-        if count == 1 && key_of(&self.table, first as usize / PAGE).is_some() {
+        let depth = self.versions.depth();
+        if count == 1 && pages::is_wide(&self.pages, &self.table, first as usize / PAGE, depth) {
             return Ok(());
         }
         let end = (first + count) as usize;
-        make_pages(
+        pages::make_pages(
             self.alloc,
             &mut self.pages,
             &mut self.table,
             first as usize,
             end,
+            depth,
         )
     }
 
     #[inline]
     fn read<L: Ledger>(&self, loc: u32, level: usize, steps: &mut Steps<L>) -> u64 {
         steps.tick();
-        let row = row_of(&self.pages, &self.table, loc as usize);
-        row.time(self.versions.number(level), level)
+        let number = self.versions.number(level);
+        pages::time_of(&self.pages, &self.table, loc as usize, number, level)
     }
 
     #[inline]
     fn raise<L: Ledger>(&self, loc: u32, times: &mut [u64], steps: &mut Steps<L>) {
-        let row = row_of(&self.pages, &self.table, loc as usize);
-        row.raise(self.versions.live(), times, steps);
+        let numbers = self.versions.live();
+        pages::raise(
+            &self.pages,
+            &self.table,
+            loc as usize,
+            numbers,
+            times,
+            steps,
+        );
     }
 
     #[inline]
     fn latest<L: Ledger>(&self, loc: u32, before: &[u64], times: &mut [u64], steps: &mut Steps<L>) {
-        let row = row_of(&self.pages, &self.table, loc as usize);
-        row.latest(self.versions.live(), before, times, steps);
-    }
-
-    #[inline]
-    fn times_after_one<L: Ledger>(
-        &self,
-        from: u32,
-        before: &[u64],
-        latency: u64,
-        times: &mut [u64],
-        paths: &mut [u64],
-        steps: &mut Steps<L>,
-    ) {
-        let row = row_of(&self.pages, &self.table, from as usize);
-        row.times_after(self.versions.live(), before, latency, times, paths, steps);
-    }
-
-    #[inline]
-    fn times_after_two<L: Ledger>(
-        &self,
-        left: u32,
-        right: u32,
-        before: &[u64],
-        latency: u64,
-        times: &mut [u64],
-        paths: &mut [u64],
-        steps: &mut Steps<L>,
-    ) {
-        let left_row = row_of(&self.pages, &self.table, left as usize);
-        let right_row = row_of(&self.pages, &self.table, right as usize);
-        left_row.times_after_both(
-            right_row,
-            self.versions.live(),
+        let numbers = self.versions.live();
+        pages::latest(
+            &self.pages,
+            &self.table,
+            loc as usize,
+            numbers,
             before,
-            latency,
             times,
-            paths,
             steps,
         );
     }
@@ -185,8 +168,8 @@ impl Shadow for ShadowPages {
         ensures pages { HasSamePages self.old self.new }
     {
         let stamp = self.versions.last_given();
-        let key = key_of_page(&self.table, loc as usize / PAGE);
-        write_row(&mut self.pages, key, loc as usize % PAGE, stamp, times);
+        let key = pages::key_of_page(&self.table, loc as usize / PAGE);
+        pages::put(&mut self.pages, key, loc as usize % PAGE, stamp, times);
     }
 
     fn clear(&mut self, first: u32, count: u32)
@@ -196,7 +179,7 @@ impl Shadow for ShadowPages {
         ensures pages { HasSamePages self.old self.new }
     {
         if self.versions.depth() > 0 {
-            clear_locations(
+            pages::clear_locations(
                 &mut self.pages,
                 &self.table,
                 first as usize,

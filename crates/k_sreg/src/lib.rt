@@ -1,8 +1,6 @@
 //! The shadow of registers: one row of times for each absolute register number.
 #![tactic(auto)]
 
-mod given;
-mod rows;
 mod shadow_regs;
 
 pub use shadow_regs::ShadowRegs;

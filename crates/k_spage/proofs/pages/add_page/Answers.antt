@@ -1,30 +1,32 @@
-use Rattle.std.proofs.Common.{◌∙◌, ap}
-use Rattle.k_spage.specs.Pages.{page_rows}
-use Rattle.k_spage.proofs.Paged.{new_page_rows, ArePages-new}
+use Rattle.std.proofs.Common.{rules}
+use Rattle.k_spage.proofs.Paged.{IsNewPage, new_page_rows, ArePages-new, new_page_wider, IsWide-new}
 use Rattle.k_spage.proofs.pages.add_page.Goals as goal
 
-pub returns-clause-pages : goal.returns-clause-pages
-returns-clause-pages c =
+pub returns : goal.returns
+returns c =
     let e = c.insert_reserved-key.ensures in
-    ArePages-new c.args.pages.now.slots c.insert_reserved-key.new.self.slots c.args.table.now.items c.args.page c.insert_reserved-key.result (record {
+    let old = c.args.pages.now.slots in
+    let new = c.insert_reserved-key.new.self.slots in
+    let table = c.args.table.now.items in
+    let page = c.args.page in
+    let key = c.insert_reserved-key.result in
+    let rows = c.args.rows in
+    let n : IsNewPage old new table page key rows = record {
       pages = c.requires.pages;
       named = c.requires.named;
       absent = c.requires.absent;
       vacant = e.was_vacant;
-      made = ap (λ o. page_rows o) e.updates.changed ∙ c.requires.rows;
+      made = e.updates.changed;
+      counted = c.requires.size;
+      blank = c.requires.blank;
       others = e.updates.others;
       count = e.len;
-    })
-
-pub returns-clause-same : goal.returns-clause-same
-returns-clause-same c =
-    let e = c.insert_reserved-key.ensures in
-    new_page_rows c.args.pages.now.slots c.insert_reserved-key.new.self.slots c.args.table.now.items c.args.page c.insert_reserved-key.result (record {
-      pages = c.requires.pages;
-      named = c.requires.named;
-      absent = c.requires.absent;
-      vacant = e.was_vacant;
-      made = ap (λ o. page_rows o) e.updates.changed ∙ c.requires.rows;
-      others = e.updates.others;
-      count = e.len;
-    })
+    } in
+    record {
+      pages = ArePages-new old new table page key rows n;
+      same = new_page_rows old new table page key rows n;
+      wider = new_page_wider old new table page key rows n;
+      others = search rules;
+      kept = search rules;
+      here = IsWide-new old new table page key rows n;
+    }

@@ -1,6 +1,6 @@
 use Rattle.std.proofs.Common.{◌≡◌, ℕ, ◌+◌, ◌-◌, ◌<◌, ◌≤◌, List, length, take, map, subst, ap, sym, ◌∙◌, arith, rules, vec_len}
 use Rattle.std.specs.Prelude.{slice_index}
-use Rattle.k_shadow.specs.Rows.{row_at, row_time, times_of}
+use Rattle.k_shadow.specs.Rows.{seen, row_at, row_time, times_of}
 use Rattle.k_shadow.proofs.Entries.{copied_back, saved_counted, saved-next}
 use Rattle.k_shadow.proofs.control.Control.back.Goals as goal
 
@@ -29,5 +29,5 @@ returns-clause-saved c =
     let one : s.count ≡ s.count - 1 + 1 = omega (arith, c.requires, some) in
     let within : s.count - 1 < length s.rows.items = omega (arith, few, one) in
     sym (ap (λ x. x.saved) c.self.view_is)
-    ∙ ap (λ n. map (λ r. times_of r live) (take n s.rows.items)) one
+    ∙ ap (λ n. map (λ r. times_of (seen r) live) (take n s.rows.items)) one
     ∙ saved-next s.rows.items live (take (length live) new) (s.count - 1) within (copied_back row live new room_for each)

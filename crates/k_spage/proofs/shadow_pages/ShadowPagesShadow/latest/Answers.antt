@@ -7,20 +7,20 @@ use Rattle.k_spage.proofs.shadow_pages.ShadowPagesShadow.latest.Goals as goal
 pub latest-requires-clause-each : goal.latest-requires-clause-each
 latest-requires-clause-each g c =
     let s = c.args.self.now in
-    c.requires.each ∙ depth_counted (paged_row s.pages.slots s.table.items) s.versions 4194304 ∙ sym (ap (λ ns. length ns) c.live.ensures.live)
+    c.requires.each ∙ depth_counted (paged_row s.pages.slots s.table.items) s.versions 4194304 ∙ sym (ap (λ ns. length ns) c.live-numbers.ensures.live)
 
 pub latest-requires-clause-times : goal.latest-requires-clause-times
 latest-requires-clause-times g c =
     let s = c.args.self.now in
-    c.requires.times ∙ depth_counted (paged_row s.pages.slots s.table.items) s.versions 4194304 ∙ sym (ap (λ ns. length ns) c.live.ensures.live)
+    c.requires.times ∙ depth_counted (paged_row s.pages.slots s.table.items) s.versions 4194304 ∙ sym (ap (λ ns. length ns) c.live-numbers.ensures.live)
 
 pub returns-clause-times : goal.returns-clause-times
 returns-clause-times g c =
     let s = c.args.self.now in
-    let here = c.row_of-row.ensures ∙ ap (λ table. paged_row s.pages.slots table c.args.loc) c.deref.ensures.value in
-    by_location (λ k t. max t (slice_index c.args.before.now k)) (paged_row s.pages.slots s.table.items) s.versions 4194304 c.args.loc c.row_of-row.result.now c.live.result.now c.latest.new.times here c.live.ensures.live c.latest.ensures.times
+    let here = ap (λ table. paged_row s.pages.slots table c.args.loc) c.deref.ensures.value in
+    by_location (λ k t. max t (slice_index c.args.before.now k)) (paged_row s.pages.slots s.table.items) s.versions 4194304 c.args.loc (paged_row s.pages.slots c.deref.result.now c.args.loc) c.live-numbers.result.now c.latest.new.times here c.live-numbers.ensures.live c.latest.ensures.times
 
 pub returns-clause-steps : goal.returns-clause-steps
 returns-clause-steps g c =
     let s = c.args.self.now in
-    c.latest.ensures.steps ∙ ap (λ n. c.args.steps.now + n) (ap (λ ns. length ns) c.live.ensures.live ∙ sym (depth_counted (paged_row s.pages.slots s.table.items) s.versions 4194304))
+    c.latest.ensures.steps ∙ ap (λ n. c.args.steps.now + n) (ap (λ ns. length ns) c.live-numbers.ensures.live ∙ sym (depth_counted (paged_row s.pages.slots s.table.items) s.versions 4194304))

@@ -1,0 +1,12 @@
+use Rattle.std.proofs.Common.{◌≡◌, ℕ, ◌<◌, ◌≤◌, get_or, length}
+use Rattle.k_shadow.specs.Rows.{row_at}
+use Rattle.k_shadow_rows.specs.Given.{AreGiven, after_live_rows}
+use Rattle.k_shadow_rows.proofs.given.give_both.Given as goal
+
+-- the levels so far were given their times
+abbrev pub invariant-loop-level : goal.invariant-loop-level
+invariant-loop-level g l = record {
+  size : length l.rows ≡ length l.initial.rows;
+  live : (k : ℕ) → k < l.level → get_or l.numbers k 0 ≤ l.stamp;
+  given : AreGiven (after_live_rows (row_at l.initial.rows l.left) (row_at l.initial.rows l.right) l.before l.latency) l.to 0 l.level (row_at l.initial.rows) (row_at l.rows) l.initial.paths l.paths;
+}

@@ -1,0 +1,380 @@
+//! The times that an operation gives to a row, where its operands stand among the same rows, of whatever width.
+ghost use Rattle.std.specs.Prelude.{◌≡◌, ◌≢◌, ◌+◌, ◌%◌, ◌^◌, ◌<◌, ◌≤◌, ℕ, true, false, length, max, slice_index};
+ghost use Rattle.k_shadow.specs.Content.{after_none, time_after};
+ghost use Rattle.k_shadow.specs.Numbers.{AreRising};
+ghost use Rattle.k_shadow.specs.Rows.{row_at};
+ghost use Rattle.k_shadow_rows.specs.Given.{AreGiven, AreRaised, IsGiven, after_row, after_rows, after_live_row, after_live_rows};
+
+use k_shadow::Row;
+
+/// The time of an operation that waits for this time.
+#[inline(always)]
+fn after(before: u64, latency: u64) -> u64
+    ensures { result ≡ (before + latency) % 2 ^ 64 }
+{
+    before.wrapping_add(latency)
+}
+
+/// The time at a level of an operation that waits for this time and for a row's.
+#[inline(always)]
+fn after_one<const N: usize>(
+    rows: &[Row<N>],
+    from: usize,
+    level: usize,
+    before: u64,
+    latency: u64,
+) -> u64
+    requires within { from < length rows.now }
+    requires shallow { level < N }
+    ensures { result ≡ (max ((row_at rows.now from).time level) before + latency) % 2 ^ 64 }
+{
+    let row = &rows[from];
+    row.times[level].max(before).wrapping_add(latency)
+}
+
+/// The time at a level of an operation that waits for this time and for two rows'.
+#[inline(always)]
+fn after_both<const N: usize>(
+    rows: &[Row<N>],
+    left: usize,
+    right: usize,
+    level: usize,
+    before: u64,
+    latency: u64,
+) -> u64
+    requires left { left < length rows.now }
+    requires right { right < length rows.now }
+    requires shallow { level < N }
+    ensures { result ≡ time_after ((row_at rows.now left).time level) ((row_at rows.now right).time level) before latency }
+{
+    let left_row = &rows[left];
+    let right_row = &rows[right];
+    let latest = left_row.times[level].max(right_row.times[level]);
+    latest.max(before).wrapping_add(latency)
+}
+
+/// Gives a row a time at a level, and raises the level's path to it.
+#[inline(always)]
+fn give<const N: usize>(rows: &mut [Row<N>], to: usize, level: usize, time: u64, paths: &mut [u64])
+    requires within { to < length rows.old }
+    requires shallow { level < N }
+    requires live { level < length paths.old }
+    ensures given { AreGiven (λ _. time) to level (level + 1) (row_at rows.old) (row_at rows.new) paths.old paths.new }
+    ensures size { length rows.new ≡ length rows.old }
+{
+    let row = &mut rows[to];
+    row.times[level] = time;
+    paths[level] = paths[level].max(time);
+}
+
+/// Tells whether what was written when that stamp was given is live at a level. The levels' instances have these numbers.
+#[inline(always)]
+#[tactic(auto, using(crate::proofs::Ranges::some_stamp, crate::proofs::Ranges::gone_behind))]
+fn is_live(numbers: &[u64], level: usize, stamp: u64) -> bool
+    requires level { level < length numbers.now }
+    requires rising { AreRising 0 numbers.now }
+    ensures live { result ≡ true → slice_index numbers.now level ≤ stamp }
+    ensures some { result ≡ true → 0 < stamp }
+    ensures gone { result ≡ false → (k : ℕ) → level ≤ k → k < length numbers.now → stamp < slice_index numbers.now k }
+{
+    numbers[level] <= stamp
+}
+
+/// Gives a row the times of an operation with two rows, at the levels at which what was written when that stamp was given
+/// is live, and answers how many these are.
+#[inline(always)]
+fn give_both<const N: usize>(
+    rows: &mut [Row<N>],
+    left: usize,
+    right: usize,
+    to: usize,
+    stamp: u64,
+    numbers: &[u64],
+    before: &[u64],
+    latency: u64,
+    paths: &mut [u64],
+) -> usize
+    requires left { 0 < stamp → left < length rows.old }
+    requires right { 0 < stamp → right < length rows.old }
+    requires within { to < length rows.old }
+    requires few { length before.now ≤ N }
+    requires each { length before.now ≡ length numbers.now }
+    requires paths { length paths.old ≡ length before.now }
+    requires rising { AreRising 0 numbers.now }
+    ensures few { result ≤ length before.now }
+    ensures live { (k : ℕ) → k < result → slice_index numbers.now k ≤ stamp }
+    ensures gone { (k : ℕ) → result ≤ k → k < length numbers.now → stamp < slice_index numbers.now k }
+    ensures given { AreGiven (after_live_rows (row_at rows.old left) (row_at rows.old right) before.now latency) to 0 result (row_at rows.old) (row_at rows.new) paths.old paths.new }
+    ensures size { length rows.new ≡ length rows.old }
+{
+    for level in 0..before.len() {
+        if !is_live(numbers, level, stamp) {
+            return level;
+        }
+        let time = after_both(rows, left, right, level, before[level], latency);
+        give(rows, to, level, time, paths);
+    }
+    before.len()
+}
+
+/// Gives a row the times of an operation with one row, at the levels from `low` on at which what was written when that
+/// stamp was given is live, and answers where these end.
+#[inline(always)]
+fn give_one<const N: usize>(
+    rows: &mut [Row<N>],
+    from: usize,
+    to: usize,
+    low: usize,
+    stamp: u64,
+    numbers: &[u64],
+    before: &[u64],
+    latency: u64,
+    paths: &mut [u64],
+) -> usize
+    requires from { 0 < stamp → from < length rows.old }
+    requires within { to < length rows.old }
+    requires few { length before.now ≤ N }
+    requires low { low ≤ length before.now }
+    requires each { length before.now ≡ length numbers.now }
+    requires paths { length paths.old ≡ length before.now }
+    requires rising { AreRising 0 numbers.now }
+    ensures low { low ≤ result }
+    ensures few { result ≤ length before.now }
+    ensures live { (k : ℕ) → low ≤ k → k < result → slice_index numbers.now k ≤ stamp }
+    ensures gone { (k : ℕ) → result ≤ k → k < length numbers.now → stamp < slice_index numbers.now k }
+    ensures given { AreGiven (after_live_row (row_at rows.old from) before.now latency) to low result (row_at rows.old) (row_at rows.new) paths.old paths.new }
+    ensures size { length rows.new ≡ length rows.old }
+{
+    for level in low..before.len() {
+        if !is_live(numbers, level, stamp) {
+            return level;
+        }
+        let time = after_one(rows, from, level, before[level], latency);
+        give(rows, to, level, time, paths);
+    }
+    before.len()
+}
+
+/// Gives a row the times of an operation without an operand that is live, at the levels from `low` on.
+#[inline]
+fn give_none<const N: usize>(
+    rows: &mut [Row<N>],
+    to: usize,
+    low: usize,
+    before: &[u64],
+    latency: u64,
+    paths: &mut [u64],
+)
+    requires within { to < length rows.old }
+    requires few { length before.now ≤ N }
+    requires low { low ≤ length before.now }
+    requires paths { length paths.old ≡ length before.now }
+    ensures given { AreGiven (after_none before.now latency) to low (length before.now) (row_at rows.old) (row_at rows.new) paths.old paths.new }
+    ensures size { length rows.new ≡ length rows.old }
+{
+    for level in low..before.len() {
+        let time = after(before[level], latency);
+        give(rows, to, level, time, paths);
+    }
+}
+
+/// Gives a row the times of an operation with two rows, of which one was written no later than the other. Their stamps are
+/// `low` and `high`.
+#[inline(always)]
+fn give_ordered<const N: usize>(
+    rows: &mut [Row<N>],
+    older: usize,
+    newer: usize,
+    to: usize,
+    low: u64,
+    high: u64,
+    numbers: &[u64],
+    before: &[u64],
+    latency: u64,
+    paths: &mut [u64],
+)
+    requires older { 0 < low → older < length rows.old }
+    requires newer { 0 < high → newer < length rows.old }
+    requires low { low ≡ (row_at rows.old older).stamp }
+    requires high { high ≡ (row_at rows.old newer).stamp }
+    requires order { low ≤ high }
+    requires within { to < length rows.old }
+    requires few { length before.now ≤ N }
+    requires each { length before.now ≡ length numbers.now }
+    requires paths { length paths.old ≡ length before.now }
+    requires rising { AreRising 0 numbers.now }
+    ensures given { AreGiven (after_rows (row_at rows.old older) (row_at rows.old newer) numbers.now before.now latency) to 0 (length before.now) (row_at rows.old) (row_at rows.new) paths.old paths.new }
+    ensures size { length rows.new ≡ length rows.old }
+{
+    let both = give_both(rows, older, newer, to, low, numbers, before, latency, paths);
+    let one = give_one(rows, newer, to, both, high, numbers, before, latency, paths);
+    give_none(rows, to, one, before, latency, paths);
+}
+
+/// Gives a row the times of an operation with two rows that have these stamps.
+#[inline(always)]
+fn give_rows<const N: usize>(
+    rows: &mut [Row<N>],
+    left: usize,
+    right: usize,
+    to: usize,
+    left_stamp: u64,
+    right_stamp: u64,
+    numbers: &[u64],
+    before: &[u64],
+    latency: u64,
+    paths: &mut [u64],
+)
+    requires left { 0 < left_stamp → left < length rows.old }
+    requires right { 0 < right_stamp → right < length rows.old }
+    requires left_stamp { left_stamp ≡ (row_at rows.old left).stamp }
+    requires right_stamp { right_stamp ≡ (row_at rows.old right).stamp }
+    requires within { to < length rows.old }
+    requires few { length before.now ≤ N }
+    requires each { length before.now ≡ length numbers.now }
+    requires paths { length paths.old ≡ length before.now }
+    requires rising { AreRising 0 numbers.now }
+    ensures given { AreGiven (after_rows (row_at rows.old left) (row_at rows.old right) numbers.now before.now latency) to 0 (length before.now) (row_at rows.old) (row_at rows.new) paths.old paths.new }
+    ensures size { length rows.new ≡ length rows.old }
+{
+    if left_stamp <= right_stamp {
+        give_ordered(
+            rows,
+            left,
+            right,
+            to,
+            left_stamp,
+            right_stamp,
+            numbers,
+            before,
+            latency,
+            paths,
+        );
+    } else {
+        give_ordered(
+            rows,
+            right,
+            left,
+            to,
+            right_stamp,
+            left_stamp,
+            numbers,
+            before,
+            latency,
+            paths,
+        );
+    }
+}
+
+/// Gives a row a stamp, and leaves its times.
+#[inline(always)]
+fn stamp_row<const N: usize>(rows: &mut [Row<N>], to: usize, stamp: u64)
+    requires { to < length rows.old }
+    ensures size { length rows.new ≡ length rows.old }
+    ensures stamped { (row_at rows.new to).stamp ≡ stamp }
+    ensures times { (k : ℕ) → (row_at rows.new to).time k ≡ (row_at rows.old to).time k }
+    ensures others { (at : ℕ) → at ≢ to → row_at rows.new at ≡ row_at rows.old at }
+{
+    let row = &mut rows[to];
+    row.stamp = stamp;
+}
+
+/// The stamp of a location's row, 0 where it has none.
+#[inline(always)]
+fn stamp_at<const N: usize>(rows: &[Row<N>], loc: usize) -> u64
+    ensures stamp { result ≡ (row_at rows.now loc).stamp }
+    ensures within { 0 < result → loc < length rows.now }
+{
+    if loc >= rows.len() {
+        return 0;
+    }
+    let row = &rows[loc];
+    row.stamp
+}
+
+/// Gives a row the times of an operation that waits for these times alone.
+#[inline]
+pub fn write_none<const N: usize>(
+    rows: &mut [Row<N>],
+    to: usize,
+    stamp: u64,
+    before: &[u64],
+    latency: u64,
+    paths: &mut [u64],
+)
+    requires within { to < length rows.old }
+    requires few { length before.now ≤ N }
+    requires paths { length paths.old ≡ length before.now }
+    ensures given { IsGiven (after_none before.now latency) to stamp (length before.now) (row_at rows.old) (row_at rows.new) }
+    ensures raised { AreRaised (after_none before.now latency) (length before.now) paths.old paths.new }
+    ensures size { length rows.new ≡ length rows.old }
+{
+    give_none(rows, to, 0, before, latency, paths);
+    stamp_row(rows, to, stamp);
+}
+
+/// Gives a row the times of an operation that waits for these times and for a row's.
+#[inline]
+pub fn write_one<const N: usize>(
+    rows: &mut [Row<N>],
+    from: usize,
+    to: usize,
+    numbers: &[u64],
+    stamp: u64,
+    before: &[u64],
+    latency: u64,
+    paths: &mut [u64],
+)
+    requires within { to < length rows.old }
+    requires few { length before.now ≤ N }
+    requires live { length before.now ≡ length numbers.now }
+    requires paths { length paths.old ≡ length before.now }
+    requires rising { AreRising 0 numbers.now }
+    ensures given { IsGiven (after_row (row_at rows.old from) numbers.now before.now latency) to stamp (length before.now) (row_at rows.old) (row_at rows.new) }
+    ensures raised { AreRaised (after_row (row_at rows.old from) numbers.now before.now latency) (length before.now) paths.old paths.new }
+    ensures size { length rows.new ≡ length rows.old }
+{
+    let written = stamp_at(rows, from);
+    let live = give_one(rows, from, to, 0, written, numbers, before, latency, paths);
+    give_none(rows, to, live, before, latency, paths);
+    stamp_row(rows, to, stamp);
+}
+
+/// Gives a row the times of an operation that waits for these times and for two rows'.
+#[inline]
+pub fn write_both<const N: usize>(
+    rows: &mut [Row<N>],
+    left: usize,
+    right: usize,
+    to: usize,
+    numbers: &[u64],
+    stamp: u64,
+    before: &[u64],
+    latency: u64,
+    paths: &mut [u64],
+)
+    requires within { to < length rows.old }
+    requires few { length before.now ≤ N }
+    requires live { length before.now ≡ length numbers.now }
+    requires paths { length paths.old ≡ length before.now }
+    requires rising { AreRising 0 numbers.now }
+    ensures given { IsGiven (after_rows (row_at rows.old left) (row_at rows.old right) numbers.now before.now latency) to stamp (length before.now) (row_at rows.old) (row_at rows.new) }
+    ensures raised { AreRaised (after_rows (row_at rows.old left) (row_at rows.old right) numbers.now before.now latency) (length before.now) paths.old paths.new }
+    ensures size { length rows.new ≡ length rows.old }
+{
+    let left_stamp = stamp_at(rows, left);
+    let right_stamp = stamp_at(rows, right);
+    give_rows(
+        rows,
+        left,
+        right,
+        to,
+        left_stamp,
+        right_stamp,
+        numbers,
+        before,
+        latency,
+        paths,
+    );
+    stamp_row(rows, to, stamp);
+}

@@ -1,0 +1,317 @@
+//! Rows of either width.
+ghost use Rattle.std.specs.Prelude.{◌≡◌, ◌≢◌, ◌+◌, ◌<◌, ◌≤◌, ℕ, length, max, slice_index, OnOk, true};
+ghost use Rattle.k_shadow.specs.Content.{after_none};
+ghost use Rattle.k_shadow.specs.Numbers.{AreRising};
+ghost use Rattle.k_shadow.specs.Rows.{row_time, unwritten};
+ghost use Rattle.k_shadow_rows.specs.Given.{AreRaised, IsGiven, after_row, after_rows};
+ghost use Rattle.k_shadow_rows.specs.Rows.{row_in, size, width, HasRow};
+
+use crate::{given, lists};
+use k_num::NoMemory;
+use k_shadow::{Row, Steps};
+use std::alloc::Global;
+use std::sync::ledger::Ledger;
+
+/// Rows of times in the order of locations, all of one width. A row of 8 levels takes 72 bytes, and one of 32 takes 264.
+#[derive(Drop)]
+pub enum Rows {
+    /// With times for the 8 outermost levels.
+    Eight(Vec<Row<8>>),
+    /// With times for each level that may be live.
+    ThirtyTwo(Vec<Row<32>>),
+}
+
+impl Rows {
+    /// There is no row.
+    pub fn new(alloc: Global) -> Rows
+        ensures none { (loc : ℕ) → row_in result loc ≡ unwritten }
+        ensures empty { size result ≡ 0 }
+    {
+        Rows::Eight(Vec::new(alloc))
+    }
+
+    /// How many rows there are.
+    #[inline]
+    pub fn len(&self) -> usize
+        ensures count { result ≡ size self.now }
+    {
+        match self {
+            Rows::Eight(rows) => rows.len(),
+            Rows::ThirtyTwo(rows) => rows.len(),
+        }
+    }
+
+    /// For how many levels the rows have times.
+    #[inline]
+    pub fn width(&self) -> usize
+        ensures levels { result ≡ width self.now }
+    {
+        match self {
+            Rows::Eight(_) => 8,
+            Rows::ThirtyTwo(_) => 32,
+        }
+    }
+
+    /// Makes the rows have times for `depth` levels, and adds blank ones until there are `count`. A refusal may have done
+    /// the first.
+    #[inline(always)]
+    pub fn reserve(&mut self, count: usize, depth: usize, alloc: Global) -> Result<(), NoMemory>
+        requires { depth ≤ 32 }
+        ensures same { (loc : ℕ) → row_in self.new loc ≡ row_in self.old loc }
+        ensures longer { size self.old ≤ size self.new }
+        ensures longest { size self.new ≤ max count (size self.old) }
+        ensures wider { width self.old ≤ width self.new }
+        ensures ok { OnOk result ((count ≤ size self.new) × (depth ≤ width self.new)) }
+    {
+        if self.has_rows(count, depth) {
+            return Ok(());
+        }
+        self.make_rows(count, depth, alloc)
+    }
+
+    /// Tells that there are so many rows, and that they have times for `depth` levels.
+    #[inline(always)]
+    fn has_rows(&self, count: usize, depth: usize) -> bool
+        requires { depth ≤ 32 }
+        ensures { result ≡ true → (count ≤ size self.now) × (depth ≤ width self.now) }
+    {
+        match self {
+            Rows::Eight(rows) => depth <= 8 && count <= rows.len(),
+            Rows::ThirtyTwo(rows) => count <= rows.len(),
+        }
+    }
+
+    /// `reserve`, where something may be lacking.
+    fn make_rows(&mut self, count: usize, depth: usize, alloc: Global) -> Result<(), NoMemory>
+        requires { depth ≤ 32 }
+        ensures same { (loc : ℕ) → row_in self.new loc ≡ row_in self.old loc }
+        ensures longer { size self.old ≤ size self.new }
+        ensures longest { size self.new ≤ max count (size self.old) }
+        ensures wider { width self.old ≤ width self.new }
+        ensures ok { OnOk result ((count ≤ size self.new) × (depth ≤ width self.new)) }
+    {
+        if depth > self.width() {
+            self.widen(alloc)?;
+        }
+        self.grow_to(count)
+    }
+
+    /// Makes the rows have times for 32 levels. A refusal leaves them as they were.
+    fn widen(&mut self, alloc: Global) -> Result<(), NoMemory>
+        ensures same { (loc : ℕ) → row_in self.new loc ≡ row_in self.old loc }
+        ensures size { size self.new ≡ size self.old }
+        ensures wider { width self.old ≤ width self.new }
+        ensures ok { OnOk result (width self.new ≡ 32) }
+    {
+        if let Rows::Eight(rows) = self {
+            let wide = lists::widened(rows, alloc)?;
+            *self = Rows::ThirtyTwo(wide);
+        }
+        Ok(())
+    }
+
+    /// Adds blank rows until there are `count`. A refusal leaves the rows as they were.
+    #[inline]
+    fn grow_to(&mut self, count: usize) -> Result<(), NoMemory>
+        ensures same { (loc : ℕ) → row_in self.new loc ≡ row_in self.old loc }
+        ensures longer { size self.old ≤ size self.new }
+        ensures longest { size self.new ≤ max count (size self.old) }
+        ensures width { width self.new ≡ width self.old }
+        ensures ok { OnOk result (count ≤ size self.new) }
+    {
+        match self {
+            Rows::Eight(rows) => lists::grow_to(rows, count),
+            Rows::ThirtyTwo(rows) => lists::grow_to(rows, count),
+        }
+    }
+
+    /// The time of a location at a level, whose instance has that number.
+    #[inline]
+    pub fn time(&self, loc: usize, number: u64, level: usize) -> u64
+        ensures { result ≡ row_time (row_in self.now loc) number level }
+    {
+        match self {
+            Rows::Eight(rows) => lists::time_of(rows, loc, number, level),
+            Rows::ThirtyTwo(rows) => lists::time_of(rows, loc, number, level),
+        }
+    }
+
+    /// Raises each of these times to the location's at its level, where it is lower, in one step a level. The levels'
+    /// instances have these numbers.
+    #[inline]
+    pub fn raise<L: Ledger>(
+        &self,
+        loc: usize,
+        numbers: &[u64],
+        times: &mut [u64],
+        steps: &mut Steps<L>,
+    )
+        requires each { length times.old ≡ length numbers.now }
+        requires rising { AreRising 0 numbers.now }
+        ensures raised { (k : ℕ) → k < length numbers.now → slice_index times.new k ≡ max (slice_index times.old k) (row_time (row_in self.now loc) (slice_index numbers.now k) k) }
+        ensures steps { steps.new ≡ steps.old + length numbers.now }
+    {
+        match self {
+            Rows::Eight(rows) => lists::raise(rows, loc, numbers, times, steps),
+            Rows::ThirtyTwo(rows) => lists::raise(rows, loc, numbers, times, steps),
+        }
+    }
+
+    /// Fills the list with the later of two times at each level, `before`'s and the location's, in one step a level. The
+    /// levels' instances have these numbers.
+    #[inline]
+    pub fn latest<L: Ledger>(
+        &self,
+        loc: usize,
+        numbers: &[u64],
+        before: &[u64],
+        times: &mut [u64],
+        steps: &mut Steps<L>,
+    )
+        requires each { length before.now ≡ length numbers.now }
+        requires times { length times.old ≡ length numbers.now }
+        requires rising { AreRising 0 numbers.now }
+        ensures times { (k : ℕ) → k < length numbers.now → slice_index times.new k ≡ max (row_time (row_in self.now loc) (slice_index numbers.now k) k) (slice_index before.now k) }
+        ensures steps { steps.new ≡ steps.old + length numbers.now }
+    {
+        match self {
+            Rows::Eight(rows) => lists::latest(rows, loc, numbers, before, times, steps),
+            Rows::ThirtyTwo(rows) => lists::latest(rows, loc, numbers, before, times, steps),
+        }
+    }
+
+    /// Writes the times of a location at the outermost levels, as many as there are.
+    #[inline]
+    pub fn put(&mut self, loc: usize, stamp: u64, times: &[u64])
+        requires row { HasRow self.old loc (length times.now) }
+        ensures given { IsGiven (slice_index times.now) loc stamp (length times.now) (row_in self.old) (row_in self.new) }
+        ensures size { size self.new ≡ size self.old }
+        ensures width { width self.new ≡ width self.old }
+    {
+        match self {
+            Rows::Eight(rows) => lists::put(rows, loc, stamp, times),
+            Rows::ThirtyTwo(rows) => lists::put(rows, loc, stamp, times),
+        }
+    }
+
+    /// Makes the rows from `first` to before `end` read 0 at every level.
+    pub fn clear(&mut self, first: usize, end: usize)
+        ensures among { (k : ℕ) → first ≤ k → k < end → (row_in self.new k).stamp ≡ 0 }
+        ensures before { (k : ℕ) → k < first → row_in self.new k ≡ row_in self.old k }
+        ensures behind { (k : ℕ) → end ≤ k → row_in self.new k ≡ row_in self.old k }
+        ensures size { size self.new ≡ size self.old }
+        ensures width { width self.new ≡ width self.old }
+    {
+        match self {
+            Rows::Eight(rows) => lists::clear(rows, first, end),
+            Rows::ThirtyTwo(rows) => lists::clear(rows, first, end),
+        }
+    }
+
+    /// Gives a location the row of another, or a blank one where that has none.
+    #[inline]
+    pub fn copy(&mut self, from: usize, to: usize)
+        requires { to < size self.old }
+        ensures here { row_in self.new to ≡ row_in self.old from }
+        ensures others { (at : ℕ) → at ≢ to → row_in self.new at ≡ row_in self.old at }
+        ensures size { size self.new ≡ size self.old }
+        ensures width { width self.new ≡ width self.old }
+    {
+        match self {
+            Rows::Eight(rows) => lists::copy(rows, from, to),
+            Rows::ThirtyTwo(rows) => lists::copy(rows, from, to),
+        }
+    }
+
+    /// Gives a location the times of an operation that waits for these times alone: each, and the latency more, modulo 2^64.
+    /// Raises each level's path to them.
+    #[inline]
+    pub fn write_none(
+        &mut self,
+        to: usize,
+        stamp: u64,
+        before: &[u64],
+        latency: u64,
+        paths: &mut [u64],
+    )
+        requires row { HasRow self.old to (length before.now) }
+        requires paths { length paths.old ≡ length before.now }
+        ensures given { IsGiven (after_none before.now latency) to stamp (length before.now) (row_in self.old) (row_in self.new) }
+        ensures raised { AreRaised (after_none before.now latency) (length before.now) paths.old paths.new }
+        ensures size { size self.new ≡ size self.old }
+        ensures width { width self.new ≡ width self.old }
+    {
+        match self {
+            Rows::Eight(rows) => given::write_none(rows, to, stamp, before, latency, paths),
+            Rows::ThirtyTwo(rows) => given::write_none(rows, to, stamp, before, latency, paths),
+        }
+    }
+
+    /// Gives a location the times of an operation that waits for these times and for another location's. The levels'
+    /// instances have these numbers. Raises each level's path to them.
+    #[inline]
+    pub fn write_one(
+        &mut self,
+        from: usize,
+        to: usize,
+        numbers: &[u64],
+        stamp: u64,
+        before: &[u64],
+        latency: u64,
+        paths: &mut [u64],
+    )
+        requires row { HasRow self.old to (length before.now) }
+        requires live { length before.now ≡ length numbers.now }
+        requires paths { length paths.old ≡ length before.now }
+        requires rising { AreRising 0 numbers.now }
+        ensures given { IsGiven (after_row (row_in self.old from) numbers.now before.now latency) to stamp (length before.now) (row_in self.old) (row_in self.new) }
+        ensures raised { AreRaised (after_row (row_in self.old from) numbers.now before.now latency) (length before.now) paths.old paths.new }
+        ensures size { size self.new ≡ size self.old }
+        ensures width { width self.new ≡ width self.old }
+    {
+        match self {
+            Rows::Eight(rows) => {
+                given::write_one(rows, from, to, numbers, stamp, before, latency, paths)
+            }
+            Rows::ThirtyTwo(rows) => {
+                given::write_one(rows, from, to, numbers, stamp, before, latency, paths)
+            }
+        }
+    }
+
+    /// `write_one` with two locations.
+    #[inline]
+    pub fn write_both(
+        &mut self,
+        left: usize,
+        right: usize,
+        to: usize,
+        numbers: &[u64],
+        stamp: u64,
+        before: &[u64],
+        latency: u64,
+        paths: &mut [u64],
+    )
+        requires row { HasRow self.old to (length before.now) }
+        requires live { length before.now ≡ length numbers.now }
+        requires paths { length paths.old ≡ length before.now }
+        requires rising { AreRising 0 numbers.now }
+        ensures given { IsGiven (after_rows (row_in self.old left) (row_in self.old right) numbers.now before.now latency) to stamp (length before.now) (row_in self.old) (row_in self.new) }
+        ensures raised { AreRaised (after_rows (row_in self.old left) (row_in self.old right) numbers.now before.now latency) (length before.now) paths.old paths.new }
+        ensures size { size self.new ≡ size self.old }
+        ensures width { width self.new ≡ width self.old }
+    {
+        match self {
+            Rows::Eight(rows) => {
+                given::write_both(
+                    rows, left, right, to, numbers, stamp, before, latency, paths,
+                )
+            }
+            Rows::ThirtyTwo(rows) => {
+                given::write_both(
+                    rows, left, right, to, numbers, stamp, before, latency, paths,
+                )
+            }
+        }
+    }
+}
