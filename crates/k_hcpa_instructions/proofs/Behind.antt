@@ -2,7 +2,7 @@
 use Rattle.std.proofs.Common.{◌≡◌, ℕ, ◌+◌, ◌*◌, arith, List, [], ◌∷◌, ◌++◌, length, refl, ap}
 use Rattle.std.proofs.Math.Nat.{add-mul}
 use Rattle.k_hcpa_meaning.specs.Timings.{Location, Register, Element, InCell, OutCell, Control, Saved, Timing, raised, raised_all, given_to, given_to_all}
-use Rattle.k_hcpa_times.specs.Seen.{Room, ForElement, ForRegister, Keeps, Seen, levels, made}
+use Rattle.k_hcpa_times.specs.Seen.{Room, ForElement, ForRegister, ForSaved, Keeps, KeepsPlaces, Seen, levels, made}
 use Rattle.k_hcpa_instructions.specs.Kinds.{HasRoom, HaveRoom}
 
 pub raised_behind : (some more : List Location) (t : Timing) → raised_all (some ++ more) t ≡ raised_all more (raised_all some t)
@@ -21,14 +21,18 @@ pub room_back : (room : Room → Type 0) (some more : List Location) → HaveRoo
 room_back room [] more have = have
 room_back room (at ∷ some) more have = room_back room some more have.1
 
+-- where all room is kept, that of places is
+pub places_kept : (old new : Room → Type 0) → Keeps old new → KeepsPlaces old new
+places_kept old new keeps = record { registers = λ r. keeps (ForRegister r); elements = λ e. keeps (ForElement e); saved = keeps ForSaved }
+
 -- what is kept has room as before
-pub room_kept : (old new : Room → Type 0) (locations : List Location) → Keeps old new → HaveRoom old locations → HaveRoom new locations
+pub room_kept : (old new : Room → Type 0) (locations : List Location) → KeepsPlaces old new → HaveRoom old locations → HaveRoom new locations
 room_kept old new [] keeps have = tt
 room_kept old new (at ∷ locations) keeps have = (one at have.0, room_kept old new locations keeps have.1)
   where
     one : (at : Location) → HasRoom old at → HasRoom new at
-    one (Register r) has = keeps (ForRegister r) has
-    one (Element e) has = keeps (ForElement e) has
+    one (Register r) has = keeps.registers r has
+    one (Element e) has = keeps.elements e has
     one InCell has = tt
     one OutCell has = tt
     one Control has = tt

@@ -3,7 +3,7 @@ ghost use Rattle.std.specs.Prelude.{◌≡◌, ◌+◌, ◌*◌, ◌^◌, ◌<�
 ghost use Rattle.k_hcpa_meaning.specs.Calls.{arguments_handed, cleared_back, given_back};
 ghost use Rattle.k_hcpa_meaning.specs.Locations.{operand_locations};
 ghost use Rattle.k_hcpa_meaning.specs.Timings.{begun, raised_all, settled};
-ghost use Rattle.k_hcpa_times.specs.Seen.{AreBelow, HasRegisters, ForRegister, Keeps, levels, made};
+ghost use Rattle.k_hcpa_times.specs.Seen.{AreBelow, HasRegisters, ForLatency, ForRegister, Keeps, KeepsPlaces, levels, made};
 
 use k_code::Arg;
 use k_hcpa_times::Timed;
@@ -27,8 +27,9 @@ pub fn call_times<T: Timed, L: Ledger>(times: &mut T, call: Call<'_>, steps: &mu
     requires to { call.to + call.params ≤ (T.seen times.old).registers }
     requires few { call.to + call.params < 2 ^ 32 }
     requires room { HasRegisters call.to call.params (T.room times.old) }
+    requires latency { T.room times.old (ForLatency call.latency) }
     ensures times { T.seen times.new ≡ made (λ t. settled call.entry.latency (arguments_handed call.entry.first call.entry.to call.entry.params call.entry.args.now (begun t))) (T.seen times.old) }
-    ensures kept { Keeps (T.room times.old) (T.room times.new) }
+    ensures kept { KeepsPlaces (T.room times.old) (T.room times.new) }
     ensures least { steps.old ≤ steps.new }
     ensures steps { steps.new ≤ steps.old + (1 + length call.entry.args.now) * levels (T.seen times.old) }
 {

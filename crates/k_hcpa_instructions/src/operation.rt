@@ -2,7 +2,7 @@
 ghost use Rattle.std.specs.Prelude.{◌≡◌, ℕ, ◌+◌, ◌*◌, ◌^◌, ◌<◌, IfSome, length};
 ghost use Rattle.k_code.specs.Named.{operands, register_set};
 ghost use Rattle.k_hcpa_meaning.specs.Timings.{given_to_all, operated};
-ghost use Rattle.k_hcpa_times.specs.Seen.{AreBelow, Keeps, levels, made};
+ghost use Rattle.k_hcpa_times.specs.Seen.{AreBelow, ForLatency, KeepsPlaces, levels, made};
 ghost use Rattle.k_hcpa_instructions.specs.Kinds.{HaveRoom, depends_by, held_by};
 ghost use Rattle.k_hcpa_instructions.specs.AtOnce.{operated_by};
 
@@ -29,8 +29,9 @@ fn operate_by_parts<T: Timed, L: Ledger>(
     requires below { IfSome to (λ r. first + r < (T.seen times.old).registers) }
     requires few { IfSome to (λ r. first + r < 2 ^ 32) }
     requires room { HaveRoom (T.room times.old) (held_by first instr.now.act element) }
+    requires latency { T.room times.old (ForLatency instr.now.latency) }
     ensures times { T.seen times.new ≡ made (λ t. given_to_all (held_by first instr.now.act element) (operated (depends_by first instr.now.act element) instr.now.latency t)) (T.seen times.old) }
-    ensures kept { Keeps (T.room times.old) (T.room times.new) }
+    ensures kept { KeepsPlaces (T.room times.old) (T.room times.new) }
     ensures steps { steps.new ≡ steps.old + (1 + length (depends_by first instr.now.act element)) * levels (T.seen times.old) }
 {
     times.begin(steps);
@@ -57,8 +58,9 @@ pub fn operation_times<T: Timed, L: Ledger>(
     requires below { IfSome to (λ r. first + r < (T.seen times.old).registers) }
     requires few { IfSome to (λ r. first + r < 2 ^ 32) }
     requires room { HaveRoom (T.room times.old) (held_by first instr.now.act element) }
+    requires latency { T.room times.old (ForLatency instr.now.latency) }
     ensures times { T.seen times.new ≡ made (operated_by first instr.now element) (T.seen times.old) }
-    ensures kept { Keeps (T.room times.old) (T.room times.new) }
+    ensures kept { KeepsPlaces (T.room times.old) (T.room times.new) }
     ensures steps { steps.new ≡ steps.old + (1 + length (depends_by first instr.now.act element)) * levels (T.seen times.old) }
 {
     match plain_in(&instr.act) {

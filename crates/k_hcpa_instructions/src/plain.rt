@@ -3,7 +3,7 @@ ghost use Rattle.std.specs.Prelude.{◌≡◌, ℕ, ◌+◌, ◌*◌, ◌^◌, �
 ghost use Rattle.k_hcpa_meaning.specs.Locations.{operand_locations};
 ghost use Rattle.k_hcpa_meaning.specs.Timings.{Register, given_to, operated};
 ghost use Rattle.k_hcpa_times.specs.AtOnce.{at_once};
-ghost use Rattle.k_hcpa_times.specs.Seen.{AreBelow, ForRegister, Keeps, levels, made};
+ghost use Rattle.k_hcpa_times.specs.Seen.{AreBelow, ForLatency, ForRegister, KeepsPlaces, levels, made};
 ghost use Rattle.k_hcpa_instructions.specs.AtOnce.{IsPlain, read_from};
 
 use k_code::{Arg, Do};
@@ -70,8 +70,9 @@ pub(crate) fn operate_one<T: Timed, L: Ledger>(
     requires arg { AreBelow first (T.seen times.old).registers (a.now ∷ []) }
     requires below { to < (T.seen times.old).registers }
     requires room { T.room times.old (ForRegister to) }
+    requires latency { T.room times.old (ForLatency latency) }
     ensures given { T.seen times.new ≡ made (at_once (λ t. given_to (Register to) (operated (operand_locations first (a.now ∷ [])) latency t))) (T.seen times.old) }
-    ensures kept { Keeps (T.room times.old) (T.room times.new) }
+    ensures kept { KeepsPlaces (T.room times.old) (T.room times.new) }
     ensures steps { steps.new ≡ steps.old + (1 + length (operand_locations first (a.now ∷ []))) * levels (T.seen times.old) }
 {
     match read_register(first, a) {
@@ -95,8 +96,9 @@ fn operate_with<T: Timed, L: Ledger>(
     requires arg { AreBelow first (T.seen times.old).registers (b.now ∷ []) }
     requires below { to < (T.seen times.old).registers }
     requires room { T.room times.old (ForRegister to) }
+    requires latency { T.room times.old (ForLatency latency) }
     ensures given { T.seen times.new ≡ made (at_once (λ t. given_to (Register to) (operated (Register left ∷ operand_locations first (b.now ∷ [])) latency t))) (T.seen times.old) }
-    ensures kept { Keeps (T.room times.old) (T.room times.new) }
+    ensures kept { KeepsPlaces (T.room times.old) (T.room times.new) }
     ensures steps { steps.new ≡ steps.old + (2 + length (operand_locations first (b.now ∷ []))) * levels (T.seen times.old) }
 {
     match read_register(first, b) {
@@ -119,8 +121,9 @@ pub(crate) fn operate_two<T: Timed, L: Ledger>(
     requires args { AreBelow first (T.seen times.old).registers (a.now ∷ b.now ∷ []) }
     requires below { to < (T.seen times.old).registers }
     requires room { T.room times.old (ForRegister to) }
+    requires latency { T.room times.old (ForLatency latency) }
     ensures given { T.seen times.new ≡ made (at_once (λ t. given_to (Register to) (operated (operand_locations first (a.now ∷ b.now ∷ [])) latency t))) (T.seen times.old) }
-    ensures kept { Keeps (T.room times.old) (T.room times.new) }
+    ensures kept { KeepsPlaces (T.room times.old) (T.room times.new) }
     ensures steps { steps.new ≡ steps.old + (1 + length (operand_locations first (a.now ∷ b.now ∷ []))) * levels (T.seen times.old) }
 {
     match read_register(first, a) {

@@ -48,7 +48,7 @@ fn note(alloc: Global, puts: &Puts, times: &[u64]) {
 impl Shadow for Watched<'_> {
     ghost content = { λ s. ⟦<LevelMaps as Shadow>⟧.content s.inner };
 
-    ghost room = { λ s loc. ⟦<LevelMaps as Shadow>⟧.room s.inner loc };
+    ghost room = { λ s loc most. ⟦<LevelMaps as Shadow>⟧.room s.inner loc most };
 
     fn depth(&self) -> usize {
         self.inner.depth()

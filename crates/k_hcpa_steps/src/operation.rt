@@ -7,6 +7,7 @@ ghost use Rattle.k_hcpa_steps.specs.declared.instructions.Kind.TheVariants as ki
 ghost use Rattle.k_hcpa_steps.specs.Keeping.{GoesTo, IsRunning, ReadsWithin, StandsAt, keeping};
 ghost use Rattle.k_hcpa_steps.specs.Kinds.{kind_of};
 ghost use Rattle.k_hcpa_store.specs.Leads.{IsNext};
+ghost use Rattle.k_hcpa_times.specs.Seen.{ForLatency};
 
 use crate::instructions::register_of;
 use crate::parts::Parts;
@@ -19,13 +20,15 @@ use k_shadow::Steps;
 use k_world::Stop;
 use std::sync::ledger::Ledger;
 
-/// Makes room for what an operation gives: for a register of the call, whose registers are numbered from `first` on, and for an element.
+/// Makes room for an operation of this latency and for what it gives: for a register of the call, whose registers are numbered from `first` on, and for
+/// an element.
 #[inline(always)]
 pub(crate) fn reserve_result<T: Timed>(
     times: &mut T,
     first: u32,
     to: Option<u32>,
     element: Option<u32>,
+    latency: u64,
 ) -> Result<(), NoMemory>
     requires to { IfSome to (λ r. first + r < (T.seen times.old).registers) }
     requires few { IfSome to (λ r. first + r < 2 ^ 32) }
@@ -33,7 +36,9 @@ pub(crate) fn reserve_result<T: Timed>(
     ensures same { T.seen times.new ≡ T.seen times.old }
     ensures register { OnOk result (HaveRoom (T.room times.new) (register_location first to)) }
     ensures element { OnOk result (HaveRoom (T.room times.new) (element_location element)) }
+    ensures latency { OnOk result (T.room times.new (ForLatency latency)) }
 {
+    times.admit(latency);
     if let Some(to) = to {
         times.reserve_registers(first + to, 1)?;
     }
@@ -61,7 +66,7 @@ impl<'a, T: Timed> Parts<'a, T> {
         let first = self.store.first_register();
         let to = register_of(&instr.act);
         let element = self.store.element_to_store(instr);
-        reserve_result(&mut self.times, first, to, element)?;
+        reserve_result(&mut self.times, first, to, element, instr.latency)?;
         match self.store.operate(instr) {
             Err(Stop::Memory) => Err(NoMemory),
             Err(Stop::Ended(end)) => Ok(Some(end)),

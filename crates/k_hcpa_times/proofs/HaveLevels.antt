@@ -52,20 +52,20 @@ at_same : {m n : ℕ} {t u : Timing} → u ≡ t → m ≡ n → HasLevels n t �
 at_same {m} {n} {t} {u} same counts h = subst (λ k. HasLevels k u) (sym counts) (subst (λ v. HasLevels n v) (sym same) h)
 
 -- a level is entered everywhere
-pub all_entered : (r e : Content) (c : Stack) → {r' e' : Content} {c' : Stack} {i i' o o' w w' p p' : List ℕ} → r' ≡ content_entered r → e' ≡ content_entered e → c' ≡ stack_entered c
-    → i' ≡ i ++ 0 ∷ [] → o' ≡ o ++ 0 ∷ [] → w' ≡ w ++ 0 ∷ [] → p' ≡ p ++ 0 ∷ []
-    → HasLevels (length p) (seen_of r e c i o w p).timing → HasLevels (length p') (seen_of r' e' c' i' o' w' p').timing
-all_entered r e c {r'} {e'} {c'} {i} {i'} {o} {o'} {w} {w'} {p} {p'} rs es cs is os ws ps h =
-    let same : (seen_of r' e' c' i' o' w' p').timing ≡ entered (seen_of r e c i o w p).timing = λ j. (seen_of (rs j) (es j) (cs j) (is j) (os j) (ws j) (ps j)).timing in
-    at_same same (ap (λ xs. length xs) ps ∙ longer p 0 (length p) refl) (levels_entered (length p) (seen_of r e c i o w p).timing h)
+pub timing_entered : (r e : Content) (c : Stack) (i o w p : List ℕ) {r' e' : Content} {c' : Stack} {i' o' w' p' : List ℕ} → r' ≡ content_entered r → e' ≡ content_entered e → c' ≡ stack_entered c
+    → i' ≡ i ++ 0 ∷ [] → o' ≡ o ++ 0 ∷ [] → w' ≡ w ++ 0 ∷ [] → p' ≡ p ++ 0 ∷ [] → (seen_of r' e' c' i' o' w' p').timing ≡ entered (seen_of r e c i o w p).timing
+timing_entered r e c i o w p rs es cs is os ws ps = λ j. (seen_of (rs j) (es j) (cs j) (is j) (os j) (ws j) (ps j)).timing
+
+pub all_entered : (t : Timing) (p p' : List ℕ) → {u : Timing} → u ≡ entered t → p' ≡ p ++ 0 ∷ [] → HasLevels (length p) t → HasLevels (length p') u
+all_entered t p p' same ps h = at_same same (ap (λ xs. length xs) ps ∙ longer p 0 (length p) refl) (levels_entered (length p) t h)
 
 -- the innermost level is left everywhere
-pub all_left : (r e : Content) (c : Stack) → {r' e' : Content} {c' : Stack} {i i' o o' w w' p p' : List ℕ} → r' ≡ level_dropped r → e' ≡ level_dropped e → c' ≡ stack_left c
-    → i' ≡ without_last i → o' ≡ without_last o → w' ≡ without_last w → p' ≡ without_last p
-    → HasLevels (length p) (seen_of r e c i o w p).timing → HasLevels (length p') (seen_of r' e' c' i' o' w' p').timing
-all_left r e c {r'} {e'} {c'} {i} {i'} {o} {o'} {w} {w'} {p} {p'} rs es cs is os ws ps h =
-    let same : (seen_of r' e' c' i' o' w' p').timing ≡ innermost_gone (seen_of r e c i o w p).timing = λ j. (seen_of (rs j) (es j) (cs j) (is j) (os j) (ws j) (ps j)).timing in
-    at_same same (ap (λ xs. length xs) ps ∙ shorter p (length p) refl) (levels_left (length p) (seen_of r e c i o w p).timing h)
+pub timing_left : (r e : Content) (c : Stack) (i o w p : List ℕ) {r' e' : Content} {c' : Stack} {i' o' w' p' : List ℕ} → r' ≡ level_dropped r → e' ≡ level_dropped e → c' ≡ stack_left c
+    → i' ≡ without_last i → o' ≡ without_last o → w' ≡ without_last w → p' ≡ without_last p → (seen_of r' e' c' i' o' w' p').timing ≡ innermost_gone (seen_of r e c i o w p).timing
+timing_left r e c i o w p rs es cs is os ws ps = λ j. (seen_of (rs j) (es j) (cs j) (is j) (os j) (ws j) (ps j)).timing
+
+pub all_left : (t : Timing) (p p' : List ℕ) → {u : Timing} → u ≡ innermost_gone t → p' ≡ without_last p → HasLevels (length p) t → HasLevels (length p') u
+all_left t p p' same ps h = at_same same (ap (λ xs. length xs) ps ∙ shorter p (length p) refl) (levels_left (length p) t h)
 
 -- as long lists stand in the places of the row and of the paths
 pub row_and_paths : {t : Timing} {row paths : List ℕ} → length row ≡ length t.row → length paths ≡ length t.paths → HasLevels (length t.paths) t

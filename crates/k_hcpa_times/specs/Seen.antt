@@ -1,9 +1,10 @@
 -- For contracts between crates: nobody has to believe it.
 -- What is seen of the times of all locations.
-use Rattle.std.specs.Prelude.{ℕ, ◌≡◌, Bool, true, ◌+◌, ◌^◌, ◌<◌, ◌≤◌, nat_lt, if◌then◌else◌, List, [], ◌∷◌, length}
+use Rattle.std.specs.Prelude.{ℕ, ◌≡◌, Bool, true, ◌+◌, ◌^◌, ◌<◌, ◌≤◌, nat_lt, if◌then◌else◌, List, [], ◌∷◌, length, All}
 use Rattle.k_code.specs.declared.instruction.Arg.{Arg}
 use Rattle.k_code.specs.declared.instruction.Arg.TheVariants.{Number, Reg}
 use Rattle.k_shadow.specs.Content.{Content}
+use Rattle.k_shadow.specs.Rooms.{delayed}
 use Rattle.k_shadow.specs.Stack.{Stack}
 use Rattle.k_hcpa_meaning.specs.Timings.{Timing, entered, entered_below}
 
@@ -34,25 +35,53 @@ levels_more depth count = if nat_lt count depth then 1 else 0
 abbrev pub instance_entered : ℕ → ℕ → Seen → Seen
 instance_entered depth count s = record s { timing = entered_below depth count s.timing; entries = s.entries + levels_more depth count }
 
--- what may have room: a register of this number, an element of this number, and a control source more to be saved
+-- what there may be room for: the times of a register of this number, and those of an element of this number; a control source more to be saved;
+-- and an operation that takes so long
 pub data Room : Type 0 where
   ForRegister : ℕ → Room
   ForElement : ℕ → Room
   ForSaved : Room
+  ForLatency : ℕ → Room
 
 -- whatever had room has room
 abbrev pub Keeps : (Room → Type 0) → (Room → Type 0) → Type 0
 Keeps old new = (at : Room) → old at → new at
 
+-- every place that had room has room, and nothing is said of operations
+pub record KeepsPlaces (old new : Room → Type 0) : Type 0 where
+  pub registers : (r : ℕ) → old (ForRegister r) → new (ForRegister r)
+  pub elements : (e : ℕ) → old (ForElement e) → new (ForElement e)
+  pub saved : old ForSaved → new ForSaved
+
 -- there is room for `count` registers from `first` on
 abbrev pub HasRegisters : ℕ → ℕ → (Room → Type 0) → Type 0
 HasRegisters first count room = (r : ℕ) → first ≤ r → r < first + count → room (ForRegister r)
 
--- what has room where shadows and control sources have this room
-abbrev pub room_of : (ℕ → Type 0) → (ℕ → Type 0) → Bool → Room → Type 0
-room_of registers elements saved (ForRegister r) = registers r
-room_of registers elements saved (ForElement e) = elements e
-room_of registers elements saved ForSaved = saved ≡ true
+-- none of these times is above that much
+abbrev pub NoneAbove : ℕ → List ℕ → Type 0
+NoneAbove reach times = All (λ time. time ≤ reach) times
+
+-- at none of these levels is the time of a location above that much
+abbrev pub NoLevelAbove : ℕ → List (ℕ → ℕ) → Type 0
+NoLevelAbove reach levels = All (λ level. (location : ℕ) → level location ≤ reach) levels
+
+-- no location has a time above that much, nor has the operation that is being made
+pub record AreWithin (reach : ℕ) (t : Timing) : Type 0 where
+  pub registers : NoLevelAbove reach t.registers
+  pub elements : NoLevelAbove reach t.elements
+  pub control : NoneAbove reach t.control
+  pub saved : All (λ times. NoneAbove reach times) t.saved
+  pub in_cell : NoneAbove reach t.in_cell
+  pub out_cell : NoneAbove reach t.out_cell
+  pub row : NoneAbove reach t.row
+
+-- what there is room for where shadows and control sources have this room, where the shadows are asked for room for times up to `admitted`, and where
+-- no time so far is above `reach`
+abbrev pub room_of : (ℕ → ℕ → Type 0) → (ℕ → ℕ → Type 0) → Bool → ℕ → ℕ → Room → Type 0
+room_of registers elements saved reach admitted (ForRegister r) = registers r admitted
+room_of registers elements saved reach admitted (ForElement e) = elements e admitted
+room_of registers elements saved reach admitted ForSaved = saved ≡ true
+room_of registers elements saved reach admitted (ForLatency latency) = delayed reach latency ≤ admitted
 
 -- the registers of these operands, numbered from `first` on, are below the limit, and have 32 bits
 abbrev pub AreBelow : ℕ → ℕ → List Arg → Type 0

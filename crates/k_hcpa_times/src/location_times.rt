@@ -1,8 +1,8 @@
 //! The times of all locations over two shadows.
-ghost use Rattle.std.specs.Prelude.{◌≡◌, length};
+ghost use Rattle.std.specs.Prelude.{◌≡◌, ◌≤◌, length};
 ghost use Rattle.k_shadow.specs.Content.{empty};
 ghost use Rattle.k_hcpa_meaning.specs.Timings.{HasLevels, no_levels};
-ghost use Rattle.k_hcpa_times.specs.Seen.{seen_of};
+ghost use Rattle.k_hcpa_times.specs.Seen.{seen_of, AreWithin};
 
 use crate::at_once::{write_none, write_one, write_two};
 use crate::each::{
@@ -28,7 +28,13 @@ pub struct LocationTimes<R: Shadow, P: Shadow> {
     paths: Times,
     /// What a register holds while it is handed on.
     handed: Times,
+    /// No time so far is above it.
+    reach: u64,
+    /// Up to which times the shadows are asked for room.
+    admitted: u64,
     ghost levels: { HasLevels (length paths) (seen_of (R.content registers) (P.content elements) control in_cell out_cell row paths).timing },
+    ghost within: { AreWithin reach (seen_of (R.content registers) (P.content elements) control in_cell out_cell row paths).timing },
+    ghost admits: { reach ≤ admitted },
     ghost handed_levels: { length handed ≡ length paths },
     ghost element_entries: { (P.content elements).entries ≡ (R.content registers).entries },
     ghost control_entries: { control.entries ≡ (R.content registers).entries },
@@ -50,6 +56,8 @@ impl<R: Shadow, P: Shadow> LocationTimes<R, P> {
             row: Times::new(alloc),
             paths: Times::new(alloc),
             handed: Times::new(alloc),
+            reach: 0,
+            admitted: 0,
         }
     }
 }
@@ -59,7 +67,7 @@ impl<R: Shadow, P: Shadow> Timed for LocationTimes<R, P> {
 
     ghost seen = { λ t. seen_of (R.content t.registers) (P.content t.elements) t.control t.in_cell t.out_cell t.row t.paths };
 
-    ghost room = { λ t. room_of (R.room t.registers) (P.room t.elements) t.control.room };
+    ghost room = { λ t. room_of (R.room t.registers) (P.room t.elements) t.control.room t.reach t.admitted };
 
     #[inline]
     fn levels(&self) -> usize {
@@ -93,12 +101,17 @@ impl<R: Shadow, P: Shadow> Timed for LocationTimes<R, P> {
         leave_times(&mut self.handed);
     }
 
+    #[inline]
+    fn admit(&mut self, latency: u64) {
+        self.admitted = self.admitted.max(self.reach.saturating_add(latency));
+    }
+
     fn reserve_registers(&mut self, first: u32, count: u32) -> Result<(), NoMemory> {
-        self.registers.reserve(first, count)
+        self.registers.admit(first, count, self.admitted)
     }
 
     fn reserve_element(&mut self, element: u32) -> Result<(), NoMemory> {
-        self.elements.reserve(element, 1)
+        self.elements.admit(element, 1, self.admitted)
     }
 
     fn reserve_saved(&mut self) -> Result<(), NoMemory> {
@@ -140,6 +153,7 @@ impl<R: Shadow, P: Shadow> Timed for LocationTimes<R, P> {
     #[inline]
     fn settle(&mut self, latency: u64) {
         settle_times(&mut self.row, latency, &mut self.paths);
+        self.reach = self.reach.saturating_add(latency);
     }
 
     #[tactic(auto, using(crate::proofs::Lists::later_length))]
@@ -150,7 +164,7 @@ impl<R: Shadow, P: Shadow> Timed for LocationTimes<R, P> {
     #[tactic(auto, using(k_shadow::proofs::Laws::depth_written), unfolding(k_hcpa_meaning::specs::Timings::given_to))]
     #[inline]
     fn give_register(&mut self, register: u32) {
-        self.registers.write(register, &self.row);
+        self.registers.put(register, self.row.as_slice());
     }
 
     #[tactic(auto, using(k_shadow::proofs::Laws::depth_written), unfolding(k_hcpa_meaning::specs::Timings::given_to))]
@@ -164,6 +178,7 @@ impl<R: Shadow, P: Shadow> Timed for LocationTimes<R, P> {
             &mut self.paths,
             steps,
         );
+        self.reach = self.reach.saturating_add(latency);
     }
 
     #[tactic(auto, using(k_shadow::proofs::Laws::depth_written), unfolding(k_hcpa_meaning::specs::Timings::given_to, k_hcpa_meaning::specs::Timings::times_at))]
@@ -184,6 +199,7 @@ impl<R: Shadow, P: Shadow> Timed for LocationTimes<R, P> {
             &mut self.paths,
             steps,
         );
+        self.reach = self.reach.saturating_add(latency);
     }
 
     #[tactic(auto, using(k_shadow::proofs::Laws::depth_written), unfolding(k_hcpa_meaning::specs::Timings::given_to, k_hcpa_meaning::specs::Timings::times_at))]
@@ -206,12 +222,13 @@ impl<R: Shadow, P: Shadow> Timed for LocationTimes<R, P> {
             &mut self.paths,
             steps,
         );
+        self.reach = self.reach.saturating_add(latency);
     }
 
     #[tactic(auto, using(k_shadow::proofs::Laws::depth_written), unfolding(k_hcpa_meaning::specs::Timings::given_to))]
     #[inline]
     fn give_element(&mut self, element: u32) {
-        self.elements.write(element, &self.row);
+        self.elements.put(element, self.row.as_slice());
     }
 
     #[tactic(auto, unfolding(k_hcpa_meaning::specs::Timings::given_to))]
@@ -236,7 +253,7 @@ impl<R: Shadow, P: Shadow> Timed for LocationTimes<R, P> {
     fn hand<L: Ledger>(&mut self, from: u32, broken: bool, to: u32, steps: &mut Steps<L>) {
         read_by(&self.registers, from, &mut self.handed, steps);
         raise_unless(broken, &mut self.row, &self.handed);
-        self.registers.write(to, &self.handed);
+        self.registers.put(to, self.handed.as_slice());
     }
 
     #[inline]

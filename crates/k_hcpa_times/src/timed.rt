@@ -4,7 +4,7 @@ ghost use Rattle.k_hcpa_meaning.specs.Timings.{Register, Element, InCell, OutCel
 ghost use Rattle.k_hcpa_meaning.specs.Locations.{operand_locations};
 ghost use Rattle.k_hcpa_meaning.specs.Calls.{handed, arguments_handed};
 ghost use Rattle.k_hcpa_times.specs.AtOnce.{at_once};
-ghost use Rattle.k_hcpa_times.specs.Seen.{Seen, Room, ForRegister, ForElement, ForSaved, Keeps, HasRegisters, AreBelow, levels, made, level_entered, instance_entered};
+ghost use Rattle.k_hcpa_times.specs.Seen.{Seen, Room, ForRegister, ForElement, ForLatency, ForSaved, Keeps, KeepsPlaces, HasRegisters, AreBelow, levels, made, level_entered, instance_entered};
 
 use k_code::Arg;
 use k_num::NoMemory;
@@ -19,7 +19,7 @@ pub trait Timed: Drop {
     /// The times, the count of entries into levels so far, and the limits of registers and of elements.
     ghost seen: { Self → Seen };
 
-    /// What gets times without taking memory. All room is lost where a level is entered or left.
+    /// What there is room for. All room is lost where a level is entered or left.
     ghost room: { Self → Room → Type 0 };
 
     /// How many levels are live.
@@ -41,6 +41,11 @@ pub trait Timed: Drop {
     fn leave(&mut self)
         requires { 0 < levels (seen self.old) }
         ensures left { seen self.new ≡ made innermost_gone (seen self.old) };
+
+    /// Makes room for an operation that takes so long, until one is made. Other room may be lost.
+    fn admit(&mut self, latency: u64)
+        ensures same { seen self.new ≡ seen self.old }
+        ensures room { room self.new (ForLatency latency) };
 
     /// Makes room for the `count` registers from `first` on. A refusal may have made room for some.
     fn reserve_registers(&mut self, first: u32, count: u32) -> Result<(), NoMemory>
@@ -96,8 +101,9 @@ pub trait Timed: Drop {
 
     /// The operation has all its operands, and takes so long.
     fn settle(&mut self, latency: u64)
+        requires room { room self.old (ForLatency latency) }
         ensures settled { seen self.new ≡ made (settled latency) (seen self.old) }
-        ensures kept { Keeps (room self.old) (room self.new) };
+        ensures kept { KeepsPlaces (room self.old) (room self.new) };
 
     /// Tells what the paths will be once the operation is settled with this latency; nothing is changed.
     fn paths_behind(&self, latency: u64, paths: &mut [u64])
@@ -115,8 +121,9 @@ pub trait Timed: Drop {
     fn give_after_none<L: Ledger>(&mut self, latency: u64, to: u32, steps: &mut Steps<L>)
         requires below { to < (seen self.old).registers }
         requires room { room self.old (ForRegister to) }
+        requires latency { room self.old (ForLatency latency) }
         ensures given { seen self.new ≡ made (at_once (λ t. given_to (Register to) (operated [] latency t))) (seen self.old) }
-        ensures kept { Keeps (room self.old) (room self.new) }
+        ensures kept { KeepsPlaces (room self.old) (room self.new) }
         ensures steps { steps.new ≡ steps.old + levels (seen self.old) };
 
     /// An operation is made at once that depends on one register, and a register holds what it gave.
@@ -124,8 +131,9 @@ pub trait Timed: Drop {
         requires from { from < (seen self.old).registers }
         requires below { to < (seen self.old).registers }
         requires room { room self.old (ForRegister to) }
+        requires latency { room self.old (ForLatency latency) }
         ensures given { seen self.new ≡ made (at_once (λ t. given_to (Register to) (operated (Register from ∷ []) latency t))) (seen self.old) }
-        ensures kept { Keeps (room self.old) (room self.new) }
+        ensures kept { KeepsPlaces (room self.old) (room self.new) }
         ensures steps { steps.new ≡ steps.old + 2 * levels (seen self.old) };
 
     /// An operation is made at once that depends on two registers, and a register holds what it gave.
@@ -141,8 +149,9 @@ pub trait Timed: Drop {
         requires right { right < (seen self.old).registers }
         requires below { to < (seen self.old).registers }
         requires room { room self.old (ForRegister to) }
+        requires latency { room self.old (ForLatency latency) }
         ensures given { seen self.new ≡ made (at_once (λ t. given_to (Register to) (operated (Register left ∷ Register right ∷ []) latency t))) (seen self.old) }
-        ensures kept { Keeps (room self.old) (room self.new) }
+        ensures kept { KeepsPlaces (room self.old) (room self.new) }
         ensures steps { steps.new ≡ steps.old + 3 * levels (seen self.old) };
 
     /// An element holds what the operation gave.
@@ -253,9 +262,10 @@ pub trait Timed: Drop {
 
     /// An operation is made that depends on these operands.
     fn operate<L: Ledger>(&mut self, first: u32, args: &[Arg], latency: u64, steps: &mut Steps<L>)
-        requires { AreBelow first (seen self.old).registers args.now }
+        requires args { AreBelow first (seen self.old).registers args.now }
+        requires latency { room self.old (ForLatency latency) }
         ensures operated { seen self.new ≡ made (operated (operand_locations first args.now) latency) (seen self.old) }
-        ensures kept { Keeps (room self.old) (room self.new) }
+        ensures kept { KeepsPlaces (room self.old) (room self.new) }
         ensures steps { steps.new ≡ steps.old + (1 + length (operand_locations first args.now)) * levels (seen self.old) }
     {
         self.begin(steps);

@@ -6,7 +6,7 @@ use Rattle.k_shadow.specs.Numbers.{Numbers, number_given, number_left, WereGiven
 use Rattle.k_shadow.specs.Rows.{Seen, row_time, content_of}
 use Rattle.k_shadow.proofs.Levels.{length-at_levels, get_or-at_levels}
 use Rattle.k_shadow.proofs.Places.{length-with_places}
-use Rattle.k_shadow.proofs.Rows.{time_from_rows, levels-entered, levels-left, levels_same, IsWritten, levels-written, IsCleared, levels-cleared, levels-set, row_time_since, given_at}
+use Rattle.k_shadow.proofs.Rows.{time_from_rows, levels-entered, levels-left, IsWritten, levels-written, IsCleared, levels-cleared, levels-set, row_time_since, given_at}
 
 -- how many levels are live
 pub depth_counted : (rows : ℕ → Seen) (v : Numbers) (limit : ℕ) → depth (content_of rows v limit) ≡ length v.live
@@ -21,9 +21,6 @@ content-entered rows v limit h = λ i. record { levels = levels-entered rows v.l
 
 pub content-left : (rows : ℕ → Seen) (v : Numbers) (limit : ℕ) → content_of rows (number_left v) limit ≡ level_dropped (content_of rows v limit)
 content-left rows v limit = λ i. record { levels = levels-left rows v.live i; entries = v.given; limit = limit }
-
-pub content_same : (rows others : ℕ → Seen) (v : Numbers) (limit : ℕ) → ((loc : ℕ) → others loc ≡ rows loc) → content_of others v limit ≡ content_of rows v limit
-content_same rows others v limit h = λ i. record { levels = levels_same rows others v.live h i; entries = v.given; limit = limit }
 
 pub content-written : (rows others : ℕ → Seen) (v : Numbers) (limit loc : ℕ) (times : List ℕ) → IsWritten rows others loc v.given times → WereGiven v.given v.live → length times ≡ depth (content_of rows v limit) → content_of others v limit ≡ written loc times (content_of rows v limit)
 content-written rows others v limit loc times w given same = λ i. record { levels = levels-written rows others loc v.given times v.live w given (same ∙ depth_counted rows v limit) i; entries = v.given; limit = limit }
@@ -43,15 +40,6 @@ pub by_location : (F : ℕ → ℕ → ℕ) (rows : ℕ → Seen) (v : Numbers) 
 by_location F rows v limit loc row numbers new here same each level h =
     let inside : level < length numbers = omega (arith, depth_counted rows v limit, ap (λ ns. length ns) same) in
     each level inside ∙ ap (λ t. F level t) (time_here rows v limit loc row numbers here same level h)
-
--- times that come of two rows' come of their locations'
-pub by_locations : (F : ℕ → ℕ → ℕ → ℕ) (rows : ℕ → Seen) (v : Numbers) (limit left right : ℕ) (left_row right_row : Seen) (numbers new : List ℕ) → left_row ≡ rows left → right_row ≡ rows right → numbers ≡ v.live → ((k : ℕ) → k < length numbers → slice_index new k ≡ F k (row_time left_row (slice_index numbers k) k) (row_time right_row (slice_index numbers k) k))
-    → (level : ℕ) → level < depth (content_of rows v limit) → slice_index new level ≡ F level (time_at (content_of rows v limit) level left) (time_at (content_of rows v limit) level right)
-by_locations F rows v limit left right left_row right_row numbers new here there same each level h =
-    let inside : level < length numbers = omega (arith, depth_counted rows v limit, ap (λ ns. length ns) same) in
-    let first = time_here rows v limit left left_row numbers here same level h in
-    let second = time_here rows v limit right right_row numbers there same level h in
-    each level inside ∙ (λ i. F level (first i) (second i))
 
 -- a location whose row has these times at all live levels
 pub content-set : (rows others : ℕ → Seen) (v : Numbers) (limit loc : ℕ) (f : ℕ → ℕ) → ((at : ℕ) → at ≢ loc → others at ≡ rows at) → ((k : ℕ) → k < length v.live → row_time (others loc) (slice_index v.live k) k ≡ f k) → content_of others v limit ≡ written_by loc f (content_of rows v limit)

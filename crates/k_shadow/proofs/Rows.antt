@@ -3,7 +3,7 @@ use Rattle.std.proofs.Common.{◌≡◌, ℕ, ◌+◌, ◌-◌, ◌<◌, ◌≤�
 use Rattle.std.specs.Prelude.{slice_index}
 use Rattle.std.proofs.lemmas.Bool.Decides.{nat_tests}
 use Rattle.std.proofs.lemmas.Bool.{cases_eq, cases_lt}
-use Rattle.std.proofs.lemmas.List.{ext_get_or, get_or-replicate, get_or_past, length-replicate}
+use Rattle.std.proofs.lemmas.List.{get_or-replicate, get_or_past, length-replicate}
 use Rattle.k_shadow.specs.declared.row.Row.{Row}
 use Rattle.k_shadow.specs.Content.{with_time, set_times, without}
 use Rattle.k_shadow.specs.Numbers.{AreRising, WereGiven}
@@ -273,13 +273,6 @@ one_row_written {levels} rows others loc given times row h same stamp each =
       rest = λ at ne. ap (λ rs. row_at rs at) same ∙ ap seen (get_or-set_other rows loc at row (blank_row levels) ne);
     }
 
--- a list that was filled with a row's times
-pub times_filled : (row : Seen) (live times : List ℕ) → length times ≡ length live → ((k : ℕ) → k < length live → slice_index times k ≡ row_time row (slice_index live k) k) → times ≡ times_of row live
-times_filled row live times same h =
-    let counted : length (times_of row live) ≡ length live = length-with_places (row_time row) 0 live in
-    ext_get_or 0 times (times_of row live) (same ∙ sym counted) (λ k lt.
-    let inside : k < length live = omega (arith, same) in h k inside ∙ sym (time_from_row row live k inside))
-
 -- what is seen of a row that was never written
 pub unwritten_seen : (levels : ℕ) → seen (blank_row levels) ≡ unwritten
 unwritten_seen levels = λ i. record { stamp = 0; time = λ level. zeros level i }
@@ -301,22 +294,3 @@ unwritten_time number level = cond_same (nat_le number 0)
     cond_same : (b : Bool) → ◌≡◌ {A = ℕ} (cond b 0 0) 0
     cond_same true = refl
     cond_same false = refl
-
--- stamps after a write
-pub stamped-written : (rows others : ℕ → Seen) (loc given : ℕ) (times : List ℕ) → IsWritten rows others loc given times → ((at : ℕ) → (rows at).stamp ≤ given) → (at : ℕ) → (others at).stamp ≤ given
-stamped-written rows others loc given times w h at = ⊎_elim
-    (λ (e : at ≡ loc). let P : ℕ → Type 0 = λ x. (others x).stamp ≤ given in subst P (sym e) (omega (arith, w.stamp)))
-    (λ (ne : at ≢ loc). let P : Seen → Type 0 = λ r. r.stamp ≤ given in subst P (sym (w.rest at ne)) (h at))
-    (cases_eq at loc)
-
--- stamps after a clear
-pub stamped-cleared : (rows others : ℕ → Seen) (first count given : ℕ) → IsCleared rows others first count → ((at : ℕ) → (rows at).stamp ≤ given) → (at : ℕ) → (others at).stamp ≤ given
-stamped-cleared rows others first count given c h at =
-    let P : Seen → Type 0 = λ r. r.stamp ≤ given in
-    ⊎_elim
-    (λ (lt : at < first). subst P (sym (c.before at lt)) (h at))
-    (λ (ge : first ≤ at). ⊎_elim
-    (λ (lt : at < first + count). let e : (others at).stamp ≡ 0 = c.among at ge lt in omega arith)
-    (λ (past : first + count ≤ at). subst P (sym (c.behind at past)) (h at))
-    (cases_lt at (first + count)))
-    (cases_lt at first)

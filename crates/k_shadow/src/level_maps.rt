@@ -42,7 +42,7 @@ impl Shadow for LevelMaps {
 
     ghost content = { λ s. record { levels = levels_in s.maps.items s.depth; entries = s.entries; limit = 4294967295 } };
 
-    ghost room = { λ s loc. (vec_len s.maps ≡ s.depth) × StandsIn s.maps.items loc };
+    ghost room = { λ s loc most. (vec_len s.maps ≡ s.depth) × StandsIn s.maps.items loc };
 
     fn depth(&self) -> usize {
         self.depth

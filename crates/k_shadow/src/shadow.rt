@@ -1,5 +1,6 @@
 //! The contract of shadow storage.
 ghost use Rattle.std.specs.Prelude.{◌≡◌, ℕ, ◌+◌, ◌*◌, ◌^◌, ◌<◌, ◌≤◌, length, max, slice_index, OnOk};
+ghost use Rattle.k_shadow.specs.Rooms.{delayed, HasRoomFor};
 ghost use Rattle.k_shadow.specs.Content.{Content, depth, time_at, after_none, after_one, after_two, entered, level_dropped, written, written_by, cleared};
 
 use crate::lists::no_times;
@@ -16,8 +17,8 @@ pub trait Shadow: Drop {
     /// The maps, the count of entries into levels so far, and the limit.
     ghost content: { Self → Content };
 
-    /// The location may be written without taking memory.
-    ghost room: { Self → ℕ → Type 0 };
+    /// The location may be written without taking memory, with times of at most that much.
+    ghost room: { Self → ℕ → ℕ → Type 0 };
 
     /// How many levels are live.
     fn depth(&self) -> usize
@@ -34,13 +35,23 @@ pub trait Shadow: Drop {
         requires { 0 < depth (content self.old) }
         ensures content { content self.new ≡ level_dropped (content self.old) };
 
-    /// Makes room for the `count` locations from `first` on, which lasts until a level is entered or left. A refusal
-    /// may have made room for some of them.
+    /// Makes room for the `count` locations from `first` on, whatever their times are, which lasts until a level is
+    /// entered or left. A refusal may have made room for some of them.
     fn reserve(&mut self, first: u32, count: u32) -> Result<(), NoMemory>
         requires { first + count ≤ (content self.old).limit }
         ensures content { content self.new ≡ content self.old }
-        ensures room { OnOk result ((loc : ℕ) → first ≤ loc → loc < first + count → room self.new loc) }
-        ensures kept { (loc : ℕ) → room self.old loc → room self.new loc };
+        ensures room { OnOk result ((loc most : ℕ) → first ≤ loc → loc < first + count → most < 2 ^ 64 → room self.new loc most) }
+        ensures kept { (loc most : ℕ) → room self.old loc most → room self.new loc most };
+
+    /// `reserve` for times of at most `most` latencies: a shadow may keep such times in less memory.
+    fn admit(&mut self, first: u32, count: u32, most: u64) -> Result<(), NoMemory>
+        requires { first + count ≤ (content self.old).limit }
+        ensures content { content self.new ≡ content self.old }
+        ensures room { OnOk result ((loc : ℕ) → first ≤ loc → loc < first + count → room self.new loc most) }
+        ensures kept { (loc most : ℕ) → room self.old loc most → room self.new loc most }
+    {
+        self.reserve(first, count)
+    }
 
     /// The time of a location at a level, in one step.
     fn read<L: Ledger>(&self, loc: u32, level: usize, steps: &mut Steps<L>) -> u64
@@ -130,10 +141,10 @@ pub trait Shadow: Drop {
         requires few { length before.now ≤ 32 }
         requires each { length before.now ≡ depth (content self.old) }
         requires paths { length paths.old ≡ depth (content self.old) }
-        requires room { room self.old to }
+        requires room { HasRoomFor (room self.old to) (depth (content self.old)) (λ level. delayed (slice_index before.now level) latency) }
         ensures content { content self.new ≡ written_by to (after_none before.now latency) (content self.old) }
         ensures paths { (level : ℕ) → level < depth (content self.old) → slice_index paths.new level ≡ max (slice_index paths.old level) (after_none before.now latency level) }
-        ensures kept { (at : ℕ) → room self.old at → room self.new at }
+        ensures kept { (at most : ℕ) → room self.old at most → room self.new at most }
     {
         let mut times = no_times();
         times_after(before, latency, &mut times[..before.len()], paths);
@@ -155,11 +166,11 @@ pub trait Shadow: Drop {
         requires few { length before.now ≤ 32 }
         requires each { length before.now ≡ depth (content self.old) }
         requires paths { length paths.old ≡ depth (content self.old) }
-        requires room { room self.old to }
+        requires room { HasRoomFor (room self.old to) (depth (content self.old)) (λ level. delayed (max (time_at (content self.old) level from) (slice_index before.now level)) latency) }
         ensures content { content self.new ≡ written_by to (after_one (content self.old) from before.now latency) (content self.old) }
         ensures paths { (level : ℕ) → level < depth (content self.old) → slice_index paths.new level ≡ max (slice_index paths.old level) (after_one (content self.old) from before.now latency level) }
         ensures steps { steps.new ≡ steps.old + depth (content self.old) }
-        ensures kept { (at : ℕ) → room self.old at → room self.new at }
+        ensures kept { (at most : ℕ) → room self.old at most → room self.new at most }
     {
         let mut times = no_times();
         let slots = &mut times[..before.len()];
@@ -184,11 +195,11 @@ pub trait Shadow: Drop {
         requires few { length before.now ≤ 32 }
         requires each { length before.now ≡ depth (content self.old) }
         requires paths { length paths.old ≡ depth (content self.old) }
-        requires room { room self.old to }
+        requires room { HasRoomFor (room self.old to) (depth (content self.old)) (λ level. delayed (max (max (time_at (content self.old) level left) (time_at (content self.old) level right)) (slice_index before.now level)) latency) }
         ensures content { content self.new ≡ written_by to (after_two (content self.old) left right before.now latency) (content self.old) }
         ensures paths { (level : ℕ) → level < depth (content self.old) → slice_index paths.new level ≡ max (slice_index paths.old level) (after_two (content self.old) left right before.now latency level) }
         ensures steps { steps.new ≡ steps.old + 2 * depth (content self.old) }
-        ensures kept { (at : ℕ) → room self.old at → room self.new at }
+        ensures kept { (at most : ℕ) → room self.old at most → room self.new at most }
     {
         let mut times = no_times();
         let slots = &mut times[..before.len()];
@@ -203,11 +214,11 @@ pub trait Shadow: Drop {
         requires below { to < (content self.old).limit }
         requires few { length times.old ≤ 32 }
         requires each { length times.old ≡ depth (content self.old) }
-        requires room { room self.old to }
+        requires room { HasRoomFor (room self.old to) (depth (content self.old)) (λ level. time_at (content self.old) level from) }
         ensures content { content self.new ≡ written_by to (λ level. time_at (content self.old) level from) (content self.old) }
         ensures raised { (level : ℕ) → level < depth (content self.old) → slice_index times.new level ≡ max (slice_index times.old level) (time_at (content self.old) level from) }
         ensures steps { steps.new ≡ steps.old + depth (content self.old) }
-        ensures kept { (at : ℕ) → room self.old at → room self.new at }
+        ensures kept { (at most : ℕ) → room self.old at most → room self.new at most }
     {
         let mut passed = no_times();
         for level in 0..times.len() {
@@ -221,24 +232,25 @@ pub trait Shadow: Drop {
     fn write(&mut self, loc: u32, times: &Times)
         requires below { loc < (content self.old).limit }
         requires each { length times.now ≡ depth (content self.old) }
-        requires room { room self.old loc }
+        requires room { room self.old loc 18446744073709551615 }
         ensures content { content self.new ≡ written loc times.now (content self.old) }
-        ensures kept { (at : ℕ) → room self.old at → room self.new at }
+        ensures kept { (at most : ℕ) → room self.old at most → room self.new at most }
     {
-        self.put(loc, times.as_slice());
+        let each = times.as_slice();
+        self.put(loc, each);
     }
 
     /// `write` from the slice that is filled for each operation.
     fn put(&mut self, loc: u32, times: &[u64])
         requires below { loc < (content self.old).limit }
         requires each { length times.now ≡ depth (content self.old) }
-        requires room { room self.old loc }
+        requires room { HasRoomFor (room self.old loc) (depth (content self.old)) (slice_index times.now) }
         ensures content { content self.new ≡ written loc times.now (content self.old) }
-        ensures kept { (at : ℕ) → room self.old at → room self.new at };
+        ensures kept { (at most : ℕ) → room self.old at most → room self.new at most };
 
     /// Makes the time of the `count` locations from `first` on 0 at every live level.
     fn clear(&mut self, first: u32, count: u32)
         requires { first + count ≤ (content self.old).limit }
         ensures content { content self.new ≡ cleared first count (content self.old) }
-        ensures kept { (loc : ℕ) → room self.old loc → room self.new loc };
+        ensures kept { (at most : ℕ) → room self.old at most → room self.new at most };
 }

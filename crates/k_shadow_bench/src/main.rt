@@ -10,6 +10,8 @@
 
 ghost use Rattle.std.specs.Prelude.{◌≡◌, ◌<◌};
 
+#[cfg(test)]
+mod cases;
 mod draws;
 mod mix;
 mod operations;
@@ -141,24 +143,24 @@ fn mixed_answer<L: Ledger>(alloc: Global, subject: Subject, plan: Plan, blank: B
     match subject {
         Subject::Maps => run_mix(
             alloc,
-            &mut LevelMaps::new(alloc),
-            &mut LevelMaps::new(alloc),
+            LevelMaps::new(alloc),
+            LevelMaps::new(alloc),
             plan,
             &mut steps,
         )
         .ok(),
         Subject::Registers => run_mix(
             alloc,
-            &mut ShadowRegs::new(alloc),
-            &mut ShadowRegs::new(alloc),
+            ShadowRegs::new(alloc),
+            ShadowRegs::new(alloc),
             plan,
             &mut steps,
         )
         .ok(),
         Subject::Pages => run_mix(
             alloc,
-            &mut ShadowRegs::new(alloc),
-            &mut ShadowPages::new(alloc),
+            ShadowRegs::new(alloc),
+            ShadowPages::new(alloc),
             plan,
             &mut steps,
         )

@@ -2,6 +2,7 @@
 //! operands are constants, and registers, elements of memory and the control stack are read and written.
 ghost use Rattle.std.specs.Prelude.{◌≡◌, ◌+◌, ◌^◌, ◌<◌, ◌≤◌, length, OnOk};
 ghost use Rattle.k_shadow.specs.Content.{depth};
+ghost use Rattle.k_shadow_bench.specs.Within.{IsWithin, StackIsWithin};
 
 use crate::draws::Draws;
 use crate::operations::{Plan, sum};
@@ -30,246 +31,300 @@ fn target(draws: &mut Draws, last: u32) -> u32
     (draws.next(last) | 1).min(last)
 }
 
-/// An operation with two registers as operands.
-#[inline]
-#[tactic(auto, using(k_shadow::proofs::Laws::depth_entered, k_shadow::proofs::Laws::depth_left, k_shadow::proofs::Laws::depth_written))]
-fn two<S: Shadow, L: Ledger>(
-    regs: &mut S,
-    control: &Control,
-    draws: &mut Draws,
+/// A shadow of registers, one of elements of memory, and the control stack.
+#[derive(Drop)]
+struct Mix<S: Shadow, M: Shadow> {
+    regs: S,
+    memory: M,
+    control: Control,
+    /// One less than the number of registers, and of elements.
     last: u32,
-    paths: &mut [u64],
-    steps: &mut Steps<L>,
-) -> Result<(), NoMemory>
-    requires below { last < (S.content regs.old).limit }
-    requires paths { length paths.old ≡ depth (S.content regs.old) }
-    requires control { length control.now.current ≡ depth (S.content regs.old) }
-    ensures depth { depth (S.content regs.new) ≡ depth (S.content regs.old) }
-    ensures entries { (S.content regs.new).entries ≡ (S.content regs.old).entries }
-    ensures limit { (S.content regs.new).limit ≡ (S.content regs.old).limit }
-{
-    let left = operand(draws, last);
-    let right = operand(draws, last);
-    let to = target(draws, last);
-    regs.reserve(to, 1)?;
-    regs.write_after_two(left, right, control.times(steps), 1, to, paths, steps);
-    Ok(())
+    /// No time so far is above it.
+    reach: u64,
+    ghost few: { last < 2097152 },
+    ghost registers: { 2097152 ≤ (S.content regs).limit },
+    ghost elements: { 2097152 ≤ (M.content memory).limit },
+    ghost memory_depth: { depth (M.content memory) ≡ depth (S.content regs) },
+    ghost control_depth: { length control.current ≡ depth (S.content regs) },
+    ghost memory_entries: { (M.content memory).entries ≡ (S.content regs).entries },
+    ghost control_entries: { control.entries ≡ (S.content regs).entries },
+    ghost registers_within: { IsWithin reach (S.content regs) },
+    ghost elements_within: { IsWithin reach (M.content memory) },
+    ghost control_within: { StackIsWithin reach control },
 }
 
-/// An operation with one register as its operand.
-#[inline]
-#[tactic(auto, using(k_shadow::proofs::Laws::depth_entered, k_shadow::proofs::Laws::depth_left, k_shadow::proofs::Laws::depth_written))]
-fn one<S: Shadow, L: Ledger>(
-    regs: &mut S,
-    control: &Control,
-    draws: &mut Draws,
-    last: u32,
-    paths: &mut [u64],
-    steps: &mut Steps<L>,
-) -> Result<(), NoMemory>
-    requires below { last < (S.content regs.old).limit }
-    requires paths { length paths.old ≡ depth (S.content regs.old) }
-    requires control { length control.now.current ≡ depth (S.content regs.old) }
-    ensures depth { depth (S.content regs.new) ≡ depth (S.content regs.old) }
-    ensures entries { (S.content regs.new).entries ≡ (S.content regs.old).entries }
-    ensures limit { (S.content regs.new).limit ≡ (S.content regs.old).limit }
-{
-    let from = operand(draws, last);
-    let to = target(draws, last);
-    regs.reserve(to, 1)?;
-    regs.write_after_one(from, control.times(steps), 1, to, paths, steps);
-    Ok(())
-}
+impl<S: Shadow, M: Shadow> Mix<S, M> {
+    /// No level is live.
+    #[tactic(auto, using(crate::proofs::Within::content_new, crate::proofs::Within::stack_new))]
+    fn new(alloc: Global, regs: S, memory: M, last: u32) -> Mix<S, M>
+        requires few { last < 2097152 }
+        requires regs { depth (S.content regs) ≡ 0 }
+        requires regs_entries { (S.content regs).entries ≡ 0 }
+        requires regs_limit { 2097152 ≤ (S.content regs).limit }
+        requires memory { depth (M.content memory) ≡ 0 }
+        requires memory_entries { (M.content memory).entries ≡ 0 }
+        requires memory_limit { 2097152 ≤ (M.content memory).limit }
+        ensures depth { depth (S.content result.regs) ≡ 0 }
+        ensures entries { (S.content result.regs).entries ≡ 0 }
+    {
+        Mix {
+            regs,
+            memory,
+            control: Control::new(alloc),
+            last,
+            reach: 0,
+        }
+    }
 
-/// A load: an address and an element as operands.
-#[inline]
-#[tactic(auto, using(k_shadow::proofs::Laws::depth_entered, k_shadow::proofs::Laws::depth_left, k_shadow::proofs::Laws::depth_written))]
-fn load<S: Shadow, M: Shadow, L: Ledger>(
-    regs: &mut S,
-    memory: &M,
-    control: &Control,
-    draws: &mut Draws,
-    last: u32,
-    times: &mut [u64],
-    paths: &mut [u64],
-    steps: &mut Steps<L>,
-) -> Result<(), NoMemory>
-    requires below { last < (S.content regs.old).limit }
-    requires element { last < (M.content memory.now).limit }
-    requires memory { depth (M.content memory.now) ≡ depth (S.content regs.old) }
-    requires times { length times.old ≡ depth (S.content regs.old) }
-    requires paths { length paths.old ≡ depth (S.content regs.old) }
-    requires control { length control.now.current ≡ depth (S.content regs.old) }
-    ensures depth { depth (S.content regs.new) ≡ depth (S.content regs.old) }
-    ensures entries { (S.content regs.new).entries ≡ (S.content regs.old).entries }
-    ensures limit { (S.content regs.new).limit ≡ (S.content regs.old).limit }
-{
-    let address = operand(draws, last);
-    let element = draws.next(last);
-    let to = target(draws, last);
-    regs.reserve(to, 1)?;
-    memory.latest(element, control.times(steps), times, steps);
-    regs.write_after_one(address, times, 3, to, paths, steps);
-    Ok(())
-}
+    /// Makes room for all registers and elements.
+    #[tactic(auto, using(crate::proofs::Within::content_same))]
+    fn fill(&mut self) -> Result<(), NoMemory>
+        ensures depth { depth (S.content self.new.regs) ≡ depth (S.content self.old.regs) }
+        ensures entries { (S.content self.new.regs).entries ≡ (S.content self.old.regs).entries }
+    {
+        self.regs.admit(0, self.last + 1, 0)?;
+        self.memory.admit(0, self.last + 1, 0)
+    }
 
-/// A store: an address and a value as operands, and an element that is written.
-#[inline]
-#[tactic(auto, using(k_shadow::proofs::Laws::depth_entered, k_shadow::proofs::Laws::depth_left, k_shadow::proofs::Laws::depth_written))]
-fn store<S: Shadow, M: Shadow, L: Ledger>(
-    regs: &S,
-    memory: &mut M,
-    control: &Control,
-    draws: &mut Draws,
-    last: u32,
-    times: &mut [u64],
-    paths: &mut [u64],
-    steps: &mut Steps<L>,
-) -> Result<(), NoMemory>
-    requires below { last < (S.content regs.now).limit }
-    requires element { last < (M.content memory.old).limit }
-    requires memory { depth (M.content memory.old) ≡ depth (S.content regs.now) }
-    requires times { length times.old ≡ depth (S.content regs.now) }
-    requires paths { length paths.old ≡ depth (S.content regs.now) }
-    requires control { length control.now.current ≡ depth (S.content regs.now) }
-    ensures depth { depth (M.content memory.new) ≡ depth (M.content memory.old) }
-    ensures entries { (M.content memory.new).entries ≡ (M.content memory.old).entries }
-    ensures limit { (M.content memory.new).limit ≡ (M.content memory.old).limit }
-{
-    let address = operand(draws, last);
-    let value = operand(draws, last);
-    let element = draws.next(last);
-    memory.reserve(element, 1)?;
-    regs.times_after_two(address, value, control.times(steps), 1, times, paths, steps);
-    memory.put(element, times);
-    Ok(())
-}
+    /// Enters a level.
+    #[tactic(auto, using(k_shadow::proofs::Laws::depth_entered))]
+    #[inline]
+    fn enter(&mut self)
+        requires shallow { depth (S.content self.old.regs) < 32 }
+        requires few { (S.content self.old.regs).entries < 2 ^ 62 }
+        ensures depth { depth (S.content self.new.regs) ≡ depth (S.content self.old.regs) + 1 }
+        ensures entries { (S.content self.new.regs).entries ≡ (S.content self.old.regs).entries + 1 }
+    {
+        self.regs.enter();
+        self.memory.enter();
+        self.control.enter();
+    }
 
-/// A test of a register, on which what comes then depends: the control entry is saved before.
-#[inline]
-fn decide<S: Shadow, L: Ledger>(
-    regs: &S,
-    control: &mut Control,
-    draws: &mut Draws,
-    last: u32,
-    times: &mut [u64],
-    paths: &mut [u64],
-    steps: &mut Steps<L>,
-) -> Result<(), NoMemory>
-    requires below { last < (S.content regs.now).limit }
-    requires times { length times.old ≡ depth (S.content regs.now) }
-    requires paths { length paths.old ≡ depth (S.content regs.now) }
-    requires control { length control.old.current ≡ depth (S.content regs.now) }
-    ensures control { length control.new.current ≡ length control.old.current }
-    ensures entries { control.new.entries ≡ control.old.entries }
-    ensures saved { OnOk result (0 < length control.new.saved) }
-{
-    let from = operand(draws, last);
-    control.reserve()?;
-    control.save();
-    regs.times_after_one(from, control.times(steps), 1, times, paths, steps);
-    control.put(times);
-    Ok(())
-}
+    /// Leaves the innermost level.
+    #[tactic(auto, using(k_shadow::proofs::Laws::depth_left))]
+    #[inline]
+    fn leave(&mut self)
+        requires live { 0 < depth (S.content self.old.regs) }
+        ensures depth { depth (S.content self.new.regs) + 1 ≡ depth (S.content self.old.regs) }
+        ensures entries { (S.content self.new.regs).entries ≡ (S.content self.old.regs).entries }
+    {
+        self.regs.leave();
+        self.memory.leave();
+        self.control.leave();
+    }
 
-/// Eight operations, one of them a load, one a store and one a test, under which one stands.
-#[inline]
-fn turn<S: Shadow, M: Shadow, L: Ledger>(
-    regs: &mut S,
-    memory: &mut M,
-    control: &mut Control,
-    draws: &mut Draws,
-    last: u32,
-    times: &mut [u64],
-    paths: &mut [u64],
-    steps: &mut Steps<L>,
-) -> Result<(), NoMemory>
-    requires below { last < (S.content regs.old).limit }
-    requires element { last < (M.content memory.old).limit }
-    requires memory { depth (M.content memory.old) ≡ depth (S.content regs.old) }
-    requires times { length times.old ≡ depth (S.content regs.old) }
-    requires paths { length paths.old ≡ depth (S.content regs.old) }
-    requires control { length control.old.current ≡ depth (S.content regs.old) }
-    ensures regs { OnOk result (depth (S.content regs.new) ≡ depth (S.content regs.old)) }
-    ensures regs_entries { (S.content regs.new).entries ≡ (S.content regs.old).entries }
-    ensures regs_limit { (S.content regs.new).limit ≡ (S.content regs.old).limit }
-    ensures memory { OnOk result (depth (M.content memory.new) ≡ depth (M.content memory.old)) }
-    ensures memory_entries { (M.content memory.new).entries ≡ (M.content memory.old).entries }
-    ensures memory_limit { (M.content memory.new).limit ≡ (M.content memory.old).limit }
-    ensures control { OnOk result (length control.new.current ≡ length control.old.current) }
-    ensures control_entries { control.new.entries ≡ control.old.entries }
-{
-    two(regs, control, draws, last, paths, steps)?;
-    load(regs, memory, control, draws, last, times, paths, steps)?;
-    two(regs, control, draws, last, paths, steps)?;
-    decide(regs, control, draws, last, times, paths, steps)?;
-    one(regs, control, draws, last, paths, steps)?;
-    control.back();
-    two(regs, control, draws, last, paths, steps)?;
-    store(regs, memory, control, draws, last, times, paths, steps)?;
-    one(regs, control, draws, last, paths, steps)
-}
+    /// An operation with two registers as operands.
+    #[tactic(auto, using(k_shadow::proofs::Laws::depth_written))]
+    #[inline(always)]
+    fn two<L: Ledger>(
+        &mut self,
+        draws: &mut Draws,
+        paths: &mut [u64],
+        steps: &mut Steps<L>,
+    ) -> Result<(), NoMemory>
+        requires paths { length paths.old ≡ depth (S.content self.old.regs) }
+        ensures depth { depth (S.content self.new.regs) ≡ depth (S.content self.old.regs) }
+        ensures entries { (S.content self.new.regs).entries ≡ (S.content self.old.regs).entries }
+    {
+        let last = self.last;
+        let left = operand(draws, last);
+        let right = operand(draws, last);
+        let to = target(draws, last);
+        let most = self.reach.saturating_add(1);
+        self.regs.admit(to, 1, most)?;
+        let before = self.control.times(steps);
+        self.regs
+            .write_after_two(left, right, before, 1, to, paths, steps);
+        self.reach = most;
+        Ok(())
+    }
 
-/// Leaves the innermost level and enters it anew.
-#[inline]
-#[tactic(auto, using(k_shadow::proofs::Laws::depth_entered, k_shadow::proofs::Laws::depth_left))]
-fn again<S: Shadow, M: Shadow>(
-    regs: &mut S,
-    memory: &mut M,
-    control: &mut Control,
-    paths: &mut [u64],
-)
-    requires live { 0 < depth (S.content regs.old) }
-    requires shallow { depth (S.content regs.old) ≤ 32 }
-    requires regs { (S.content regs.old).entries < 2 ^ 62 }
-    requires memory { (M.content memory.old).entries < 2 ^ 62 }
-    requires entries { control.old.entries < 2 ^ 62 }
-    requires same { depth (M.content memory.old) ≡ depth (S.content regs.old) }
-    requires paths { length paths.old ≡ depth (S.content regs.old) }
-    requires control { length control.old.current ≡ depth (S.content regs.old) }
-    ensures regs { depth (S.content regs.new) ≡ depth (S.content regs.old) }
-    ensures regs_entries { (S.content regs.new).entries ≡ (S.content regs.old).entries + 1 }
-    ensures regs_limit { (S.content regs.new).limit ≡ (S.content regs.old).limit }
-    ensures memory { depth (M.content memory.new) ≡ depth (M.content memory.old) }
-    ensures memory_entries { (M.content memory.new).entries ≡ (M.content memory.old).entries + 1 }
-    ensures memory_limit { (M.content memory.new).limit ≡ (M.content memory.old).limit }
-    ensures control { length control.new.current ≡ length control.old.current }
-    ensures control_entries { control.new.entries ≡ control.old.entries + 1 }
-{
-    regs.leave();
-    memory.leave();
-    control.leave();
-    regs.enter();
-    memory.enter();
-    control.enter();
-    paths[paths.len() - 1] = 0;
+    /// An operation with one register as its operand.
+    #[tactic(auto, using(k_shadow::proofs::Laws::depth_written))]
+    #[inline]
+    fn one<L: Ledger>(
+        &mut self,
+        draws: &mut Draws,
+        paths: &mut [u64],
+        steps: &mut Steps<L>,
+    ) -> Result<(), NoMemory>
+        requires paths { length paths.old ≡ depth (S.content self.old.regs) }
+        ensures depth { depth (S.content self.new.regs) ≡ depth (S.content self.old.regs) }
+        ensures entries { (S.content self.new.regs).entries ≡ (S.content self.old.regs).entries }
+        ensures saved { self.new.control.saved ≡ self.old.control.saved }
+    {
+        let last = self.last;
+        let from = operand(draws, last);
+        let to = target(draws, last);
+        let most = self.reach.saturating_add(1);
+        self.regs.admit(to, 1, most)?;
+        let before = self.control.times(steps);
+        self.regs.write_after_one(from, before, 1, to, paths, steps);
+        self.reach = most;
+        Ok(())
+    }
+
+    /// A load: an address and an element as operands.
+    #[tactic(auto, using(k_shadow::proofs::Laws::depth_written))]
+    #[inline]
+    fn load<L: Ledger>(
+        &mut self,
+        draws: &mut Draws,
+        times: &mut [u64],
+        paths: &mut [u64],
+        steps: &mut Steps<L>,
+    ) -> Result<(), NoMemory>
+        requires few { depth (S.content self.old.regs) ≤ 32 }
+        requires times { length times.old ≡ depth (S.content self.old.regs) }
+        requires paths { length paths.old ≡ depth (S.content self.old.regs) }
+        ensures depth { depth (S.content self.new.regs) ≡ depth (S.content self.old.regs) }
+        ensures entries { (S.content self.new.regs).entries ≡ (S.content self.old.regs).entries }
+    {
+        let last = self.last;
+        let address = operand(draws, last);
+        let element = draws.next(last);
+        let to = target(draws, last);
+        let most = self.reach.saturating_add(3);
+        self.regs.admit(to, 1, most)?;
+        let before = self.control.times(steps);
+        self.memory.latest(element, before, times, steps);
+        self.regs
+            .write_after_one(address, times, 3, to, paths, steps);
+        self.reach = most;
+        Ok(())
+    }
+
+    /// A store: an address and a value as operands, and an element that is written.
+    #[tactic(auto, using(k_shadow::proofs::Laws::depth_written))]
+    #[inline]
+    fn store<L: Ledger>(
+        &mut self,
+        draws: &mut Draws,
+        times: &mut [u64],
+        paths: &mut [u64],
+        steps: &mut Steps<L>,
+    ) -> Result<(), NoMemory>
+        requires times { length times.old ≡ depth (S.content self.old.regs) }
+        requires paths { length paths.old ≡ depth (S.content self.old.regs) }
+        ensures depth { depth (S.content self.new.regs) ≡ depth (S.content self.old.regs) }
+        ensures entries { (S.content self.new.regs).entries ≡ (S.content self.old.regs).entries }
+    {
+        let last = self.last;
+        let address = operand(draws, last);
+        let value = operand(draws, last);
+        let element = draws.next(last);
+        let most = self.reach.saturating_add(1);
+        self.memory.admit(element, 1, most)?;
+        let before = self.control.times(steps);
+        self.regs
+            .times_after_two(address, value, before, 1, times, paths, steps);
+        self.memory.put(element, times);
+        self.reach = most;
+        Ok(())
+    }
+
+    /// A test of a register, on which what comes then depends: the control entry is saved before.
+    #[tactic(auto, using(crate::proofs::Within::content_more))]
+    #[inline]
+    fn decide<L: Ledger>(
+        &mut self,
+        draws: &mut Draws,
+        times: &mut [u64],
+        paths: &mut [u64],
+        steps: &mut Steps<L>,
+    ) -> Result<(), NoMemory>
+        requires times { length times.old ≡ depth (S.content self.old.regs) }
+        requires paths { length paths.old ≡ depth (S.content self.old.regs) }
+        ensures depth { depth (S.content self.new.regs) ≡ depth (S.content self.old.regs) }
+        ensures entries { (S.content self.new.regs).entries ≡ (S.content self.old.regs).entries }
+        ensures saved { OnOk result (0 < length self.new.control.saved) }
+    {
+        let last = self.last;
+        let from = operand(draws, last);
+        self.control.reserve()?;
+        self.control.save();
+        let before = self.control.times(steps);
+        self.regs
+            .times_after_one(from, before, 1, times, paths, steps);
+        self.control.put(times);
+        self.reach = self.reach.saturating_add(1);
+        Ok(())
+    }
+
+    /// What comes then no longer depends on the test.
+    #[tactic(auto, using(crate::proofs::Within::stack_back))]
+    #[inline]
+    fn back(&mut self)
+        requires { 0 < length self.old.control.saved }
+        ensures depth { depth (S.content self.new.regs) ≡ depth (S.content self.old.regs) }
+        ensures entries { (S.content self.new.regs).entries ≡ (S.content self.old.regs).entries }
+    {
+        self.control.back();
+    }
+
+    /// Eight operations, one of them a load, one a store and one a test, under which one stands.
+    #[inline]
+    fn turn<L: Ledger>(
+        &mut self,
+        draws: &mut Draws,
+        times: &mut [u64],
+        paths: &mut [u64],
+        steps: &mut Steps<L>,
+    ) -> Result<(), NoMemory>
+        requires few { depth (S.content self.old.regs) ≤ 32 }
+        requires times { length times.old ≡ depth (S.content self.old.regs) }
+        requires paths { length paths.old ≡ depth (S.content self.old.regs) }
+        ensures depth { depth (S.content self.new.regs) ≡ depth (S.content self.old.regs) }
+        ensures entries { (S.content self.new.regs).entries ≡ (S.content self.old.regs).entries }
+    {
+        self.two(draws, paths, steps)?;
+        self.load(draws, times, paths, steps)?;
+        self.two(draws, paths, steps)?;
+        self.decide(draws, times, paths, steps)?;
+        self.one(draws, paths, steps)?;
+        self.back();
+        self.two(draws, paths, steps)?;
+        self.store(draws, times, paths, steps)?;
+        self.one(draws, paths, steps)
+    }
+
+    /// Leaves the innermost level and enters it anew.
+    #[inline]
+    fn again(&mut self, paths: &mut [u64])
+        requires live { 0 < depth (S.content self.old.regs) }
+        requires shallow { depth (S.content self.old.regs) ≤ 32 }
+        requires few { (S.content self.old.regs).entries < 2 ^ 62 }
+        requires paths { length paths.old ≡ depth (S.content self.old.regs) }
+        ensures depth { depth (S.content self.new.regs) ≡ depth (S.content self.old.regs) }
+        ensures entries { (S.content self.new.regs).entries ≡ (S.content self.old.regs).entries + 1 }
+    {
+        self.leave();
+        self.enter();
+        paths[paths.len() - 1] = 0;
+    }
 }
 
 /// Runs turns of eight operations, each in a new instance of the innermost level, and answers the sum of all registers'
 /// times at the outermost level and of its path.
-#[tactic(auto, using(k_shadow::proofs::Laws::depth_entered, k_shadow::proofs::Laws::depth_left))]
 pub fn run_mix<S: Shadow, M: Shadow, L: Ledger>(
     alloc: Global,
-    regs: &mut S,
-    memory: &mut M,
+    regs: S,
+    memory: M,
     plan: Plan,
     steps: &mut Steps<L>,
 ) -> Result<u64, NoMemory>
-    requires regs { depth (S.content regs.old) ≡ 0 }
-    requires regs_entries { (S.content regs.old).entries ≡ 0 }
-    requires regs_limit { 2097152 ≤ (S.content regs.old).limit }
-    requires memory { depth (M.content memory.old) ≡ 0 }
-    requires memory_entries { (M.content memory.old).entries ≡ 0 }
-    requires memory_limit { 2097152 ≤ (M.content memory.old).limit }
+    requires regs { depth (S.content regs) ≡ 0 }
+    requires regs_entries { (S.content regs).entries ≡ 0 }
+    requires regs_limit { 2097152 ≤ (S.content regs).limit }
+    requires memory { depth (M.content memory) ≡ 0 }
+    requires memory_entries { (M.content memory).entries ≡ 0 }
+    requires memory_limit { 2097152 ≤ (M.content memory).limit }
 {
-    let mut control = Control::new(alloc);
+    let mut mix = Mix::new(alloc, regs, memory, plan.last);
     for _level in 0..plan.levels {
-        regs.enter();
-        memory.enter();
-        control.enter();
+        mix.enter();
     }
-    regs.reserve(0, plan.last + 1)?;
-    memory.reserve(0, plan.last + 1)?;
+    mix.fill()?;
     let mut times = Times::new(alloc);
     times.resize(plan.levels);
     let slots = times.as_mut_slice();
@@ -278,17 +333,8 @@ pub fn run_mix<S: Shadow, M: Shadow, L: Ledger>(
     let path_slots = paths.as_mut_slice();
     let mut draws = Draws::new();
     for _turn in 0..plan.operations / 8 {
-        again(regs, memory, &mut control, path_slots);
-        turn(
-            regs,
-            memory,
-            &mut control,
-            &mut draws,
-            plan.last,
-            slots,
-            path_slots,
-            steps,
-        )?;
+        mix.again(path_slots);
+        mix.turn(&mut draws, slots, path_slots, steps)?;
     }
-    Ok(sum(regs, plan.last, steps).wrapping_add(path_slots[0]))
+    Ok(sum(&mix.regs, mix.last, steps).wrapping_add(path_slots[0]))
 }

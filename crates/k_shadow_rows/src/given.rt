@@ -1,11 +1,13 @@
-//! The times that an operation gives to a row, where its operands stand among the same rows, of whatever width.
+//! The times that an operation gives to a row, where its operands stand among the same rows, of whatever kind.
 ghost use Rattle.std.specs.Prelude.{◌≡◌, ◌≢◌, ◌+◌, ◌%◌, ◌^◌, ◌<◌, ◌≤◌, ℕ, true, false, length, max, slice_index};
 ghost use Rattle.k_shadow.specs.Content.{after_none, time_after};
 ghost use Rattle.k_shadow.specs.Numbers.{AreRising};
-ghost use Rattle.k_shadow.specs.Rows.{row_at};
+ghost use Rattle.k_shadow.specs.Rooms.{delayed};
+ghost use Rattle.k_shadow.specs.Rows.{row_time};
 ghost use Rattle.k_shadow_rows.specs.Given.{AreGiven, AreRaised, IsGiven, after_row, after_rows, after_live_row, after_live_rows};
+ghost use Rattle.k_shadow_rows.specs.Rows.{rows_at};
 
-use k_shadow::Row;
+use crate::level_row::LevelRow;
 
 /// The time of an operation that waits for this time.
 #[inline(always)]
@@ -17,25 +19,19 @@ fn after(before: u64, latency: u64) -> u64
 
 /// The time at a level of an operation that waits for this time and for a row's.
 #[inline(always)]
-fn after_one<const N: usize>(
-    rows: &[Row<N>],
-    from: usize,
-    level: usize,
-    before: u64,
-    latency: u64,
-) -> u64
+fn after_one<R: LevelRow>(rows: &[R], from: usize, level: usize, before: u64, latency: u64) -> u64
     requires within { from < length rows.now }
-    requires shallow { level < N }
-    ensures { result ≡ (max ((row_at rows.now from).time level) before + latency) % 2 ^ 64 }
+    requires shallow { level < R.width }
+    ensures { result ≡ (max ((rows_at R.seen R.blank rows.now from).time level) before + latency) % 2 ^ 64 }
 {
     let row = &rows[from];
-    row.times[level].max(before).wrapping_add(latency)
+    row.time_within(level).max(before).wrapping_add(latency)
 }
 
 /// The time at a level of an operation that waits for this time and for two rows'.
 #[inline(always)]
-fn after_both<const N: usize>(
-    rows: &[Row<N>],
+fn after_both<R: LevelRow>(
+    rows: &[R],
     left: usize,
     right: usize,
     level: usize,
@@ -44,26 +40,29 @@ fn after_both<const N: usize>(
 ) -> u64
     requires left { left < length rows.now }
     requires right { right < length rows.now }
-    requires shallow { level < N }
-    ensures { result ≡ time_after ((row_at rows.now left).time level) ((row_at rows.now right).time level) before latency }
+    requires shallow { level < R.width }
+    ensures { result ≡ time_after ((rows_at R.seen R.blank rows.now left).time level) ((rows_at R.seen R.blank rows.now right).time level) before latency }
 {
     let left_row = &rows[left];
     let right_row = &rows[right];
-    let latest = left_row.times[level].max(right_row.times[level]);
+    let latest = left_row
+        .time_within(level)
+        .max(right_row.time_within(level));
     latest.max(before).wrapping_add(latency)
 }
 
 /// Gives a row a time at a level, and raises the level's path to it.
 #[inline(always)]
-fn give<const N: usize>(rows: &mut [Row<N>], to: usize, level: usize, time: u64, paths: &mut [u64])
+fn give<R: LevelRow>(rows: &mut [R], to: usize, level: usize, time: u64, paths: &mut [u64])
     requires within { to < length rows.old }
-    requires shallow { level < N }
+    requires shallow { level < R.width }
+    requires small { time ≤ R.greatest }
     requires live { level < length paths.old }
-    ensures given { AreGiven (λ _. time) to level (level + 1) (row_at rows.old) (row_at rows.new) paths.old paths.new }
+    ensures given { AreGiven (λ _. time) to level (level + 1) (rows_at R.seen R.blank rows.old) (rows_at R.seen R.blank rows.new) paths.old paths.new }
     ensures size { length rows.new ≡ length rows.old }
 {
     let row = &mut rows[to];
-    row.times[level] = time;
+    row.set_time(level, time);
     paths[level] = paths[level].max(time);
 }
 
@@ -83,8 +82,8 @@ fn is_live(numbers: &[u64], level: usize, stamp: u64) -> bool
 /// Gives a row the times of an operation with two rows, at the levels at which what was written when that stamp was given
 /// is live, and answers how many these are.
 #[inline(always)]
-fn give_both<const N: usize>(
-    rows: &mut [Row<N>],
+fn give_both<R: LevelRow>(
+    rows: &mut [R],
     left: usize,
     right: usize,
     to: usize,
@@ -97,14 +96,15 @@ fn give_both<const N: usize>(
     requires left { 0 < stamp → left < length rows.old }
     requires right { 0 < stamp → right < length rows.old }
     requires within { to < length rows.old }
-    requires few { length before.now ≤ N }
+    requires few { length before.now ≤ R.width }
     requires each { length before.now ≡ length numbers.now }
     requires paths { length paths.old ≡ length before.now }
     requires rising { AreRising 0 numbers.now }
+    requires small { (k : ℕ) → k < length before.now → slice_index numbers.now k ≤ stamp → after_live_rows (rows_at R.seen R.blank rows.old left) (rows_at R.seen R.blank rows.old right) before.now latency k ≤ R.greatest }
     ensures few { result ≤ length before.now }
     ensures live { (k : ℕ) → k < result → slice_index numbers.now k ≤ stamp }
     ensures gone { (k : ℕ) → result ≤ k → k < length numbers.now → stamp < slice_index numbers.now k }
-    ensures given { AreGiven (after_live_rows (row_at rows.old left) (row_at rows.old right) before.now latency) to 0 result (row_at rows.old) (row_at rows.new) paths.old paths.new }
+    ensures given { AreGiven (after_live_rows (rows_at R.seen R.blank rows.old left) (rows_at R.seen R.blank rows.old right) before.now latency) to 0 result (rows_at R.seen R.blank rows.old) (rows_at R.seen R.blank rows.new) paths.old paths.new }
     ensures size { length rows.new ≡ length rows.old }
 {
     for level in 0..before.len() {
@@ -120,8 +120,8 @@ fn give_both<const N: usize>(
 /// Gives a row the times of an operation with one row, at the levels from `low` on at which what was written when that
 /// stamp was given is live, and answers where these end.
 #[inline(always)]
-fn give_one<const N: usize>(
-    rows: &mut [Row<N>],
+fn give_one<R: LevelRow>(
+    rows: &mut [R],
     from: usize,
     to: usize,
     low: usize,
@@ -133,16 +133,17 @@ fn give_one<const N: usize>(
 ) -> usize
     requires from { 0 < stamp → from < length rows.old }
     requires within { to < length rows.old }
-    requires few { length before.now ≤ N }
+    requires few { length before.now ≤ R.width }
     requires low { low ≤ length before.now }
     requires each { length before.now ≡ length numbers.now }
     requires paths { length paths.old ≡ length before.now }
     requires rising { AreRising 0 numbers.now }
+    requires small { (k : ℕ) → low ≤ k → k < length before.now → slice_index numbers.now k ≤ stamp → after_live_row (rows_at R.seen R.blank rows.old from) before.now latency k ≤ R.greatest }
     ensures low { low ≤ result }
     ensures few { result ≤ length before.now }
     ensures live { (k : ℕ) → low ≤ k → k < result → slice_index numbers.now k ≤ stamp }
     ensures gone { (k : ℕ) → result ≤ k → k < length numbers.now → stamp < slice_index numbers.now k }
-    ensures given { AreGiven (after_live_row (row_at rows.old from) before.now latency) to low result (row_at rows.old) (row_at rows.new) paths.old paths.new }
+    ensures given { AreGiven (after_live_row (rows_at R.seen R.blank rows.old from) before.now latency) to low result (rows_at R.seen R.blank rows.old) (rows_at R.seen R.blank rows.new) paths.old paths.new }
     ensures size { length rows.new ≡ length rows.old }
 {
     for level in low..before.len() {
@@ -157,8 +158,8 @@ fn give_one<const N: usize>(
 
 /// Gives a row the times of an operation without an operand that is live, at the levels from `low` on.
 #[inline]
-fn give_none<const N: usize>(
-    rows: &mut [Row<N>],
+fn give_none<R: LevelRow>(
+    rows: &mut [R],
     to: usize,
     low: usize,
     before: &[u64],
@@ -166,10 +167,11 @@ fn give_none<const N: usize>(
     paths: &mut [u64],
 )
     requires within { to < length rows.old }
-    requires few { length before.now ≤ N }
+    requires few { length before.now ≤ R.width }
     requires low { low ≤ length before.now }
     requires paths { length paths.old ≡ length before.now }
-    ensures given { AreGiven (after_none before.now latency) to low (length before.now) (row_at rows.old) (row_at rows.new) paths.old paths.new }
+    requires small { (k : ℕ) → low ≤ k → k < length before.now → after_none before.now latency k ≤ R.greatest }
+    ensures given { AreGiven (after_none before.now latency) to low (length before.now) (rows_at R.seen R.blank rows.old) (rows_at R.seen R.blank rows.new) paths.old paths.new }
     ensures size { length rows.new ≡ length rows.old }
 {
     for level in low..before.len() {
@@ -181,8 +183,8 @@ fn give_none<const N: usize>(
 /// Gives a row the times of an operation with two rows, of which one was written no later than the other. Their stamps are
 /// `low` and `high`.
 #[inline(always)]
-fn give_ordered<const N: usize>(
-    rows: &mut [Row<N>],
+fn give_ordered<R: LevelRow>(
+    rows: &mut [R],
     older: usize,
     newer: usize,
     to: usize,
@@ -195,15 +197,16 @@ fn give_ordered<const N: usize>(
 )
     requires older { 0 < low → older < length rows.old }
     requires newer { 0 < high → newer < length rows.old }
-    requires low { low ≡ (row_at rows.old older).stamp }
-    requires high { high ≡ (row_at rows.old newer).stamp }
+    requires low { low ≡ (rows_at R.seen R.blank rows.old older).stamp }
+    requires high { high ≡ (rows_at R.seen R.blank rows.old newer).stamp }
     requires order { low ≤ high }
     requires within { to < length rows.old }
-    requires few { length before.now ≤ N }
+    requires few { length before.now ≤ R.width }
     requires each { length before.now ≡ length numbers.now }
     requires paths { length paths.old ≡ length before.now }
     requires rising { AreRising 0 numbers.now }
-    ensures given { AreGiven (after_rows (row_at rows.old older) (row_at rows.old newer) numbers.now before.now latency) to 0 (length before.now) (row_at rows.old) (row_at rows.new) paths.old paths.new }
+    requires small { (k : ℕ) → k < length before.now → after_rows (rows_at R.seen R.blank rows.old older) (rows_at R.seen R.blank rows.old newer) numbers.now before.now latency k ≤ R.greatest }
+    ensures given { AreGiven (after_rows (rows_at R.seen R.blank rows.old older) (rows_at R.seen R.blank rows.old newer) numbers.now before.now latency) to 0 (length before.now) (rows_at R.seen R.blank rows.old) (rows_at R.seen R.blank rows.new) paths.old paths.new }
     ensures size { length rows.new ≡ length rows.old }
 {
     let both = give_both(rows, older, newer, to, low, numbers, before, latency, paths);
@@ -213,8 +216,8 @@ fn give_ordered<const N: usize>(
 
 /// Gives a row the times of an operation with two rows that have these stamps.
 #[inline(always)]
-fn give_rows<const N: usize>(
-    rows: &mut [Row<N>],
+fn give_rows<R: LevelRow>(
+    rows: &mut [R],
     left: usize,
     right: usize,
     to: usize,
@@ -227,14 +230,15 @@ fn give_rows<const N: usize>(
 )
     requires left { 0 < left_stamp → left < length rows.old }
     requires right { 0 < right_stamp → right < length rows.old }
-    requires left_stamp { left_stamp ≡ (row_at rows.old left).stamp }
-    requires right_stamp { right_stamp ≡ (row_at rows.old right).stamp }
+    requires left_stamp { left_stamp ≡ (rows_at R.seen R.blank rows.old left).stamp }
+    requires right_stamp { right_stamp ≡ (rows_at R.seen R.blank rows.old right).stamp }
     requires within { to < length rows.old }
-    requires few { length before.now ≤ N }
+    requires few { length before.now ≤ R.width }
     requires each { length before.now ≡ length numbers.now }
     requires paths { length paths.old ≡ length before.now }
     requires rising { AreRising 0 numbers.now }
-    ensures given { AreGiven (after_rows (row_at rows.old left) (row_at rows.old right) numbers.now before.now latency) to 0 (length before.now) (row_at rows.old) (row_at rows.new) paths.old paths.new }
+    requires small { (k : ℕ) → k < length before.now → after_rows (rows_at R.seen R.blank rows.old left) (rows_at R.seen R.blank rows.old right) numbers.now before.now latency k ≤ R.greatest }
+    ensures given { AreGiven (after_rows (rows_at R.seen R.blank rows.old left) (rows_at R.seen R.blank rows.old right) numbers.now before.now latency) to 0 (length before.now) (rows_at R.seen R.blank rows.old) (rows_at R.seen R.blank rows.new) paths.old paths.new }
     ensures size { length rows.new ≡ length rows.old }
 {
     if left_stamp <= right_stamp {
@@ -268,44 +272,45 @@ fn give_rows<const N: usize>(
 
 /// Gives a row a stamp, and leaves its times.
 #[inline(always)]
-fn stamp_row<const N: usize>(rows: &mut [Row<N>], to: usize, stamp: u64)
+fn stamp_row<R: LevelRow>(rows: &mut [R], to: usize, stamp: u64)
     requires { to < length rows.old }
     ensures size { length rows.new ≡ length rows.old }
-    ensures stamped { (row_at rows.new to).stamp ≡ stamp }
-    ensures times { (k : ℕ) → (row_at rows.new to).time k ≡ (row_at rows.old to).time k }
-    ensures others { (at : ℕ) → at ≢ to → row_at rows.new at ≡ row_at rows.old at }
+    ensures stamped { (rows_at R.seen R.blank rows.new to).stamp ≡ stamp }
+    ensures times { (k : ℕ) → (rows_at R.seen R.blank rows.new to).time k ≡ (rows_at R.seen R.blank rows.old to).time k }
+    ensures others { (at : ℕ) → at ≢ to → rows_at R.seen R.blank rows.new at ≡ rows_at R.seen R.blank rows.old at }
 {
     let row = &mut rows[to];
-    row.stamp = stamp;
+    row.set_stamp(stamp);
 }
 
 /// The stamp of a location's row, 0 where it has none.
 #[inline(always)]
-fn stamp_at<const N: usize>(rows: &[Row<N>], loc: usize) -> u64
-    ensures stamp { result ≡ (row_at rows.now loc).stamp }
+fn stamp_at<R: LevelRow>(rows: &[R], loc: usize) -> u64
+    ensures stamp { result ≡ (rows_at R.seen R.blank rows.now loc).stamp }
     ensures within { 0 < result → loc < length rows.now }
 {
     if loc >= rows.len() {
         return 0;
     }
     let row = &rows[loc];
-    row.stamp
+    row.stamp()
 }
 
 /// Gives a row the times of an operation that waits for these times alone.
 #[inline]
-pub fn write_none<const N: usize>(
-    rows: &mut [Row<N>],
+pub fn write_none<R: LevelRow>(
+    rows: &mut [R],
     to: usize,
     stamp: u64,
     before: &[u64],
     latency: u64,
     paths: &mut [u64],
 )
-    requires within { to < length rows.old }
-    requires few { length before.now ≤ N }
+    requires row { to < length rows.old }
+    requires few { length before.now ≤ R.width }
     requires paths { length paths.old ≡ length before.now }
-    ensures given { IsGiven (after_none before.now latency) to stamp (length before.now) (row_at rows.old) (row_at rows.new) }
+    requires within { (k : ℕ) → k < length before.now → delayed (slice_index before.now k) latency ≤ R.greatest }
+    ensures given { IsGiven (after_none before.now latency) to stamp (length before.now) (rows_at R.seen R.blank rows.old) (rows_at R.seen R.blank rows.new) }
     ensures raised { AreRaised (after_none before.now latency) (length before.now) paths.old paths.new }
     ensures size { length rows.new ≡ length rows.old }
 {
@@ -315,8 +320,8 @@ pub fn write_none<const N: usize>(
 
 /// Gives a row the times of an operation that waits for these times and for a row's.
 #[inline]
-pub fn write_one<const N: usize>(
-    rows: &mut [Row<N>],
+pub fn write_one<R: LevelRow>(
+    rows: &mut [R],
     from: usize,
     to: usize,
     numbers: &[u64],
@@ -325,13 +330,14 @@ pub fn write_one<const N: usize>(
     latency: u64,
     paths: &mut [u64],
 )
-    requires within { to < length rows.old }
-    requires few { length before.now ≤ N }
+    requires row { to < length rows.old }
+    requires few { length before.now ≤ R.width }
     requires live { length before.now ≡ length numbers.now }
     requires paths { length paths.old ≡ length before.now }
     requires rising { AreRising 0 numbers.now }
-    ensures given { IsGiven (after_row (row_at rows.old from) numbers.now before.now latency) to stamp (length before.now) (row_at rows.old) (row_at rows.new) }
-    ensures raised { AreRaised (after_row (row_at rows.old from) numbers.now before.now latency) (length before.now) paths.old paths.new }
+    requires within { (k : ℕ) → k < length before.now → delayed (max (row_time (rows_at R.seen R.blank rows.old from) (slice_index numbers.now k) k) (slice_index before.now k)) latency ≤ R.greatest }
+    ensures given { IsGiven (after_row (rows_at R.seen R.blank rows.old from) numbers.now before.now latency) to stamp (length before.now) (rows_at R.seen R.blank rows.old) (rows_at R.seen R.blank rows.new) }
+    ensures raised { AreRaised (after_row (rows_at R.seen R.blank rows.old from) numbers.now before.now latency) (length before.now) paths.old paths.new }
     ensures size { length rows.new ≡ length rows.old }
 {
     let written = stamp_at(rows, from);
@@ -342,8 +348,8 @@ pub fn write_one<const N: usize>(
 
 /// Gives a row the times of an operation that waits for these times and for two rows'.
 #[inline]
-pub fn write_both<const N: usize>(
-    rows: &mut [Row<N>],
+pub fn write_both<R: LevelRow>(
+    rows: &mut [R],
     left: usize,
     right: usize,
     to: usize,
@@ -353,13 +359,14 @@ pub fn write_both<const N: usize>(
     latency: u64,
     paths: &mut [u64],
 )
-    requires within { to < length rows.old }
-    requires few { length before.now ≤ N }
+    requires row { to < length rows.old }
+    requires few { length before.now ≤ R.width }
     requires live { length before.now ≡ length numbers.now }
     requires paths { length paths.old ≡ length before.now }
     requires rising { AreRising 0 numbers.now }
-    ensures given { IsGiven (after_rows (row_at rows.old left) (row_at rows.old right) numbers.now before.now latency) to stamp (length before.now) (row_at rows.old) (row_at rows.new) }
-    ensures raised { AreRaised (after_rows (row_at rows.old left) (row_at rows.old right) numbers.now before.now latency) (length before.now) paths.old paths.new }
+    requires within { (k : ℕ) → k < length before.now → delayed (max (max (row_time (rows_at R.seen R.blank rows.old left) (slice_index numbers.now k) k) (row_time (rows_at R.seen R.blank rows.old right) (slice_index numbers.now k) k)) (slice_index before.now k)) latency ≤ R.greatest }
+    ensures given { IsGiven (after_rows (rows_at R.seen R.blank rows.old left) (rows_at R.seen R.blank rows.old right) numbers.now before.now latency) to stamp (length before.now) (rows_at R.seen R.blank rows.old) (rows_at R.seen R.blank rows.new) }
+    ensures raised { AreRaised (after_rows (rows_at R.seen R.blank rows.old left) (rows_at R.seen R.blank rows.old right) numbers.now before.now latency) (length before.now) paths.old paths.new }
     ensures size { length rows.new ≡ length rows.old }
 {
     let left_stamp = stamp_at(rows, left);

@@ -1,8 +1,11 @@
-//! Lists of rows of times, all with times for 8 levels or all for 32, in the order of locations.
+//! Lists of rows of times in the order of locations, all with times for 8 levels or all for 32, of 32 bits all or of 64.
 #![tactic(auto)]
 
 mod given;
+mod level_row;
 mod lists;
+mod narrow;
 mod rows;
 
+pub use narrow::NarrowRow;
 pub use rows::Rows;

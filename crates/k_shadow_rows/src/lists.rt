@@ -1,29 +1,31 @@
-//! Rows of any one width, in the order of locations.
+//! Rows of any one kind, in the order of locations.
 ghost use Rattle.std.specs.Prelude.{◌≡◌, ◌≢◌, ◌+◌, ◌<◌, ◌≤◌, ℕ, length, vec_len, max, slice_index, OnOk, IfOk};
 ghost use Rattle.k_shadow.specs.Numbers.{AreRising};
-ghost use Rattle.k_shadow.specs.Rows.{row_at, row_time, seen};
+ghost use Rattle.k_shadow.specs.Rows.{row_time};
 ghost use Rattle.k_shadow_rows.specs.Given.{IsGiven};
+ghost use Rattle.k_shadow_rows.specs.Rows.{rows_at};
 
+use crate::level_row::{self, LevelRow};
 use k_num::NoMemory;
-use k_shadow::{Row, Steps, copy_to};
+use k_shadow::{Steps, copy_to};
 use std::alloc::Global;
 use std::sync::ledger::Ledger;
 
 /// The time of a location at a level, whose instance has that number.
 #[inline]
-pub fn time_of<const N: usize>(rows: &[Row<N>], loc: usize, number: u64, level: usize) -> u64
-    ensures { result ≡ row_time (row_at rows.now loc) number level }
+pub fn time_of<R: LevelRow>(rows: &[R], loc: usize, number: u64, level: usize) -> u64
+    ensures { result ≡ row_time (rows_at R.seen R.blank rows.now loc) number level }
 {
     match rows.get(loc) {
-        Some(row) => row.time(number, level),
+        Some(row) => level_row::time(row, number, level),
         None => 0,
     }
 }
 
 /// Raises each of these times to the location's at its level, where it is lower, in one step a level.
 #[inline]
-pub fn raise<const N: usize, L: Ledger>(
-    rows: &[Row<N>],
+pub fn raise<R: LevelRow, L: Ledger>(
+    rows: &[R],
     loc: usize,
     numbers: &[u64],
     times: &mut [u64],
@@ -31,19 +33,19 @@ pub fn raise<const N: usize, L: Ledger>(
 )
     requires each { length times.old ≡ length numbers.now }
     requires rising { AreRising 0 numbers.now }
-    ensures raised { (k : ℕ) → k < length numbers.now → slice_index times.new k ≡ max (slice_index times.old k) (row_time (row_at rows.now loc) (slice_index numbers.now k) k) }
+    ensures raised { (k : ℕ) → k < length numbers.now → slice_index times.new k ≡ max (slice_index times.old k) (row_time (rows_at R.seen R.blank rows.now loc) (slice_index numbers.now k) k) }
     ensures steps { steps.new ≡ steps.old + length numbers.now }
 {
     match rows.get(loc) {
-        Some(row) => row.raise(numbers, times, steps),
+        Some(row) => level_row::raise(row, numbers, times, steps),
         None => steps.tick_each(numbers),
     }
 }
 
 /// Fills the list with the later of two times at each level, `before`'s and the location's, in one step a level.
 #[inline]
-pub fn latest<const N: usize, L: Ledger>(
-    rows: &[Row<N>],
+pub fn latest<R: LevelRow, L: Ledger>(
+    rows: &[R],
     loc: usize,
     numbers: &[u64],
     before: &[u64],
@@ -53,11 +55,11 @@ pub fn latest<const N: usize, L: Ledger>(
     requires each { length before.now ≡ length numbers.now }
     requires times { length times.old ≡ length numbers.now }
     requires rising { AreRising 0 numbers.now }
-    ensures times { (k : ℕ) → k < length numbers.now → slice_index times.new k ≡ max (row_time (row_at rows.now loc) (slice_index numbers.now k) k) (slice_index before.now k) }
+    ensures times { (k : ℕ) → k < length numbers.now → slice_index times.new k ≡ max (row_time (rows_at R.seen R.blank rows.now loc) (slice_index numbers.now k) k) (slice_index before.now k) }
     ensures steps { steps.new ≡ steps.old + length numbers.now }
 {
     match rows.get(loc) {
-        Some(row) => row.latest(numbers, before, times, steps),
+        Some(row) => level_row::latest(row, numbers, before, times, steps),
         None => {
             steps.tick_each(numbers);
             copy_to(times, before);
@@ -67,35 +69,36 @@ pub fn latest<const N: usize, L: Ledger>(
 
 /// Writes the times of a location.
 #[inline]
-pub fn put<const N: usize>(rows: &mut [Row<N>], loc: usize, stamp: u64, times: &[u64])
+pub fn put<R: LevelRow>(rows: &mut [R], loc: usize, stamp: u64, times: &[u64])
     requires within { loc < length rows.old }
-    requires few { length times.now ≤ N }
-    ensures given { IsGiven (slice_index times.now) loc stamp (length times.now) (row_at rows.old) (row_at rows.new) }
+    requires few { length times.now ≤ R.width }
+    requires small { (k : ℕ) → k < length times.now → slice_index times.now k ≤ R.greatest }
+    ensures given { IsGiven (slice_index times.now) loc stamp (length times.now) (rows_at R.seen R.blank rows.old) (rows_at R.seen R.blank rows.new) }
     ensures size { length rows.new ≡ length rows.old }
 {
     let row = &mut rows[loc];
-    row.write(stamp, times);
+    level_row::write(row, stamp, times);
 }
 
 /// Makes the rows from `first` to before `end` read 0 at every level.
-pub fn clear<const N: usize>(rows: &mut [Row<N>], first: usize, end: usize)
-    ensures among { (k : ℕ) → first ≤ k → k < end → (row_at rows.new k).stamp ≡ 0 }
-    ensures before { (k : ℕ) → k < first → row_at rows.new k ≡ row_at rows.old k }
-    ensures behind { (k : ℕ) → end ≤ k → row_at rows.new k ≡ row_at rows.old k }
+pub fn clear<R: LevelRow>(rows: &mut [R], first: usize, end: usize)
+    ensures among { (k : ℕ) → first ≤ k → k < end → (rows_at R.seen R.blank rows.new k).stamp ≡ 0 }
+    ensures before { (k : ℕ) → k < first → rows_at R.seen R.blank rows.new k ≡ rows_at R.seen R.blank rows.old k }
+    ensures behind { (k : ℕ) → end ≤ k → rows_at R.seen R.blank rows.new k ≡ rows_at R.seen R.blank rows.old k }
     ensures size { length rows.new ≡ length rows.old }
 {
     for at in first..end.min(rows.len()) {
         let row = &mut rows[at];
-        row.stamp = 0;
+        row.set_stamp(0);
     }
 }
 
 /// Gives a location the row of another, or a blank one where that has none.
 #[inline]
-pub fn copy<const N: usize>(rows: &mut [Row<N>], from: usize, to: usize)
+pub fn copy<R: LevelRow>(rows: &mut [R], from: usize, to: usize)
     requires { to < length rows.old }
-    ensures here { row_at rows.new to ≡ row_at rows.old from }
-    ensures others { (at : ℕ) → at ≢ to → row_at rows.new at ≡ row_at rows.old at }
+    ensures here { rows_at R.seen R.blank rows.new to ≡ rows_at R.seen R.blank rows.old from }
+    ensures others { (at : ℕ) → at ≢ to → rows_at R.seen R.blank rows.new at ≡ rows_at R.seen R.blank rows.old at }
     ensures size { length rows.new ≡ length rows.old }
 {
     let row = row_or_blank(rows, from);
@@ -104,39 +107,52 @@ pub fn copy<const N: usize>(rows: &mut [Row<N>], from: usize, to: usize)
 
 /// The row of a location, a blank one where there is none.
 #[inline]
-fn row_or_blank<const N: usize>(rows: &[Row<N>], loc: usize) -> Row<N>
-    ensures { seen result ≡ row_at rows.now loc }
+fn row_or_blank<R: LevelRow>(rows: &[R], loc: usize) -> R
+    ensures { R.seen result ≡ rows_at R.seen R.blank rows.now loc }
 {
     match rows.get(loc) {
         Some(row) => *row,
-        None => Row::blank(),
+        None => R::blank(),
     }
 }
 
 /// Adds blank rows until there are `count`. A refusal leaves the rows as they were.
-pub fn grow_to<const N: usize>(rows: &mut Vec<Row<N>>, count: usize) -> Result<(), NoMemory>
-    ensures same { (loc : ℕ) → row_at rows.new.items loc ≡ row_at rows.old.items loc }
+pub fn grow_to<R: LevelRow>(rows: &mut Vec<R>, count: usize) -> Result<(), NoMemory>
+    ensures same { (loc : ℕ) → rows_at R.seen R.blank rows.new.items loc ≡ rows_at R.seen R.blank rows.old.items loc }
     ensures longer { vec_len rows.old ≤ vec_len rows.new }
     ensures longest { vec_len rows.new ≤ max count (vec_len rows.old) }
     ensures ok { OnOk result (count ≤ vec_len rows.new) }
 {
     if rows.len() < count {
-        rows.resize(count, Row::blank())?;
+        rows.resize(count, R::blank())?;
     }
     Ok(())
 }
 
-/// The same rows with times for as many levels or more.
-pub fn widened<const N: usize, const M: usize>(
-    rows: &[Row<N>],
-    alloc: Global,
-) -> Result<Vec<Row<M>>, NoMemory>
-    requires wider { N ≤ M }
-    ensures ok { IfOk result (λ wide. (vec_len wide ≡ length rows.now) × ((loc : ℕ) → row_at wide.items loc ≡ row_at rows.now loc)) }
+/// The same row with times for as many levels or more, and of as many bits or more.
+#[inline]
+fn widened_row<R: LevelRow, W: LevelRow>(row: &R) -> W
+    requires wider { R.width ≤ W.width }
+    requires greater { R.greatest ≤ W.greatest }
+    ensures { W.seen result ≡ R.seen row.now }
+{
+    let mut wide = W::blank();
+    wide.set_stamp(row.stamp());
+    for level in 0..row.levels() {
+        wide.set_time(level, row.time_within(level));
+    }
+    wide
+}
+
+/// The same rows with times for as many levels or more, and of as many bits or more.
+pub fn widened<R: LevelRow, W: LevelRow>(rows: &[R], alloc: Global) -> Result<Vec<W>, NoMemory>
+    requires wider { R.width ≤ W.width }
+    requires greater { R.greatest ≤ W.greatest }
+    ensures ok { IfOk result (λ wide. (vec_len wide ≡ length rows.now) × ((loc : ℕ) → rows_at W.seen W.blank wide.items loc ≡ rows_at R.seen R.blank rows.now loc)) }
 {
     let mut wide = Vec::with_capacity(alloc, rows.len())?;
     for row in rows {
-        wide.push_reserved(row.widened());
+        wide.push_reserved(widened_row(row));
     }
     Ok(wide)
 }

@@ -1,20 +1,26 @@
-//! Rows of either width.
+//! Rows of any of the four kinds.
 ghost use Rattle.std.specs.Prelude.{◌≡◌, ◌≢◌, ◌+◌, ◌<◌, ◌≤◌, ℕ, length, max, slice_index, OnOk, true};
 ghost use Rattle.k_shadow.specs.Content.{after_none};
 ghost use Rattle.k_shadow.specs.Numbers.{AreRising};
+ghost use Rattle.k_shadow.specs.Rooms.{delayed};
 ghost use Rattle.k_shadow.specs.Rows.{row_time, unwritten};
 ghost use Rattle.k_shadow_rows.specs.Given.{AreRaised, IsGiven, after_row, after_rows};
-ghost use Rattle.k_shadow_rows.specs.Rows.{row_in, size, width, HasRow};
+ghost use Rattle.k_shadow_rows.specs.Rows.{greatest, row_in, size, width, HasRow};
 
-use crate::{given, lists};
+use crate::{NarrowRow, given, lists};
 use k_num::NoMemory;
 use k_shadow::{Row, Steps};
 use std::alloc::Global;
 use std::sync::ledger::Ledger;
 
-/// Rows of times in the order of locations, all of one width. A row of 8 levels takes 72 bytes, and one of 32 takes 264.
+/// Rows of times in the order of locations, all of one width, and all narrow or none. A narrow row has times of 32 bits and
+/// takes 40 bytes for 8 levels and 136 for 32; any other has times of 64 bits and takes 72 or 264.
 #[derive(Drop)]
 pub enum Rows {
+    /// Narrow, with times for the 8 outermost levels.
+    NarrowEight(Vec<NarrowRow<8>>),
+    /// Narrow, with times for each level that may be live.
+    NarrowThirtyTwo(Vec<NarrowRow<32>>),
     /// With times for the 8 outermost levels.
     Eight(Vec<Row<8>>),
     /// With times for each level that may be live.
@@ -27,7 +33,7 @@ impl Rows {
         ensures none { (loc : ℕ) → row_in result loc ≡ unwritten }
         ensures empty { size result ≡ 0 }
     {
-        Rows::Eight(Vec::new(alloc))
+        Rows::NarrowEight(Vec::new(alloc))
     }
 
     /// How many rows there are.
@@ -36,6 +42,8 @@ impl Rows {
         ensures count { result ≡ size self.now }
     {
         match self {
+            Rows::NarrowEight(rows) => rows.len(),
+            Rows::NarrowThirtyTwo(rows) => rows.len(),
             Rows::Eight(rows) => rows.len(),
             Rows::ThirtyTwo(rows) => rows.len(),
         }
@@ -47,63 +55,154 @@ impl Rows {
         ensures levels { result ≡ width self.now }
     {
         match self {
+            Rows::NarrowEight(_) => 8,
+            Rows::NarrowThirtyTwo(_) => 32,
             Rows::Eight(_) => 8,
             Rows::ThirtyTwo(_) => 32,
         }
     }
 
-    /// Makes the rows have times for `depth` levels, and adds blank ones until there are `count`. A refusal may have done
-    /// the first.
+    /// The greatest time that the rows can have.
+    #[inline]
+    pub fn greatest(&self) -> u64
+        ensures most { result ≡ greatest self.now }
+    {
+        match self {
+            Rows::NarrowEight(_) => 4_294_967_295,
+            Rows::NarrowThirtyTwo(_) => 4_294_967_295,
+            Rows::Eight(_) => u64::MAX,
+            Rows::ThirtyTwo(_) => u64::MAX,
+        }
+    }
+
+    /// Makes the rows have times of up to `most` for `depth` levels, and adds blank ones until there are `count`. A refusal
+    /// may have done the first.
     #[inline(always)]
-    pub fn reserve(&mut self, count: usize, depth: usize, alloc: Global) -> Result<(), NoMemory>
+    pub fn reserve(
+        &mut self,
+        count: usize,
+        depth: usize,
+        most: u64,
+        alloc: Global,
+    ) -> Result<(), NoMemory>
         requires { depth ≤ 32 }
         ensures same { (loc : ℕ) → row_in self.new loc ≡ row_in self.old loc }
         ensures longer { size self.old ≤ size self.new }
         ensures longest { size self.new ≤ max count (size self.old) }
         ensures wider { width self.old ≤ width self.new }
-        ensures ok { OnOk result ((count ≤ size self.new) × (depth ≤ width self.new)) }
+        ensures greater { greatest self.old ≤ greatest self.new }
+        ensures ok { OnOk result ((count ≤ size self.new) × (depth ≤ width self.new) × (most ≤ greatest self.new)) }
     {
-        if self.has_rows(count, depth) {
+        if self.has_rows(count, depth, most) {
             return Ok(());
         }
-        self.make_rows(count, depth, alloc)
+        self.make_rows(count, depth, most, alloc)
     }
 
-    /// Tells that there are so many rows, and that they have times for `depth` levels.
+    /// Tells that there are so many rows, and that they have times of up to `most` for `depth` levels.
     #[inline(always)]
-    fn has_rows(&self, count: usize, depth: usize) -> bool
+    fn has_rows(&self, count: usize, depth: usize, most: u64) -> bool
         requires { depth ≤ 32 }
-        ensures { result ≡ true → (count ≤ size self.now) × (depth ≤ width self.now) }
+        ensures { result ≡ true → (count ≤ size self.now) × (depth ≤ width self.now) × (most ≤ greatest self.now) }
     {
         match self {
+            Rows::NarrowEight(rows) => {
+                depth <= 8 && most <= 4_294_967_295 && count <= rows.len()
+            }
+            Rows::NarrowThirtyTwo(rows) => most <= 4_294_967_295 && count <= rows.len(),
             Rows::Eight(rows) => depth <= 8 && count <= rows.len(),
             Rows::ThirtyTwo(rows) => count <= rows.len(),
         }
     }
 
     /// `reserve`, where something may be lacking.
-    fn make_rows(&mut self, count: usize, depth: usize, alloc: Global) -> Result<(), NoMemory>
+    fn make_rows(
+        &mut self,
+        count: usize,
+        depth: usize,
+        most: u64,
+        alloc: Global,
+    ) -> Result<(), NoMemory>
         requires { depth ≤ 32 }
         ensures same { (loc : ℕ) → row_in self.new loc ≡ row_in self.old loc }
         ensures longer { size self.old ≤ size self.new }
         ensures longest { size self.new ≤ max count (size self.old) }
         ensures wider { width self.old ≤ width self.new }
-        ensures ok { OnOk result ((count ≤ size self.new) × (depth ≤ width self.new)) }
+        ensures greater { greatest self.old ≤ greatest self.new }
+        ensures ok { OnOk result ((count ≤ size self.new) × (depth ≤ width self.new) × (most ≤ greatest self.new)) }
     {
-        if depth > self.width() {
-            self.widen(alloc)?;
-        }
+        self.widen(depth, most, alloc)?;
         self.grow_to(count)
     }
 
-    /// Makes the rows have times for 32 levels. A refusal leaves them as they were.
-    fn widen(&mut self, alloc: Global) -> Result<(), NoMemory>
+    /// Makes the rows have times of up to `most` for `depth` levels. A refusal leaves them as they were.
+    fn widen(&mut self, depth: usize, most: u64, alloc: Global) -> Result<(), NoMemory>
+        requires { depth ≤ 32 }
         ensures same { (loc : ℕ) → row_in self.new loc ≡ row_in self.old loc }
         ensures size { size self.new ≡ size self.old }
         ensures wider { width self.old ≤ width self.new }
+        ensures greater { greatest self.old ≤ greatest self.new }
+        ensures ok { OnOk result ((depth ≤ width self.new) × (most ≤ greatest self.new)) }
+    {
+        if most <= self.greatest() {
+            if depth > self.width() {
+                self.deepen(alloc)?;
+            }
+            return Ok(());
+        }
+        if depth > self.width() {
+            return self.deepen_and_enlarge(alloc);
+        }
+        self.enlarge(alloc)
+    }
+
+    /// Makes the rows have times for 32 levels. A refusal leaves them as they were.
+    fn deepen(&mut self, alloc: Global) -> Result<(), NoMemory>
+        ensures same { (loc : ℕ) → row_in self.new loc ≡ row_in self.old loc }
+        ensures size { size self.new ≡ size self.old }
+        ensures wider { width self.old ≤ width self.new }
+        ensures greatest { greatest self.new ≡ greatest self.old }
         ensures ok { OnOk result (width self.new ≡ 32) }
     {
-        if let Rows::Eight(rows) = self {
+        if let Rows::NarrowEight(rows) = self {
+            let wide = lists::widened(rows, alloc)?;
+            *self = Rows::NarrowThirtyTwo(wide);
+        } else if let Rows::Eight(rows) = self {
+            let wide = lists::widened(rows, alloc)?;
+            *self = Rows::ThirtyTwo(wide);
+        }
+        Ok(())
+    }
+
+    /// Makes the rows have times of 64 bits. A refusal leaves them as they were.
+    fn enlarge(&mut self, alloc: Global) -> Result<(), NoMemory>
+        ensures same { (loc : ℕ) → row_in self.new loc ≡ row_in self.old loc }
+        ensures size { size self.new ≡ size self.old }
+        ensures width { width self.new ≡ width self.old }
+        ensures greater { greatest self.old ≤ greatest self.new }
+        ensures ok { OnOk result (greatest self.new ≡ 18446744073709551615) }
+    {
+        if let Rows::NarrowEight(rows) = self {
+            let wide = lists::widened(rows, alloc)?;
+            *self = Rows::Eight(wide);
+        } else if let Rows::NarrowThirtyTwo(rows) = self {
+            let wide = lists::widened(rows, alloc)?;
+            *self = Rows::ThirtyTwo(wide);
+        }
+        Ok(())
+    }
+
+    /// Makes narrow rows for 8 levels have times of 64 bits for 32 levels. A refusal leaves them as they were.
+    fn deepen_and_enlarge(&mut self, alloc: Global) -> Result<(), NoMemory>
+        requires few { width self.old < 32 }
+        requires narrow { greatest self.old < 18446744073709551615 }
+        ensures same { (loc : ℕ) → row_in self.new loc ≡ row_in self.old loc }
+        ensures size { size self.new ≡ size self.old }
+        ensures wider { width self.old ≤ width self.new }
+        ensures greater { greatest self.old ≤ greatest self.new }
+        ensures ok { OnOk result ((width self.new ≡ 32) × (greatest self.new ≡ 18446744073709551615)) }
+    {
+        if let Rows::NarrowEight(rows) = self {
             let wide = lists::widened(rows, alloc)?;
             *self = Rows::ThirtyTwo(wide);
         }
@@ -117,9 +216,12 @@ impl Rows {
         ensures longer { size self.old ≤ size self.new }
         ensures longest { size self.new ≤ max count (size self.old) }
         ensures width { width self.new ≡ width self.old }
+        ensures greatest { greatest self.new ≡ greatest self.old }
         ensures ok { OnOk result (count ≤ size self.new) }
     {
         match self {
+            Rows::NarrowEight(rows) => lists::grow_to(rows, count),
+            Rows::NarrowThirtyTwo(rows) => lists::grow_to(rows, count),
             Rows::Eight(rows) => lists::grow_to(rows, count),
             Rows::ThirtyTwo(rows) => lists::grow_to(rows, count),
         }
@@ -131,6 +233,8 @@ impl Rows {
         ensures { result ≡ row_time (row_in self.now loc) number level }
     {
         match self {
+            Rows::NarrowEight(rows) => lists::time_of(rows, loc, number, level),
+            Rows::NarrowThirtyTwo(rows) => lists::time_of(rows, loc, number, level),
             Rows::Eight(rows) => lists::time_of(rows, loc, number, level),
             Rows::ThirtyTwo(rows) => lists::time_of(rows, loc, number, level),
         }
@@ -152,6 +256,8 @@ impl Rows {
         ensures steps { steps.new ≡ steps.old + length numbers.now }
     {
         match self {
+            Rows::NarrowEight(rows) => lists::raise(rows, loc, numbers, times, steps),
+            Rows::NarrowThirtyTwo(rows) => lists::raise(rows, loc, numbers, times, steps),
             Rows::Eight(rows) => lists::raise(rows, loc, numbers, times, steps),
             Rows::ThirtyTwo(rows) => lists::raise(rows, loc, numbers, times, steps),
         }
@@ -175,6 +281,8 @@ impl Rows {
         ensures steps { steps.new ≡ steps.old + length numbers.now }
     {
         match self {
+            Rows::NarrowEight(rows) => lists::latest(rows, loc, numbers, before, times, steps),
+            Rows::NarrowThirtyTwo(rows) => lists::latest(rows, loc, numbers, before, times, steps),
             Rows::Eight(rows) => lists::latest(rows, loc, numbers, before, times, steps),
             Rows::ThirtyTwo(rows) => lists::latest(rows, loc, numbers, before, times, steps),
         }
@@ -184,11 +292,15 @@ impl Rows {
     #[inline]
     pub fn put(&mut self, loc: usize, stamp: u64, times: &[u64])
         requires row { HasRow self.old loc (length times.now) }
+        requires within { (k : ℕ) → k < length times.now → slice_index times.now k ≤ greatest self.old }
         ensures given { IsGiven (slice_index times.now) loc stamp (length times.now) (row_in self.old) (row_in self.new) }
         ensures size { size self.new ≡ size self.old }
         ensures width { width self.new ≡ width self.old }
+        ensures greatest { greatest self.new ≡ greatest self.old }
     {
         match self {
+            Rows::NarrowEight(rows) => lists::put(rows, loc, stamp, times),
+            Rows::NarrowThirtyTwo(rows) => lists::put(rows, loc, stamp, times),
             Rows::Eight(rows) => lists::put(rows, loc, stamp, times),
             Rows::ThirtyTwo(rows) => lists::put(rows, loc, stamp, times),
         }
@@ -201,8 +313,11 @@ impl Rows {
         ensures behind { (k : ℕ) → end ≤ k → row_in self.new k ≡ row_in self.old k }
         ensures size { size self.new ≡ size self.old }
         ensures width { width self.new ≡ width self.old }
+        ensures greatest { greatest self.new ≡ greatest self.old }
     {
         match self {
+            Rows::NarrowEight(rows) => lists::clear(rows, first, end),
+            Rows::NarrowThirtyTwo(rows) => lists::clear(rows, first, end),
             Rows::Eight(rows) => lists::clear(rows, first, end),
             Rows::ThirtyTwo(rows) => lists::clear(rows, first, end),
         }
@@ -216,8 +331,11 @@ impl Rows {
         ensures others { (at : ℕ) → at ≢ to → row_in self.new at ≡ row_in self.old at }
         ensures size { size self.new ≡ size self.old }
         ensures width { width self.new ≡ width self.old }
+        ensures greatest { greatest self.new ≡ greatest self.old }
     {
         match self {
+            Rows::NarrowEight(rows) => lists::copy(rows, from, to),
+            Rows::NarrowThirtyTwo(rows) => lists::copy(rows, from, to),
             Rows::Eight(rows) => lists::copy(rows, from, to),
             Rows::ThirtyTwo(rows) => lists::copy(rows, from, to),
         }
@@ -235,13 +353,19 @@ impl Rows {
         paths: &mut [u64],
     )
         requires row { HasRow self.old to (length before.now) }
+        requires within { (k : ℕ) → k < length before.now → delayed (slice_index before.now k) latency ≤ greatest self.old }
         requires paths { length paths.old ≡ length before.now }
         ensures given { IsGiven (after_none before.now latency) to stamp (length before.now) (row_in self.old) (row_in self.new) }
         ensures raised { AreRaised (after_none before.now latency) (length before.now) paths.old paths.new }
         ensures size { size self.new ≡ size self.old }
         ensures width { width self.new ≡ width self.old }
+        ensures greatest { greatest self.new ≡ greatest self.old }
     {
         match self {
+            Rows::NarrowEight(rows) => given::write_none(rows, to, stamp, before, latency, paths),
+            Rows::NarrowThirtyTwo(rows) => given::write_none(
+                rows, to, stamp, before, latency, paths,
+            ),
             Rows::Eight(rows) => given::write_none(rows, to, stamp, before, latency, paths),
             Rows::ThirtyTwo(rows) => given::write_none(rows, to, stamp, before, latency, paths),
         }
@@ -261,6 +385,7 @@ impl Rows {
         paths: &mut [u64],
     )
         requires row { HasRow self.old to (length before.now) }
+        requires within { (k : ℕ) → k < length before.now → delayed (max (row_time (row_in self.old from) (slice_index numbers.now k) k) (slice_index before.now k)) latency ≤ greatest self.old }
         requires live { length before.now ≡ length numbers.now }
         requires paths { length paths.old ≡ length before.now }
         requires rising { AreRising 0 numbers.now }
@@ -268,8 +393,15 @@ impl Rows {
         ensures raised { AreRaised (after_row (row_in self.old from) numbers.now before.now latency) (length before.now) paths.old paths.new }
         ensures size { size self.new ≡ size self.old }
         ensures width { width self.new ≡ width self.old }
+        ensures greatest { greatest self.new ≡ greatest self.old }
     {
         match self {
+            Rows::NarrowEight(rows) => {
+                given::write_one(rows, from, to, numbers, stamp, before, latency, paths)
+            }
+            Rows::NarrowThirtyTwo(rows) => {
+                given::write_one(rows, from, to, numbers, stamp, before, latency, paths)
+            }
             Rows::Eight(rows) => {
                 given::write_one(rows, from, to, numbers, stamp, before, latency, paths)
             }
@@ -293,6 +425,7 @@ impl Rows {
         paths: &mut [u64],
     )
         requires row { HasRow self.old to (length before.now) }
+        requires within { (k : ℕ) → k < length before.now → delayed (max (max (row_time (row_in self.old left) (slice_index numbers.now k) k) (row_time (row_in self.old right) (slice_index numbers.now k) k)) (slice_index before.now k)) latency ≤ greatest self.old }
         requires live { length before.now ≡ length numbers.now }
         requires paths { length paths.old ≡ length before.now }
         requires rising { AreRising 0 numbers.now }
@@ -300,8 +433,19 @@ impl Rows {
         ensures raised { AreRaised (after_rows (row_in self.old left) (row_in self.old right) numbers.now before.now latency) (length before.now) paths.old paths.new }
         ensures size { size self.new ≡ size self.old }
         ensures width { width self.new ≡ width self.old }
+        ensures greatest { greatest self.new ≡ greatest self.old }
     {
         match self {
+            Rows::NarrowEight(rows) => {
+                given::write_both(
+                    rows, left, right, to, numbers, stamp, before, latency, paths,
+                )
+            }
+            Rows::NarrowThirtyTwo(rows) => {
+                given::write_both(
+                    rows, left, right, to, numbers, stamp, before, latency, paths,
+                )
+            }
             Rows::Eight(rows) => {
                 given::write_both(
                     rows, left, right, to, numbers, stamp, before, latency, paths,

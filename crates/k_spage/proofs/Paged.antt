@@ -6,9 +6,9 @@ use Rattle.std.proofs.lemmas.List.{length-set, get_or_past}
 use Rattle.k_shadow.specs.Rows.{Seen, unwritten}
 use Rattle.k_shadow.proofs.Rows.{IsWritten}
 use Rattle.k_shadow_rows.specs.Given.{IsGiven}
-use Rattle.k_shadow_rows.specs.Rows.{row_in, size, width}
+use Rattle.k_shadow_rows.specs.Rows.{row_in, size, width, greatest}
 use Rattle.k_shadow_rows.specs.declared.rows.Rows.{Rows}
-use Rattle.k_spage.specs.Pages.{Pages, rows_under, key_of, page_row, page_size, page_width, paged_row, paged_width, ArePages, IsOnePage, IsWide}
+use Rattle.k_spage.specs.Pages.{Pages, rows_under, key_of, page_row, page_size, page_width, page_greatest, paged_row, ArePages, HasRowsFor, IsOnePage}
 use Rattle.k_spage.proofs.Counted.{count_by-set}
 
 -- a page that is there has a place in the table
@@ -37,11 +37,11 @@ pub some_rows : (o : Option Rows) → 0 < page_size o → IsSome o
 some_rows None h = absurd (omega arith)
 some_rows (Some rows) h = refl
 
--- the page at that key has times for that many levels
-pub wide_named : (pages : Pages) (table : List (Option ℕ)) (page key depth : ℕ) → key_of table page ≡ Some key → depth ≤ page_width (rows_under pages (Some key)) → IsWide pages table depth page
-wide_named pages table page key depth named le =
-    let P : Option ℕ → Type 0 = λ o. IsSome o × (depth ≤ page_width (rows_under pages o)) in
-    subst P (sym named) (refl, le)
+-- the rows of the page at that key can have times of up to `most` for that many levels
+pub rows_named : (pages : Pages) (table : List (Option ℕ)) (page key depth most : ℕ) → key_of table page ≡ Some key → depth ≤ page_width (rows_under pages (Some key)) → most ≤ page_greatest (rows_under pages (Some key)) → HasRowsFor pages table depth most page
+rows_named pages table page key depth most named wide great =
+    let P : Option ℕ → Type 0 = λ o. IsSome o × (depth ≤ page_width (rows_under pages o)) × (most ≤ page_greatest (rows_under pages o)) in
+    subst P (sym named) (refl, wide, great)
 
 -- a row of the page of that number
 pub row_here : (pages : Pages) (table : List (Option ℕ)) (page key loc : ℕ) → key_of table page ≡ Some key → loc / 256 ≡ page → paged_row pages table loc ≡ page_row (rows_under pages (Some key)) (loc % 256)
@@ -105,23 +105,24 @@ new_page_rows old new table page key rows n loc =
     ∙ ap (λ o. page_row o (loc % 256)) (others_same old new table page key rows q n (key_of table q) refl))
     (cases_eq q page)
 
--- and no page got narrower
-pub new_page_wider : (old new : Pages) (table : List (Option ℕ)) (page key : ℕ) (rows : Rows) → IsNewPage old new table page key rows → (other : ℕ) → paged_width old table other ≤ paged_width new (set table page (Some key)) other
-new_page_wider old new table page key rows n other = ⊎_elim
+-- and no page has less of what F gives: its width, or its greatest time
+pub new_page_more : (F : Option Rows → ℕ) → F None ≡ 0 → (old new : Pages) (table : List (Option ℕ)) (page key : ℕ) (rows : Rows) → IsNewPage old new table page key rows → (other : ℕ) → F (rows_under old (key_of table other)) ≤ F (rows_under new (key_of (set table page (Some key)) other))
+new_page_more F none old new table page key rows n other = ⊎_elim
     (λ (here : other ≡ page).
-    let none : paged_width old table other ≡ 0 = ap (λ o. page_width (rows_under old o)) (ap (λ p. key_of table p) here ∙ n.absent) in
+    let nothing : F (rows_under old (key_of table other)) ≡ 0 = ap (λ o. F (rows_under old o)) (ap (λ p. key_of table p) here ∙ n.absent) ∙ none in
     omega arith)
     (λ (ne : other ≢ page).
-    let named : paged_width new (set table page (Some key)) other ≡ page_width (rows_under new (key_of table other)) = ap (λ o. page_width (rows_under new o)) (key_elsewhere table page key other ne) in
-    let same : page_width (rows_under new (key_of table other)) ≡ paged_width old table other = ap (λ o. page_width o) (others_same old new table page key rows other n (key_of table other) refl) in
+    let named : F (rows_under new (key_of (set table page (Some key)) other)) ≡ F (rows_under new (key_of table other)) = ap (λ o. F (rows_under new o)) (key_elsewhere table page key other ne) in
+    let same : F (rows_under new (key_of table other)) ≡ F (rows_under old (key_of table other)) = ap F (others_same old new table page key rows other n (key_of table other) refl) in
     omega arith)
     (cases_eq other page)
 
--- and the new page is as wide as its rows
-pub IsWide-new : (old new : Pages) (table : List (Option ℕ)) (page key : ℕ) (rows : Rows) → IsNewPage old new table page key rows → IsWide new (set table page (Some key)) (width rows) page
-IsWide-new old new table page key rows n =
-    let made : page_width (rows_under new (Some key)) ≡ width rows = ap (λ o. page_width o) n.made in
-    wide_named new (set table page (Some key)) page key (width rows) (get_or-set_same table page (Some key) None n.named) (omega arith)
+-- and the new page can have what its rows can
+pub HasRowsFor-new : (old new : Pages) (table : List (Option ℕ)) (page key : ℕ) (rows : Rows) → IsNewPage old new table page key rows → HasRowsFor new (set table page (Some key)) (width rows) (greatest rows) page
+HasRowsFor-new old new table page key rows n =
+    let wide : page_width (rows_under new (Some key)) ≡ width rows = ap (λ o. page_width o) n.made in
+    let great : page_greatest (rows_under new (Some key)) ≡ greatest rows = ap (λ o. page_greatest o) n.made in
+    rows_named new (set table page (Some key)) page key (width rows) (greatest rows) (get_or-set_same table page (Some key) None n.named) (omega (arith, wide)) (omega (arith, great))
 
 new-sizes : (old new : Pages) (table : List (Option ℕ)) (page key : ℕ) (rows : Rows) → IsNewPage old new table page key rows → (other k : ℕ) → key_of (set table page (Some key)) other ≡ Some k → page_size (rows_under new (Some k)) ≡ 256
 new-sizes old new table page key rows n other k named = ⊎_elim

@@ -4,15 +4,15 @@ use Rattle.std.specs.Prelude.{◌≡◌, ℕ, ◌+◌, ◌-◌, ◌/◌, ◌<◌
 use Rattle.k_shadow.specs.Content.{Content}
 use Rattle.k_shadow.specs.Rows.{content_of}
 use Rattle.k_spage.specs.declared.shadow_pages.ShadowPages.{ShadowPages}
-use Rattle.k_spage.specs.Pages.{key_of, paged_row, IsWide}
+use Rattle.k_spage.specs.Pages.{key_of, paged_row, HasRowsFor}
 
 -- the content: the rows of the pages that are there, and rows that were never written elsewhere
 abbrev pub pages_content : ShadowPages → Content
 pages_content s = content_of (paged_row s.pages.slots s.table.items) s.versions 4194304
 
--- the page of the location is there, and its rows have times for each live level
-abbrev pub has_room : ShadowPages → ℕ → Type 0
-has_room s loc = IsWide s.pages.slots s.table.items (length s.versions.live) (loc / 256)
+-- the page of the location is there, and its rows can have times of up to `most` for each live level
+abbrev pub has_room : ShadowPages → ℕ → ℕ → Type 0
+has_room s loc most = HasRowsFor s.pages.slots s.table.items (length s.versions.live) most (loc / 256)
 
 -- the page of that number is there
 abbrev pub has_page : ShadowPages → ℕ → Bool

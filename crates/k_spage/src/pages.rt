@@ -4,8 +4,8 @@ ghost use Rattle.slab.specs.Slab.{HasRoomFor};
 ghost use Rattle.k_shadow.specs.Numbers.{AreRising};
 ghost use Rattle.k_shadow.specs.Rows.{row_time, unwritten};
 ghost use Rattle.k_shadow_rows.specs.Given.{IsGiven};
-ghost use Rattle.k_shadow_rows.specs.Rows.{row_in, size, width};
-ghost use Rattle.k_spage.specs.Pages.{rows_under, key_of, page_row, page_size, page_width, paged_row, paged_width, ArePages, IsOnePage, IsWide};
+ghost use Rattle.k_shadow_rows.specs.Rows.{row_in, size, width, greatest};
+ghost use Rattle.k_spage.specs.Pages.{rows_under, key_of, page_row, page_size, page_width, page_greatest, paged_row, paged_width, paged_greatest, ArePages, HasRowsFor, IsOnePage};
 
 use k_num::NoMemory;
 use k_shadow::{Steps, copy_to};
@@ -51,13 +51,19 @@ fn rows_of<'a>(pages: &'a Slab<Rows>, table: &[Option<usize>], page: usize) -> O
     }
 }
 
-/// Tells that the page of that number is there, and that its rows have times for `depth` levels.
+/// Tells that the page of that number is there, and that its rows can have times of up to `most` for `depth` levels.
 #[inline]
-pub fn is_wide(pages: &Slab<Rows>, table: &[Option<usize>], page: usize, depth: usize) -> bool
-    ensures { result ≡ true → IsWide pages.now.slots table.now depth page }
+pub fn has_rows_for(
+    pages: &Slab<Rows>,
+    table: &[Option<usize>],
+    page: usize,
+    depth: usize,
+    most: u64,
+) -> bool
+    ensures { result ≡ true → HasRowsFor pages.now.slots table.now depth most page }
 {
     match rows_of(pages, table, page) {
-        Some(rows) => depth <= rows.width(),
+        Some(rows) => depth <= rows.width() && most <= rows.greatest(),
         None => false,
     }
 }
@@ -133,6 +139,7 @@ pub fn latest<L: Ledger>(
 pub fn put(pages: &mut Slab<Rows>, key: usize, place: usize, stamp: u64, times: &[u64])
     requires within { place < page_size (rows_under pages.old.slots (Some key)) }
     requires few { length times.now ≤ page_width (rows_under pages.old.slots (Some key)) }
+    requires times { (k : ℕ) → k < length times.now → slice_index times.now k ≤ page_greatest (rows_under pages.old.slots (Some key)) }
     ensures page { IsOnePage pages.old.slots pages.new.slots key }
     ensures given { IsGiven (slice_index times.now) place stamp (length times.now) (page_row (rows_under pages.old.slots (Some key))) (page_row (rows_under pages.new.slots (Some key))) }
 {
@@ -152,46 +159,50 @@ fn clear_rows(pages: &mut Slab<Rows>, key: usize, first: usize, end: usize)
     rows.clear(first, end);
 }
 
-/// Makes the rows of the page at a key have times for `depth` levels. A refusal leaves them as they were seen.
+/// Makes the rows of the page at a key have times of up to `most` for `depth` levels. A refusal leaves them as they were
+/// seen.
 fn widen_rows(
     alloc: Global,
     pages: &mut Slab<Rows>,
     key: usize,
     depth: usize,
+    most: u64,
 ) -> Result<(), NoMemory>
     requires size { page_size (rows_under pages.old.slots (Some key)) ≡ 256 }
     requires shallow { depth ≤ 32 }
     ensures page { IsOnePage pages.old.slots pages.new.slots key }
     ensures same { (k : ℕ) → page_row (rows_under pages.new.slots (Some key)) k ≡ page_row (rows_under pages.old.slots (Some key)) k }
-    ensures ok { OnOk result (depth ≤ page_width (rows_under pages.new.slots (Some key))) }
+    ensures ok { OnOk result ((depth ≤ page_width (rows_under pages.new.slots (Some key))) × (most ≤ page_greatest (rows_under pages.new.slots (Some key)))) }
 {
     let rows = &mut pages[key];
-    rows.reserve(PAGE, depth, alloc)
+    rows.reserve(PAGE, depth, most, alloc)
 }
 
-/// The rows of a page that was never written, with times for `depth` levels.
-fn blank_page(alloc: Global, depth: usize) -> Result<Rows, NoMemory>
+/// The rows of a page that was never written, which can have times of up to `most` for `depth` levels.
+fn blank_page(alloc: Global, depth: usize, most: u64) -> Result<Rows, NoMemory>
     requires { depth ≤ 32 }
     ensures size { IfOk result (λ rows. size rows ≡ 256) }
     ensures blank { IfOk result (λ rows. (place : ℕ) → row_in rows place ≡ unwritten) }
     ensures wide { IfOk result (λ rows. depth ≤ width rows) }
+    ensures great { IfOk result (λ rows. most ≤ greatest rows) }
 {
     let mut rows = Rows::new(alloc);
-    if let Err(NoMemory) = rows.reserve(PAGE, depth, alloc) {
+    if let Err(NoMemory) = rows.reserve(PAGE, depth, most, alloc) {
         drop(rows);
         return Err(NoMemory);
     }
     Ok(rows)
 }
 
-/// Makes the rows of the page of that number have times for `depth` levels, and makes the page where it is not there. A
-/// refusal leaves all rows as they were seen.
+/// Makes the rows of the page of that number have times of up to `most` for `depth` levels, and makes the page where it is
+/// not there. A refusal leaves all rows as they were seen.
 fn make_page(
     alloc: Global,
     pages: &mut Slab<Rows>,
     table: &mut Vec<Option<usize>>,
     page: usize,
     depth: usize,
+    most: u64,
 ) -> Result<(), NoMemory>
     requires pages { ArePages pages.old.slots table.old.items }
     requires few { page < 16384 }
@@ -200,17 +211,18 @@ fn make_page(
     ensures same { (loc : ℕ) → paged_row pages.new.slots table.new.items loc ≡ paged_row pages.old.slots table.old.items loc }
     ensures kept { (other : ℕ) → IsSome (key_of table.old.items other) → IsSome (key_of table.new.items other) }
     ensures wider { (other : ℕ) → paged_width pages.old.slots table.old.items other ≤ paged_width pages.new.slots table.new.items other }
+    ensures greater { (other : ℕ) → paged_greatest pages.old.slots table.old.items other ≤ paged_greatest pages.new.slots table.new.items other }
     ensures others { (other : ℕ) → other ≢ page → key_of table.new.items other ≡ key_of table.old.items other }
-    ensures ok { OnOk result (IsWide pages.new.slots table.new.items depth page) }
+    ensures ok { OnOk result (HasRowsFor pages.new.slots table.new.items depth most page) }
 {
     if let Some(key) = key_of(table, page) {
-        return widen_page(alloc, pages, table, page, key, depth);
+        return widen_page(alloc, pages, table, page, key, depth, most);
     }
-    new_page(alloc, pages, table, page, depth)
+    new_page(alloc, pages, table, page, depth, most)
 }
 
-/// Makes the rows of the page of that number, which is at that key, have times for `depth` levels. A refusal leaves all
-/// rows as they were seen.
+/// Makes the rows of the page of that number, which is at that key, have times of up to `most` for `depth` levels. A refusal
+/// leaves all rows as they were seen.
 fn widen_page(
     alloc: Global,
     pages: &mut Slab<Rows>,
@@ -218,6 +230,7 @@ fn widen_page(
     page: usize,
     key: usize,
     depth: usize,
+    most: u64,
 ) -> Result<(), NoMemory>
     requires pages { ArePages pages.old.slots table.now }
     requires named { key_of table.now page ≡ Some key }
@@ -225,19 +238,21 @@ fn widen_page(
     ensures pages { ArePages pages.new.slots table.now }
     ensures same { (loc : ℕ) → paged_row pages.new.slots table.now loc ≡ paged_row pages.old.slots table.now loc }
     ensures wider { (other : ℕ) → paged_width pages.old.slots table.now other ≤ paged_width pages.new.slots table.now other }
-    ensures ok { OnOk result (IsWide pages.new.slots table.now depth page) }
+    ensures greater { (other : ℕ) → paged_greatest pages.old.slots table.now other ≤ paged_greatest pages.new.slots table.now other }
+    ensures ok { OnOk result (HasRowsFor pages.new.slots table.now depth most page) }
 {
-    widen_rows(alloc, pages, key, depth)
+    widen_rows(alloc, pages, key, depth, most)
 }
 
-/// Makes the page of that number, which is not there, with times for `depth` levels. A refusal leaves all rows as they
-/// were.
+/// Makes the page of that number, which is not there, whose rows can have times of up to `most` for `depth` levels. A refusal
+/// leaves all rows as they were.
 fn new_page(
     alloc: Global,
     pages: &mut Slab<Rows>,
     table: &mut Vec<Option<usize>>,
     page: usize,
     depth: usize,
+    most: u64,
 ) -> Result<(), NoMemory>
     requires pages { ArePages pages.old.slots table.old.items }
     requires absent { key_of table.old.items page ≡ None }
@@ -247,11 +262,12 @@ fn new_page(
     ensures same { (loc : ℕ) → paged_row pages.new.slots table.new.items loc ≡ paged_row pages.old.slots table.old.items loc }
     ensures kept { (other : ℕ) → IsSome (key_of table.old.items other) → IsSome (key_of table.new.items other) }
     ensures wider { (other : ℕ) → paged_width pages.old.slots table.old.items other ≤ paged_width pages.new.slots table.new.items other }
+    ensures greater { (other : ℕ) → paged_greatest pages.old.slots table.old.items other ≤ paged_greatest pages.new.slots table.new.items other }
     ensures others { (other : ℕ) → other ≢ page → key_of table.new.items other ≡ key_of table.old.items other }
-    ensures ok { OnOk result (IsWide pages.new.slots table.new.items depth page) }
+    ensures ok { OnOk result (HasRowsFor pages.new.slots table.new.items depth most page) }
 {
     make_room(pages, table, page + 1)?;
-    let rows = blank_page(alloc, depth)?;
+    let rows = blank_page(alloc, depth, most)?;
     add_page(pages, table, page, rows);
     Ok(())
 }
@@ -285,8 +301,9 @@ fn add_page(pages: &mut Slab<Rows>, table: &mut Vec<Option<usize>>, page: usize,
     ensures same { (loc : ℕ) → paged_row pages.new.slots table.new.items loc ≡ paged_row pages.old.slots table.old.items loc }
     ensures kept { (other : ℕ) → IsSome (key_of table.old.items other) → IsSome (key_of table.new.items other) }
     ensures wider { (other : ℕ) → paged_width pages.old.slots table.old.items other ≤ paged_width pages.new.slots table.new.items other }
+    ensures greater { (other : ℕ) → paged_greatest pages.old.slots table.old.items other ≤ paged_greatest pages.new.slots table.new.items other }
     ensures others { (other : ℕ) → other ≢ page → key_of table.new.items other ≡ key_of table.old.items other }
-    ensures here { IsWide pages.new.slots table.new.items (width rows) page }
+    ensures here { HasRowsFor pages.new.slots table.new.items (width rows) (greatest rows) page }
 {
     let key = pages.insert_reserved(rows);
     table[page] = Some(key);
@@ -305,8 +322,8 @@ fn grow_to(table: &mut Vec<Option<usize>>, count: usize) -> Result<(), NoMemory>
     Ok(())
 }
 
-/// Makes the rows of the locations from `first` to before `end` have times for `depth` levels, and makes the pages of these
-/// that are not there. A refusal may have done it for some.
+/// Makes the rows of the locations from `first` to before `end` have times of up to `most` for `depth` levels, and makes the
+/// pages of these that are not there. A refusal may have done it for some.
 pub fn make_pages(
     alloc: Global,
     pages: &mut Slab<Rows>,
@@ -314,6 +331,7 @@ pub fn make_pages(
     first: usize,
     end: usize,
     depth: usize,
+    most: u64,
 ) -> Result<(), NoMemory>
     requires pages { ArePages pages.old.slots table.old.items }
     requires few { end ≤ 4194304 }
@@ -322,12 +340,13 @@ pub fn make_pages(
     ensures same { (loc : ℕ) → paged_row pages.new.slots table.new.items loc ≡ paged_row pages.old.slots table.old.items loc }
     ensures kept { (other : ℕ) → IsSome (key_of table.old.items other) → IsSome (key_of table.new.items other) }
     ensures wider { (other : ℕ) → paged_width pages.old.slots table.old.items other ≤ paged_width pages.new.slots table.new.items other }
+    ensures greater { (other : ℕ) → paged_greatest pages.old.slots table.old.items other ≤ paged_greatest pages.new.slots table.new.items other }
     ensures others { (page : ℕ) → (first < end → first / 256 ≤ page → page ≤ (end - 1) / 256 → ⊥) → key_of table.new.items page ≡ key_of table.old.items page }
-    ensures ok { OnOk result ((loc : ℕ) → first ≤ loc → loc < end → IsWide pages.new.slots table.new.items depth (loc / 256)) }
+    ensures ok { OnOk result ((loc : ℕ) → first ≤ loc → loc < end → HasRowsFor pages.new.slots table.new.items depth most (loc / 256)) }
 {
     if first < end {
         for page in first / PAGE..(end - 1) / PAGE + 1 {
-            make_page(alloc, pages, table, page, depth)?;
+            make_page(alloc, pages, table, page, depth, most)?;
         }
     }
     Ok(())
@@ -339,6 +358,7 @@ pub fn clear_locations(pages: &mut Slab<Rows>, table: &[Option<usize>], first: u
     requires few { end ≤ 4194304 }
     ensures pages { ArePages pages.new.slots table.now }
     ensures wider { (other : ℕ) → paged_width pages.old.slots table.now other ≤ paged_width pages.new.slots table.now other }
+    ensures greater { (other : ℕ) → paged_greatest pages.old.slots table.now other ≤ paged_greatest pages.new.slots table.now other }
     ensures among { (loc : ℕ) → first ≤ loc → loc < end → (paged_row pages.new.slots table.now loc).stamp ≡ 0 }
     ensures before { (loc : ℕ) → loc < first → paged_row pages.new.slots table.now loc ≡ paged_row pages.old.slots table.now loc }
     ensures behind { (loc : ℕ) → end ≤ loc → paged_row pages.new.slots table.now loc ≡ paged_row pages.old.slots table.now loc }
@@ -364,6 +384,7 @@ fn clear_page(
     requires high { end ≤ (page + 1) * 256 }
     ensures pages { ArePages pages.new.slots table.now }
     ensures wider { (other : ℕ) → paged_width pages.old.slots table.now other ≤ paged_width pages.new.slots table.now other }
+    ensures greater { (other : ℕ) → paged_greatest pages.old.slots table.now other ≤ paged_greatest pages.new.slots table.now other }
     ensures among { (loc : ℕ) → first ≤ loc → loc < end → (paged_row pages.new.slots table.now loc).stamp ≡ 0 }
     ensures before { (loc : ℕ) → loc < first → paged_row pages.new.slots table.now loc ≡ paged_row pages.old.slots table.now loc }
     ensures behind { (loc : ℕ) → end ≤ loc → paged_row pages.new.slots table.now loc ≡ paged_row pages.old.slots table.now loc }

@@ -14,10 +14,10 @@ use std::sync::ledger::Ledger;
 
 /// A shadow over element numbers, which are below 4,194,304.
 ///
-/// Pages of 256 locations stand in a slab, and a table names the page of a location. `reserve` alone makes pages. The rows
-/// of a page have times for 8 levels, in 72 bytes each, until it is reserved while more are live; from then on they have
-/// times for 32, in 264 bytes each. A row's stamp tells at which levels its times are live, so entering or leaving a level
-/// writes no row.
+/// Pages of 256 locations stand in a slab, and a table names the page of a location. `reserve` and `admit` alone make pages.
+/// The rows of a page have times for 8 levels until it is reserved while more are live; from then on they have times for 32.
+/// They are narrow, in 40 bytes each or 136, until a time above 4,294,967,295 is admitted to the page; from then on each
+/// takes 72 or 264. A row's stamp tells at which levels its times are live, so entering or leaving a level writes no row.
 #[derive(Drop)]
 pub struct ShadowPages {
     pages: Slab<Rows>,
@@ -45,7 +45,7 @@ impl ShadowPages {
         }
     }
 
-    /// How many pages there are. Only `reserve` makes pages, those of its locations.
+    /// How many pages there are. Only `reserve` and `admit` make pages, those of their locations.
     pub fn pages(&self) -> u64
         ensures count { result ≡ page_count self.now }
     {
@@ -54,7 +54,8 @@ impl ShadowPages {
 }
 
 impl Shadow for ShadowPages {
-    ghost use Rattle.std.specs.Prelude.{◌+◌, ◌<◌, ◌^◌, length, OnOk, true};
+    ghost use Rattle.std.specs.Prelude.{◌+◌, ◌<◌, ◌^◌, length, slice_index, OnOk, true};
+    ghost use Rattle.k_shadow.specs.Rooms.{HasRoomFor};
     ghost use Rattle.k_shadow.specs.Content.{depth, time_at, entered, level_dropped, written, cleared};
     ghost use Rattle.k_spage.specs.ShadowPages.{pages_content, has_room, has_page, HasSamePages, IsTouched};
 
@@ -90,15 +91,30 @@ impl Shadow for ShadowPages {
     fn reserve(&mut self, first: u32, count: u32) -> Result<(), NoMemory>
         requires { first + count ≤ (pages_content self.old).limit }
         ensures content { pages_content self.new ≡ pages_content self.old }
-        ensures room { OnOk result ((loc : ℕ) → first ≤ loc → loc < first + count → has_room self.new loc) }
-        ensures kept { (loc : ℕ) → has_room self.old loc → has_room self.new loc }
+        ensures room { OnOk result ((loc most : ℕ) → first ≤ loc → loc < first + count → most < 2 ^ 64 → has_room self.new loc most) }
+        ensures kept { (loc most : ℕ) → has_room self.old loc most → has_room self.new loc most }
+
+        // It makes the pages of its locations alone. A refusal may have made some of them.
+        ensures pages_kept { (page : ℕ) → has_page self.old page ≡ true → has_page self.new page ≡ true }
+        ensures no_other { (page : ℕ) → (IsTouched first count page → ⊥) → has_page self.new page ≡ has_page self.old page }
+    {
+        self.admit(first, count, u64::MAX)
+    }
+
+    #[inline]
+    fn admit(&mut self, first: u32, count: u32, most: u64) -> Result<(), NoMemory>
+        requires { first + count ≤ (pages_content self.old).limit }
+        ensures content { pages_content self.new ≡ pages_content self.old }
+        ensures room { OnOk result ((loc : ℕ) → first ≤ loc → loc < first + count → has_room self.new loc most) }
+        ensures kept { (loc most : ℕ) → has_room self.old loc most → has_room self.new loc most }
 
         // It makes the pages of its locations alone. A refusal may have made some of them.
         ensures pages_kept { (page : ℕ) → has_page self.old page ≡ true → has_page self.new page ≡ true }
         ensures no_other { (page : ℕ) → (IsTouched first count page → ⊥) → has_page self.new page ≡ has_page self.old page }
     {
         let depth = self.versions.depth();
-        if count == 1 && pages::is_wide(&self.pages, &self.table, first as usize / PAGE, depth) {
+        let page = first as usize / PAGE;
+        if count == 1 && pages::has_rows_for(&self.pages, &self.table, page, depth, most) {
             return Ok(());
         }
         let end = (first + count) as usize;
@@ -109,6 +125,7 @@ impl Shadow for ShadowPages {
             first as usize,
             end,
             depth,
+            most,
         )
     }
 
@@ -150,21 +167,22 @@ impl Shadow for ShadowPages {
     fn write(&mut self, loc: u32, times: &Times)
         requires below { loc < (pages_content self.old).limit }
         requires each { length times.now ≡ depth (pages_content self.old) }
-        requires room { has_room self.old loc }
+        requires room { has_room self.old loc 18446744073709551615 }
         ensures content { pages_content self.new ≡ written loc times.now (pages_content self.old) }
-        ensures kept { (at : ℕ) → has_room self.old at → has_room self.new at }
+        ensures kept { (at most : ℕ) → has_room self.old at most → has_room self.new at most }
         ensures pages { HasSamePages self.old self.new }
     {
-        self.put(loc, times.as_slice());
+        let each = times.as_slice();
+        self.put(loc, each);
     }
 
     #[inline]
     fn put(&mut self, loc: u32, times: &[u64])
         requires below { loc < (pages_content self.old).limit }
         requires each { length times.now ≡ depth (pages_content self.old) }
-        requires room { has_room self.old loc }
+        requires room { HasRoomFor (has_room self.old loc) (depth (pages_content self.old)) (slice_index times.now) }
         ensures content { pages_content self.new ≡ written loc times.now (pages_content self.old) }
-        ensures kept { (at : ℕ) → has_room self.old at → has_room self.new at }
+        ensures kept { (at most : ℕ) → has_room self.old at most → has_room self.new at most }
         ensures pages { HasSamePages self.old self.new }
     {
         let stamp = self.versions.last_given();
@@ -175,7 +193,7 @@ impl Shadow for ShadowPages {
     fn clear(&mut self, first: u32, count: u32)
         requires { first + count ≤ (pages_content self.old).limit }
         ensures content { pages_content self.new ≡ cleared first count (pages_content self.old) }
-        ensures kept { (loc : ℕ) → has_room self.old loc → has_room self.new loc }
+        ensures kept { (at most : ℕ) → has_room self.old at most → has_room self.new at most }
         ensures pages { HasSamePages self.old self.new }
     {
         if self.versions.depth() > 0 {

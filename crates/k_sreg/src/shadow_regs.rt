@@ -11,8 +11,8 @@ use std::sync::ledger::Ledger;
 
 /// A shadow over absolute register numbers, which are below 2,097,152.
 ///
-/// Rows have times for 8 levels, in 72 bytes, until a location is reserved while more are live: then all have times for
-/// 32, in 264 bytes.
+/// Rows have times for 8 levels until a location is reserved while more are live: then all have times for 32. They are
+/// narrow, in 40 bytes or 136, until a time above 4,294,967,295 is admitted: from then on all take 72 or 264.
 ///
 /// A frame that ends gives its numbers back, and their rows stay: a row's stamp alone tells at which levels its times
 /// are live, so entering or leaving a level writes no row.
@@ -40,11 +40,11 @@ impl ShadowRegs {
 impl Shadow for ShadowRegs {
     ghost use Rattle.std.specs.Prelude.{length};
     ghost use Rattle.k_shadow.specs.Rows.{content_of};
-    ghost use Rattle.k_shadow_rows.specs.Rows.{row_in, HasRow};
+    ghost use Rattle.k_shadow_rows.specs.Rows.{row_in, greatest, HasRow};
 
     ghost content = { λ s. content_of (row_in s.rows) s.versions 2097152 };
 
-    ghost room = { λ s loc. HasRow s.rows loc (length s.versions.live) };
+    ghost room = { λ s loc most. HasRow s.rows loc (length s.versions.live) × (most ≤ greatest s.rows) };
 
     #[inline]
     fn depth(&self) -> usize {
@@ -63,10 +63,17 @@ impl Shadow for ShadowRegs {
 
     #[inline]
     fn reserve(&mut self, first: u32, count: u32) -> Result<(), NoMemory> {
+        self.admit(first, count, u64::MAX)
+    }
+
+    #[inline]
+    fn admit(&mut self, first: u32, count: u32, most: u64) -> Result<(), NoMemory> {
         if count == 0 {
             return Ok(());
         }
-        self.rows.reserve((first + count) as usize, self.versions.depth(), self.alloc)
+        let depth = self.versions.depth();
+        self.rows
+            .reserve((first + count) as usize, depth, most, self.alloc)
     }
 
     #[inline]

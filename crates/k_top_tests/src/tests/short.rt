@@ -29,7 +29,7 @@ impl Short {
 impl Shadow for Short {
     ghost content = { λ short. ⟦<LevelMaps as Shadow>⟧.content short.inner };
 
-    ghost room = { λ short loc. ⟦<LevelMaps as Shadow>⟧.room short.inner loc };
+    ghost room = { λ short loc most. ⟦<LevelMaps as Shadow>⟧.room short.inner loc most };
 
     fn depth(&self) -> usize {
         self.inner.depth()

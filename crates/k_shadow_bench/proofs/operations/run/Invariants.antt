@@ -17,7 +17,7 @@ abbrev pub invariant-loop-operation : goal.invariant-loop-operation
 invariant-loop-operation g l = let content = g.S.Shadow.content in record {
   live : depth (content l.shadow) ≡ depth (content l.initial.shadow);
   limit : (content l.shadow).limit ≡ (content l.initial.shadow).limit;
-  room : (loc : ℕ) → loc ≤ l.plan.last → g.S.Shadow.room l.shadow loc;
+  room : (loc : ℕ) → loc ≤ l.plan.last → g.S.Shadow.room l.shadow loc 18446744073709551615;
   times : length l.slots ≡ depth (content l.initial.shadow);
   paths : length l.path_slots ≡ depth (content l.initial.shadow);
 }

@@ -1,16 +1,16 @@
 use Rattle.std.proofs.Common.{ℕ, ◌<◌, ◌≤◌, length, get_or, arith, ⊎_elim}
 use Rattle.std.proofs.lemmas.Bool.{cases_lt}
-use Rattle.k_shadow.specs.Rows.{row_at}
 use Rattle.k_shadow_rows.specs.Given.{IsLive, after_live_rows}
+use Rattle.k_shadow_rows.specs.Rows.{rows_at}
 use Rattle.k_shadow_rows.proofs.Ranges.{one_and_none, both_and_one, longer_same, live-by_stamp}
 use Rattle.k_shadow_rows.proofs.given.give_ordered.Goals as goal
 
 pub returns-clause-given : goal.returns-clause-given
 returns-clause-given g c =
-    let rows = row_at c.args.rows.now in
-    let both = row_at c.give_both-both.new.rows in
-    let one = row_at c.give_one-one.new.rows in
-    let none = row_at c.give_none.new.rows in
+    let rows = rows_at g.R.LevelRow.seen g.R.LevelRow.blank c.args.rows.now in
+    let both = rows_at g.R.LevelRow.seen g.R.LevelRow.blank c.give_both-both.new.rows in
+    let one = rows_at g.R.LevelRow.seen g.R.LevelRow.blank c.give_one-one.new.rows in
+    let none = rows_at g.R.LevelRow.seen g.R.LevelRow.blank c.give_none.new.rows in
     let numbers = c.args.numbers.now in
     let before = c.args.before.now in
     let latency = c.args.latency in

@@ -10,4 +10,4 @@ returns g c =
     let size : vec_len j.wide ≡ length rows = omega (arith, j.invariant.size, all) in
     let counted : vec_len j.wide ≡ length j.wide.items = search rules in
     let items : length j.wide.items ≡ length rows = omega (arith, size, counted) in
-    record { ok = (size, all_widened j.wide.items rows items (λ k lt. j.invariant.same k (omega (arith, lt, all)))) }
+    record { ok = (size, all_widened g.W.LevelRow.seen g.W.LevelRow.blank g.R.LevelRow.seen g.R.LevelRow.blank j.wide.items rows g.met.W.LevelRow.never g.met.R.LevelRow.never items (λ k lt. j.invariant.same k (omega (arith, lt, all)))) }

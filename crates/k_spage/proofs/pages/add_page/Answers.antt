@@ -1,5 +1,6 @@
-use Rattle.std.proofs.Common.{rules}
-use Rattle.k_spage.proofs.Paged.{IsNewPage, new_page_rows, ArePages-new, new_page_wider, IsWide-new}
+use Rattle.std.proofs.Common.{refl, rules}
+use Rattle.k_spage.specs.Pages.{page_width, page_greatest}
+use Rattle.k_spage.proofs.Paged.{IsNewPage, new_page_rows, ArePages-new, new_page_more, HasRowsFor-new}
 use Rattle.k_spage.proofs.pages.add_page.Goals as goal
 
 pub returns : goal.returns
@@ -25,8 +26,9 @@ returns c =
     record {
       pages = ArePages-new old new table page key rows n;
       same = new_page_rows old new table page key rows n;
-      wider = new_page_wider old new table page key rows n;
+      wider = new_page_more (λ o. page_width o) refl old new table page key rows n;
+      greater = new_page_more (λ o. page_greatest o) refl old new table page key rows n;
       others = search rules;
       kept = search rules;
-      here = IsWide-new old new table page key rows n;
+      here = HasRowsFor-new old new table page key rows n;
     }

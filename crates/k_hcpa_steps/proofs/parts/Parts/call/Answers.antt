@@ -32,8 +32,8 @@ function_at-function-requires g c =
     (subst (λ (code : Code). k.func < length code.funcs) (sym c.code.ensures)
     (function_there run.setting run.count run.taken old c.args.instr.now run.is run.stands c.requires.next k.func k.args k.to k.is))
 
-pub operate-requires : goal.operate-requires
-operate-requires g c =
+pub operate-requires-clause-args : goal.operate-requires-clause-args
+operate-requires-clause-args g c =
     let old : Keeping = keeping c.args.self.now.store (g.T.Timed.seen c.args.self.now.times) c.args.self.now.summaries in
     let run = c.requires.running in
     let k = is_call c.args.instr.now.act c.requires.calls in

@@ -8,10 +8,10 @@ use Rattle.k_hcpa_meaning.specs.Locations.{operand_locations}
 use Rattle.k_hcpa_meaning.specs.Summing.{operation_made, regions_left}
 use Rattle.k_hcpa_meaning.specs.Timings.{Timing, all_left_below, operated, saved_kept, settled}
 use Rattle.k_hcpa_store.specs.Kept.{configuration_of}
-use Rattle.k_hcpa_times.specs.Seen.{AreBelow, Seen, levels, made}
+use Rattle.k_hcpa_times.specs.Seen.{AreBelow, ForRegister, Room, Seen, levels, made}
 use Rattle.k_hcpa_steps.specs.Keeping.{Keeping, keeping}
 use Rattle.k_hcpa_steps.proofs.Calling.{latency_fits}
-use Rattle.k_hcpa_steps.proofs.Here.{operands_are_below}
+use Rattle.k_hcpa_steps.proofs.Here.{each_if, operands_are_below}
 use Rattle.k_hcpa_steps.proofs.Levels.{levels_begun, levels_kept, levels_live, levels_moved, regions_below}
 use Rattle.k_hcpa_steps.proofs.Reading.{grown_by, may_make, reads_within, return_makes, return_operands, return_reads}
 use Rattle.k_hcpa_steps.proofs.Returning.{returned_goes}
@@ -37,6 +37,12 @@ leave_instances-requires-clause-levels g c =
     let run = c.requires.running in
     ap (λ (seen : Seen). levels seen) c.begin_return.ensures.times ∙ levels_begun c.first_register-first.result c.args.a old.seen.timing
     ∙ levels_kept run.setting run.count run.taken old run.is run.stands
+
+pub give_back-requires-clause-room : goal.give_back-requires-clause-room
+give_back-requires-clause-room g c =
+    let old : Room → Type 0 = g.T.Timed.room c.args.self.now.times in
+    let new : Room → Type 0 = g.T.Timed.room c.settle.new.self in
+    each_if c.args.back (λ r. old (ForRegister r)) (λ r. new (ForRegister r)) (λ r has. c.settle.ensures.kept.registers r (c.begin_return.ensures.kept (ForRegister r) has)) c.requires.room
 
 pub returns-in_err-leave_instances-clause-reads : goal.returns-in_err-leave_instances-clause-reads
 returns-in_err-leave_instances-clause-reads g c s count taken set at =

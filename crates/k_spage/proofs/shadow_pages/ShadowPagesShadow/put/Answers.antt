@@ -1,6 +1,6 @@
 use Rattle.std.proofs.Common.{◌≡◌, ℕ, ◌/◌, ◌≤◌, length, Option, Some, ◌∙◌, ap, sym, subst, arith}
 use Rattle.k_shadow.proofs.Contents.{depth_counted, content-written}
-use Rattle.k_spage.specs.Pages.{rows_under, key_of, page_width, paged_row}
+use Rattle.k_spage.specs.Pages.{rows_under, key_of, page_width, page_greatest, paged_row}
 use Rattle.k_spage.proofs.Paged.{IsWritten-paged}
 use Rattle.k_spage.proofs.shadow_pages.ShadowPagesShadow.put.Goals as goal
 
@@ -9,7 +9,16 @@ put-requires-clause-few c =
     let s = c.args.self.now in
     let named : key_of s.table.items (c.args.loc / 256) ≡ Some c.key_of_page-key.result = sym (c.key_of_page-key.ensures ∙ ap (λ keys. key_of keys (c.args.loc / 256)) c.deref.ensures.value) in
     let P : Option ℕ → Type 0 = λ key. length s.versions.live ≤ page_width (rows_under s.pages.slots key) in
-    omega (arith, c.requires.each, depth_counted (paged_row s.pages.slots s.table.items) s.versions 4194304, subst P named c.requires.room.1)
+    omega (arith, c.requires.each, depth_counted (paged_row s.pages.slots s.table.items) s.versions 4194304, subst P named c.requires.room.there.1)
+
+pub put-requires-clause-times : goal.put-requires-clause-times
+put-requires-clause-times c =
+    let s = c.args.self.now in
+    let named : key_of s.table.items (c.args.loc / 256) ≡ Some c.key_of_page-key.result = sym (c.key_of_page-key.ensures ∙ ap (λ keys. key_of keys (c.args.loc / 256)) c.deref.ensures.value) in
+    let room = c.requires.room in
+    let P : Option ℕ → Type 0 = λ key. room.most ≤ page_greatest (rows_under s.pages.slots key) in
+    let most = subst P named room.there.2 in
+    λ k lt. omega (arith, most, room.within k (omega (arith, lt, c.requires.each)))
 
 pub returns-clause-content : goal.returns-clause-content
 returns-clause-content c =

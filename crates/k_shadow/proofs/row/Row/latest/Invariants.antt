@@ -1,6 +1,0 @@
-use Rattle.std.proofs.Common.{◌≡◌, ℕ, ◌<◌, get_or, max}
-use Rattle.k_shadow.proofs.row.Row.latest.Given as goal
-
--- the times so far are the later ones
-abbrev pub invariant-loop-level : goal.invariant-loop-level
-invariant-loop-level g l = (k : ℕ) → k < l.level → get_or l.times k 0 ≡ max (get_or l.self.times k 0) (get_or l.before k 0)

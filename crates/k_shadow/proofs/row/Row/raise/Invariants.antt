@@ -1,9 +1,0 @@
-use Rattle.std.proofs.Common.{◌≡◌, ℕ, ◌<◌, ◌≤◌, get_or, max}
-use Rattle.k_shadow.proofs.row.Row.raise.Given as goal
-
--- the times so far were raised, and the others are as before
-abbrev pub invariant-loop-level : goal.invariant-loop-level
-invariant-loop-level g l = record {
-  raised : (k : ℕ) → k < l.level → get_or l.times k 0 ≡ max (get_or l.initial.times k 0) (get_or l.self.times k 0);
-  rest : (k : ℕ) → l.level ≤ k → get_or l.times k 0 ≡ get_or l.initial.times k 0;
-}
