@@ -18,10 +18,8 @@ STAGES = [
     ("tree", "k_parse::parser::read"),
     ("types", "k_types::item::File::new"),
     ("marks", "k_marks_jumps::walk::list_stmt"),
-    ("run", "k_plain::frame::Machine::turn"),
-    ("the run's listing", "k_plain::frame::Machine::into_listing"),
-    ("tree of instances", "k_graph::listing::instances"),
-    ("dictionary", "k_dict::gathering::Gathering::close_to"),
+    ("flat code", "k_lower::program::lower"),
+    ("run", "k_hcpa::machine::Machine::start"),
     ("rows", "k_selfpar::tree_rows::rows"),
     ("contexts", "k_selfpar::grouping::add_contexts"),
     ("plan", "k_plan::planning::plan"),
@@ -70,7 +68,7 @@ def places(program):
     for line in subprocess.run(["nm", program], capture_output=True, text=True, check=True).stdout.splitlines():
         at, _, symbol = line.partition(" ")
         if at:
-            found[symbol[2:]] = int(at, 16)
+            found[symbol[2:].partition("::<#")[0]] = int(at, 16)
     lacking = [symbol for _, symbol in STAGES if symbol not in found]
     if lacking:
         print("no symbol in this build, so its stage is part of the one before:", *lacking)
