@@ -121,7 +121,7 @@ def main(program, folder):
     rows += [("200,000 calls", put("calls.c", CALLS % 200_000), nothing, WHOLE)]
     rows += [("200,000 switches of 8 cases", put("cases.c", CASES % 200_000), nothing, WHOLE)]
     rows += [("200,000 blocks with an array", put("blocks.c", BLOCKS % 200_000), nothing, WHOLE)]
-    rows += [("10,000 turns round 10,000 statements that don't run", put("skipped.c", SKIPPED), nothing, WHOLE)]
+    rows += [("10,000 iterations round 10,000 statements that don't run", put("skipped.c", SKIPPED), nothing, WHOLE)]
     rows += [("200,000 bytes copied", put("copy.c", COPY), bytes_, WHOLE)]
     deep = [(make.__name__, put(f"{make.__name__}.c", make()), nothing, WHOLE) for make in (deep_signs, deep_operands, deep_blocks, deep_loops)]
     for name, source, given, budget in rows + deep:
