@@ -1,9 +1,12 @@
 pub mod Beginning
 pub mod Entering
+pub mod Ints
+pub mod Keeping
 pub mod Leaving
 pub mod Longer
 pub mod Making
 pub mod Moving
+pub mod Numbered
 pub mod Operating
 pub mod Sending
 pub mod Setting

@@ -4,4 +4,5 @@ pub mod Kept
 pub mod Leads
 pub mod Opening
 pub mod Parts
+pub mod Slots
 pub mod Sound

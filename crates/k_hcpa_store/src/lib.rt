@@ -5,7 +5,9 @@
 mod answer;
 mod at_once;
 mod call;
+mod made;
 mod operands;
+mod register;
 mod registers;
 mod state;
 mod store;

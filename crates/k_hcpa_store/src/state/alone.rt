@@ -6,7 +6,9 @@ ghost use Rattle.k_world.specs.Values.{pointer_to as pointer_meant};
 ghost use Rattle.k_code.specs.Steps.{number_of};
 ghost use Rattle.k_hcpa_store.specs.Leads.{GoesAlone, IsNext, goes_alone};
 ghost use Rattle.k_hcpa_store.specs.Parts.{Comes, Fills, Opens, named_object};
+ghost use Rattle.k_hcpa_store.specs.Slots.{CanKeep};
 ghost use Rattle.k_hcpa_store.specs.Sound.{IsSound};
+ghost use Rattle.k_world.specs.Operands.{source_in};
 
 use super::State;
 use crate::Alone;
@@ -196,7 +198,8 @@ impl<'a> State<'a> {
 
 /// A pointer to an element of an object, which no operation gave.
 fn pointer_to(object: Option<u64>, offset: u32) -> Option<Held>
-    ensures { result ≡ option_map (λ n. pointer_meant n offset) object }
+    ensures meant { result ≡ option_map (λ n. pointer_meant n offset) object }
+    ensures keeps { CanKeep (source_in result) }
 {
     match object {
         Some(object) => Some(Held {

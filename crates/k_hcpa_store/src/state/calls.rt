@@ -1,28 +1,29 @@
 //! Calls and returns.
-ghost use Rattle.std.specs.Prelude.{◌≡◌, ℕ, ◌+◌, ◌-◌, ◌^◌, ◌<◌, ◌≤◌, [], ◌∷◌, ◌++◌, List, length, map, take, min, reverse, slice_get, Option, Some, None, Bool, true, false, MatchOption, MatchResult, vec_len, vec_capacity};
+ghost use Rattle.std.specs.Prelude.{◌≡◌, ℕ, ◌+◌, ◌-◌, ◌^◌, ◌<◌, ◌≤◌, [], ◌∷◌, List, length, map, take, min, reverse, slice_get, Option, Some, None, Bool, true, false, MatchOption, MatchResult};
 ghost use Rattle.k_code.specs.declared.code.CodeFunc.{CodeFunc};
 ghost use Rattle.k_code.specs.declared.instruction.Arg.{Arg};
 ghost use Rattle.k_code.specs.declared.instruction.Do.TheVariants as act;
-ghost use Rattle.k_code.specs.Steps.{no_value as no_value_meant, overflows as overflows_meant, parameters, read_of, size_of as size_meant};
-ghost use Rattle.k_world.specs.declared.value.Read.{Read};
-ghost use Rattle.k_world.specs.Operands.{held_by, is_set};
+ghost use Rattle.k_code.specs.Steps.{no_value as no_value_meant, overflows as overflows_meant, read_of, size_of as size_meant};
+ghost use Rattle.k_world.specs.Operands.{is_set, source_in};
 ghost use Rattle.k_world.specs.Values.{exit_of as exit_meant, int_of as int_meant};
 ghost use Rattle.k_world.specs.Worlds.{World};
-ghost use Rattle.k_hcpa_store.specs.Calls.{CallsTo, Gives, LeavesBy, dropped, held_up_to, move_fault, resumed, slots_of, value_fault};
+ghost use Rattle.k_hcpa_store.specs.Calls.{CallsTo, Gives, LeavesBy, dropped, move_fault, resumed, value_fault};
 ghost use Rattle.k_hcpa_store.specs.Parts.{IsWithin};
 ghost use Rattle.k_num.specs.declared.place.Place.{Place};
 ghost use Rattle.k_hcpa_store.specs.Kept.{configuration_of, window};
 ghost use Rattle.k_hcpa_store.specs.Leads.{Calls, IsNext, Leaves, MayReturn, may_leave};
+ghost use Rattle.k_hcpa_store.specs.Slots.{CanKeep};
 ghost use Rattle.k_hcpa_store.specs.Sound.{IsSound};
 
 use super::State;
 use crate::Calling;
 use crate::call::{Call, Caller};
+use crate::made::move_in;
 use crate::registers::{read, read_all};
 use k_code::{Arg, CodeFunc, Do, Instr};
 use k_ending::{End, Trap};
 use k_num::{Kind, Place, convert};
-use k_world::{ActRef, Held, Read, Stop, Value};
+use k_world::{ActRef, Held, Stop, Value};
 
 /// So many calls may be live at once.
 const CALL_LIMIT: u64 = 4096;
@@ -62,28 +63,32 @@ impl<'a> State<'a> {
         let Ok(()) = read_all(&mut self.reads, &self.registers, self.call.first, args) else {
             return Err(Stop::Memory);
         };
-        let Ok(()) = self.registers.reserve(f.registers as usize) else {
+        let Ok(()) = self.waiting.reserve(1) else {
             return Err(Stop::Memory);
         };
-        let Ok(()) = self.waiting.reserve(1) else {
+        let first = self.registers.count();
+        let Ok(()) = self.registers.begin(f, &self.reads) else {
             return Err(Stop::Memory);
         };
         let _done = match self.world.operation(place, ActRef::Call, &self.reads) {
             Ok(done) => done,
-            Err(stop) => return Err(stop),
+            Err(stop) => {
+                self.registers.keep(first);
+                return Err(stop);
+            }
         };
         let (calls, size) = (self.world.calls(), self.world.size());
         if overflows(calls, size, f.size) {
+            self.registers.keep(first);
             return Ok(Calling::Overflowed(End::Trapped(Trap::StackOverflow, place)));
         }
         let call = Call {
             func,
-            first: self.registers.len(),
+            first,
             saved: self.saved.len(),
             regions: 0,
             base: self.world.live_objects(),
         };
-        begin(&mut self.registers, f, &self.reads);
         self.waiting.push_reserved(Caller {
             call: self.call,
             back: self.pc + 1,
@@ -177,7 +182,8 @@ impl<'a> State<'a> {
     fn returned(&mut self, value: &Option<Arg>) -> Option<Held>
         requires first { self.old.call.first ≤ length self.old.registers }
         requires may { (place : Place) → value_fault self.old place value.now ≡ None }
-        ensures { Gives value.now self.old result self.new }
+        ensures gives { Gives value.now self.old result self.new }
+        ensures keeps { CanKeep (source_in result) }
     {
         match value {
             Some(a) => self.move_operand(a),
@@ -190,11 +196,12 @@ impl<'a> State<'a> {
         requires first { self.old.call.first ≤ length self.old.registers }
         requires left { 0 < self.old.world.left }
         requires set { is_set (read_of (window self.old.registers self.old.call.first) a.now).slot ≡ true }
-        ensures { Gives (Some a.now) self.old result self.new }
+        ensures gives { Gives (Some a.now) self.old result self.new }
+        ensures keeps { CanKeep (source_in result) }
     {
         let moved = read(&self.registers, self.call.first, a);
         match moved.slot {
-            Some(held) => Some(self.world.move_held(held).held),
+            Some(held) => Some(move_in(&mut self.world, held).held),
             None => None,
         }
     }
@@ -218,13 +225,14 @@ impl<'a> State<'a> {
             self.call.func,
         )));
         self.world.set_calls(calls, size);
-        self.registers.truncate(self.call.first);
+        self.registers.keep(self.call.first);
         self.saved.truncate(self.call.saved);
     }
 
     /// A call that waited goes on.
     fn resume(&mut self, caller: Caller, slot: Option<Held>)
-        requires { IsWithin caller.call.first caller.to self.old.registers }
+        requires within { IsWithin caller.call.first caller.to self.old.registers }
+        requires keeps { CanKeep (source_in slot) }
         ensures { self.new ≡ resumed caller slot self.old }
     {
         self.call = caller.call;
@@ -260,40 +268,10 @@ fn overflows(calls: u64, size: u64, more: u32) -> bool
     calls >= CALL_LIMIT || size.saturating_add(u64::from(more)) > NODE_LIMIT
 }
 
-/// What a register of a new call holds: its first ones, so many, are the parameters.
-fn parameter(reads: &[Read], params: u32, k: u32) -> Option<Held>
-    ensures { result ≡ parameters params (slots_of reads.now) k }
-{
-    if k < params {
-        slot_of(reads, k as usize)
-    } else {
-        None
-    }
-}
-
-/// What an operand holds that may not be there.
-fn slot_of(reads: &[Read], at: usize) -> Option<Held>
-    ensures { result ≡ held_by (slice_get (slots_of reads.now) at) }
-{
-    match reads.get(at) {
-        Some(read) => read.slot,
-        None => None,
-    }
-}
-
-/// The registers of a new call, behind those of the others, for which there is room.
-fn begin(registers: &mut Vec<Option<Held>>, f: CodeFunc, reads: &[Read])
-    requires { vec_len registers.old + f.registers ≤ vec_capacity registers.old }
-    ensures { registers.new.items ≡ registers.old.items ++ held_up_to f.registers (parameters f.params (slots_of reads.now)) }
-{
-    for k in 0..f.registers {
-        registers.push_reserved(parameter(reads, f.params, k));
-    }
-}
-
 /// What is returned without a value: main gives 0.
 fn no_value(is_main: bool) -> Option<Held>
-    ensures { result ≡ no_value_meant is_main }
+    ensures meant { result ≡ no_value_meant is_main }
+    ensures keeps { CanKeep (source_in result) }
 {
     if is_main {
         Some(Held {

@@ -51,7 +51,7 @@ impl<'a> State<'a> {
         ensures next { result ≡ widths self.now.code (frames_of (configuration_of self.now)) }
         ensures few { result ≤ 2 ^ 21 }
     {
-        self.registers.len() as u32
+        self.registers.count() as u32
     }
 
     /// The number of the register that gets what the newest call returns.

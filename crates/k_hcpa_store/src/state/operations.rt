@@ -11,10 +11,12 @@ ghost use Rattle.k_hcpa_store.specs.Leads.{IsNext, MakesBy, Operates, goes_by, s
 ghost use Rattle.k_hcpa_store.specs.Kept.{configuration_of};
 ghost use Rattle.k_world.specs.declared.act.Act.TheVariants.{Store};
 ghost use Rattle.k_hcpa_store.specs.Parts.{IsWithin, follows as follows_meant, given, listed, reads_in};
+ghost use Rattle.k_hcpa_store.specs.Slots.{CanKeep};
 ghost use Rattle.k_hcpa_store.specs.Sound.{IsSound};
 
 use super::State;
 use crate::at_once::AtOnce;
+use crate::made::make_in;
 use crate::operands::{Operands, act_in, operands_in, register_in};
 use crate::registers::{read, read_all};
 use k_code::{Arg, Do, Instr};
@@ -32,7 +34,7 @@ impl<'a> State<'a> {
         ensures sound { IsSound self.new }
     {
         match self.at_once(&instr.act) {
-            AtOnce::Gives(value, to) => Ok(self.give_at_once(value, to)),
+            AtOnce::Gives(value, slot, to) => Ok(self.give_at_once(value, slot, to)),
             AtOnce::Tests(holds, pc, to) => Ok(self.lead_at_once(holds, pc, to)),
             AtOnce::Other => self.operate_by_parts(instr),
         }
@@ -94,23 +96,24 @@ impl<'a> State<'a> {
         ensures kept { self.new ≡ record self.old { world = self.new.world } }
         ensures made { (class : Class) (latency : ℕ) → Makes class latency place (act_of act.entry) (reads_in self.old (listed operands.entry)) self.old.world result self.new.world }
         ensures element { IfOk result (λ done. touched (act_of act.entry) (values_of (reads_in self.old (listed operands.entry))) self.old.world.memory ≡ done.element) }
+        ensures keeps { IfOk result (λ done. CanKeep done.held.source) }
     {
         match operands {
-            Operands::Nothing => self.world.operation(place, act, &[]),
+            Operands::Nothing => make_in(&mut self.world, place, act, &[]),
             Operands::One(a) => {
                 let reads = [read(&self.registers, self.call.first, a)];
-                self.world.operation(place, act, &reads)
+                make_in(&mut self.world, place, act, &reads)
             }
             Operands::Two(a, b) => {
                 let reads = [
                     read(&self.registers, self.call.first, a),
                     read(&self.registers, self.call.first, b),
                 ];
-                self.world.operation(place, act, &reads)
+                make_in(&mut self.world, place, act, &reads)
             }
             Operands::All(args) => {
                 read_all(&mut self.reads, &self.registers, self.call.first, args)?;
-                self.world.operation(place, act, &self.reads)
+                make_in(&mut self.world, place, act, &self.reads)
             }
         }
     }
@@ -120,6 +123,7 @@ impl<'a> State<'a> {
     fn give(&mut self, what: &Do, held: Held)
         requires within { IsWithin self.old.call.first (register_set what.now) self.old.registers }
         requires next { self.old.pc + 1 < 2 ^ 64 }
+        requires keeps { CanKeep held.source }
         ensures { self.new ≡ given what.now held self.old }
     {
         let pc = follow(what, &held, self.pc);

@@ -10,6 +10,7 @@ ghost use Rattle.k_hcpa_store.specs.Sound.{IsSound};
 
 use super::State;
 use crate::call::Call;
+use crate::registers::Registers;
 use k_code::{Code, CodeFunc, CodeObject};
 use k_ending::{End, Trap};
 use k_mem::{PushFault, Start};
@@ -63,8 +64,7 @@ fn begin<'a>(
 ) -> Result<State<'a>, NoMemory>
     ensures { IfOk result (λ s. s ≡ begins code.now f world.entry) }
 {
-    let mut registers = Vec::new(alloc);
-    registers.resize(f.registers as usize, None)?;
+    let registers = Registers::unset(alloc, f.registers)?;
     let base = world.live_objects();
     world.set_calls(1, u64::from(f.size));
     Ok(State {

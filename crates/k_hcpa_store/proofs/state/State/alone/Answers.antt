@@ -17,13 +17,13 @@ use Rattle.k_hcpa_store.proofs.state.State.alone.Goals as goal
 pub next-next-requires : goal.next-next-requires
 next-next-requires c = pc_within c.args.self.now c.args.instr.now c.requires.sound c.requires.next
 
-pub set_and_on-requires : goal.set_and_on-requires
+pub set_and_on-requires-clause-within : goal.set_and_on-requires-clause-within
 unfolding register_set
-set_and_on-requires c = subst (λ (x : Do). IsWithin c.args.self.now.call.first (register_set x) c.args.self.now.registers) c.in-Address.is (within c.args.self.now c.args.instr.now c.requires.sound c.requires.next)
+set_and_on-requires-clause-within c = subst (λ (x : Do). IsWithin c.args.self.now.call.first (register_set x) c.args.self.now.registers) c.in-Address.is (within c.args.self.now c.args.instr.now c.requires.sound c.requires.next)
 
-pub set_and_on-requires-in-Forget : goal.set_and_on-requires-in-Forget
+pub set_and_on-requires-in-Forget-clause-within : goal.set_and_on-requires-in-Forget-clause-within
 unfolding register_set
-set_and_on-requires-in-Forget c = subst (λ (x : Do). IsWithin c.args.self.now.call.first (register_set x) c.args.self.now.registers) c.in-Forget.is (within c.args.self.now c.args.instr.now c.requires.sound c.requires.next)
+set_and_on-requires-in-Forget-clause-within c = subst (λ (x : Do). IsWithin c.args.self.now.call.first (register_set x) c.args.self.now.registers) c.in-Forget.is (within c.args.self.now c.args.instr.now c.requires.sound c.requires.next)
 
 pub drop_saved-requires : goal.drop_saved-requires
 drop_saved-requires c = omega (arith, saved_keep c.args.self.now c.args.instr.now c.requires.sound c.requires.next c.in-Keep.is)
@@ -44,7 +44,7 @@ pub returns-in-Address : goal.returns-in-Address
 returns-in-Address c =
     let s : Kept = c.args.self.now in
     addressed c.args.self.now c.args.instr.now c.requires.sound c.requires.next c.in-Address.home c.in-Address.offset c.in-Address.to c.in-Address.is c.set_and_on.new.self
-    (c.set_and_on.ensures ∙ ap (λ slot. set_and_on (Some c.in-Address.to) slot c.next-next.result s) (c.pointer_to-slot.ensures ∙ ap (option_map (λ n. pointer_to n c.in-Address.offset)) c.object_at.ensures)
+    (c.set_and_on.ensures ∙ ap (λ slot. set_and_on (Some c.in-Address.to) slot c.next-next.result s) (c.pointer_to-slot.ensures.meant ∙ ap (option_map (λ n. pointer_to n c.in-Address.offset)) c.object_at.ensures)
     ∙ ap (λ n. set_and_on (Some c.in-Address.to) (option_map (λ k. pointer_to k c.in-Address.offset) (named_object c.in-Address.home s)) n s) c.next-next.ensures)
 
 pub returns-in-ObjectOpen : goal.returns-in-ObjectOpen

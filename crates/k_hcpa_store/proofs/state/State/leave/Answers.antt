@@ -15,7 +15,7 @@ returns-in-Some c =
           (
             rest,
             (
-              c.returned-slot.ensures,
+              c.returned-slot.ensures.gives,
               ap (λ (m : Kept). m.waiting) c.in-Some.ensures,
               c.resume.ensures ∙ ap (resumed c.in-Some.caller c.returned-slot.result)
                   (c.drop_call.ensures ∙ ap dropped (sym (ap (λ (m : Kept). record m { waiting = rest }) c.in-Some.ensures))),

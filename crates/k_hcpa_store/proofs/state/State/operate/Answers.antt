@@ -8,11 +8,11 @@ pub at_once-requires : goal.at_once-requires
 at_once-requires c = first_within c.args.self.now c.args.instr.now c.requires.sound c.requires.next
 
 pub give_at_once-requires-clause-left : goal.give_at_once-requires-clause-left
-give_at_once-requires-clause-left c = c.in-Gives.ensures.left
+give_at_once-requires-clause-left c = c.in-Gives.ensures.1.left
 
 pub give_at_once-requires-clause-within : goal.give_at_once-requires-clause-within
 give_at_once-requires-clause-within c =
-    subst (λ r. IsWithin c.args.self.now.call.first r c.args.self.now.registers) c.in-Gives.ensures.sets (within c.args.self.now c.args.instr.now c.requires.sound c.requires.next)
+    subst (λ r. IsWithin c.args.self.now.call.first r c.args.self.now.registers) c.in-Gives.ensures.1.sets (within c.args.self.now c.args.instr.now c.requires.sound c.requires.next)
 
 pub give_at_once-requires-clause-next : goal.give_at_once-requires-clause-next
 give_at_once-requires-clause-next c = pc_within c.args.self.now c.args.instr.now c.requires.sound c.requires.next
@@ -26,17 +26,17 @@ lead_at_once-requires-clause-within c =
 
 pub returns-in-Gives-clause-operates : goal.returns-in-Gives-clause-operates
 returns-in-Gives-clause-operates c =
-    given_operates c.args.self.now c.args.instr.now c.requires.sound c.requires.next c.give_at_once.result c.give_at_once.new.self c.in-Gives.value c.in-Gives.to c.in-Gives.ensures
+    given_operates c.args.self.now c.args.instr.now c.requires.sound c.requires.next c.give_at_once.result c.give_at_once.new.self c.in-Gives.value c.in-Gives.to c.in-Gives.ensures.1
     c.give_at_once.ensures.counts c.give_at_once.ensures.given
 
 pub returns-in-Gives-clause-made : goal.returns-in-Gives-clause-made
 returns-in-Gives-clause-made c =
-    given_tells c.args.self.now c.args.instr.now c.requires.sound c.requires.next c.give_at_once.result c.give_at_once.new.self c.in-Gives.value c.in-Gives.to c.in-Gives.ensures
+    given_tells c.args.self.now c.args.instr.now c.requires.sound c.requires.next c.give_at_once.result c.give_at_once.new.self c.in-Gives.value c.in-Gives.to c.in-Gives.ensures.1
     c.give_at_once.ensures.counts c.give_at_once.ensures.given
 
 pub returns-in-Gives-clause-sound : goal.returns-in-Gives-clause-sound
 returns-in-Gives-clause-sound c =
-    given_sound c.args.self.now c.args.instr.now c.requires.sound c.requires.next c.give_at_once.result c.give_at_once.new.self c.in-Gives.value c.in-Gives.to c.in-Gives.ensures
+    given_sound c.args.self.now c.args.instr.now c.requires.sound c.requires.next c.give_at_once.result c.give_at_once.new.self c.in-Gives.value c.in-Gives.to c.in-Gives.ensures.1
     c.give_at_once.ensures.counts c.give_at_once.ensures.given
 
 pub returns-in-Tests-clause-operates : goal.returns-in-Tests-clause-operates
