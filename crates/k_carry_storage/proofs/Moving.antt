@@ -35,13 +35,14 @@ use Rattle.k_carry.proofs.Noticing.{happened_made, made_then}
 use Rattle.k_carry.proofs.Stepping.{dropped_left, made_is, nearer, next_run, open_happened}
 use Rattle.k_carry_storage_pairs.specs.declared.access.Access.{Access}
 use Rattle.k_carry_storage_pairs.specs.declared.pairs.LoopStorage.{LoopStorage}
-use Rattle.k_carry_storage_pairs.specs.declared.pairs.StoragePairs.{StoragePairs}
+use Rattle.k_carry_storage_pairs.specs.Deep.{AreDeep}
 use Rattle.k_carry_storage_pairs.specs.Kept.{Keeps, Kept, Knows, both_entered, none_shared}
 use Rattle.k_carry_storage_pairs.specs.Storage.{AreShared, access}
 use Rattle.k_carry_storage_pairs.proofs.Keeping.{keeps_nothing, storage_is_shared}
 use Rattle.k_carry_storage.specs.declared.table.Table.{Table}
+use Rattle.k_carry_storage.specs.declared.told.StorageTold.{StorageTold}
 use Rattle.k_carry_storage.specs.Accesses.{access_at, access_by, accesses_of, next_access}
-use Rattle.k_carry_storage.specs.Answer.{TellsOf}
+use Rattle.k_carry_storage.specs.Answer.{TellsAllOf}
 use Rattle.k_carry_storage.specs.Noting.{IsNotedAll, IsNotedMade, all_left, entered_if}
 use Rattle.k_carry_storage.specs.Running.{IsKept, IsOver, IsToldOf, Stepped}
 use Rattle.k_carry_storage.specs.Tables.{kept_at}
@@ -195,24 +196,27 @@ module _ (s : Setting) (events : List Event) (k : StoreKept) (set : IsSetting s)
             }
 
 -- what is told where a run has ended
-tells : (s : Setting) (g : Kept) (end : End) (p : StoragePairs) → IsOver s g end → IsToldOf g end p → TellsOf s.code s.input s.budget s.depth p
-tells s g end p is told = record {
-  events = is.world.events;
-  output = is.world.output;
-  outcome = record {
-    count = is.count;
-    world = is.world;
-    is = is.run ∙ ap (λ (e : End). Over e is.world) (sym told.ends);
-    events_are = refl;
-    output_is = refl;
+tells : (s : Setting) (g : Kept) (end : End) (t : StorageTold) → IsOver s g end → IsToldOf g end t → TellsAllOf s.code s.input s.budget s.depth t
+tells s g end t is told = record {
+  pairs = record {
+    events = is.world.events;
+    output = is.world.output;
+    outcome = record {
+      count = is.count;
+      world = is.world;
+      is = is.run ∙ ap (λ (e : End). Over e is.world) (sym told.ends);
+      events_are = refl;
+      output_is = refl;
+    };
+    shared = subst (λ (loops : List LoopStorage). AreShared s.code.regions s.depth is.world.events (accesses_of s.code s.input s.budget is.count) loops) (sym told.loops)
+        (storage_is_shared s.code.regions s.depth is.world.events (accesses_of s.code s.input s.budget is.count) g is.keeps);
   };
-  shared = subst (λ (loops : List LoopStorage). AreShared s.code.regions s.depth is.world.events (accesses_of s.code s.input s.budget is.count) loops) (sym told.loops)
-      (storage_is_shared s.code.regions s.depth is.world.events (accesses_of s.code s.input s.budget is.count) g is.keeps);
+  deep = subst (λ (deep : List Bool). AreDeep s.depth is.world.events deep) (sym told.deep) (let keeps = is.keeps in keeps.deep);
 }
 
-pub all_told : (s : Setting) (g : Kept) (end : End) (r : Result StoragePairs NoMemory) → IsOver s g end → IfOk r (λ p. IsToldOf g end p)
-    → IfOk r (λ p. TellsOf s.code s.input s.budget s.depth p)
-all_told s g end r is told = IfOk-weaker r (λ p. IsToldOf g end p) (λ p. TellsOf s.code s.input s.budget s.depth p) (λ p one. tells s g end p is one) told
+pub all_told : (s : Setting) (g : Kept) (end : End) (r : Result StorageTold NoMemory) → IsOver s g end → IfOk r (λ t. IsToldOf g end t)
+    → IfOk r (λ t. TellsAllOf s.code s.input s.budget s.depth t)
+all_told s g end r is told = IfOk-weaker r (λ t. IsToldOf g end t) (λ t. TellsAllOf s.code s.input s.budget s.depth t) (λ t one. tells s g end t is one) told
 
 -- a run that ends at once
 pub over_at_once : (s : Setting) (g : Kept) (end : End) → g ≡ none_shared s.code.regions s.depth → Starts s.code s.input s.budget (Err (stop.Ended end)) → IsOver s g end

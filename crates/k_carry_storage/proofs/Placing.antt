@@ -5,6 +5,7 @@ use Rattle.std.proofs.lemmas.Bool.Decides.{eqb_tells}
 use Rattle.k_mem.specs.declared.pointer.Pointer.{Pointer}
 use Rattle.k_carry_pairs.specs.declared.origin.Origin.{Origin}
 use Rattle.k_carry_storage_pairs.specs.Firsts.{IsNoted}
+use Rattle.k_carry_storage_pairs.proofs.Deeper.{set_here, set_other}
 use Rattle.k_carry_storage.specs.declared.table.Kept.{Kept}
 use Rattle.k_carry_storage.specs.declared.table.Row.{Row}
 use Rattle.k_carry_storage.specs.declared.table.Table.{Table}
@@ -23,20 +24,7 @@ row_pushed [] x (suc k) at none = refl
 row_pushed (y ∷ xs) x zero at none = refl
 row_pushed (y ∷ xs) x (suc k) at none = row_pushed xs x k at none
 
--- an item at its place, and the others
-set_here : {X : Type 0} (xs : List X) (n : ℕ) (x : X) → n < length xs → slice_get (slice_set xs n x) n ≡ Some x
-set_here [] n x low = absurd (omega (arith, low))
-set_here (y ∷ xs) zero x low = refl
-set_here (y ∷ xs) (suc n) x low = set_here xs n x (omega (arith, low))
-
-set_other : {X : Type 0} (xs : List X) (n k : ℕ) (x : X) → k ≢ n → slice_get (slice_set xs n x) k ≡ slice_get xs k
-set_other [] zero k x differs = refl
-set_other [] (suc n) k x differs = refl
-set_other (y ∷ xs) zero zero x differs = absurd (differs refl)
-set_other (y ∷ xs) zero (suc k) x differs = refl
-set_other (y ∷ xs) (suc n) zero x differs = refl
-set_other (y ∷ xs) (suc n) (suc k) x differs = set_other xs n k x (λ same. differs (ap (λ (m : ℕ). suc m) same))
-
+-- an item at its place
 get_there : {X : Type 0} (xs : List X) (n : ℕ) (d : X) → n < length xs → slice_get xs n ≡ Some (slice_index_or xs n d)
 get_there [] n d low = absurd (omega (arith, low))
 get_there (x ∷ xs) zero d low = refl

@@ -11,10 +11,10 @@ use Rattle.k_hcpa_store.specs.Kept.{Kept as StoreKept}
 use Rattle.k_carry.specs.Running.{StandsBehind, left_to_go}
 use Rattle.k_carry.specs.Sources.{Setting}
 use Rattle.k_carry_storage_pairs.specs.declared.access.Access.{Access}
-use Rattle.k_carry_storage_pairs.specs.declared.pairs.StoragePairs.{StoragePairs}
 use Rattle.k_carry_storage_pairs.specs.Kept.{Keeps, Kept, Knows, storage_of}
 use Rattle.k_carry_storage_pairs.specs.Storage.{access}
 use Rattle.k_carry_storage.specs.declared.table.Table.{Table}
+use Rattle.k_carry_storage.specs.declared.told.StorageTold.{StorageTold}
 use Rattle.k_carry_storage.specs.declared.walk.Program.{Program}
 use Rattle.k_carry_storage.specs.Accesses.{accesses_of}
 use Rattle.k_carry_storage.specs.Tables.{kept_at}
@@ -47,7 +47,8 @@ abbrev pub Stepped : Setting → StoreKept → Option End → StoreKept → Kept
 Stepped s old None new g loads stores = IsKept s new g loads stores × (left_to_go new < left_to_go old)
 Stepped s old (Some end) new g loads stores = IsOver s g end
 
--- the end, and the loops of what was gathered
-pub record IsToldOf (g : Kept) (end : End) (s : StoragePairs) : Type 0 where
-  pub ends : s.end ≡ end
-  pub loops : s.loops ≡ storage_of g
+-- the end, and the loops and the flags of what was gathered
+pub record IsToldOf (g : Kept) (end : End) (told : StorageTold) : Type 0 where
+  pub ends : told.pairs.end ≡ end
+  pub loops : told.pairs.loops ≡ storage_of g
+  pub deep : told.deep ≡ g.deep

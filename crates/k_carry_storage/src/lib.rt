@@ -5,7 +5,9 @@
 mod accesses;
 mod running;
 mod table;
+mod told;
 mod walk;
 
 pub use k_carry_storage_pairs::{LoopStorage, Shared, Sharing, StoragePairs};
-pub use running::storage;
+pub use running::{storage, storage_told};
+pub use told::StorageTold;

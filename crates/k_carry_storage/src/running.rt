@@ -5,11 +5,12 @@ ghost use Rattle.k_code.specs.Valid.{IsValid};
 ghost use Rattle.k_hcpa_store.specs.Leads.{Starts};
 ghost use Rattle.k_carry.specs.Running.{IsSetting};
 ghost use Rattle.k_carry_storage_pairs.specs.Kept.{none_shared};
-ghost use Rattle.k_carry_storage.specs.Answer.{TellsOf};
+ghost use Rattle.k_carry_storage.specs.Answer.{TellsAllOf, TellsOf};
 ghost use Rattle.k_carry_storage.specs.Running.{IsKept, IsOver, IsToldOf, setting_of};
 ghost use Rattle.k_carry_storage.specs.Tables.{kept_at};
 
 use crate::table::Table;
+use crate::told::StorageTold;
 use crate::walk::{Noted, Program, step};
 use k_carry::advance::function_at;
 use k_carry_storage_pairs::{SharedGathering, StoragePairs};
@@ -36,6 +37,25 @@ pub fn storage(
     requires shallow { depth ≤ 32 }
     ensures { IfOk result (λ s. TellsOf code.now input.now budget depth s) }
 {
+    let StorageTold { pairs, deep: _ } = storage_told(alloc, code, input, budget, depth)?;
+    Ok(pairs)
+}
+
+/// What `storage` gives, and which regions had an instance in the same run that is not tracked, so that nothing is told of it.
+pub fn storage_told(
+    alloc: Global,
+    code: &Code,
+    input: &[u8],
+    budget: u64,
+    depth: u32,
+) -> Result<StorageTold, NoMemory>
+    requires code { IsValid code.now }
+    requires some { 1 ≤ budget }
+    requires few { budget ≤ 1000000000 }
+    requires tracks { 1 ≤ depth }
+    requires shallow { depth ≤ 32 }
+    ensures { IfOk result (λ told. TellsAllOf code.now input.now budget depth told) }
+{
     let program = Program {
         alloc,
         code,
@@ -61,10 +81,10 @@ pub fn storage(
 }
 
 /// The run has ended at once, or no memory was found.
-fn stopped(program: &Program<'_>, noted: &Noted<'_>, stop: Stop) -> Result<StoragePairs, NoMemory>
+fn stopped(program: &Program<'_>, noted: &Noted<'_>, stop: Stop) -> Result<StorageTold, NoMemory>
     requires starts { Starts program.now.code.now program.now.input.now program.now.budget (Err stop) }
     requires nothing { noted.now.gathering ≡ none_shared program.now.code.now.regions program.now.depth }
-    ensures { IfOk result (λ s. TellsOf program.now.code.now program.now.input.now program.now.budget program.now.depth s) }
+    ensures { IfOk result (λ told. TellsAllOf program.now.code.now program.now.input.now program.now.budget program.now.depth told) }
 {
     match stop {
         Stop::Ended(end) => tell(program.alloc, &noted.gathering, end),
@@ -77,13 +97,13 @@ fn begin<'a>(
     program: &Program<'a>,
     store: &mut Store<'a>,
     noted: &mut Noted<'a>,
-) -> Result<StoragePairs, NoMemory>
+) -> Result<StorageTold, NoMemory>
     requires setting { IsSetting (setting_of program.now) }
     requires starts { Starts program.now.code.now program.now.input.now program.now.budget (Ok store.old) }
     requires nothing { noted.old.gathering ≡ none_shared program.now.code.now.regions program.now.depth }
     requires loads { (element : Pointer) → kept_at noted.old.loads element ≡ [] }
     requires stores { (element : Pointer) → kept_at noted.old.stores element ≡ [] }
-    ensures { IfOk result (λ s. TellsOf program.now.code.now program.now.input.now program.now.budget program.now.depth s) }
+    ensures { IfOk result (λ told. TellsAllOf program.now.code.now program.now.input.now program.now.budget program.now.depth told) }
 {
     let main = function_at(program.code.funcs.as_slice(), program.code.main);
     noted.gathering.enter(main.region, 0)?;
@@ -109,11 +129,13 @@ fn run<'a>(
 }
 
 /// What was gathered of a run that ended so.
-fn tell(alloc: Global, gathering: &SharedGathering<'_>, end: End) -> Result<StoragePairs, NoMemory>
-    ensures { IfOk result (λ s. IsToldOf gathering.now end s) }
+fn tell(alloc: Global, gathering: &SharedGathering<'_>, end: End) -> Result<StorageTold, NoMemory>
+    ensures { IfOk result (λ told. IsToldOf gathering.now end told) }
 {
-    Ok(StoragePairs {
+    let pairs = StoragePairs {
         end,
         loops: gathering.loops(alloc)?,
-    })
+    };
+    let deep = gathering.deep(alloc)?;
+    Ok(StorageTold { pairs, deep })
 }

@@ -1,7 +1,7 @@
 -- What is gathered is that of the events behind each event.
 use Rattle.std.proofs.Common.{ℕ, ◌≡◌, ◌+◌, ◌-◌, ◌<◌, Bool, true, false, List, [], ◌∷◌, ◌++◌, length, map, take, Some, arith, refl, sym, subst, ap, inl, inr, ◌∙◌}
 use Rattle.std.specs.Prelude.{Option, nat_lt, ◌&&◌, if◌then◌else◌}
-use Rattle.std.proofs.lemmas.List.{append-nil, length_push}
+use Rattle.std.proofs.lemmas.List.{append-nil, length-map, length_push}
 use Rattle.std.proofs.lemmas.Option.{slice_get_within}
 use Rattle.k_num.specs.declared.place.Place.{Place}
 use Rattle.k_optab.specs.declared.class.Class.{Class}
@@ -27,6 +27,7 @@ use Rattle.k_carry_storage_pairs.specs.declared.access.Access.{Access}
 use Rattle.k_carry_storage_pairs.specs.Kept.{Follows, IsAlike, IsListed, Keeps, Kept, Relists, both_entered, both_left, both_shared, none_shared, storage_of}
 use Rattle.k_carry_storage_pairs.specs.Storage.{AreShared, IsFirst, MakesAccess, access}
 use Rattle.k_carry_storage_pairs.proofs.Alike.{made_alike, same_places, stands_as}
+use Rattle.k_carry_storage_pairs.proofs.Deeper.{entered_deep, left_deep, nothing_deep, operation_deep}
 use Rattle.k_carry_storage_pairs.proofs.Going.{access_here, alike_next, first_back, first_on, last_access, listed_back, listed_on, makes_back, makes_on}
 use Rattle.k_carry_storage_pairs.proofs.Joined.{joined_are_shared}
 use Rattle.k_carry_storage_pairs.proofs.Within.{one_place}
@@ -276,6 +277,7 @@ keeps_nothing regions depth = record {
   stores = follows_nothing true regions depth;
   starts = refl;
   depth_is = refl;
+  deep = nothing_deep depth;
 }
 
 module _ (regions : List Region) (depth : ℕ) (events : List Event) (accesses : List (Option Access)) (g : Kept) (is : Keeps regions depth events accesses g) where
@@ -295,6 +297,7 @@ module _ (regions : List Region) (depth : ℕ) (events : List Event) (accesses :
     stores = follows_operation true regions depth events accesses g.stores is.numbered is.stores class latency sources place made stores of_stores;
     starts = is.starts ∙ sym (ap (λ (opened : List Open). map (λ (o : Open). o.start) opened) (operations_keep events class latency sources place).0);
     depth_is = is.depth_is;
+    deep = operation_deep depth events g.deep is.deep class latency sources place;
   }
 
   -- an instance is entered
@@ -307,6 +310,8 @@ module _ (regions : List Region) (depth : ℕ) (events : List Event) (accesses :
         ∙ (sym (map_push (λ (o : Open). o.start) (open_after events) (next_open region events))
         ∙ sym (ap (λ (opened : List Open). map (λ (o : Open). o.start) opened) (enters_open events region).0));
     depth_is = is.depth_is;
+    deep = entered_deep depth events g.deep is.deep region g.depth (length g.starts) is.depth_is
+        (ap (λ (all : List ℕ). length all) is.starts ∙ length-map (open_after events) (λ (o : Open). o.start));
   }
 
   -- the innermost one is left
@@ -317,6 +322,7 @@ module _ (regions : List Region) (depth : ℕ) (events : List Event) (accesses :
     stores = follows_left true regions depth events accesses g.stores is.numbered is.stores made same;
     starts = ap (λ (all : List ℕ). take (length all - 1) all) is.starts ∙ starts_left;
     depth_is = is.depth_is;
+    deep = left_deep depth events g.deep is.deep;
   }
     where
       starts_left : take (length (map (λ (o : Open). o.start) (open_after events)) - 1) (map (λ (o : Open). o.start) (open_after events))

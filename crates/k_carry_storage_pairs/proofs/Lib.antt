@@ -1,5 +1,6 @@
 pub mod Alike
 pub mod Answer
+pub mod Deeper
 pub mod Existing
 pub mod Firsting
 pub mod Going

@@ -1,6 +1,6 @@
 -- For contracts between crates: nobody has to believe it.
 -- What is gathered of a run, event by event, and what it means.
-use Rattle.std.specs.Prelude.{ℕ, ◌≡◌, ◌-◌, ◌<◌, nat_eq, Bool, true, false, if◌then◌else◌, List, [], ◌∷◌, ◌++◌, length, map, take, slice_get, Option, Some}
+use Rattle.std.specs.Prelude.{ℕ, ◌≡◌, ◌+◌, ◌-◌, ◌<◌, nat_eq, nat_le, Bool, true, false, if◌then◌else◌, List, [], ◌∷◌, ◌++◌, length, map, replicate, take, slice_get, slice_set, Option, Some}
 use Rattle.k_num.specs.declared.place.Place.{Place}
 use Rattle.k_optab.specs.declared.event.Event.{Event}
 use Rattle.k_optab.specs.declared.event.Event.TheVariants.{Op, Enter, Exit}
@@ -18,23 +18,38 @@ use Rattle.k_carry_storage_pairs.specs.declared.pairs.LoopStorage.{LoopStorage}
 use Rattle.k_carry_storage_pairs.specs.declared.pairs.Shared.{Shared}
 use Rattle.k_carry_storage_pairs.specs.declared.pairs.Sharing.{Sharing}
 use Rattle.k_carry_storage_pairs.specs.declared.pairs.Sharing.TheVariants as sharing
+use Rattle.k_carry_storage_pairs.specs.Deep.{AreDeep}
 use Rattle.k_carry_storage_pairs.specs.Storage.{IsFirst, MakesAccess, access, as_shared}
 
--- The pairs that follow a load, those that follow a store, the numbers of the first operations of the open instances, the outermost first, and how deep
--- instances are tracked. Both are gathered as dependences are, of events in which a store lists the operations that it shares an element with.
+-- The pairs that follow a load, those that follow a store, the numbers of the first operations of the open instances, the outermost first, how deep
+-- instances are tracked, and flags of the regions that had a deeper one. The pairs of both kinds are gathered as dependences are, of events in which a store lists the operations that it shares an element with.
 pub record Kept : Type 0 where
   pub loads : Gathered
   pub stores : Gathered
   pub starts : List ℕ
   pub depth : ℕ
+  pub deep : List Bool
 
 -- nothing has happened
 abbrev pub none_shared : List Region → ℕ → Kept
-none_shared regions depth = record { loads = nothing regions depth; stores = nothing regions depth; starts = []; depth = depth }
+none_shared regions depth = record { loads = nothing regions depth; stores = nothing regions depth; starts = []; depth = depth; deep = [] }
+
+-- the flag of a region is set, and those before it are there
+abbrev pub flagged : ℕ → List Bool → List Bool
+flagged region flags = slice_set (flags ++ replicate (region + 1 - length flags) false) region true
+
+-- it is set where so many instances or more are open as are tracked
+abbrev pub deep_behind : ℕ → ℕ → ℕ → List Bool → List Bool
+deep_behind depth opened region deep = if nat_le depth opened then flagged region deep else deep
 
 -- an instance of this region is entered, behind so many operations
 abbrev pub both_entered : ℕ → ℕ → Kept → Kept
-both_entered region made g = record g { loads = entered region made g.loads; stores = entered region made g.stores; starts = g.starts ++ made ∷ [] }
+both_entered region made g = record g {
+  loads = entered region made g.loads;
+  stores = entered region made g.stores;
+  starts = g.starts ++ made ∷ [];
+  deep = deep_behind g.depth (length g.starts) region g.deep;
+}
 
 -- the innermost of the open instances is left, behind so many operations
 abbrev pub both_left : ℕ → Kept → Kept
@@ -113,6 +128,7 @@ pub record Keeps (regions : List Region) (depth : ℕ) (events : List Event) (ac
   pub stores : Follows true regions depth events accesses g.stores
   pub starts : g.starts ≡ map (λ (o : Open). o.start) (open_after events)
   pub depth_is : g.depth ≡ depth
+  pub deep : AreDeep depth events g.deep
 
 -- an operation that makes this access, by its number and its place
 pub record IsOrigin (events : List Event) (accesses : List (Option Access)) (a : Access) (x : Origin) : Type 0 where

@@ -1,3 +1,4 @@
+pub mod Deep
 pub mod Firsts
 pub mod Kept
 pub mod Laws

@@ -3,6 +3,7 @@ ghost use Rattle.std.specs.Prelude.{◌≡◌, IfOk, OnOk, min, take, length};
 ghost use Rattle.k_carry_storage_pairs.specs.Kept.{both_entered, both_left, both_shared, none_shared, storage_of};
 
 use crate::LoopStorage;
+use crate::flags::set_if;
 use crate::joining::join;
 use k_carry_pairs::{Gathering, Origin};
 use k_num::{NoMemory, Place, Seq};
@@ -10,13 +11,15 @@ use k_optab::Region;
 use std::alloc::Global;
 use std::marker::Model;
 
-/// What is gathered of a run: the pairs that follow a load, those that follow a store, and with which operations the open instances begin.
+/// What is gathered of a run: the pairs that follow a load, those that follow a store, with which operations the open instances begin, and which regions had
+/// an instance that is not tracked.
 #[derive(Drop)]
 pub struct SharedGathering<'a> {
     loads: Gathering<'a>,
     stores: Gathering<'a>,
     starts: Vec<u64>,
     depth: usize,
+    deep: Vec<bool>,
 }
 
 impl<'a> Model for SharedGathering<'a> {
@@ -24,7 +27,7 @@ impl<'a> Model for SharedGathering<'a> {
 
     ghost Value = { Kept };
 
-    ghost view = { λ g. record { loads = g.loads; stores = g.stores; starts = g.starts.items; depth = g.depth } };
+    ghost view = { λ g. record { loads = g.loads; stores = g.stores; starts = g.starts.items; depth = g.depth; deep = g.deep.items } };
 }
 
 impl<'a> SharedGathering<'a> {
@@ -41,6 +44,7 @@ impl<'a> SharedGathering<'a> {
             stores: Gathering::new(alloc, regions, depth)?,
             starts: Vec::new(alloc),
             depth: depth as usize,
+            deep: Vec::new(alloc),
         })
     }
 
@@ -50,6 +54,8 @@ impl<'a> SharedGathering<'a> {
     {
         self.loads.enter(region, made)?;
         self.stores.enter(region, made)?;
+        let is_deep = self.starts.len() >= self.depth;
+        set_if(&mut self.deep, region, is_deep)?;
         self.starts.push(made)?;
         Ok(())
     }
@@ -86,5 +92,11 @@ impl<'a> SharedGathering<'a> {
         let loads = self.loads.loops(alloc)?;
         let stores = self.stores.loops(alloc)?;
         join(alloc, loads.as_slice(), stores.as_slice())
+    }
+    /// For each region, by its number, whether an instance of it was not tracked.
+    pub fn deep(&self, alloc: Global) -> Result<Seq<bool>, NoMemory>
+        ensures { IfOk result (λ deep. deep ≡ self.now.deep) }
+    {
+        Seq::copy_of(alloc, &self.deep)
     }
 }

@@ -1,8 +1,9 @@
 //! What storage pairs are: each function's contract is a law, and its body does nothing.
-ghost use Rattle.k_carry_storage_pairs.specs.Laws.{OneAnswer, SomeAnswer};
+ghost use Rattle.k_carry_storage_pairs.specs.Laws.{OneAnswer, SomeAnswer, SomeFlags};
 
-/// One list of loops tells of a run.
+/// One list of loops tells of a run, and some flags tell which of its instances were not tracked.
 pub fn one_answer()
     ensures one { OneAnswer }
     ensures some { SomeAnswer }
+    ensures deep { SomeFlags }
 {}

@@ -4,6 +4,7 @@
 
 mod access;
 mod firsts;
+mod flags;
 mod gathering;
 mod joining;
 pub mod laws;

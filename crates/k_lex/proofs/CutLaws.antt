@@ -12,7 +12,7 @@ use Rattle.k_lex.specs.Cuts.{Cut, cut, cuts, joined_pieces}
 use Rattle.k_lex_pieces.specs.Outcome.{◌>>=◌}
 use Rattle.k_lex.proofs.RunLaws.{piece_in_within}
 
-behind_first : (n : ℕ) (b : ℕ) (bs : List ℕ) → 1 ≤ n → take n (b ∷ bs) ++ drop (n - 1) bs ≡ b ∷ bs
+pub behind_first : (n : ℕ) (b : ℕ) (bs : List ℕ) → 1 ≤ n → take n (b ∷ bs) ++ drop (n - 1) bs ≡ b ∷ bs
 behind_first zero b bs le = absurd (omega arith)
 behind_first (suc n) b bs le =
     let e : suc n - 1 ≡ n = omega arith in

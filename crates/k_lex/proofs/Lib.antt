@@ -4,3 +4,4 @@ pub mod PlainLaws
 pub mod RunLaws
 pub mod TextLaws
 pub mod TokenLaws
+mod PragmaLaws

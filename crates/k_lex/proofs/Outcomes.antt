@@ -1,10 +1,16 @@
 -- What holds of each item of a list, and of the value of a result.
-use Rattle.std.proofs.Common.{◌≡◌, Bool, true, false, if◌then◌else◌, List, [], ◌∷◌, ◌++◌, Result, Ok, Err, refl}
+use Rattle.std.proofs.Common.{◌≡◌, ℕ, Bool, true, false, if◌then◌else◌, List, [], ◌∷◌, ◌++◌, Option, Some, None, Result, Ok, Err, take, drop, refl}
 use Rattle.std.specs.Prelude.{IfOk}
+use Rattle.k_num.specs.declared.place.Place.{Place}
 use Rattle.k_tree.specs.declared.tokens.Token.{Token}
 use Rattle.k_lex_pieces.specs.declared.fault.Fault.{Fault}
-use Rattle.k_lex_pieces.specs.Outcome.{◌>>=◌}
-use Rattle.k_lex.specs.Tokens.{answer}
+use Rattle.k_lex_pieces.specs.declared.fault.Refusal.TheVariants as r
+use Rattle.k_lex_pieces.specs.declared.pieces.Piece.{Piece}
+use Rattle.k_lex_pieces.specs.Outcome.{◌>>=◌, refused}
+use Rattle.k_lex.specs.declared.lines.Mode.{Mode}
+use Rattle.k_lex.specs.declared.lines.Mode.TheVariants as m
+use Rattle.k_lex.specs.Lines.{State, include, joins_lines, step}
+use Rattle.k_lex.specs.Tokens.{answer, splice_of, turn, turn_at}
 
 -- P holds of each item
 abbrev pub Each : {X : Type 0} → (X → Type 0) → List X → Type 0
@@ -49,3 +55,25 @@ bind_equal Q (Err fault) f next = tt
 pub answered : (P : List Token → Type 0) (given : Result (List Token) Fault) → IfOk given P → IfOk (answer given) P
 answered P (Ok list) holds = holds
 answered P (Err fault) holds = tt
+
+-- ---- where C would join lines
+
+-- any fact of what goes on, since nothing does
+joins_ok : (P : State → Type 0) (mode : Mode) (at : Place) (old : State) → IfOk (joins_lines mode at old) P
+joins_ok P m.Start at old = tt
+joins_ok P m.Middle at old = tt
+joins_ok P (m.Hash hash) at old = tt
+joins_ok P (m.Define hash) at old = tt
+joins_ok P (m.Body name) at old = tt
+joins_ok P (m.Again a) at old = tt
+joins_ok P (m.Include hash) at old = tt
+joins_ok P (m.Header d) at old = bind_any P (include d.name d.header old) (λ new. refused r.BadByte at) (λ new. tt)
+joins_ok P m.Pragma at old = tt
+
+-- P of what a piece does, where its step has it
+pub turn_ok : (P : State → Type 0) (place : Place) (old : State) (text : List ℕ) (piece : Piece × ℕ) → IfOk (step place (take piece.1 text) (drop piece.1 text) piece.0 old) P → IfOk (turn place old text piece) P
+turn_ok P place old text piece h = by (splice_of old.mode place text piece.1)
+  where
+    by : (o : Option Place) → IfOk (turn_at o place old text piece) P
+    by None = h
+    by (Some at) = joins_ok P old.mode at old

@@ -1,7 +1,7 @@
 -- Sources without directives: their tokens are their pieces.
-use Rattle.std.proofs.Common.{◌≡◌, ℕ, zero, suc, ◌+◌, ◌-◌, ◌<◌, ◌≤◌, Bool, true, false, ◌&&◌, not, nat_lt, leb, ◌==◌, if◌then◌else◌, List, [], ◌∷◌, ◌++◌, None, Result, Ok, Err, length, take, drop, codes, refl, sym, ap, subst, ◌∙◌, ◌⊎◌, inl, inr, append_assoc, add-zero, arith}
+use Rattle.std.proofs.Common.{◌≡◌, ℕ, zero, suc, ◌+◌, ◌-◌, ◌<◌, ◌≤◌, Bool, true, false, ◌&&◌, ◌||◌, not, nat_lt, leb, ◌==◌, if◌then◌else◌, List, [], ◌∷◌, ◌++◌, Option, Some, None, Result, Ok, Err, length, take, drop, codes, refl, sym, ap, subst, ◌∙◌, ◌⊎◌, inl, inr, append_assoc, add-zero, arith}
 use Rattle.std.proofs.lemmas.Bool.Decides.{nat_tests}
-use Rattle.std.proofs.lemmas.List.{length-take, length-append, append-nil}
+use Rattle.std.proofs.lemmas.List.{length-take, length-take-le, length-append, append-nil}
 use Rattle.k_num.specs.declared.place.Place.{Place}
 use Rattle.k_tree.specs.declared.tokens.Token.{Token}
 use Rattle.k_tree.specs.declared.tokens.TokenKind.{TokenKind}
@@ -15,16 +15,18 @@ use Rattle.k_lex.specs.declared.lines.Mode.{Mode}
 use Rattle.k_lex.specs.declared.lines.Mode.TheVariants as m
 use Rattle.k_lex.specs.declared.lines.Limits.{Limits}
 use Rattle.k_lex_macros.specs.declared.macros.Lexeme.{Lexeme}
-use Rattle.k_lex_pieces.specs.Bytes.{same, after, behind}
+use Rattle.k_lex_pieces.specs.Bytes.{same, begins, after, behind}
 use Rattle.k_lex_pieces.specs.Pieces.{class_of, piece_by}
+use Rattle.k_lex_pieces.specs.Splices.{splice_in}
 use Rattle.k_lex_macros.specs.Macros.{Macro, lexeme, full_or, fulls, used, replaced}
 use Rattle.k_lex.specs.Lines
-use Rattle.k_lex.specs.Lines.{State, token_of, token_in_text, in_text, add, has_room, is_literal, step, step_in}
+use Rattle.k_lex.specs.Lines.{State, token_of, token_in_text, in_text, add, has_room, is_literal, joins_lines, step, step_in}
 use Rattle.k_lex_pieces.specs.Outcome.{◌>>=◌, refused}
-use Rattle.k_lex.specs.Tokens.{piece_in, turn, run, joined, first_place, nothing_read, answer, fault_of, limits}
-use Rattle.k_lex.specs.Cuts.{Cut}
-use Rattle.k_lex.specs.Laws.{tokens_of, pieces_from, with_end, IsLimit, has_no_hash, SourceIsItsPieces}
+use Rattle.k_lex.specs.Tokens.{piece_in, splice_of, turn, turn_at, run, joined, first_place, nothing_read, answer, fault_of, limits}
+use Rattle.k_lex.specs.Cuts.{Cut, joined_pieces}
+use Rattle.k_lex.specs.Laws.{is_space, splice_at, tokens_of, unjoined, pieces_from, with_end, IsLimit, has_no_hash, SourceIsItsPieces}
 use Rattle.k_lex_pieces.proofs.PieceLaws.{piece_length}
+use Rattle.k_lex.proofs.CutLaws.{behind_first}
 
 -- ---- what a run gives, and what it should
 
@@ -150,9 +152,15 @@ agrees_at_piece total left n final place s piece old go cuts plain some within l
     (over_limit total left s old plain (omega arith))
     (λ what room. next (with_token place s old what) (plain_with_token total left n place s old what plain some le)))
 
+-- the tokens that a piece and those behind it are, where C joins no lines
+abbrev made_of : Cut → List Cut → Result (List Token) Fault
+made_of cut cuts =
+    if is_space cut.what then tokens_of cuts
+    else token_of cut.place cut.spelling cut.what >>= λ what. tokens_of cuts >>= λ more. Ok (record { what = what; place = cut.place } ∷ more)
+
 agrees_in_text : (total left n : ℕ) (final place : Place) (s : List ℕ) (piece : Piece) (old : State) (go : State → Result (State × Place) Fault) (cuts : List Cut)
     → IsPlain total 0 (suc left) old → 1 ≤ n → n ≤ suc left → length s ≤ n → Goes total (n - 1) left final go cuts
-    → Agrees total old.tokens final (in_text place s piece old >>= go) (tokens_of (record { place = place; what = piece; spelling = s } ∷ cuts))
+    → Agrees total old.tokens final (in_text place s piece old >>= go) (made_of (record { place = place; what = piece; spelling = s }) cuts)
 agrees_in_text total left n final place s p.Blank old go cuts plain some within le next = next old (plain.0, plain.1, plain.2, omega (arith, plain.3), omega (arith, plain.4))
 agrees_in_text total left n final place s p.Comment old go cuts plain some within le next = next old (plain.0, plain.1, plain.2, omega (arith, plain.3), omega (arith, plain.4))
 agrees_in_text total left n final place s p.Newline old go cuts plain some within le next = next (Lines.in_mode m.Start old) (tt, plain.1, plain.2, omega (arith, plain.3), omega (arith, plain.4))
@@ -193,6 +201,58 @@ not_hash : (n b : ℕ) (bs : List ℕ) → 1 ≤ n → not (b == 35) ≡ true �
 not_hash zero b bs some other = absurd (omega arith)
 not_hash (suc k) b bs some other = grind (arith, nat_tests)
 
+-- ---- where C would join lines
+
+or_never : (b c : Bool) → (b || (false && c)) ≡ b
+or_never true c = refl
+or_never false c = refl
+
+splice_in_text : (mode : Mode) (place : Place) (text : List ℕ) (n : ℕ) → IsText mode → splice_of mode place text n ≡ (if begins (codes "//") text then splice_in place n text else None)
+splice_in_text m.Start place text n plain = ap (λ (v : Bool). if v then splice_in place n text else None) (or_never (begins (codes "//") text) (not (begins (codes "/*") text)))
+splice_in_text m.Middle place text n plain = ap (λ (v : Bool). if v then splice_in place n text else None) (or_never (begins (codes "//") text) (not (begins (codes "/*") text)))
+splice_in_text (m.Hash hash) place text n plain = absurd plain
+splice_in_text (m.Define hash) place text n plain = absurd plain
+splice_in_text (m.Body at) place text n plain = absurd plain
+splice_in_text (m.Again again) place text n plain = absurd plain
+splice_in_text (m.Include hash) place text n plain = absurd plain
+splice_in_text (m.Header directive) place text n plain = absurd plain
+splice_in_text m.Pragma place text n plain = absurd plain
+
+-- the pieces of a text, one behind another, are it
+pieces_whole : (skip : ℕ) (place : Place) (text : List ℕ) → joined_pieces (pieces_from skip place text) ≡ drop skip text
+pieces_whole zero place [] = refl
+pieces_whole (suc skip) place [] = refl
+pieces_whole (suc skip) place (b ∷ bs) = pieces_whole skip (after place b) bs
+pieces_whole zero place (b ∷ bs) =
+    let x = piece_by class_of (b ∷ bs) in
+    ap (λ t. take x.1 (b ∷ bs) ++ t) (pieces_whole (x.1 - 1) (after place b) bs) ∙ behind_first x.1 b bs (piece_length class_of b bs).0
+
+splice_by_pieces : (place : Place) (b : ℕ) (bs : List ℕ) → let x = piece_by class_of (b ∷ bs) in
+    splice_at (record { place = place; what = x.0; spelling = take x.1 (b ∷ bs) }) (pieces_from (x.1 - 1) (after place b) bs) ≡ (if begins (codes "//") (b ∷ bs) then splice_in place x.1 (b ∷ bs) else None)
+splice_by_pieces place b bs =
+    let x = piece_by class_of (b ∷ bs) in
+    let s = take x.1 (b ∷ bs) in
+    let within = piece_length class_of b bs in
+    ap (λ (t : List ℕ). if begins (codes "//") t then splice_in place (length s) t else None)
+    (ap (λ t. s ++ t) (pieces_whole (x.1 - 1) (after place b) bs) ∙ behind_first x.1 b bs within.0)
+    ∙ ap (λ (k : ℕ). if begins (codes "//") (b ∷ bs) then splice_in place k (b ∷ bs) else None) (length-take-le x.1 (b ∷ bs) within.1)
+
+joins_in_text : (mode : Mode) (at : Place) (old : State) → IsText mode → joins_lines mode at old ≡ refused r.BadByte at
+joins_in_text m.Start at old plain = refl
+joins_in_text m.Middle at old plain = refl
+joins_in_text (m.Hash hash) at old plain = absurd plain
+joins_in_text (m.Define hash) at old plain = absurd plain
+joins_in_text (m.Body name) at old plain = absurd plain
+joins_in_text (m.Again again) at old plain = absurd plain
+joins_in_text (m.Include hash) at old plain = absurd plain
+joins_in_text (m.Header directive) at old plain = absurd plain
+joins_in_text m.Pragma at old plain = absurd plain
+
+agrees_unjoined : (total : ℕ) (final place : Place) (found : Option Place) (old : State) (text : List ℕ) (x : Piece × ℕ) (go : State → Result (State × Place) Fault) (want : Result (List Token) Fault) → IsText old.mode
+    → Agrees total old.tokens final (turn_at None place old text x >>= go) want → Agrees total old.tokens final (turn_at found place old text x >>= go) (unjoined found want)
+agrees_unjoined total final place None old text x go want plain agrees = agrees
+agrees_unjoined total final place (Some at) old text x go want plain agrees = inl (ap (λ (given : Result State Fault). seen (given >>= go)) (joins_in_text old.mode at old plain))
+
 -- ---- all pieces
 
 first_free : (b rest : Bool) → (b && rest) ≡ true → b ≡ true
@@ -225,12 +285,18 @@ run_plain total zero place old (b ∷ bs) free plain =
     let cuts = pieces_from (x.1 - 1) (after place b) bs in
     let final = behind (after place b) bs in
     let go = λ (new : State). run (x.1 - 1) (after place b) new bs in
-    let same_step : turn place old (b ∷ bs) x ≡ in_text place s x.0 old =
+    let cut : Cut = record { place = place; what = x.0; spelling = s } in
+    let found = splice_of old.mode place (b ∷ bs) x.1 in
+    let same_step : turn_at None place old (b ∷ bs) x ≡ in_text place s x.0 old =
     step_in_text old.mode place s (drop x.1 (b ∷ bs)) x.0 old plain.0 (not_hash x.1 b bs within.0 (first_free (not (b == 35)) (has_no_hash bs) free)) in
+    let same_splice : found ≡ splice_at cut cuts = splice_in_text old.mode place (b ∷ bs) x.1 plain.0 ∙ sym (splice_by_pieces place b bs) in
     let next : Goes total (x.1 - 1) (length bs) final go cuts = λ new plain. run_plain total (x.1 - 1) (after place b) new bs (rest_free (not (b == 35)) (has_no_hash bs) free) plain in
     let agrees = agrees_in_text total (length bs) x.1 final place s x.0 old go cuts plain within.0 within.1 (omega (arith, length-take x.1 (b ∷ bs))) next in
-    subst (λ (y : Piece × ℕ). Agrees total old.tokens final (turn place old (b ∷ bs) y >>= λ new. run (y.1 - 1) (after place b) new bs) (tokens_of (record { place = place; what = x.0; spelling = s } ∷ cuts))) (sym (piece_in_text old.mode (b ∷ bs) plain.0))
-    (subst (λ (given : Result State Fault). Agrees total old.tokens final (given >>= go) (tokens_of (record { place = place; what = x.0; spelling = s } ∷ cuts))) (sym same_step) agrees)
+    let stepped : Agrees total old.tokens final (turn_at None place old (b ∷ bs) x >>= go) (made_of cut cuts) =
+    subst (λ (given : Result State Fault). Agrees total old.tokens final (given >>= go) (made_of cut cuts)) (sym same_step) agrees in
+    subst (λ (y : Piece × ℕ). Agrees total old.tokens final (turn place old (b ∷ bs) y >>= λ new. run (y.1 - 1) (after place b) new bs) (tokens_of (cut ∷ cuts))) (sym (piece_in_text old.mode (b ∷ bs) plain.0))
+    (subst (λ (o : Option Place). Agrees total old.tokens final (turn place old (b ∷ bs) x >>= go) (unjoined o (made_of cut cuts))) same_splice
+    (agrees_unjoined total final place found old (b ∷ bs) x go (made_of cut cuts) plain.0 stepped))
 
 -- ---- the whole source
 

@@ -121,34 +121,24 @@ run_turn place s b bs (suc k) e low high =
 -- What is left of the text gives what the text gives.
 pub run_step : (place next : Place) (s new : State) (text front more : List ℕ) (piece : Piece) (n : ℕ) (whole : Result (State × Place) Fault)
     → (piece, n) ≡ piece_in s.mode text → 0 < length text → front ≡ take n text → more ≡ drop n text → next ≡ behind place front
-    → step place front more piece s ≡ Ok new → run 0 place s text ≡ whole → run 0 next new more ≡ whole
+    → turn place s text (piece, n) ≡ Ok new → run 0 place s text ≡ whole → run 0 next new more ≡ whole
 run_step place next s new [] front more piece n whole pe lt fe me ne se e = absurd (omega arith)
 run_step place next s new (b ∷ bs) front more piece n whole pe lt fe me ne se e =
     let x = piece_in s.mode (b ∷ bs) in
     let count : n ≡ x.1 = ap (λ (y : Piece × ℕ). y.1) pe in
-    let kind : piece ≡ x.0 = ap (λ (y : Piece × ℕ). y.0) pe in
     let within = piece_in_length s.mode b bs in
-    let done : turn place s (b ∷ bs) x ≡ Ok new =
-    ap (λ k. step place (take k (b ∷ bs)) (drop k (b ∷ bs)) x.0 s) (sym count)
-    ∙ ap (λ k. step place (take n (b ∷ bs)) (drop n (b ∷ bs)) k s) (sym kind)
-    ∙ ap (λ t. step place t (drop n (b ∷ bs)) piece s) (sym fe) ∙ ap (λ t. step place front t piece s) (sym me) ∙ se in
+    let done : turn place s (b ∷ bs) x ≡ Ok new = ap (turn place s (b ∷ bs)) (sym pe) ∙ se in
     ap (λ q. run 0 q new more) (ne ∙ ap (behind place) fe) ∙ ap (run 0 (behind place (take n (b ∷ bs))) new) me
     ∙ sym (ap (λ r. r >>= λ u. run 0 (behind place (take n (b ∷ bs))) u (drop n (b ∷ bs))) done)
     ∙ sym (run_turn place s b bs n count (omega (arith, within.0)) (omega (arith, within.1)))
     ∙ e
 
-pub run_stops : (place : Place) (s : State) (text front more : List ℕ) (piece : Piece) (n : ℕ) (f : Fault) (whole : Result (State × Place) Fault)
-    → (piece, n) ≡ piece_in s.mode text → 0 < length text → front ≡ take n text → more ≡ drop n text
-    → step place front more piece s ≡ Err f → run 0 place s text ≡ whole → whole ≡ Err f
-run_stops place s [] front more piece n f whole pe lt fe me se e = absurd (omega arith)
-run_stops place s (b ∷ bs) front more piece n f whole pe lt fe me se e =
+pub run_stops : (place : Place) (s : State) (text : List ℕ) (piece : Piece) (n : ℕ) (f : Fault) (whole : Result (State × Place) Fault)
+    → (piece, n) ≡ piece_in s.mode text → 0 < length text → turn place s text (piece, n) ≡ Err f → run 0 place s text ≡ whole → whole ≡ Err f
+run_stops place s [] piece n f whole pe lt se e = absurd (omega arith)
+run_stops place s (b ∷ bs) piece n f whole pe lt se e =
     let x = piece_in s.mode (b ∷ bs) in
-    let count : n ≡ x.1 = ap (λ (y : Piece × ℕ). y.1) pe in
-    let kind : piece ≡ x.0 = ap (λ (y : Piece × ℕ). y.0) pe in
-    let done : turn place s (b ∷ bs) x ≡ Err f =
-    ap (λ k. step place (take k (b ∷ bs)) (drop k (b ∷ bs)) x.0 s) (sym count)
-    ∙ ap (λ k. step place (take n (b ∷ bs)) (drop n (b ∷ bs)) k s) (sym kind)
-    ∙ ap (λ t. step place t (drop n (b ∷ bs)) piece s) (sym fe) ∙ ap (λ t. step place front t piece s) (sym me) ∙ se in
+    let done : turn place s (b ∷ bs) x ≡ Err f = ap (turn place s (b ∷ bs)) (sym pe) ∙ se in
     sym e ∙ ap (λ r. r >>= λ u. run (x.1 - 1) (after place b) u bs) done
 
 pub read_name : (mode : Mode) (text front : List ℕ) (piece : Piece) (n : ℕ) → (piece, n) ≡ piece_in mode text → front ≡ take n text → piece ≡ p.Name → is_name front ≡ true
@@ -157,11 +147,10 @@ read_name mode text front piece n pe fe h =
     let kind : piece ≡ (piece_in mode text).0 = ap (λ (y : Piece × ℕ). y.0) pe in
     ap is_name (fe ∙ ap (λ k. take k text) count) ∙ piece_in_named mode text (sym kind ∙ h)
 
-pub fails_run : (place : Place) (s : State) (text front more : List ℕ) (piece : Piece) (n : ℕ) (e : Stop) (whole : Result (State × Place) Fault)
-    → (piece, n) ≡ piece_in s.mode text → 0 < length text → front ≡ take n text → more ≡ drop n text
-    → Fails e (step place front more piece s) → run 0 place s text ≡ whole → Fails e whole
-fails_run place s text front more piece n stop.Memory whole pe lt fe me h e = tt
-fails_run place s text front more piece n (stop.Refused f) whole pe lt fe me h e = run_stops place s text front more piece n f whole pe lt fe me h e
+pub fails_run : (place : Place) (s : State) (text : List ℕ) (piece : Piece) (n : ℕ) (e : Stop) (whole : Result (State × Place) Fault)
+    → (piece, n) ≡ piece_in s.mode text → 0 < length text → Fails e (turn place s text (piece, n)) → run 0 place s text ≡ whole → Fails e whole
+fails_run place s text piece n stop.Memory whole pe lt h e = tt
+fails_run place s text piece n (stop.Refused f) whole pe lt h e = run_stops place s text piece n f whole pe lt h e
 
 pub end_ok : (place : Place) (s new : State) (text : List ℕ) (whole : Result (State × Place) Fault) → length text ≡ 0 → step place [] [] p.Newline s ≡ Ok new → run 0 place s text ≡ whole → whole ≡ Ok (new, place)
 end_ok place s new [] whole z h e = sym e ∙ ap (λ r. r >>= λ u. Ok (u, place)) h

@@ -32,7 +32,7 @@ use Rattle.k_lex.specs.Tokens.{piece_in, turn, run, joined, first_place, nothing
 use Rattle.k_lex.specs.Cuts.{Cut, cut, cuts}
 use Rattle.k_lex.specs.Laws.{Line, Fresh, Text, Directive, begun, line_behind, is_text, is_directive, pieces_of, header_names, names_in, names_of, is_in_directive, IsToken, Gives, Come, with_end, TokensComeOfText}
 use Rattle.k_lex_pieces.proofs.Tables.{same_true, same_refl}
-use Rattle.k_lex.proofs.Outcomes.{Each, each_one_more, either_way, cond_ok, bind_ok, bind_any, bind_equal, answered}
+use Rattle.k_lex.proofs.Outcomes.{Each, each_one_more, either_way, cond_ok, bind_ok, bind_any, bind_equal, answered, turn_ok}
 
 -- ---- names that may be macros
 
@@ -499,7 +499,8 @@ run_comes known zero place old (b ∷ bs) knows names =
     let s = take piece.1 (b ∷ bs) in
     let first : Cut = record { place = place; what = piece.0; spelling = s } in
     turn_comes known (line_of old.mode) first old (turn place old (b ∷ bs) piece) (λ new. run (piece.1 - 1) (after place b) new bs) (λ new. cuts (piece.1 - 1) (after place b) new bs) (behind (after place b) bs)
-    (λ there. step_does known old.mode place s (drop piece.1 (b ∷ bs)) piece.0 old refl knows there) names
+    (λ there. turn_ok (Does known (line_behind (line_of old.mode) piece.0 s) piece.0 place s old) place old (b ∷ bs) piece
+    (step_does known old.mode place s (drop piece.1 (b ∷ bs)) piece.0 old refl knows there)) names
     (λ new new_knows rest. run_comes known (piece.1 - 1) (after place b) new bs new_knows rest)
 
 -- ---- the whole source

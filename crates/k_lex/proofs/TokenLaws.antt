@@ -41,7 +41,7 @@ use Rattle.k_lex_pieces.specs.Outcome.{◌>>=◌, refused}
 use Rattle.k_lex.specs.Tokens.{piece_in, turn, run, join_kinds, join, joined, first_place, nothing_read, tokens_within, limits, tokens}
 use Rattle.k_tree.specs.Closed.{EndsOnce}
 use Rattle.k_tree.specs.Literals.{string_bytes, NumberIsHeld}
-use Rattle.k_lex.proofs.Outcomes.{Each, each_append, each_one_more, either_way, cond_ok, when_ok, bind_ok, bind_any, answered}
+use Rattle.k_lex.proofs.Outcomes.{Each, each_append, each_one_more, either_way, cond_ok, when_ok, bind_ok, bind_any, answered, turn_ok}
 use Rattle.k_lex.specs.Laws.{IsInside, IsNamed, IsRightKind, IsRightToken, kinds_of, most_place, EachListEndsOnce, EachNumberIsHeld, EachTokenIsRight, StringsAreWithinLimit}
 
 -- ---- kinds, and lists of them
@@ -563,7 +563,8 @@ run_inner (suc skip) place old (b ∷ bs) h read = run_inner skip (after place b
 run_inner zero place old (b ∷ bs) h read =
     let piece = piece_in old.mode (b ∷ bs) in
     bind_ok HasInner EndsInner (turn place old (b ∷ bs) piece) (λ new. run (piece.1 - 1) (after place b) new bs)
-    (step_inner old.mode place (take piece.1 (b ∷ bs)) (drop piece.1 (b ∷ bs)) piece.0 old (inside_of place (length (b ∷ bs)) h) (piece_spells old.mode (b ∷ bs)) read)
+    (turn_ok HasInner place old (b ∷ bs) piece
+    (step_inner old.mode place (take piece.1 (b ∷ bs)) (drop piece.1 (b ∷ bs)) piece.0 old (inside_of place (length (b ∷ bs)) h) (piece_spells old.mode (b ∷ bs)) read))
     (λ new inner. run_inner (piece.1 - 1) (after place b) new bs (behind_after place b (length bs) h) inner)
 
 -- ---- neighbouring strings, and the end

@@ -10,19 +10,21 @@ use Rattle.k_tree.specs.Spelling.{Spelled}
 use Rattle.k_tree.specs.Closed.{EndsOnce}
 use Rattle.k_tree.specs.Literals.{NumbersAreHeld, StringsFit}
 use Rattle.k_lex_pieces.specs.declared.fault.Fault.{Fault}
+use Rattle.k_lex_pieces.specs.declared.fault.Refusal.TheVariants as r
 use Rattle.k_lex.specs.declared.fault.LexFault.{LexFault}
 use Rattle.k_lex.specs.declared.fault.LexFault.TheVariants as l
 use Rattle.k_lex_macros.specs.declared.headers.Header.{Header}
 use Rattle.k_lex_pieces.specs.declared.pieces.Piece.{Piece}
 use Rattle.k_lex_pieces.specs.declared.pieces.Piece.TheVariants as p
-use Rattle.k_lex_pieces.specs.Bytes.{same, every, after, behind}
+use Rattle.k_lex_pieces.specs.Bytes.{same, begins, every, after, behind}
 use Rattle.k_lex_pieces.specs.Pieces.{class_of, is_name, piece_by}
+use Rattle.k_lex_pieces.specs.Splices.{splice_in}
 use Rattle.k_lex_pieces.specs.Words.{word_of}
 use Rattle.k_lex_macros.specs.Macros.{header_of, header_macros}
 use Rattle.k_lex.specs.Lines.{token_of}
-use Rattle.k_lex_pieces.specs.Outcome.{◌>>=◌}
+use Rattle.k_lex_pieces.specs.Outcome.{◌>>=◌, refused}
 use Rattle.k_lex.specs.Tokens.{joined, first_place, nothing_read, answer, limits, tokens}
-use Rattle.k_lex.specs.Cuts.{Cut, cuts}
+use Rattle.k_lex.specs.Cuts.{Cut, cuts, joined_pieces}
 
 -- ---- each accepted list
 
@@ -89,12 +91,23 @@ is_space p.Comment = true
 is_space p.Newline = true
 is_space _ = false
 
+-- C17 5.1.1.2p1: where C would join the next line to a piece that is a `//` comment, by the pieces behind it
+abbrev pub splice_at : Cut → List Cut → Option Place
+splice_at cut cuts =
+    let text = cut.spelling ++ joined_pieces cuts in
+    if begins (codes "//") text then splice_in cut.place (length cut.spelling) text else None
+
+-- what is made of pieces, or BadByte where C would join lines
+abbrev pub unjoined : Option Place → Result (List Token) Fault → Result (List Token) Fault
+unjoined None made = made
+unjoined (Some at) made = refused r.BadByte at
+
 -- the tokens that the pieces are, each at its piece's place, or the first fault
 abbrev pub tokens_of : List Cut → Result (List Token) Fault
 tokens_of [] = Ok []
-tokens_of (cut ∷ cuts) =
+tokens_of (cut ∷ cuts) = unjoined (splice_at cut cuts) (
     if is_space cut.what then tokens_of cuts
-    else token_of cut.place cut.spelling cut.what >>= λ what. tokens_of cuts >>= λ more. Ok (record { what = what; place = cut.place } ∷ more)
+    else token_of cut.place cut.spelling cut.what >>= λ what. tokens_of cuts >>= λ more. Ok (record { what = what; place = cut.place } ∷ more))
 
 -- C17 5.1.1.2: the list of a source that ends at this place, its neighbouring strings joined
 abbrev pub with_end : Place → List Token → List Token
@@ -111,8 +124,8 @@ IsLimit (Err (l.TokensMany place)) = Unit {0}
 IsLimit _ = ⊥
 
 -- C17 5.1.1.2: A source without `#` is its pieces: blanks, comments and ends of lines dropped, each token at its piece's
--- place, neighbouring strings joined, or the first piece that is no token. Only one of more than 400,000 bytes may also
--- be refused by a limit.
+-- place, neighbouring strings joined, or the first piece that is no token or is joined to the next line. Only one of
+-- more than 400,000 bytes may also be refused by a limit.
 abbrev pub SourceIsItsPieces : Type 0
 SourceIsItsPieces = (source : List ℕ) → has_no_hash source ≡ true →
     (tokens source ≡ answer (tokens_of (pieces_from 0 first_place source) >>= λ made. Ok (with_end (behind first_place source) made)))

@@ -4,3 +4,4 @@ pub mod Laws
 pub mod Lines
 pub mod Shown
 pub mod Tokens
+pub mod PragmaLines

@@ -197,6 +197,16 @@ in_pragma place _ old = Ok old
 abbrev pub in_start : Place → List ℕ → Piece → State → Result State Fault
 in_start place s piece old = if same s (codes "#") then Ok (in_mode (m.Hash place) old) else in_text place s piece old
 
+-- ---- lines that C would join
+
+-- Where C would join the next line to this one (C17 5.1.1.2p1): BadByte, but a directive without its name is BadDirective,
+-- and what is wrong with a header comes first.
+abbrev pub joins_lines : Mode → Place → State → Result State Fault
+joins_lines (m.Define hash) at old = refused r.BadDirective hash
+joins_lines (m.Include hash) at old = refused r.BadDirective hash
+joins_lines (m.Header d) at old = include d.name d.header old >>= λ new. refused r.BadByte at
+joins_lines _ at old = refused r.BadByte at
+
 -- ---- what a piece at this place does, with what stands behind it
 
 -- what a piece does, by what has been read of its line

@@ -1,6 +1,6 @@
 -- Believed with the theorem on the top call.
 -- The tokens of a source (C17 5.1.1.2, 6.4).
-use Rattle.std.specs.Prelude.{ℕ, zero, suc, ◌-◌, List, [], ◌∷◌, ◌++◌, Result, Ok, Err, nat_lt, if◌then◌else◌, length, take, drop}
+use Rattle.std.specs.Prelude.{ℕ, zero, suc, ◌-◌, Bool, true, false, ◌&&◌, ◌||◌, not, List, [], ◌∷◌, ◌++◌, Option, Some, None, Result, Ok, Err, nat_lt, if◌then◌else◌, length, take, drop, codes}
 use Rattle.k_num.specs.declared.place.Place.{Place}
 use Rattle.k_tree.specs.declared.tokens.Token.{Token}
 use Rattle.k_tree.specs.declared.tokens.TokenKind.{TokenKind}
@@ -15,9 +15,10 @@ use Rattle.k_lex_pieces.specs.declared.pieces.Piece.TheVariants.{Newline}
 use Rattle.k_lex.specs.declared.lines.Mode.{Mode}
 use Rattle.k_lex.specs.declared.lines.Mode.TheVariants as m
 use Rattle.k_lex.specs.declared.lines.Limits.{Limits}
-use Rattle.k_lex_pieces.specs.Bytes.{after}
+use Rattle.k_lex_pieces.specs.Bytes.{after, begins}
 use Rattle.k_lex_pieces.specs.Pieces.{class_of, class_in_pragma, class_in_include, piece_by}
-use Rattle.k_lex.specs.Lines.{State, step}
+use Rattle.k_lex_pieces.specs.Splices.{splice_in}
+use Rattle.k_lex.specs.Lines.{State, joins_lines, step}
 use Rattle.k_lex_pieces.specs.Outcome.{◌>>=◌, refused}
 
 -- the longest piece at the front of the text (C17 6.4p4)
@@ -26,9 +27,27 @@ piece_in m.Pragma text = piece_by class_in_pragma text
 piece_in (m.Include _) text = piece_by class_in_include text
 piece_in _ text = piece_by class_of text
 
+-- the line is a `#pragma`
+abbrev pub is_pragma : Mode → Bool
+is_pragma m.Pragma = true
+is_pragma _ = false
+
+-- the text begins with a `//` comment, or with what stands in a `#pragma` and in no comment: the end of the line ends it
+abbrev pub ends_with_line : Mode → List ℕ → Bool
+ends_with_line mode text = begins (codes "//") text || (is_pragma mode && not (begins (codes "/*") text))
+
+-- C17 5.1.1.2p1: where C would join the next line to a `//` comment or a `#pragma`, in a piece of n bytes at the front of the text
+abbrev pub splice_of : Mode → Place → List ℕ → ℕ → Option Place
+splice_of mode place text n = if ends_with_line mode text then splice_in place n text else None
+
+-- the step of a piece, unless C would join lines there
+abbrev pub turn_at : Option Place → Place → State → List ℕ → Piece × ℕ → Result State Fault
+turn_at None place old text piece = step place (take piece.1 text) (drop piece.1 text) piece.0 old
+turn_at (Some at) place old text piece = joins_lines old.mode at old
+
 -- what that piece does
 abbrev pub turn : Place → State → List ℕ → Piece × ℕ → Result State Fault
-turn place old text piece = step place (take piece.1 text) (drop piece.1 text) piece.0 old
+turn place old text piece = turn_at (splice_of old.mode place text piece.1) place old text piece
 
 -- What has been read at the end of the text, and the end's place. The first skip bytes belong to the piece
 -- before. The end of the source ends its last line.

@@ -5,7 +5,7 @@ use k_num::Place;
 /// Why `lex` refuses a source, and where.
 #[derive(Clone, Copy, Debug, PartialEq, Eq)]
 pub enum LexFault {
-    /// A byte begins no token, or stands where it may not.
+    /// A byte begins no token, or stands where it may not, or C would join the next line there to a comment or a `#pragma`.
     BadByte(Place),
     /// A comment has no end.
     OpenComment(Place),

@@ -5,8 +5,10 @@ mod fault;
 mod joined;
 pub mod laws;
 mod lines;
+mod pragmas;
 mod source;
 mod tokens;
 
 pub use fault::LexFault;
+pub use pragmas::pragma_lines;
 pub use source::lex;

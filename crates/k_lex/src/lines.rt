@@ -1,6 +1,7 @@
 //! Lines and directives: what each piece does, one after another.
 
-ghost use Rattle.std.specs.Prelude.{◌≡◌, OnOk};
+ghost use Rattle.std.specs.Prelude.{◌≡◌, ◌+◌, ◌≤◌, length, take, OnOk};
+ghost use Rattle.k_lex_pieces.specs.Bytes as bytes;
 ghost use Rattle.k_lex.specs.Lines as spec;
 ghost use Rattle.k_lex.specs.Tokens as tokens;
 ghost use Rattle.k_lex.specs.Shown.{shown, Sound, IsSmall, IsReadable};
@@ -17,6 +18,7 @@ use k_lex_macros::headers::Header;
 use k_lex_macros::macros::{Lexeme, Macros};
 use k_lex_pieces::fault::{Refusal, Stop};
 use k_lex_pieces::pieces::{Piece, piece_at, piece_in_include, piece_in_pragma};
+use k_lex_pieces::splices::splice_in;
 use k_lex_pieces::words::is_same;
 use k_num::{Place, Seq};
 use k_tree::Token;
@@ -205,5 +207,65 @@ pub fn piece_in(mode: Mode, text: &[u8]) -> (Piece, usize)
         Mode::Pragma => piece_in_pragma(text),
         Mode::Include(_) => piece_in_include(text),
         _ => piece_at(text),
+    }
+}
+
+/// Whether the text begins with a `//` comment, or with what stands in a `#pragma` and in no comment.
+fn ends_with_line(mode: Mode, text: &[u8]) -> bool
+    ensures { result ≡ tokens.ends_with_line mode text.now }
+{
+    match text {
+        [b'/', b'/', ..] => true,
+        [b'/', b'*', ..] => false,
+        _ => matches!(mode, Mode::Pragma),
+    }
+}
+
+/// Where C would join the next line to what stands in this one, in a piece of so many bytes.
+fn splice_of(mode: Mode, place: Place, text: &[u8], count: usize) -> Option<Place>
+    requires { bytes.HasRoom place count }
+    ensures { result ≡ tokens.splice_of mode place text.now count }
+{
+    if ends_with_line(mode, text) {
+        splice_in(place, count, text)
+    } else {
+        None
+    }
+}
+
+/// C would join lines at this place.
+fn joins_lines(alloc: Global, state: &mut State, at: Place) -> Result<(), Stop>
+    requires { Sound state.old }
+    ensures gives { Gives (λ _. shown state.new) result (spec.joins_lines (shown state.old).mode at (shown state.old)) }
+    ensures sound { OnOk result (Sound state.new) }
+{
+    match state.mode {
+        Mode::Define(hash) | Mode::Include(hash) => Err(refusal(Refusal::BadDirective, hash)),
+        Mode::Header(directive) => in_header(alloc, state, directive, at, Piece::Unknown),
+        _ => Err(refusal(Refusal::BadByte, at)),
+    }
+}
+
+/// What the piece at the front of a text does, which has so many bytes.
+pub fn turn(
+    alloc: Global,
+    state: &mut State,
+    place: Place,
+    text: &[u8],
+    piece: Piece,
+    count: usize,
+) -> Result<(), Stop>
+    requires sound { Sound state.old }
+    requires within { count ≤ length text.now }
+    requires readable { IsReadable place (take count text.now) piece }
+    ensures gives { Gives (λ _. shown state.new) result (tokens.turn place (shown state.old) text.now (piece, count)) }
+    ensures sound { OnOk result (Sound state.new) }
+{
+    match splice_of(state.mode, place, text, count) {
+        Some(at) => joins_lines(alloc, state, at),
+        None => {
+            let (front, more) = text.split_at(count);
+            step(alloc, state, place, front, more, piece)
+        }
     }
 }

@@ -9,7 +9,7 @@ ghost use Rattle.k_lex_pieces.specs.Outcome.{Gives};
 
 use crate::fault::LexFault;
 use crate::joined::joined;
-use crate::lines::{Limits, State, nothing_read, piece_in, step};
+use crate::lines::{Limits, State, nothing_read, piece_in, step, turn};
 use crate::tokens::refusal;
 use k_lex_pieces::bytes::behind;
 use k_lex_pieces::fault::{Fault, Refusal, Stop};
@@ -19,13 +19,13 @@ use k_tree::Token;
 use std::alloc::Global;
 
 /// The limits of a source.
-const LIMITS: Limits = Limits {
+pub(crate) const LIMITS: Limits = Limits {
     source: 1_048_576,
     tokens: 400_000,
     spelling: 4_194_304,
 };
 
-const FIRST_PLACE: Place = Place { line: 1, column: 1 };
+pub(crate) const FIRST_PLACE: Place = Place { line: 1, column: 1 };
 
 /// Reads the bytes, piece by piece.
 fn read(alloc: Global, limits: Limits, bytes: &[u8]) -> Result<(State, Place), Stop>
@@ -39,7 +39,7 @@ fn read(alloc: Global, limits: Limits, bytes: &[u8]) -> Result<(State, Place), S
     while !rest.is_empty() {
         let (piece, length) = piece_in(state.mode(), rest);
         let (front, more) = rest.split_at(length);
-        if let Err(stop) = step(alloc, &mut state, place, front, more, piece) {
+        if let Err(stop) = turn(alloc, &mut state, place, rest, piece, length) {
             return Err(stop);
         }
         place = behind(place, front);

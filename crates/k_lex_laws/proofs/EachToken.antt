@@ -24,7 +24,7 @@ use Rattle.k_lex.specs.Lines.{State, step_in}
 use Rattle.k_lex_pieces.specs.Outcome.{◌>>=◌, refused}
 use Rattle.k_lex.specs.Laws.{kinds_of}
 use Rattle.k_lex.specs.Tokens.{piece_in, turn, run, join_kinds, join, joined, first_place, nothing_read, tokens_within, limits, tokens}
-use Rattle.k_lex.proofs.Outcomes.{Each, each_append, each_one_more, either_way, cond_ok, bind_ok, bind_any, answered}
+use Rattle.k_lex.proofs.Outcomes.{Each, each_append, each_one_more, either_way, cond_ok, bind_ok, bind_any, answered, turn_ok}
 
 -- what pieces and headers give has it, and so have every string and the end
 pub record IsGiven (P : TokenKind → Type 0) : Type 0 where
@@ -278,7 +278,8 @@ module _ (P : TokenKind → Type 0) (given : IsGiven P) where
   run_has zero place old (b ∷ bs) read =
       let piece = piece_in old.mode (b ∷ bs) in
       bind_ok Read Ends (turn place old (b ∷ bs) piece) (λ new. run (piece.1 - 1) (after place b) new bs)
-      (step_has old.mode place (take piece.1 (b ∷ bs)) (drop piece.1 (b ∷ bs)) piece.0 old read) (λ new h. run_has (piece.1 - 1) (after place b) new bs h)
+      (turn_ok Read place old (b ∷ bs) piece (step_has old.mode place (take piece.1 (b ∷ bs)) (drop piece.1 (b ∷ bs)) piece.0 old read))
+      (λ new h. run_has (piece.1 - 1) (after place b) new bs h)
 
   -- NEIGHBOURING STRINGS, AND THE END
   join_kinds_has : (a : Token) (ts : List Token) (b : Token) (x y : TokenKind) → OfToken a → Each OfToken (b ∷ ts) → Each OfToken (join_kinds a ts b x y)

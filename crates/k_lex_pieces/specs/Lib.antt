@@ -5,4 +5,5 @@ pub mod Numbers
 pub mod Outcome
 pub mod Pieces
 pub mod Scans
+pub mod Splices
 pub mod Words

@@ -9,4 +9,5 @@ mod marks;
 pub mod numbers;
 pub mod pieces;
 mod scan;
+pub mod splices;
 pub mod words;

@@ -1,6 +1,6 @@
 -- Believed with the theorem on the top call.
 -- What a loop's text has to do with its variables so that its turns may run in parallel, each thread with variables of its own.
-use Rattle.std.specs.Prelude.{ℕ, nat_eq, nat_lt, nat_le, Bool, true, false, not, ◌&&◌, ◌||◌, ◌+◌, List, [], ◌∷◌, Option, Some, None}
+use Rattle.std.specs.Prelude.{ℕ, nat_eq, nat_lt, nat_le, Bool, true, false, not, ◌&&◌, ◌||◌, ◌+◌, List, [], ◌∷◌, count_by, Option, Some, None}
 use Rattle.std.specs.List.{list_all, list_any}
 use Rattle.k_types_meaning.specs.declared.tree.unit.TVariable.{TVariable}
 use Rattle.k_marks_meaning.specs.declared.uses.Group.{Group}
@@ -181,3 +181,44 @@ counter_settled occurs setters l (Some n) = declared_in occurs l n || is_settled
 -- the fifth and the sixth condition: turns that run in threads of their own share no register
 abbrev pub shares_nothing : List Occurrence → List Setter → LoopText → List TVariable → Bool
 shares_nothing occurs setters l vs = counter_settled occurs setters l l.counter && all_private occurs setters l vs
+
+-- a node lies in the first part of a loop, where a variable that it declares occurs at the loop's own node
+abbrev pub in_first : LoopText → ℕ → Bool
+in_first l node = nat_le l.node node && nat_le node l.head
+
+-- a node lies in the test of a loop
+abbrev pub in_test : LoopText → ℕ → Bool
+in_test l node = nat_lt l.head node && nat_le node l.test
+
+-- an occurrence of this variable in the first part
+abbrev pub occurs_first : LoopText → ℕ → Occurrence → Bool
+occurs_first l v o = is_of v o && in_first l o.node
+
+-- an occurrence of this variable in the test
+abbrev pub occurs_in_test : LoopText → ℕ → Occurrence → Bool
+occurs_in_test l v o = is_of v o && in_test l o.node
+
+-- the loop's variable i occurs once in the first part `i = e` and once in the test `i op e'`: neither e nor e' names it
+abbrev pub named_once : List Occurrence → LoopText → Option ℕ → Bool
+named_once occurs l None = false
+named_once occurs l (Some n) = nat_eq (count_by (occurs_first l n) occurs) 1 && nat_eq (count_by (occurs_in_test l n) occurs) 1
+
+-- an occurrence of this variable in the first part or the test
+abbrev pub occurs_in_head : LoopText → ℕ → Occurrence → Bool
+occurs_in_head l v o = occurs_first l v o || occurs_in_test l v o
+
+-- a variable of this number stands in a clause: it is a reduction, or has to be private
+abbrev pub is_in_clause : List Occurrence → LoopText → ℕ → TVariable → Bool
+is_in_clause occurs l n v = is_some_reduction occurs l n v || must_be_private occurs l n v
+
+-- a variable of this number does not occur in the first part and the test, or stands in no clause
+abbrev pub keeps_head : List Occurrence → LoopText → ℕ → TVariable → Bool
+keeps_head occurs l n v = not (list_any (occurs_in_head l n) occurs) || not (is_in_clause occurs l n v)
+
+-- all variables do so: first part and test have the same value in every thread
+abbrev pub head_stays : List Occurrence → LoopText → List TVariable → Bool
+head_stays occurs l vs = all_pass (keeps_head occurs l) 0 vs
+
+-- first part and test name the loop's variable once each, and nothing that stands in a clause
+abbrev pub has_plain_head : List Occurrence → LoopText → List TVariable → Bool
+has_plain_head occurs l vs = named_once occurs l l.counter && head_stays occurs l vs

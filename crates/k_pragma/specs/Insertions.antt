@@ -1,7 +1,7 @@
 -- Believed with the theorem on the top call.
 -- *Annotation*: the source with a comment before each function and loop that has a row, and a line before each marked loop.
-use Rattle.std.specs.Prelude.{ℕ, ◌+◌, ◌==◌, nat_eq, nat_le, Bool, false, not, ◌&&◌, ◌||◌, if◌then◌else◌, List, [], ◌∷◌, ◌++◌, Option, Some, None, Result, Ok, Err, codes, slice_get}
-use Rattle.std.specs.List.{flat_map}
+use Rattle.std.specs.Prelude.{ℕ, ◌+◌, ◌==◌, nat_eq, nat_lt, Bool, false, not, ◌&&◌, ◌||◌, if◌then◌else◌, List, [], ◌∷◌, ◌++◌, Option, Some, None, Result, codes, slice_get}
+use Rattle.std.specs.List.{flat_map, list_any}
 use Rattle.std.specs.Fmt.{decimal}
 use Rattle.k_num.specs.declared.place.Place.{Place}
 use Rattle.k_optab.specs.declared.region.Region.{Region}
@@ -12,10 +12,13 @@ use Rattle.k_tree.specs.declared.tokens.Token.{Token}
 use Rattle.k_types_meaning.specs.declared.tree.unit.TUnit.{TUnit}
 use Rattle.k_marks_meaning.specs.declared.Marks.{Marks}
 use Rattle.k_lex.specs.declared.fault.LexFault.{LexFault}
+use Rattle.k_lex.specs.PragmaLines.{pragma_lines}
+use Rattle.k_pragma_written.specs.Written.{if_tokens}
+use Rattle.k_pragma_written.specs.declared.told.Written.{Written}
 use Rattle.k_pragma.specs.declared.notes.Note.{Note}
 use Rattle.k_pragma.specs.declared.pragmas.Pragma.{Pragma}
-use Rattle.k_pragma.specs.Clauses.{same_place}
 use Rattle.k_pragma.specs.Marked.{pragmas_in}
+use Rattle.k_pragma.specs.Names.{is_in_word}
 
 -- the comment on a region of this kind with a row
 abbrev pub comment : List ℕ → Row → List ℕ
@@ -28,32 +31,61 @@ abbrev pub line_of : ℕ → List Pragma → List ℕ
 line_of region [] = []
 line_of region (p ∷ ps) = if nat_eq p.region region then p.text else line_of region ps
 
+-- two places are one
+abbrev pub same_place : Place → Place → Bool
+same_place a b = nat_eq a.line b.line && nat_eq a.column b.column
+
+-- a place comes before another
+abbrev pub is_before : Place → Place → Bool
+is_before a b = nat_lt a.line b.line || (nat_eq a.line b.line && nat_lt a.column b.column)
+
+-- the first place, if it comes before the second; else what is given
+abbrev pub if_before : Place → Place → Place → Place
+if_before one place other = if is_before one place then one else other
+
+-- the place of the last token before a place; without one what is given
+abbrev pub token_before : Place → Place → List Token → Place
+token_before other place [] = other
+token_before other place (t ∷ ts) = token_before (if_before t.place place other) place ts
+
+-- before all places
+abbrev pub nowhere : Place
+nowhere = record { line = 0; column = 0 }
+
+-- a place comes between two others
+abbrev pub is_between : Place → Place → Place → Bool
+is_between first last p = is_before first p && is_before p last
+
+-- a line of a `#pragma` stands before a place and behind the token before it
+abbrev pub follows_pragma : List Place → List Token → Place → Bool
+follows_pragma lines tokens place = list_any (is_between (token_before nowhere place tokens) place) lines
+
+-- THE EIGHTH CONDITION: the line of the loop of a region at this place, unless a line of a `#pragma` stands there
+abbrev pub line_at : List Place → List Token → Place → ℕ → List Pragma → List ℕ
+line_at lines tokens place region pragmas = if follows_pragma lines tokens place then [] else line_of region pragmas
+
 -- what is inserted at a place: this comment, and behind it this line
 abbrev pub a_note : Place → List ℕ → List ℕ → List Note
 a_note place comment line = record { place = place; comment = comment; line = line } ∷ []
 
 -- what is inserted at the place of a region of a kind that has this row: of a body nothing
-abbrev pub note_by : RegionKind → Place → List Pragma → Row → List Note
-note_by Func place pragmas row = a_note place (comment (codes "func") row) []
-note_by Loop place pragmas row = a_note place (comment (codes "loop") row) (line_of row.region pragmas)
-note_by Body place pragmas row = []
+abbrev pub note_by : List Place → List Token → RegionKind → Place → List Pragma → Row → List Note
+note_by lines tokens Func place pragmas row = a_note place (comment (codes "func") row) []
+note_by lines tokens Loop place pragmas row = a_note place (comment (codes "loop") row) (line_at lines tokens place row.region pragmas)
+note_by lines tokens Body place pragmas row = []
 
 -- the same of a region, where there is one
-abbrev pub note_for : Option Region → List Pragma → Row → List Note
-note_for None pragmas row = []
-note_for (Some region) pragmas row = note_by region.kind region.place pragmas row
+abbrev pub note_for : List Place → List Token → Option Region → List Pragma → Row → List Note
+note_for lines tokens None pragmas row = []
+note_for lines tokens (Some region) pragmas row = note_by lines tokens region.kind region.place pragmas row
 
 -- what is inserted at the place of the region that a row names
-abbrev pub note_of : List Region → List Pragma → Row → List Note
-note_of regions pragmas row = note_for (slice_get regions row.region) pragmas row
+abbrev pub note_of : List Place → List Token → List Region → List Pragma → Row → List Note
+note_of lines tokens regions pragmas row = note_for lines tokens (slice_get regions row.region) pragmas row
 
 -- what is inserted at the places of regions, in the order of their rows, which is that of the regions
-unfoldable pub notes_of : List Region → List Pragma → List Row → List Note
-notes_of regions pragmas rows = flat_map (note_of regions pragmas) rows
-
--- a byte may stand in a word: a letter, a digit or `_`
-abbrev pub is_in_word : ℕ → Bool
-is_in_word b = (nat_le 48 b && nat_le b 57) || ((nat_le 65 b && nat_le b 90) || ((b == 95) || (nat_le 97 b && nat_le b 122)))
+unfoldable pub notes_of : List Place → List Token → List Region → List Pragma → List Row → List Note
+notes_of lines tokens regions pragmas rows = flat_map (note_of lines tokens regions pragmas) rows
 
 -- a text goes on with a word
 abbrev pub goes_on : List ℕ → Bool
@@ -97,16 +129,11 @@ with_notes notes place before [] = []
 with_notes notes place before (b ∷ bs) =
     parted before (inserted_at place (b ∷ bs) notes) ++ b ∷ with_notes notes (behind place b) b bs
 
--- the tokens, where the source has any
-abbrev pub if_tokens : Result (List Token) LexFault → List Token
-if_tokens (Ok list) = list
-if_tokens (Err fault) = []
-
 -- the bytes with what is inserted, by the tokens of the source
-unfoldable pub annotated_by : List ℕ → List Token → TUnit → Marks → List Region → List Row → List ℕ → List ℕ
-annotated_by bytes tokens unit marks regions rows among =
-    with_notes (notes_of regions (pragmas_in among marks.counted tokens 0 unit.functions) rows) beginning 0 bytes
+unfoldable pub annotated_by : List ℕ → List Token → Written → TUnit → Marks → List Region → List Row → List ℕ → List ℕ
+annotated_by bytes tokens written unit marks regions rows among =
+    with_notes (notes_of (pragma_lines bytes) tokens regions (pragmas_in among marks.counted written 0 unit.functions) rows) beginning 0 bytes
 
--- *ANNOTATION*: the loops of regions among these may be marked
-unfoldable pub annotated : List ℕ → Result (List Token) LexFault → TUnit → Marks → List Region → List Row → List ℕ → List ℕ
-annotated bytes tokens unit marks regions rows among = annotated_by bytes (if_tokens tokens) unit marks regions rows among
+-- *ANNOTATION*, by what the tree of the source tells: the loops of regions among these may be marked
+unfoldable pub annotated : List ℕ → Result (List Token) LexFault → Written → TUnit → Marks → List Region → List Row → List ℕ → List ℕ
+annotated bytes tokens written unit marks regions rows among = annotated_by bytes (if_tokens tokens) written unit marks regions rows among

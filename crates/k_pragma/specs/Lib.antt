@@ -1,3 +1,4 @@
+pub mod Names
 pub mod Conditions
 pub mod Clauses
 pub mod Marked

@@ -1,17 +1,17 @@
 //! The OpenMP line of a loop.
-ghost use Rattle.std.specs.Prelude.{◌≡◌, ◌++◌, IfOk, OnOk};
+ghost use Rattle.std.specs.Prelude.{◌≡◌, ◌++◌, map, IfOk, OnOk};
 ghost use Rattle.std.specs.List.{flat_map};
 ghost use Rattle.k_pragma.specs.Clauses as spec;
 ghost use Rattle.k_pragma.specs.Clauses.{clause_head};
+ghost use Rattle.k_pragma.specs.Names.{name_of as name_meant};
 ghost use Rattle.k_pragma.specs.declared.clauses.Clause.TheVariants.{Reduction};
 
 use crate::conditions::{is_reduction, must_be_private};
-use crate::names::name_at;
+use crate::names::{are_apart, name_of};
 use k_marks_meaning::Group;
-use k_num::{NoMemory, Place};
+use k_num::{NoMemory, Text};
 use k_pragma_texts::{LoopText, Occurrence};
 use k_text::push;
-use k_tree::Token;
 use k_types_meaning::TVariable;
 use std::alloc::Global;
 
@@ -23,6 +23,16 @@ pub enum Clause {
     /// `private(names)`
     Private,
 }
+
+const SUMS: Clause = Clause::Reduction(Group::Sums);
+
+const PRODUCTS: Clause = Clause::Reduction(Group::Products);
+
+const ANDS: Clause = Clause::Reduction(Group::Ands);
+
+const ORS: Clause = Clause::Reduction(Group::Ors);
+
+const XORS: Clause = Clause::Reduction(Group::Xors);
 
 /// Whether a variable of this number stands in a clause.
 fn belongs(
@@ -40,25 +50,57 @@ fn belongs(
     }
 }
 
-/// The places of the variables that stand in a clause, in order of declaration.
-fn places_in(
-    alloc: Global,
+/// Adds the numbers of the variables that stand in a clause, in order of declaration.
+fn push_numbers(
     occurs: &[Occurrence],
     at: LoopText,
-    clause: Clause,
     variables: &[TVariable],
-) -> Result<Vec<Place>, NoMemory>
-    ensures { IfOk result (λ places. places.items ≡ spec.places_in occurs.now at clause 0 variables.now) }
+    clause: Clause,
+    numbers: &mut Vec<usize>,
+) -> Result<(), NoMemory>
+    ensures { OnOk result (numbers.new.items ≡ numbers.old.items ++ spec.numbers_in occurs.now at clause 0 variables.now) }
 {
-    let mut places = Vec::new(alloc);
     let mut number: usize = 0;
     for variable in variables {
         if belongs(occurs, at, clause, number, variable) {
-            places.push(variable.place)?;
+            numbers.push(number)?;
         }
         number += 1;
     }
-    Ok(places)
+    Ok(())
+}
+
+/// The numbers of the variables that stand in all clauses, one clause behind another.
+fn all_numbers(
+    alloc: Global,
+    occurs: &[Occurrence],
+    at: LoopText,
+    variables: &[TVariable],
+) -> Result<Vec<usize>, NoMemory>
+    ensures { IfOk result (λ numbers. numbers.items ≡ spec.numbers_in_all occurs.now at variables.now spec.clauses) }
+{
+    let mut numbers = Vec::new(alloc);
+    push_numbers(occurs, at, variables, SUMS, &mut numbers)?;
+    push_numbers(occurs, at, variables, PRODUCTS, &mut numbers)?;
+    push_numbers(occurs, at, variables, ANDS, &mut numbers)?;
+    push_numbers(occurs, at, variables, ORS, &mut numbers)?;
+    push_numbers(occurs, at, variables, XORS, &mut numbers)?;
+    push_numbers(occurs, at, variables, Clause::Private, &mut numbers)?;
+    Ok(numbers)
+}
+
+/// Whether the names in all clauses of a loop are words, and no two are one.
+pub(crate) fn has_names(
+    alloc: Global,
+    names: &[Text],
+    occurs: &[Occurrence],
+    at: LoopText,
+    variables: &[TVariable],
+) -> Result<bool, NoMemory>
+    ensures { IfOk result (λ has. has ≡ spec.has_names names.now occurs.now at variables.now) }
+{
+    let numbers = all_numbers(alloc, occurs, at, variables)?;
+    Ok(are_apart(names, numbers.as_slice()))
 }
 
 /// A clause up to its first name.
@@ -84,79 +126,75 @@ fn reduction_head(group: Group) -> &'static str
     }
 }
 
-/// The names of the variables at these places, each behind a comma.
-fn push_others(text: &mut Vec<u8>, tokens: &[Token], places: &[Place]) -> Result<(), NoMemory>
-    ensures { OnOk result (text.new.items ≡ text.old.items ++ flat_map (spec.behind_comma tokens.now) places.now) }
+/// The names of these variables, each behind a comma.
+fn push_others(text: &mut Vec<u8>, names: &[Text], numbers: &[usize]) -> Result<(), NoMemory>
+    ensures { OnOk result (text.new.items ≡ text.old.items ++ flat_map spec.behind_comma (map (name_meant names.now) numbers.now)) }
 {
-    for place in places {
+    for number in numbers {
         push(text, ",")?;
-        push(text, name_at(*place, tokens))?;
+        push(text, name_of(names, *number))?;
     }
     Ok(())
 }
 
-/// A clause of the variables at these places.
+/// A clause of these variables.
 fn push_clause_of(
     text: &mut Vec<u8>,
-    tokens: &[Token],
+    names: &[Text],
     clause: Clause,
-    places: &[Place],
+    numbers: &[usize],
 ) -> Result<(), NoMemory>
-    ensures { OnOk result (text.new.items ≡ text.old.items ++ spec.clause_of tokens.now clause places.now) }
+    ensures { OnOk result (text.new.items ≡ text.old.items ++ spec.clause_of clause (map (name_meant names.now) numbers.now)) }
 {
-    match places.split_first() {
+    match numbers.split_first() {
         None => Ok(()),
         Some((first, others)) => {
             push(text, clause_head(clause))?;
-            push(text, name_at(*first, tokens))?;
-            push_others(text, tokens, others)?;
+            push(text, name_of(names, *first))?;
+            push_others(text, names, others)?;
             push(text, ")")
         }
     }
 }
 
-/// A clause of a loop of a function with these variables.
+/// A clause of a loop of a function whose variables have these names.
 fn push_clause(
     alloc: Global,
     text: &mut Vec<u8>,
-    tokens: &[Token],
+    names: &[Text],
     occurs: &[Occurrence],
     at: LoopText,
     variables: &[TVariable],
     clause: Clause,
 ) -> Result<(), NoMemory>
-    ensures { OnOk result (text.new.items ≡ text.old.items ++ spec.clause_text tokens.now occurs.now at variables.now clause) }
+    ensures { OnOk result (text.new.items ≡ text.old.items ++ spec.clause_text names.now occurs.now at variables.now clause) }
 {
-    let places = places_in(alloc, occurs, at, clause, variables)?;
-    push_clause_of(text, tokens, clause, places.as_slice())
+    let mut numbers = Vec::new(alloc);
+    push_numbers(occurs, at, variables, clause, &mut numbers)?;
+    push_clause_of(text, names, clause, numbers.as_slice())
 }
 
 /// The OpenMP line of a loop, between two newlines.
 pub(crate) fn pragma_text(
     alloc: Global,
-    tokens: &[Token],
+    names: &[Text],
     occurs: &[Occurrence],
     at: LoopText,
     variables: &[TVariable],
 ) -> Result<Vec<u8>, NoMemory>
-    ensures { IfOk result (λ text. text.items ≡ spec.pragma_text tokens.now occurs.now at variables.now) }
+    ensures { IfOk result (λ text. text.items ≡ spec.pragma_text names.now occurs.now at variables.now) }
 {
     let mut text = Vec::new(alloc);
     push(&mut text, "\n#pragma omp parallel for")?;
-    let sums = Clause::Reduction(Group::Sums);
-    push_clause(alloc, &mut text, tokens, occurs, at, variables, sums)?;
-    let products = Clause::Reduction(Group::Products);
-    push_clause(alloc, &mut text, tokens, occurs, at, variables, products)?;
-    let ands = Clause::Reduction(Group::Ands);
-    push_clause(alloc, &mut text, tokens, occurs, at, variables, ands)?;
-    let ors = Clause::Reduction(Group::Ors);
-    push_clause(alloc, &mut text, tokens, occurs, at, variables, ors)?;
-    let xors = Clause::Reduction(Group::Xors);
-    push_clause(alloc, &mut text, tokens, occurs, at, variables, xors)?;
+    push_clause(alloc, &mut text, names, occurs, at, variables, SUMS)?;
+    push_clause(alloc, &mut text, names, occurs, at, variables, PRODUCTS)?;
+    push_clause(alloc, &mut text, names, occurs, at, variables, ANDS)?;
+    push_clause(alloc, &mut text, names, occurs, at, variables, ORS)?;
+    push_clause(alloc, &mut text, names, occurs, at, variables, XORS)?;
     push_clause(
         alloc,
         &mut text,
-        tokens,
+        names,
         occurs,
         at,
         variables,

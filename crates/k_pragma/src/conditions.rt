@@ -1,5 +1,6 @@
 //! What a loop's text has to do with its variables so that its turns may run in parallel.
-ghost use Rattle.std.specs.Prelude.{◌≡◌};
+ghost use Rattle.std.specs.Prelude.{◌≡◌, count_by, nat_eq};
+ghost use Rattle.std.specs.List.{list_any};
 ghost use Rattle.k_marks_meaning.specs.Loops.{is_number, is_number_register, same_group};
 ghost use Rattle.k_pragma.specs.Conditions as spec;
 
@@ -353,6 +354,120 @@ fn counter_settled(occurs: &[Occurrence], setters: &[Setter], at: LoopText) -> b
                 || is_settled(occurs, setters, at, number as usize)
         }
     }
+}
+
+/// Whether a node lies in the first part of a loop.
+fn in_first(at: LoopText, node: u32) -> bool
+    ensures { result ≡ spec.in_first at node }
+{
+    at.node <= node && node <= at.head
+}
+
+/// Whether a node lies in the test of a loop.
+fn in_test(at: LoopText, node: u32) -> bool
+    ensures { result ≡ spec.in_test at node }
+{
+    at.head < node && node <= at.test
+}
+
+/// Whether this is an occurrence of a variable in the first part.
+fn occurs_first(at: LoopText, variable: usize, occurrence: &Occurrence) -> bool
+    ensures { result ≡ spec.occurs_first at variable occurrence.now }
+{
+    is_of(occurrence, variable) && in_first(at, occurrence.node)
+}
+
+/// Whether this is an occurrence of a variable in the test.
+fn occurs_in_test(at: LoopText, variable: usize, occurrence: &Occurrence) -> bool
+    ensures { result ≡ spec.occurs_in_test at variable occurrence.now }
+{
+    is_of(occurrence, variable) && in_test(at, occurrence.node)
+}
+
+/// Whether a variable occurs once in the first part.
+fn is_once_first(occurs: &[Occurrence], at: LoopText, variable: usize) -> bool
+    ensures { result ≡ nat_eq (count_by (spec.occurs_first at variable) occurs.now) 1 }
+{
+    occurs
+        .iter()
+        .filter(|occurrence| occurs_first(at, variable, *occurrence))
+        .count()
+        == 1
+}
+
+/// Whether a variable occurs once in the test.
+fn is_once_in_test(occurs: &[Occurrence], at: LoopText, variable: usize) -> bool
+    ensures { result ≡ nat_eq (count_by (spec.occurs_in_test at variable) occurs.now) 1 }
+{
+    occurs
+        .iter()
+        .filter(|occurrence| occurs_in_test(at, variable, *occurrence))
+        .count()
+        == 1
+}
+
+/// Whether the loop's variable occurs once in the first part and once in the test.
+fn named_once(occurs: &[Occurrence], at: LoopText) -> bool
+    ensures { result ≡ spec.named_once occurs.now at at.counter }
+{
+    match at.counter {
+        None => false,
+        Some(number) => {
+            is_once_first(occurs, at, number as usize)
+                && is_once_in_test(occurs, at, number as usize)
+        }
+    }
+}
+
+/// Whether this is an occurrence of a variable in the first part or the test.
+fn occurs_in_head(at: LoopText, variable: usize, occurrence: &Occurrence) -> bool
+    ensures { result ≡ spec.occurs_in_head at variable occurrence.now }
+{
+    occurs_first(at, variable, occurrence) || occurs_in_test(at, variable, occurrence)
+}
+
+/// Whether a variable occurs in the first part or the test.
+fn is_in_head(occurs: &[Occurrence], at: LoopText, variable: usize) -> bool
+    ensures { result ≡ list_any (spec.occurs_in_head at variable) occurs.now }
+{
+    occurs
+        .iter()
+        .any(|occurrence| occurs_in_head(at, variable, occurrence))
+}
+
+/// Whether a variable of this number stands in a clause.
+fn is_in_clause(occurs: &[Occurrence], at: LoopText, number: usize, variable: &TVariable) -> bool
+    ensures { result ≡ spec.is_in_clause occurs.now at number variable.now }
+{
+    is_some_reduction(occurs, at, number, variable) || must_be_private(occurs, at, number, variable)
+}
+
+/// Whether a variable of this number does not occur in the first part and the test, or stands in no clause.
+fn keeps_head(occurs: &[Occurrence], at: LoopText, number: usize, variable: &TVariable) -> bool
+    ensures { result ≡ spec.keeps_head occurs.now at number variable.now }
+{
+    !is_in_head(occurs, at, number) || !is_in_clause(occurs, at, number, variable)
+}
+
+/// Whether first part and test have the same value in every thread.
+fn head_stays(occurs: &[Occurrence], at: LoopText, variables: &[TVariable]) -> bool
+    ensures { result ≡ spec.head_stays occurs.now at variables.now }
+{
+    let mut number: usize = 0;
+    for variable in variables {
+        if !keeps_head(occurs, at, number, variable) {
+            return false;
+        }
+        number += 1;
+    }
+    true
+}
+
+/// Whether first part and test name the loop's variable once each, and nothing that stands in a clause.
+pub(crate) fn has_plain_head(occurs: &[Occurrence], at: LoopText, variables: &[TVariable]) -> bool
+    ensures { result ≡ spec.has_plain_head occurs.now at variables.now }
+{
+    named_once(occurs, at) && head_stays(occurs, at, variables)
 }
 
 /// Whether turns that run in threads of their own share no register.

@@ -3,17 +3,16 @@ ghost use Rattle.std.specs.Prelude.{◌≡◌, ◌≤◌, ◌<◌, ◌^◌, ◌+
 ghost use Rattle.std.specs.List.{flat_map};
 ghost use Rattle.k_pragma.specs.Insertions as spec;
 
-use crate::names::same_place;
+use crate::names::is_in_word;
 use crate::notes::Note;
 use k_num::{NoMemory, Place};
 use std::alloc::Global;
 
-/// Whether a byte may stand in a word.
-fn is_in_word(byte: u8) -> bool
-    ensures { result ≡ spec.is_in_word byte }
+/// Whether two places are one.
+fn same_place(one: Place, other: Place) -> bool
+    ensures { result ≡ spec.same_place one other }
 {
-    (48 <= byte && byte <= 57)
-        || ((65 <= byte && byte <= 90) || (byte == 95 || (97 <= byte && byte <= 122)))
+    one.line == other.line && one.column == other.column
 }
 
 /// Whether a text goes on with a word.

@@ -7,6 +7,7 @@ use k_num::{NoMemory, Place, Seq};
 use k_optab::{Region, RegionKind};
 use k_selfpar::Row;
 use k_text::{push, push_named};
+use k_tree::Token;
 use std::alloc::Global;
 
 /// What is inserted at a place: a comment, and behind it the line of a loop where the source spells `for` there.
@@ -45,6 +46,63 @@ fn line_of(region: u32, pragmas: &[Pragma]) -> &[u8]
     &[]
 }
 
+/// Whether a place comes before another.
+fn is_before(one: Place, other: Place) -> bool
+    ensures { result ≡ spec.is_before one other }
+{
+    one.line < other.line || (one.line == other.line && one.column < other.column)
+}
+
+/// The first place, if it comes before the second; else a third one.
+fn if_before(one: Place, place: Place, other: Place) -> Place
+    ensures { result ≡ spec.if_before one place other }
+{
+    if is_before(one, place) { one } else { other }
+}
+
+/// The place of the last token before this one.
+fn token_before(place: Place, tokens: &[Token]) -> Place
+    ensures { result ≡ spec.token_before spec.nowhere place tokens.now }
+{
+    let mut found = Place { line: 0, column: 0 };
+    for token in tokens {
+        found = if_before(token.place, place, found);
+    }
+    found
+}
+
+/// Whether a place comes between two others.
+fn is_between(first: Place, last: Place, place: Place) -> bool
+    ensures { result ≡ spec.is_between first last place }
+{
+    is_before(first, place) && is_before(place, last)
+}
+
+/// Whether a line of a `#pragma` stands before a place and behind the token before it.
+fn follows_pragma(lines: &[Place], tokens: &[Token], place: Place) -> bool
+    ensures { result ≡ spec.follows_pragma lines.now tokens.now place }
+{
+    let before = token_before(place, tokens);
+    lines.iter().any(|line| is_between(before, place, *line))
+}
+
+/// The line of the loop of a region at this place, unless a line of a `#pragma` stands there.
+fn line_at<'a>(
+    lines: &[Place],
+    tokens: &[Token],
+    place: Place,
+    region: u32,
+    pragmas: &'a [Pragma],
+) -> &'a [u8]
+    ensures { result.now ≡ spec.line_at lines.now tokens.now place region pragmas.now }
+{
+    if follows_pragma(lines, tokens, place) {
+        &[]
+    } else {
+        line_of(region, pragmas)
+    }
+}
+
 /// Notes what is inserted at a place: a comment on a region of this kind with a row, and behind it this line.
 fn push_note(
     alloc: Global,
@@ -69,17 +127,19 @@ fn push_note(
 /// Notes what is inserted at the place of a region that has this row.
 fn note_by(
     alloc: Global,
+    lines: &[Place],
+    tokens: &[Token],
     region: &Region,
     pragmas: &[Pragma],
     row: &Row,
     notes: &mut Vec<Note>,
 ) -> Result<(), NoMemory>
-    ensures { OnOk result (notes.new.items ≡ notes.old.items ++ spec.note_by region.now.kind region.now.place pragmas.now row.now) }
+    ensures { OnOk result (notes.new.items ≡ notes.old.items ++ spec.note_by lines.now tokens.now region.now.kind region.now.place pragmas.now row.now) }
 {
     match region.kind {
         RegionKind::Func => push_note(alloc, "func", region.place, row, &[], notes),
         RegionKind::Loop => {
-            let line = line_of(row.region, pragmas);
+            let line = line_at(lines, tokens, region.place, row.region, pragmas);
             push_note(alloc, "loop", region.place, row, line, notes)
         }
         RegionKind::Body => Ok(()),
@@ -96,16 +156,18 @@ fn region_at(regions: &[Region], number: u32) -> Option<&Region>
 /// Notes what is inserted at the place of the region that a row names.
 fn note_for(
     alloc: Global,
+    lines: &[Place],
+    tokens: &[Token],
     regions: &[Region],
     pragmas: &[Pragma],
     row: &Row,
     notes: &mut Vec<Note>,
 ) -> Result<(), NoMemory>
-    ensures { OnOk result (notes.new.items ≡ notes.old.items ++ spec.note_of regions.now pragmas.now row.now) }
+    ensures { OnOk result (notes.new.items ≡ notes.old.items ++ spec.note_of lines.now tokens.now regions.now pragmas.now row.now) }
 {
     match region_at(regions, row.region) {
         None => Ok(()),
-        Some(region) => note_by(alloc, region, pragmas, row, notes),
+        Some(region) => note_by(alloc, lines, tokens, region, pragmas, row, notes),
     }
 }
 
@@ -113,15 +175,17 @@ fn note_for(
 #[tactic(auto, unfolding(crate::specs::Insertions::notes_of))]
 pub(crate) fn notes_of(
     alloc: Global,
+    lines: &[Place],
+    tokens: &[Token],
     regions: &[Region],
     pragmas: &[Pragma],
     rows: &[Row],
 ) -> Result<Vec<Note>, NoMemory>
-    ensures { IfOk result (λ notes. notes.items ≡ spec.notes_of regions.now pragmas.now rows.now) }
+    ensures { IfOk result (λ notes. notes.items ≡ spec.notes_of lines.now tokens.now regions.now pragmas.now rows.now) }
 {
     let mut notes = Vec::new(alloc);
     for row in rows {
-        note_for(alloc, regions, pragmas, row, &mut notes)?;
+        note_for(alloc, lines, tokens, regions, pragmas, row, &mut notes)?;
     }
     Ok(notes)
 }

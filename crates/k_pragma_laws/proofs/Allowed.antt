@@ -13,9 +13,9 @@ use Rattle.k_lex_pieces.specs.Outcome.{◌>>=◌}
 use Rattle.k_lex.specs.declared.lines.Mode.{Mode}
 use Rattle.k_lex.specs.Lines.{State, step}
 use Rattle.k_lex.specs.Tokens.{piece_in, turn, run}
-use Rattle.k_lex.proofs.Outcomes.{Each, each_append, bind_ok}
+use Rattle.k_lex.proofs.Outcomes.{Each, each_append, bind_ok, turn_ok}
 use Rattle.k_pragma.specs.declared.notes.Note.{Note}
-use Rattle.k_pragma.specs.Clauses.{same_place}
+use Rattle.k_pragma.specs.Insertions.{same_place}
 use Rattle.k_pragma_laws.proofs.Steps.{Adds, IsText, IsSolid, step_adds}
 
 -- ---- places in order
@@ -104,7 +104,7 @@ run_later (suc skip) place old (b ∷ bs) =
 run_later zero place old (b ∷ bs) =
     let x = piece_in old.mode (b ∷ bs) in
     bind_ok (Adds old.mode place x.0 old) (Later place old.tokens) (turn place old (b ∷ bs) x) (λ new. run (x.1 - 1) (after place b) new bs)
-    (step_adds old.mode place (take x.1 (b ∷ bs)) (drop x.1 (b ∷ bs)) x.0 old)
+    (turn_ok (Adds old.mode place x.0 old) place old (b ∷ bs) x (step_adds old.mode place (take x.1 (b ∷ bs)) (drop x.1 (b ∷ bs)) x.0 old))
     (λ new adds. weaker_ok (Later (after place b) new.tokens) (Later place old.tokens) (run (x.1 - 1) (after place b) new bs)
     (λ end. later_turn old.mode place (after place b) x.0 old new end (earlier_after place b) adds) (run_later (x.1 - 1) (after place b) new bs))
 
@@ -219,5 +219,6 @@ fits notes (suc skip) place old (b ∷ bs) end e earlier at = (
 )
 fits notes zero place old (b ∷ bs) end e earlier at =
     let x = piece_in old.mode (b ∷ bs) in
-    fits_turn notes place old b bs end (turn place old (b ∷ bs) x) (step_adds old.mode place (take x.1 (b ∷ bs)) (drop x.1 (b ∷ bs)) x.0 old) e earlier at
+    fits_turn notes place old b bs end (turn place old (b ∷ bs) x)
+    (turn_ok (Adds old.mode place x.0 old) place old (b ∷ bs) x (step_adds old.mode place (take x.1 (b ∷ bs)) (drop x.1 (b ∷ bs)) x.0 old)) e earlier at
     (λ new went before. fits notes (x.1 - 1) (after place b) new bs end went before at)

@@ -1,37 +1,35 @@
 -- The notes of regions: a comment that ends where it is to end, and nothing or a line of a `#pragma`.
-use Rattle.std.proofs.Common.{◌≡◌, ℕ, zero, suc, ◌+◌, ◌/◌, ◌%◌, Bool, true, false, not, ◌||◌, eqb, ltb, nat_eq, if◌then◌else◌, List, [], ◌∷◌, ◌++◌, Option, Some, None, slice_get, codes, refl, sym, ap, ◌∙◌, inl, inr, arith}
-use Rattle.std.specs.Prelude.{All}
-use Rattle.std.specs.List.{flat_map}
+use Rattle.std.proofs.Common.{◌≡◌, ℕ, zero, suc, ◌+◌, ◌/◌, ◌%◌, Bool, true, false, not, eqb, ltb, nat_eq, if◌then◌else◌, List, [], ◌∷◌, ◌++◌, Option, Some, None, slice_get, codes, map, subst, refl, sym, ap, ◌∙◌, inl, inr, arith}
+use Rattle.std.specs.List.{flat_map, list_all, list_any}
 use Rattle.std.specs.Fmt.{decimal, digits, digits_onto, digit_glyph}
 use Rattle.std.proofs.lemmas.Bool.{and_from, and_parts, cases_Bool, false≢true, eqb-true}
-use Rattle.std.proofs.lemmas.List.Elements.{All-head, All-tail}
+use Rattle.std.proofs.lemmas.List.{map-append}
 use Rattle.k_num.specs.declared.place.Place.{Place}
 use Rattle.k_optab.specs.declared.region.Region.{Region}
 use Rattle.k_optab.specs.declared.region.RegionKind.{RegionKind}
 use Rattle.k_optab.specs.declared.region.RegionKind.TheVariants.{Func, Loop, Body}
 use Rattle.k_selfpar.specs.declared.row.Row.{Row}
 use Rattle.k_tree.specs.declared.tokens.Token.{Token}
-use Rattle.k_tree.specs.declared.tokens.TokenKind.{TokenKind}
-use Rattle.k_tree.specs.declared.tokens.TokenKind.TheVariants as t
 use Rattle.k_types_meaning.specs.declared.tree.unit.TFunc.{TFunc}
 use Rattle.k_types_meaning.specs.declared.tree.unit.TVariable.{TVariable}
 use Rattle.k_marks_meaning.specs.declared.uses.Group.TheVariants.{Sums, Products, Ands, Ors, Xors}
-use Rattle.k_lex_pieces.specs.Bytes.{every, in_name, is_letter, is_digit}
-use Rattle.k_lex_pieces.specs.Pieces.{ends_comment, is_name}
+use Rattle.k_lex_pieces.specs.Bytes.{every}
+use Rattle.k_lex_pieces.specs.Pieces.{ends_comment}
 use Rattle.k_lex_pieces.proofs.PieceLaws.{test_fails}
-use Rattle.k_lex.specs.Laws.{IsRightKind, IsRightToken}
 use Rattle.k_lex.proofs.Outcomes.{Each, each_append}
 use Rattle.k_pragma_texts.specs.declared.occurrence.LoopText.{LoopText}
 use Rattle.k_pragma_texts.specs.declared.occurrence.Occurrence.{Occurrence}
 use Rattle.k_pragma_texts.specs.declared.occurrence.Setter.{Setter}
 use Rattle.k_pragma_texts.specs.Texts.{function_held}
+use Rattle.k_pragma_written.specs.declared.told.Written.{Written}
 use Rattle.k_pragma.specs.declared.clauses.Clause.{Clause}
 use Rattle.k_pragma.specs.declared.clauses.Clause.TheVariants.{Reduction, Private}
 use Rattle.k_pragma.specs.declared.notes.Note.{Note}
 use Rattle.k_pragma.specs.declared.pragmas.Pragma.{Pragma}
-use Rattle.k_pragma.specs.Clauses.{behind_comma, clause_head, clause_of, clause_text, first_name, name_at, name_or, places_in, pragma_text, same_place}
-use Rattle.k_pragma.specs.Insertions.{comment, line_of, note_by, note_for, note_of, notes_of}
-use Rattle.k_pragma.specs.Marked.{is_ready, pragma_by, pragmas_in, pragmas_of, pragmas_of_text, region_of_loop}
+use Rattle.k_pragma.specs.Clauses.{all_names, behind_comma, clause_head, clause_of, clause_text, clauses, has_names, numbers_in, numbers_in_all, pragma_text}
+use Rattle.k_pragma.specs.Insertions.{comment, follows_pragma, line_at, line_of, note_by, note_for, note_of, notes_of}
+use Rattle.k_pragma.specs.Marked.{is_fit, is_ready, pragma_by, pragmas_in, pragmas_of, pragmas_of_text, region_of_loop}
+use Rattle.k_pragma.specs.Names.{are_apart, is_in_word, is_word, name_of, names_of, same_name, stands_apart}
 use Rattle.k_pragma_laws.proofs.Notes.{IsHarmless, IsPragmaLine, is_plain}
 
 every_append : (f : ℕ → Bool) (xs ys : List ℕ) → every f xs ≡ true → every f ys ≡ true → every f (xs ++ ys) ≡ true
@@ -106,137 +104,121 @@ a_note_harmless place kind row line quiet is =
 
 -- ---- lines
 
--- a name of a token is plain
-abbrev IsPlainToken : Token → Type 0
-IsPlainToken token = every is_plain (name_or [] token.what) ≡ true
-
-every_weaker : (f g : ℕ → Bool) (xs : List ℕ) → ((b : ℕ) → f b ≡ true → g b ≡ true) → every f xs ≡ true → every g xs ≡ true
-every_weaker f g [] to h = refl
-every_weaker f g (x ∷ xs) to h =
-    let parts = and_parts (f x) (every f xs) h in
-    and_from (g x) (every g xs) (to x parts.0) (every_weaker f g xs to parts.1)
-
-in_name_plain : (b : ℕ) → in_name b ≡ true → is_plain b ≡ true
-in_name_plain b h = and_from (not (eqb b 47)) (not (eqb b 10)) (unless 47 refl) (unless 10 refl)
+-- a word is plain
+in_word_plain : (b : ℕ) → is_in_word b ≡ true → is_plain b ≡ true
+in_word_plain b h =
+    and_from (not (eqb b 47)) _ (unless 47 refl)
+    (and_from (not (eqb b 10)) _ (unless 10 refl)
+    (and_from (not (eqb b 92)) (not (eqb b 63)) (unless 92 refl) (unless 63 refl)))
   where
-    unless : (c : ℕ) → in_name c ≡ false → not (eqb b c) ≡ true
+    unless : (c : ℕ) → is_in_word c ≡ false → not (eqb b c) ≡ true
     unless c fails = elim (cases_Bool (eqb b c)) [
-      | inl e ↦ absurd (false≢true (sym fails ∙ ap in_name (sym (eqb-true b c e)) ∙ h))
+      | inl e ↦ absurd (false≢true (sym fails ∙ ap is_in_word (sym (eqb-true b c e)) ∙ h))
       | inr e ↦ ap not e
     ]
 
-name_plain : (name : List ℕ) → is_name name ≡ true → every is_plain name ≡ true
-name_plain [] h = refl
-name_plain (x ∷ xs) h =
-    let parts = and_parts (is_letter x) (every in_name xs) h in
-    and_from (is_plain x) (every is_plain xs) (in_name_plain x (ap (λ b. b || is_digit x) parts.0)) (every_weaker in_name is_plain xs in_name_plain parts.1)
+in_words_plain : (xs : List ℕ) → list_all is_in_word xs ≡ true → every is_plain xs ≡ true
+in_words_plain [] h = refl
+in_words_plain (x ∷ xs) h =
+    let parts = and_parts (is_in_word x) (list_all is_in_word xs) h in
+    and_from (is_plain x) (every is_plain xs) (in_word_plain x parts.0) (in_words_plain xs parts.1)
 
-kind_plain : (what : TokenKind) → IsRightKind what → every is_plain (name_or [] what) ≡ true
-kind_plain (t.Name name) right = name_plain name right.name
-kind_plain (t.Word word) right = refl
-kind_plain (t.Number kind value) right = refl
-kind_plain (t.Char value) right = refl
-kind_plain (t.Str bytes) right = refl
-kind_plain (t.Mark mark) right = refl
-kind_plain t.End right = refl
+word_plain : (name : List ℕ) → is_word name ≡ true → every is_plain name ≡ true
+word_plain [] h = refl
+word_plain (x ∷ xs) h = in_words_plain (x ∷ xs) h
 
-tokens_plain : (list : List Token) → All IsRightToken list → Each IsPlainToken list
-tokens_plain [] right = tt
-tokens_plain (token ∷ list) right = (kind_plain token.what (All-head IsRightToken token list right).kind, tokens_plain list (All-tail IsRightToken token list right))
+-- bytes without a newline and a `/`
+abbrev IsPlain : List ℕ → Type 0
+IsPlain bytes = every is_plain bytes ≡ true
 
-module _ (tokens : List Token) (plain : Each IsPlainToken tokens) where
-  first_plain : (list : List Token) → Each IsPlainToken list → every is_plain (first_name list) ≡ true
-  first_plain [] h = refl
-  first_plain (token ∷ list) h = by token.what h.0 (first_plain list h.1)
+-- names that are words are plain
+apart_plain : (names : List (List ℕ)) → are_apart names ≡ true → Each IsPlain names
+apart_plain [] h = tt
+apart_plain (name ∷ names) h =
+    let parts = and_parts (stands_apart name names) (are_apart names) h in
+    let word = and_parts (is_word name) (not (list_any (same_name name) names)) parts.0 in
+    (word_plain name word.0, apart_plain names parts.1)
+
+each_parts : (P : List ℕ → Type 0) (xs ys : List (List ℕ)) → Each P (xs ++ ys) → Each P xs × Each P ys
+each_parts P [] ys h = (tt, h)
+each_parts P (x ∷ xs) ys h = let rest = each_parts P xs ys h.1 in ((h.0, rest.0), rest.1)
+
+behind_plain : (names : List (List ℕ)) → Each IsPlain names → every is_plain (flat_map behind_comma names) ≡ true
+behind_plain [] h = refl
+behind_plain (name ∷ names) h = every_append is_plain (behind_comma name) (flat_map behind_comma names) (every_append is_plain (codes ",") name refl h.0) (behind_plain names h.1)
+
+head_plain : (clause : Clause) → every is_plain (clause_head clause) ≡ true
+head_plain (Reduction Sums) = refl
+head_plain (Reduction Products) = refl
+head_plain (Reduction Ands) = refl
+head_plain (Reduction Ors) = refl
+head_plain (Reduction Xors) = refl
+head_plain Private = refl
+
+clause_of_plain : (clause : Clause) (names : List (List ℕ)) → Each IsPlain names → every is_plain (clause_of clause names) ≡ true
+clause_of_plain clause [] h = refl
+clause_of_plain clause (name ∷ names) h =
+    let others = flat_map behind_comma names in
+    let first = clause_head clause ++ name in
+    let one : every is_plain first ≡ true = every_append is_plain (clause_head clause) name (head_plain clause) h.0 in
+    let all : every is_plain (first ++ others) ≡ true = every_append is_plain first others one (behind_plain names h.1) in
+    every_append is_plain (first ++ others) (codes ")") all refl
+
+module _ (names : List (List ℕ)) (occurs : List Occurrence) (l : LoopText) (vs : List TVariable) where
+  clauses_plain : (list : List Clause) → Each IsPlain (map (name_of names) (numbers_in_all occurs l vs list)) → every is_plain (flat_map (clause_text names occurs l vs) list) ≡ true
+  clauses_plain [] h = refl
+  clauses_plain (clause ∷ list) h =
+      let first = numbers_in occurs l clause 0 vs in
+      let rest = numbers_in_all occurs l vs list in
+      let both = each_parts IsPlain (map (name_of names) first) (map (name_of names) rest) (subst (Each IsPlain) (map-append (name_of names) first rest) h) in
+      every_append is_plain (clause_text names occurs l vs clause) (flat_map (clause_text names occurs l vs) list) (clause_of_plain clause (map (name_of names) first) both.0) (clauses_plain list both.1)
+
+  -- the line of a loop is one of a `#pragma`
+  pragma_line : has_names names occurs l vs ≡ true → IsPragmaLine (pragma_text names occurs l vs)
+  pragma_line h =
+      let said = flat_map (clause_text names occurs l vs) clauses in
+      let plain : every is_plain said ≡ true = clauses_plain clauses (apart_plain (all_names names occurs l vs) h) in
+      inr (codes "omp parallel for" ++ said, (every_append is_plain (codes "omp parallel for") said refl plain, refl))
+
+-- each line of loops is one of a `#pragma`
+abbrev HasLine : Pragma → Type 0
+HasLine pragma = IsPragmaLine pragma.text
+
+module _ (among : List ℕ) (counted : List Bool) where
+  lines_of_text : (bare : List Bool) (names : List (List ℕ)) (number : ℕ) (vs : List TVariable) (occurs : List Occurrence) (setters : List Setter) (loops : List LoopText)
+      → Each HasLine (pragmas_of_text among counted bare names number vs occurs setters loops)
+  lines_of_text bare names number vs occurs setters [] = tt
+  lines_of_text bare names number vs occurs setters (l ∷ loops) =
+      each_append HasLine (pragma_by among counted bare names number vs occurs setters l) (pragmas_of_text among counted bare names number vs occurs setters loops)
+      (by (is_ready among counted bare names region vs occurs setters l) refl) (lines_of_text bare names number vs occurs setters loops)
     where
-      by : (what : TokenKind) → every is_plain (name_or [] what) ≡ true → every is_plain (first_name list) ≡ true → every is_plain (name_or (first_name list) what) ≡ true
-      by (t.Name name) one rest = one
-      by (t.Word word) one rest = rest
-      by (t.Number kind value) one rest = rest
-      by (t.Char value) one rest = rest
-      by (t.Str bytes) one rest = rest
-      by (t.Mark mark) one rest = rest
-      by t.End one rest = rest
+      region : ℕ
+      region = region_of_loop number l.number
 
-  name_at_plain : (place : Place) (list : List Token) → Each IsPlainToken list → every is_plain (name_at place list) ≡ true
-  name_at_plain place [] h = refl
-  name_at_plain place (token ∷ list) h = elim (same_place token.place place) as (λ v. every is_plain (if v then first_name (token ∷ list) else name_at place list) ≡ true) [
-    | true ↦ first_plain (token ∷ list) h
-    | false ↦ name_at_plain place list h.1
-  ]
+      by : (ready : Bool) → is_ready among counted bare names region vs occurs setters l ≡ ready
+          → Each HasLine (if ready then record { region = region_of_loop number l.number; text = pragma_text names occurs l vs } ∷ [] else [])
+      by true e = (pragma_line names occurs l vs (and_parts (is_fit among counted bare region vs occurs setters l) (has_names names occurs l vs) e).1, tt)
+      by false e = tt
 
-  behind_plain : (places : List Place) → every is_plain (flat_map (behind_comma tokens) places) ≡ true
-  behind_plain [] = refl
-  behind_plain (place ∷ places) =
-      every_append is_plain (codes "," ++ name_at place tokens) (flat_map (behind_comma tokens) places) (every_append is_plain (codes ",") (name_at place tokens) refl (name_at_plain place tokens plain)) (behind_plain places)
+  lines_in : (written : Written) (number : ℕ) (fs : List TFunc) → Each HasLine (pragmas_in among counted written number fs)
+  lines_in written number [] = tt
+  lines_in written number (f ∷ fs) =
+      each_append HasLine (pragmas_of among counted written number f) (pragmas_in among counted written (number + 1) fs)
+      (lines_of_text written.bare (names_of written number) number f.variables (function_held f).occurs (function_held f).setters (function_held f).loops)
+      (lines_in written (number + 1) fs)
 
-  head_plain : (clause : Clause) → every is_plain (clause_head clause) ≡ true
-  head_plain (Reduction Sums) = refl
-  head_plain (Reduction Products) = refl
-  head_plain (Reduction Ands) = refl
-  head_plain (Reduction Ors) = refl
-  head_plain (Reduction Xors) = refl
-  head_plain Private = refl
+line_of_pragmas : (region : ℕ) (pragmas : List Pragma) → Each HasLine pragmas → IsPragmaLine (line_of region pragmas)
+line_of_pragmas region [] h = inl refl
+line_of_pragmas region (pragma ∷ pragmas) h = elim (nat_eq pragma.region region) as (λ v. IsPragmaLine (if v then pragma.text else line_of region pragmas)) [
+  | true ↦ h.0
+  | false ↦ line_of_pragmas region pragmas h.1
+]
 
-  clause_of_plain : (clause : Clause) (places : List Place) → every is_plain (clause_of tokens clause places) ≡ true
-  clause_of_plain clause [] = refl
-  clause_of_plain clause (place ∷ places) =
-      let others = flat_map (behind_comma tokens) places in
-      let first = clause_head clause ++ name_at place tokens in
-      let one : every is_plain first ≡ true = every_append is_plain (clause_head clause) (name_at place tokens) (head_plain clause) (name_at_plain place tokens plain) in
-      let all : every is_plain (first ++ others) ≡ true = every_append is_plain first others one (behind_plain places) in
-      every_append is_plain (first ++ others) (codes ")") all refl
-
-  module _ (occurs : List Occurrence) (l : LoopText) (vs : List TVariable) where
-    abbrev said : Clause → List ℕ
-    said clause = clause_text tokens occurs l vs clause
-
-    said_plain : (xs : List ℕ) (clause : Clause) → every is_plain xs ≡ true → every is_plain (xs ++ said clause) ≡ true
-    said_plain xs clause h = every_append is_plain xs (said clause) h (clause_of_plain clause (places_in occurs l clause 0 vs))
-
-    -- the line of a loop is one of a `#pragma`
-    pragma_line : IsPragmaLine (pragma_text tokens occurs l vs)
-    pragma_line =
-        let a = codes "omp parallel for" ++ said (Reduction Sums) in
-        let b = a ++ said (Reduction Products) in
-        let c = b ++ said (Reduction Ands) in
-        let d = c ++ said (Reduction Ors) in
-        let e = d ++ said (Reduction Xors) in
-        let f = e ++ said Private in
-        let ha : every is_plain a ≡ true = said_plain (codes "omp parallel for") (Reduction Sums) refl in
-        let hb : every is_plain b ≡ true = said_plain a (Reduction Products) ha in
-        let hc : every is_plain c ≡ true = said_plain b (Reduction Ands) hb in
-        let hd : every is_plain d ≡ true = said_plain c (Reduction Ors) hc in
-        let he : every is_plain e ≡ true = said_plain d (Reduction Xors) hd in
-        let hf : every is_plain f ≡ true = said_plain e Private he in
-        inr (f, (hf, refl))
-
-  -- each line of loops is one of a `#pragma`
-  abbrev HasLine : Pragma → Type 0
-  HasLine pragma = IsPragmaLine pragma.text
-
-  lines_of_text : (among : List ℕ) (counted : List Bool) (number : ℕ) (vs : List TVariable) (occurs : List Occurrence) (setters : List Setter) (loops : List LoopText)
-      → Each HasLine (pragmas_of_text among counted tokens number vs occurs setters loops)
-  lines_of_text among counted number vs occurs setters [] = tt
-  lines_of_text among counted number vs occurs setters (l ∷ loops) =
-      each_append HasLine (pragma_by among counted tokens number vs occurs setters l) (pragmas_of_text among counted tokens number vs occurs setters loops)
-      (by (is_ready among counted (region_of_loop number l.number) vs occurs setters l)) (lines_of_text among counted number vs occurs setters loops)
-    where
-      by : (ready : Bool) → Each HasLine (if ready then record { region = region_of_loop number l.number; text = pragma_text tokens occurs l vs } ∷ [] else [])
-      by true = (pragma_line occurs l vs, tt)
-      by false = tt
-
-  lines_in : (among : List ℕ) (counted : List Bool) (number : ℕ) (fs : List TFunc) → Each HasLine (pragmas_in among counted tokens number fs)
-  lines_in among counted number [] = tt
-  lines_in among counted number (f ∷ fs) =
-      each_append HasLine (pragmas_of among counted tokens number f) (pragmas_in among counted tokens (number + 1) fs)
-      (lines_of_text among counted number f.variables (function_held f).occurs (function_held f).setters (function_held f).loops) (lines_in among counted (number + 1) fs)
-
-  line_of_pragmas : (region : ℕ) (pragmas : List Pragma) → Each HasLine pragmas → IsPragmaLine (line_of region pragmas)
-  line_of_pragmas region [] h = inl refl
-  line_of_pragmas region (pragma ∷ pragmas) h = elim (nat_eq pragma.region region) as (λ v. IsPragmaLine (if v then pragma.text else line_of region pragmas)) [
-    | true ↦ h.0
-    | false ↦ line_of_pragmas region pragmas h.1
+module _ (lines : List Place) (tokens : List Token) where
+  line_at_pragmas : (place : Place) (region : ℕ) (pragmas : List Pragma) → Each HasLine pragmas → IsPragmaLine (line_at lines tokens place region pragmas)
+  line_at_pragmas place region pragmas h = elim (follows_pragma lines tokens place) as (λ v. IsPragmaLine (if v then [] else line_of region pragmas)) [
+    | true ↦ inl refl
+    | false ↦ line_of_pragmas region pragmas h
   ]
 
   -- ---- notes
@@ -245,28 +227,27 @@ module _ (tokens : List Token) (plain : Each IsPlainToken tokens) where
   abbrev IsRightNote : (Place → Type 0) → Note → Type 0
   IsRightNote IsPlace n = IsHarmless n × IsPlace n.place
 
-  note_right : (IsPlace : Place → Type 0) (kind : RegionKind) (place : Place) (pragmas : List Pragma) (row : Row) → Each HasLine pragmas → IsPlace place → Each (IsRightNote IsPlace) (note_by kind place pragmas row)
-  note_right IsPlace Func place pragmas row lines at = ((a_note_harmless place (codes "func") row [] refl (inl refl), at), tt)
-  note_right IsPlace Loop place pragmas row lines at = ((a_note_harmless place (codes "loop") row (line_of row.region pragmas) refl (line_of_pragmas row.region pragmas lines), at), tt)
-  note_right IsPlace Body place pragmas row lines at = tt
+  note_right : (IsPlace : Place → Type 0) (kind : RegionKind) (place : Place) (pragmas : List Pragma) (row : Row) → Each HasLine pragmas → IsPlace place → Each (IsRightNote IsPlace) (note_by lines tokens kind place pragmas row)
+  note_right IsPlace Func place pragmas row right at = ((a_note_harmless place (codes "func") row [] refl (inl refl), at), tt)
+  note_right IsPlace Loop place pragmas row right at = ((a_note_harmless place (codes "loop") row (line_at lines tokens place row.region pragmas) refl (line_at_pragmas place row.region pragmas right), at), tt)
+  note_right IsPlace Body place pragmas row right at = tt
 
   note_for_right : (IsPlace : Place → Type 0) (found : Option Region) (pragmas : List Pragma) (row : Row) → Each HasLine pragmas → ((r : Region) → found ≡ Some r → IsPlace r.place)
-      → Each (IsRightNote IsPlace) (note_for found pragmas row)
-  note_for_right IsPlace None pragmas row lines at = tt
-  note_for_right IsPlace (Some region) pragmas row lines at = note_right IsPlace region.kind region.place pragmas row lines (at region refl)
+      → Each (IsRightNote IsPlace) (note_for lines tokens found pragmas row)
+  note_for_right IsPlace None pragmas row right at = tt
+  note_for_right IsPlace (Some region) pragmas row right at = note_right IsPlace region.kind region.place pragmas row right (at region refl)
 
   notes_right : (IsPlace : Place → Type 0) (regions : List Region) (pragmas : List Pragma) (rows : List Row) → Each HasLine pragmas
-      → ((n : ℕ) (r : Region) → slice_get regions n ≡ Some r → IsPlace r.place) → Each (IsRightNote IsPlace) (notes_of regions pragmas rows)
+      → ((n : ℕ) (r : Region) → slice_get regions n ≡ Some r → IsPlace r.place) → Each (IsRightNote IsPlace) (notes_of lines tokens regions pragmas rows)
   unfolding notes_of
-  notes_right IsPlace regions pragmas [] lines at = tt
-  notes_right IsPlace regions pragmas (row ∷ rows) lines at =
-      each_append (IsRightNote IsPlace) (note_of regions pragmas row) (flat_map (note_of regions pragmas) rows)
-      (note_for_right IsPlace (slice_get regions row.region) pragmas row lines (at row.region)) (notes_right IsPlace regions pragmas rows lines at)
+  notes_right IsPlace regions pragmas [] right at = tt
+  notes_right IsPlace regions pragmas (row ∷ rows) right at =
+      each_append (IsRightNote IsPlace) (note_of lines tokens regions pragmas row) (flat_map (note_of lines tokens regions pragmas) rows)
+      (note_for_right IsPlace (slice_get regions row.region) pragmas row right (at row.region)) (notes_right IsPlace regions pragmas rows right at)
 
 -- THE NOTES of regions that stand at such places are harmless and stand there.
-pub notes_of_right : (tokens : List Token) (IsPlace : Place → Type 0) (among : List ℕ) (counted : List Bool) (fs : List TFunc) (regions : List Region) (rows : List Row) → All IsRightToken tokens
+pub notes_of_right : (lines : List Place) (tokens : List Token) (IsPlace : Place → Type 0) (among : List ℕ) (counted : List Bool) (written : Written) (fs : List TFunc) (regions : List Region) (rows : List Row)
     → ((n : ℕ) (r : Region) → slice_get regions n ≡ Some r → IsPlace r.place)
-    → Each (λ n. IsHarmless n × IsPlace n.place) (notes_of regions (pragmas_in among counted tokens 0 fs) rows)
-notes_of_right tokens IsPlace among counted fs regions rows right at =
-    let plain = tokens_plain tokens right in
-    notes_right tokens plain IsPlace regions (pragmas_in among counted tokens 0 fs) rows (lines_in tokens plain among counted 0 fs) at
+    → Each (λ n. IsHarmless n × IsPlace n.place) (notes_of lines tokens regions (pragmas_in among counted written 0 fs) rows)
+notes_of_right lines tokens IsPlace among counted written fs regions rows at =
+    notes_right lines tokens IsPlace regions (pragmas_in among counted written 0 fs) rows (lines_in among counted written 0 fs) at

@@ -1,7 +1,8 @@
 -- What is inserted before a token is read as if it were not there.
-use Rattle.std.proofs.Common.{◌≡◌, ℕ, suc, ◌+◌, ◌-◌, Bool, true, false, not, ◌&&◌, ◌⊎◌, eqb, if◌then◌else◌, List, [], ◌∷◌, ◌++◌, Option, Some, None, Ok, length, take, drop, codes, refl, sym, ap, ◌∙◌, inl, inr, append_assoc, option_and_then, arith}
-use Rattle.std.proofs.lemmas.Bool.{and_right, and_parts, false≢true}
+use Rattle.std.proofs.Common.{◌≡◌, ℕ, suc, ◌+◌, ◌-◌, Bool, true, false, not, ◌&&◌, ◌⊎◌, eqb, if◌then◌else◌, List, [], ◌∷◌, ◌++◌, Option, Some, None, Result, Ok, length, take, drop, codes, refl, sym, ap, ◌∙◌, inl, inr, append_assoc, option_and_then, arith}
+use Rattle.std.proofs.lemmas.Bool.{and_left, and_right, and_parts, or_from, eqb-false, false≢true}
 use Rattle.k_num.specs.declared.place.Place.{Place}
+use Rattle.k_lex_pieces.specs.declared.fault.Fault.{Fault}
 use Rattle.k_lex_pieces.specs.declared.pieces.Piece.{Piece}
 use Rattle.k_lex_pieces.specs.declared.pieces.Piece.TheVariants as p
 use Rattle.k_lex_pieces.specs.Bytes.{every, same}
@@ -9,19 +10,19 @@ use Rattle.k_lex_pieces.specs.Marks.{marks, mark_of}
 use Rattle.k_lex_pieces.specs.Pieces.{class_of, ends_comment, piece_by}
 use Rattle.k_lex_pieces.specs.Scans.{comment_at, or_mark}
 use Rattle.k_lex_pieces.proofs.Classes.{first_is}
-use Rattle.k_lex_pieces.proofs.PieceLaws.{blank_is, comment_is, name_is, newline_is, other_is, pragma_newline_is, pragma_other_is}
+use Rattle.k_lex_pieces.proofs.PieceLaws.{blank_is, comment_is, name_is, newline_is, other_is, pragma_newline_is, pragma_other_is, test_fails}
 use Rattle.k_lex_pieces.proofs.Tables.{no_key}
 use Rattle.k_lex.specs.declared.lines.Mode.{Mode}
 use Rattle.k_lex.specs.declared.lines.Mode.TheVariants as m
 use Rattle.k_lex.specs.Lines.{State, in_mode, in_text, step_in}
-use Rattle.k_lex.specs.Tokens.{piece_in, turn, first_place}
+use Rattle.k_lex.specs.Tokens.{piece_in, splice_of, turn, turn_at, first_place}
 use Rattle.k_lex.proofs.Outcomes.{Each}
 use Rattle.k_pragma.specs.declared.notes.Note.{Note}
-use Rattle.k_pragma.specs.Clauses.{same_place}
-use Rattle.k_pragma.specs.Insertions.{inserted_at, note_text, parted, spells_for}
+use Rattle.k_pragma.specs.Insertions.{inserted_at, note_text, parted, same_place, spells_for}
 use Rattle.k_pragma_laws.proofs.Notes.{IsHarmless, IsPragmaLine, is_plain}
 use Rattle.k_pragma_laws.proofs.Blind.{if_ok}
 use Rattle.k_pragma_laws.proofs.Reading.{blind, blind_piece}
+use Rattle.k_pragma_laws.proofs.Splices.{byte_splice, fresh_splice, joins_in_text, text_splice}
 use Rattle.k_pragma_laws.proofs.Steps.{IsText, IsSolid}
 
 pub text_piece : (mode : Mode) (text : List ℕ) → IsText mode → piece_in mode text ≡ piece_by class_of text
@@ -77,11 +78,13 @@ read_comment s xs rest is h =
     let two : length xs + 2 ≡ suc (suc (length xs)) = omega arith in
     blind_piece s s 47 (42 ∷ xs) rest p.Comment
     (text_piece s.mode (47 ∷ 42 ∷ (xs ++ rest)) is ∙ sym (comment_is (xs ++ rest) (length xs) found) ∙ ap (λ n. (p.Comment, n)) two)
+    (text_splice s.mode first_place (47 ∷ 42 ∷ (xs ++ rest)) (suc (suc (length xs))) is refl)
     (passes_over s.mode 47 (42 ∷ xs) rest p.Comment s is refl (inl refl))
 
 read_space : (s : State) (rest : List ℕ) → IsText s.mode → blind 0 s (32 ∷ rest) ≡ blind 0 s rest
 read_space s rest is =
-    blind_piece s s 32 [] rest p.Blank (text_piece s.mode (32 ∷ rest) is ∙ sym (blank_is 32 rest (omega arith) refl)) (passes_over s.mode 32 [] rest p.Blank s is refl (inr refl))
+    blind_piece s s 32 [] rest p.Blank (text_piece s.mode (32 ∷ rest) is ∙ sym (blank_is 32 rest (omega arith) refl))
+    (text_splice s.mode first_place (32 ∷ rest) 1 is refl) (passes_over s.mode 32 [] rest p.Blank s is refl (inr refl))
 
 -- ---- a line of a `#pragma`
 
@@ -112,24 +115,31 @@ ends_line (m.Header d) rest s is = absurd is
 ends_line m.Pragma rest s is = absurd is
 
 pragma_bytes : (s : State) (xs rest : List ℕ) → every is_plain xs ≡ true → blind 0 (in_mode m.Pragma s) (xs ++ 10 ∷ rest) ≡ blind 0 (in_mode m.Start s) rest
-pragma_bytes s [] rest h = blind_piece (in_mode m.Pragma s) (in_mode m.Start s) 10 [] rest p.Newline (sym (pragma_newline_is rest)) refl
+pragma_bytes s [] rest h = blind_piece (in_mode m.Pragma s) (in_mode m.Start s) 10 [] rest p.Newline (sym (pragma_newline_is rest)) (byte_splice 10 rest refl) refl
 pragma_bytes s (x ∷ xs) rest h =
     let parts = and_parts (is_plain x) (every is_plain xs) h in
-    let two = and_parts (not (eqb x 47)) (not (eqb x 10)) parts.0 in
-    blind_piece (in_mode m.Pragma s) (in_mode m.Pragma s) x [] (xs ++ 10 ∷ rest) p.Blank (sym (pragma_other_is x (xs ++ 10 ∷ rest) (no_from (eqb x 47) two.0) (no_from (eqb x 10) two.1))) refl
+    let slash = and_parts (not (eqb x 47)) _ parts.0 in
+    let line = and_parts (not (eqb x 10)) _ slash.1 in
+    let two = and_parts (not (eqb x 92)) (not (eqb x 63)) line.1 in
+    blind_piece (in_mode m.Pragma s) (in_mode m.Pragma s) x [] (xs ++ 10 ∷ rest) p.Blank (sym (pragma_other_is x (xs ++ 10 ∷ rest) (no_from (eqb x 47) slash.0) (no_from (eqb x 10) line.0)))
+    (byte_splice x (xs ++ 10 ∷ rest) (or_from _ _ (and_left (eqb 92 x) _ (test_turned x 92 (no_from (eqb x 92) two.0))) (and_left (eqb 63 x) _ (test_turned x 63 (no_from (eqb x 63) two.1))))) refl
     ∙ pragma_bytes s xs rest parts.1
   where
     no_from : (b : Bool) → not b ≡ true → b ≡ false
     no_from true e = absurd (false≢true e)
     no_from false e = refl
 
+    test_turned : (a b : ℕ) → eqb a b ≡ false → eqb b a ≡ false
+    test_turned a b h = test_fails b a (λ e. eqb-false a b h (sym e))
+
 read_line : (s : State) (xs rest : List ℕ) → IsText s.mode → every is_plain xs ≡ true → blind 0 s (codes "\n#pragma " ++ (xs ++ 10 ∷ rest)) ≡ blind 0 (in_mode m.Start s) rest
 read_line s xs rest is h =
     let line = 32 ∷ (xs ++ 10 ∷ rest) in
     let named = codes "pragma" ++ line in
-    blind_piece s (in_mode m.Start s) 10 [] (35 ∷ named) p.Newline (text_piece s.mode (10 ∷ 35 ∷ named) is ∙ sym (newline_is (35 ∷ named))) (ends_line s.mode (35 ∷ named) s is)
-    ∙ blind_piece (in_mode m.Start s) (in_mode (m.Hash first_place) s) 35 [] named p.Unknown (hash_piece named) refl
-    ∙ blind_piece (in_mode (m.Hash first_place) s) (in_mode m.Pragma s) 112 (codes "ragma") line p.Name (sym (name_is 112 (codes "ragma" ++ line) 5 (omega arith) refl refl)) refl
+    blind_piece s (in_mode m.Start s) 10 [] (35 ∷ named) p.Newline (text_piece s.mode (10 ∷ 35 ∷ named) is ∙ sym (newline_is (35 ∷ named)))
+    (text_splice s.mode first_place (10 ∷ 35 ∷ named) 1 is refl) (ends_line s.mode (35 ∷ named) s is)
+    ∙ blind_piece (in_mode m.Start s) (in_mode (m.Hash first_place) s) 35 [] named p.Unknown (hash_piece named) refl refl
+    ∙ blind_piece (in_mode (m.Hash first_place) s) (in_mode m.Pragma s) 112 (codes "ragma") line p.Name (sym (name_is 112 (codes "ragma" ++ line) 5 (omega arith) refl refl)) refl refl
     ∙ pragma_bytes s (32 ∷ xs) rest h
 
 -- ---- a note, and all that is inserted at a place
@@ -215,6 +225,12 @@ pub fresh_same : (s : State) (b : ℕ) (bs : List ℕ) (c : Piece) (n : ℕ) →
     → blind 0 (in_mode m.Start s) (b ∷ bs) ≡ blind 0 s (b ∷ bs)
 fresh_same s b bs c n is e solid differs =
     let by = λ (from : State) (x : Piece × ℕ). option_and_then (λ new. blind (x.1 - 1) new bs) (if_ok (turn first_place from (b ∷ bs) x)) in
+    let went = λ (r : Result State Fault). option_and_then (λ new. blind (n - 1) new bs) (if_ok r) in
     ap (by (in_mode m.Start s)) e
-    ∙ ap (λ r. option_and_then (λ new. blind (n - 1) new bs) (if_ok r)) (step_fresh s.mode (take n (b ∷ bs)) (drop n (b ∷ bs)) c s is solid differs)
+    ∙ ap (λ (o : Option Place). went (turn_at o first_place (in_mode m.Start s) (b ∷ bs) (c, n))) (fresh_splice s.mode first_place (b ∷ bs) n is)
+    ∙ same_turn (splice_of s.mode first_place (b ∷ bs) n) went
     ∙ ap (by s) (sym (text_piece s.mode (b ∷ bs) is ∙ e))
+  where
+    same_turn : (o : Option Place) (went : Result State Fault → Option State) → went (turn_at o first_place (in_mode m.Start s) (b ∷ bs) (c, n)) ≡ went (turn_at o first_place s (b ∷ bs) (c, n))
+    same_turn None went = ap went (step_fresh s.mode (take n (b ∷ bs)) (drop n (b ∷ bs)) c s is solid differs)
+    same_turn (Some at) went = ap went (sym (joins_in_text s.mode at s is))

@@ -1,7 +1,7 @@
 -- A text with what is inserted gives what the text gives, but for places.
-use Rattle.std.proofs.Common.{◌≡◌, ◌≢◌, ℕ, zero, suc, ◌-◌, ◌≤◌, true, false, ◌&&◌, eqb, ◌⊎◌, if◌then◌else◌, List, [], ◌∷◌, ◌++◌, Option, Some, None, Result, Ok, Err, length, take, drop, codes, refl, sym, ap, subst, ◌∙◌, inl, inr, arith}
+use Rattle.std.proofs.Common.{◌≡◌, ◌≢◌, ℕ, zero, suc, ◌-◌, ◌≤◌, Bool, true, false, ◌&&◌, eqb, ◌⊎◌, if◌then◌else◌, List, [], ◌∷◌, ◌++◌, Option, Some, None, Result, Ok, Err, length, take, drop, codes, refl, sym, ap, subst, ◌∙◌, inl, inr, arith}
 use Rattle.std.specs.Prelude.{IfOk}
-use Rattle.std.proofs.lemmas.Bool.{and_parts, cases_Bool, eqb-true, eqb-false}
+use Rattle.std.proofs.lemmas.Bool.{and_from, and_parts, cases_Bool, eqb-true, eqb-false}
 use Rattle.std.proofs.lemmas.List.{length-take-le, take-append-drop}
 use Rattle.std.proofs.lemmas.Result.{IfOk-at_ok}
 use Rattle.k_num.specs.declared.place.Place.{Place}
@@ -19,18 +19,18 @@ use Rattle.k_lex_pieces.proofs.Tables.{same_true}
 use Rattle.k_lex.specs.declared.lines.Mode.{Mode}
 use Rattle.k_lex.specs.declared.lines.Mode.TheVariants as m
 use Rattle.k_lex.specs.Lines.{State, step, step_in}
-use Rattle.k_lex.specs.Tokens.{piece_in, turn, run, first_place}
+use Rattle.k_lex.specs.Tokens.{piece_in, splice_of, turn, run, first_place}
 use Rattle.k_lex.proofs.Outcomes.{Each}
 use Rattle.k_lex.proofs.RunLaws.{piece_in_length}
 use Rattle.k_pragma.specs.declared.notes.Note.{Note}
-use Rattle.k_pragma.specs.Clauses.{same_place}
-use Rattle.k_pragma.specs.Insertions.{inserted_at, note_text, parted, spells_for, with_notes}
+use Rattle.k_pragma.specs.Insertions.{inserted_at, note_text, parted, same_place, spells_for, with_notes}
 use Rattle.k_pragma_laws.proofs.Notes.{IsHarmless}
 use Rattle.k_pragma_laws.proofs.Allowed.{Fits, IsAllowed, IsSilent}
 use Rattle.k_pragma_laws.proofs.Blind.{unplaced, unplaced_mode, if_ok, seen, Alike, step_agrees}
 use Rattle.k_pragma_laws.proofs.Fronts.{Follows, is_sound}
 use Rattle.k_pragma_laws.proofs.Inserted.{fresh_same, hash_piece, read_inserted, text_piece}
 use Rattle.k_pragma_laws.proofs.Reading.{blind, blind_piece, blind_skip, final, piece_in_unplaced, piece_kept, run_blind}
+use Rattle.k_pragma_laws.proofs.Splices.{Spaced, apart_rest, none_kept, none_unplaced, not_inserted, turn_parts}
 use Rattle.k_pragma_laws.proofs.Steps.{Goes, IsText, IsSolid, define_stays, step_goes}
 
 -- ---- what is inserted at a place
@@ -40,14 +40,14 @@ silent_nothing place text [] silent = refl
 silent_nothing place text (n ∷ notes) silent =
     ap (λ v. (if v then note_text text n else []) ++ inserted_at place text notes) silent.0 ∙ silent_nothing place text notes silent.1
 
--- nothing, or what begins with `/`
-slash_first : (place : Place) (text : List ℕ) (notes : List Note) → Each IsHarmless notes → (inserted_at place text notes ≡ []) ⊎ ((xs : List ℕ) × (inserted_at place text notes ≡ 47 ∷ xs))
+-- nothing, or what begins with `/*`
+slash_first : (place : Place) (text : List ℕ) (notes : List Note) → Each IsHarmless notes → (inserted_at place text notes ≡ []) ⊎ ((xs : List ℕ) × (inserted_at place text notes ≡ 47 ∷ 42 ∷ xs))
 slash_first place text [] harmless = inl refl
 slash_first place text (n ∷ notes) harmless =
     let more = inserted_at place text notes in
     let line = if spells_for text then n.line else [] in
-    elim (same_place n.place place) as (λ v. ((if v then note_text text n else []) ++ more ≡ []) ⊎ ((xs : List ℕ) × ((if v then note_text text n else []) ++ more ≡ 47 ∷ xs))) [
-      | true ↦ inr (42 ∷ ((harmless.0.inside ++ line) ++ more), ap (λ c. (c ++ line) ++ more) harmless.0.comment)
+    elim (same_place n.place place) as (λ v. ((if v then note_text text n else []) ++ more ≡ []) ⊎ ((xs : List ℕ) × ((if v then note_text text n else []) ++ more ≡ 47 ∷ 42 ∷ xs))) [
+      | true ↦ inr ((harmless.0.inside ++ line) ++ more, ap (λ c. (c ++ line) ++ more) harmless.0.comment)
       | false ↦ slash_first place text notes harmless.1
     ]
 
@@ -108,26 +108,48 @@ module _ (notes : List Note) (harmless : Each IsHarmless notes) where
             (inr (record { text = allowed.0; line = solid_byte new.mode b bs allowed.0 allowed.1; byte = inr (refl, eqb-false before 47 e) }))
       ]
 
-      by : (inserted_at place (b ∷ bs) notes ≡ []) ⊎ ((xs : List ℕ) × (inserted_at place (b ∷ bs) notes ≡ 47 ∷ xs))
+      by : (inserted_at place (b ∷ bs) notes ≡ []) ⊎ ((xs : List ℕ) × (inserted_at place (b ∷ bs) notes ≡ 47 ∷ 42 ∷ xs))
           → Next before new.mode (b ∷ bs) (parted before (inserted_at place (b ∷ bs) notes) ++ b ∷ rest)
       by (inl e) = subst (λ ins. Next before new.mode (b ∷ bs) (parted before ins ++ b ∷ rest)) (sym e) (inl refl)
-      by (inr (xs, e)) = subst (λ ins. Next before new.mode (b ∷ bs) (parted before ins ++ b ∷ rest)) (sym e) (behind xs)
+      by (inr (xs, e)) = subst (λ ins. Next before new.mode (b ∷ bs) (parted before ins ++ b ∷ rest)) (sym e) (behind (42 ∷ xs))
+
+  -- what is inserted begins with no byte at which C joins lines
+  spaced : (place : Place) (before : ℕ) (bs : List ℕ) → Spaced bs (with_notes notes place before bs)
+  spaced place before [] pattern a h = h
+  spaced place before (b ∷ bs) [] a h = refl
+  spaced place before (b ∷ bs) (c ∷ pattern) a h = by (slash_first place (b ∷ bs) notes harmless) (spaced (after place b) b bs pattern (apart_rest c pattern a))
+    where
+      rest : List ℕ
+      rest = with_notes notes (after place b) b bs
+
+      never : (xs : List ℕ) (v : Bool) → begins (c ∷ pattern) ((if v then 32 ∷ 47 ∷ 42 ∷ xs else 47 ∷ 42 ∷ xs) ++ b ∷ rest) ≡ true → ⊥
+      never xs true k = not_inserted pattern (47 ∷ 42 ∷ (xs ++ b ∷ rest)) c a (inl k)
+      never xs false k = not_inserted pattern (xs ++ b ∷ rest) c a (inr k)
+
+      by : (inserted_at place (b ∷ bs) notes ≡ []) ⊎ ((xs : List ℕ) × (inserted_at place (b ∷ bs) notes ≡ 47 ∷ 42 ∷ xs))
+          → (begins pattern rest ≡ true → begins pattern bs ≡ true) → begins (c ∷ pattern) (b ∷ bs) ≡ true
+      by (inl e) more =
+          let parts = and_parts (eqb c b) (begins pattern rest) (subst (λ ins. begins (c ∷ pattern) (parted before ins ++ b ∷ rest) ≡ true) e h) in
+          and_from (eqb c b) (begins pattern bs) parts.0 (more parts.1)
+      by (inr (xs, e)) more = absurd (never xs (eqb before 47) (subst (λ ins. begins (c ∷ pattern) (parted before ins ++ b ∷ rest) ≡ true) e h))
 
   -- Within a piece nothing is inserted.
   split : (k : ℕ) (place : Place) (before : ℕ) (new : State) (bs : List ℕ) (end : State × Place) → k ≤ length bs → run k place new bs ≡ Ok end → Fits notes k place new bs
       → (take k (with_notes notes place before bs) ≡ take k bs) × Next (last_of before (take k bs)) new.mode (drop k bs) (drop k (with_notes notes place before bs))
-  split zero place before new [] end le e fits = (refl, tt)
+      × Spaced (drop k bs) (drop k (with_notes notes place before bs))
+  split zero place before new [] end le e fits = (refl, tt, spaced place before [])
   split (suc k) place before new [] end le e fits = absurd (omega arith)
   split zero place before new (b ∷ bs) end le e fits =
       let x = piece_in new.mode (b ∷ bs) in
       let allowed : IsAllowed notes place new.mode x.0 =
       ok_parts (IsAllowed notes place new.mode x.0) (λ (next : State). Fits notes (x.1 - 1) (after place b) next bs) (turn place new (b ∷ bs) x) (λ next. run (x.1 - 1) (after place b) next bs) end e fits in
-      (refl, inserted_next place before new b bs (with_notes notes (after place b) b bs) allowed)
+      (refl, inserted_next place before new b bs (with_notes notes (after place b) b bs) allowed, spaced place before (b ∷ bs))
   split (suc k) place before new (b ∷ bs) end le e fits =
       let rest = with_notes notes (after place b) b bs in
       let more = split k (after place b) b new bs end (omega arith) e fits.1 in
-      subst (λ ins. (take (suc k) (parted before ins ++ b ∷ rest) ≡ b ∷ take k bs) × Next (last_of b (take k bs)) new.mode (drop k bs) (drop (suc k) (parted before ins ++ b ∷ rest)))
-      (sym (silent_nothing place (b ∷ bs) notes fits.0)) (ap (λ t. b ∷ t) more.0, more.1)
+      subst (λ ins. (take (suc k) (parted before ins ++ b ∷ rest) ≡ b ∷ take k bs) × Next (last_of b (take k bs)) new.mode (drop k bs) (drop (suc k) (parted before ins ++ b ∷ rest))
+      × Spaced (drop k bs) (drop (suc k) (parted before ins ++ b ∷ rest)))
+      (sym (silent_nothing place (b ∷ bs) notes fits.0)) (ap (λ t. b ∷ t) more.0, more.1, more.2)
 
 -- ---- the piece at the front
 
@@ -220,10 +242,11 @@ module _ (notes : List Note) (harmless : Each IsHarmless notes) where
 
   -- a piece of the text, the bytes behind its first and what stands behind it: in the text, and with what is inserted
   ok_piece : (place : Place) (before : ℕ) (old new : State) (b : ℕ) (bs q r more s : List ℕ) (end : State × Place) (k : ℕ) (c : Piece)
-      → piece_in old.mode (b ∷ bs) ≡ (c, suc k) → step place (b ∷ q) r c old ≡ Ok new → q ++ r ≡ bs → q ++ s ≡ more → length q ≡ k → Next (last_of b q) new.mode r s
+      → piece_in old.mode (b ∷ bs) ≡ (c, suc k) → splice_of old.mode place (b ∷ bs) (suc k) ≡ None → step place (b ∷ q) r c old ≡ Ok new
+      → q ++ r ≡ bs → q ++ s ≡ more → length q ≡ k → Next (last_of b q) new.mode r s → Spaced r s
       → IsAllowed notes place old.mode c → blind k (unplaced new) more ≡ Some (unplaced end.0)
       → blind 0 (unplaced old) (parted before (inserted_at place (b ∷ bs) notes) ++ b ∷ more) ≡ Some (unplaced end.0)
-  ok_piece place before old new b bs q r more s end k c e done front whole long next allowed rest = inserted allowed
+  ok_piece place before old new b bs q r more s end k c e none done front whole long next apart allowed rest = inserted allowed
     where
       first : piece_in old.mode (b ∷ (q ++ r)) ≡ (c, suc (length q))
       first = ap (λ t. piece_in old.mode (b ∷ t)) front ∙ e ∙ ap (λ n. (c, suc n)) (sym long)
@@ -231,13 +254,17 @@ module _ (notes : List Note) (harmless : Each IsHarmless notes) where
       kept : piece_in old.mode (b ∷ (q ++ s)) ≡ (c, suc (length q))
       kept = piece_stays old.mode b q r s c first (IfOk-at_ok (λ (_ : State). Goes old.mode c (b ∷ q)) done (step_goes old.mode place (b ∷ q) r c old)) (next_follows b q new.mode r s next)
 
+      unjoined : splice_of (unplaced_mode old.mode) first_place (b ∷ (q ++ s)) (suc (length q)) ≡ None
+      unjoined = none_unplaced old.mode place (b ∷ (q ++ s)) (suc (length q)) (none_kept old.mode place b q r s apart
+          (ap (λ t. splice_of old.mode place (b ∷ t) (suc (length q))) front ∙ ap (λ n. splice_of old.mode place (b ∷ bs) (suc n)) long ∙ none))
+
       blindly : if_ok (step first_place (b ∷ q) s c (unplaced old)) ≡ Some (unplaced new)
       blindly = sym (step_agrees old.mode place (b ∷ q) r s c old (alike old.mode place (b ∷ q) r s (last_of b q) c old new refl done next)) ∙ ap seen done
 
       read : blind 0 (unplaced old) (b ∷ more) ≡ Some (unplaced end.0)
       read =
           ap (λ t. blind 0 (unplaced old) (b ∷ t)) (sym whole)
-          ∙ blind_piece (unplaced old) (unplaced new) b q s c (piece_in_unplaced old.mode (b ∷ (q ++ s)) ∙ kept) blindly
+          ∙ blind_piece (unplaced old) (unplaced new) b q s c (piece_in_unplaced old.mode (b ∷ (q ++ s)) ∙ kept) unjoined blindly
           ∙ sym (blind_skip k (unplaced new) q s (sym long))
           ∙ ap (blind k (unplaced new)) whole
           ∙ rest
@@ -255,7 +282,7 @@ module _ (notes : List Note) (harmless : Each IsHarmless notes) where
 
   -- a piece of which the last k bytes stand behind its first
   at_piece : (place : Place) (before : ℕ) (old : State) (b : ℕ) (bs : List ℕ) (end : State × Place) (k : ℕ) (c : Piece) (given : Result State Fault)
-      → piece_in old.mode (b ∷ bs) ≡ (c, suc k) → k ≤ length bs → step place (b ∷ take k bs) (drop k bs) c old ≡ given → (given >>= λ new. run k (after place b) new bs) ≡ Ok end
+      → piece_in old.mode (b ∷ bs) ≡ (c, suc k) → k ≤ length bs → turn place old (b ∷ bs) (c, suc k) ≡ given → (given >>= λ new. run k (after place b) new bs) ≡ Ok end
       → IfOk given (λ new. IsAllowed notes place old.mode c × Fits notes k (after place b) new bs)
       → ((new : State) → run k (after place b) new bs ≡ Ok end → Fits notes k (after place b) new bs → blind k (unplaced new) (with_all (after place b) b bs) ≡ Some (unplaced end.0))
       → blind 0 (unplaced old) (parted before (inserted_at place (b ∷ bs) notes) ++ b ∷ with_all (after place b) b bs) ≡ Some (unplaced end.0)
@@ -263,8 +290,9 @@ module _ (notes : List Note) (harmless : Each IsHarmless notes) where
   at_piece place before old b bs end k c (Ok new) e le done went fits next =
       let more = with_all (after place b) b bs in
       let halves = split notes harmless k (after place b) b new bs end le went fits.1 in
-      ok_piece place before old new b bs (take k bs) (drop k bs) more (drop k more) end k c e done (take-append-drop k bs) (ap (λ t. t ++ drop k more) (sym halves.0) ∙ take-append-drop k more)
-      (length-take-le k bs le) halves.1 fits.0 (next new went fits.1)
+      let parts = turn_parts place old new (b ∷ bs) (c, suc k) done in
+      ok_piece place before old new b bs (take k bs) (drop k bs) more (drop k more) end k c e parts.0 parts.1 (take-append-drop k bs) (ap (λ t. t ++ drop k more) (sym halves.0) ∙ take-append-drop k more)
+      (length-take-le k bs le) halves.1 halves.2 fits.0 (next new went fits.1)
 
   -- A TEXT WITH WHAT IS INSERTED gives what the text gives.
   pub keeps : (skip : ℕ) (place : Place) (before : ℕ) (old : State) (text : List ℕ) (end : State × Place) → run skip place old text ≡ Ok end → Fits notes skip place old text
@@ -279,5 +307,5 @@ module _ (notes : List Note) (harmless : Each IsHarmless notes) where
       let within = piece_in_length old.mode b bs in
       let count : x.1 ≡ suc (x.1 - 1) = omega (arith, within.0) in
       at_piece place before old b bs end (x.1 - 1) x.0 (turn place old (b ∷ bs) x) (ap (λ n. (x.0, n)) count) (omega (arith, within.1))
-      (ap (λ n. step place (take n (b ∷ bs)) (drop n (b ∷ bs)) x.0 old) (sym count)) e fits
+      (ap (λ n. turn place old (b ∷ bs) (x.0, n)) (sym count)) e fits
       (λ new went more. keeps (x.1 - 1) (after place b) b new bs end went more)

@@ -1,11 +1,13 @@
 pub mod Allowed
 pub mod Blind
 pub mod Classes
+pub mod ClauseNames
 pub mod Fronts
 pub mod Harmless
 pub mod Inserted
 pub mod Keeping
 pub mod Notes
 pub mod Reading
+pub mod Splices
 pub mod Steps
 pub mod Whole

@@ -4,9 +4,9 @@ use Rattle.k_lex_pieces.specs.Bytes.{every}
 use Rattle.k_lex_pieces.specs.Pieces.{ends_comment}
 use Rattle.k_pragma.specs.declared.notes.Note.{Note}
 
--- a byte that neither ends a line nor begins a comment
+-- a byte that neither ends a line nor begins a comment, and at which C joins no lines
 abbrev pub is_plain : ℕ → Bool
-is_plain b = not (b == 47) && not (b == 10)
+is_plain b = not (b == 47) && (not (b == 10) && (not (b == 92) && not (b == 63)))
 
 -- nothing, or a line of a `#pragma` of such bytes, between two newlines
 abbrev pub IsPragmaLine : List ℕ → Type 0

@@ -1,5 +1,6 @@
 -- Reading a text without places.
-use Rattle.std.proofs.Common.{◌≡◌, ℕ, zero, suc, ◌-◌, true, List, [], ◌∷◌, ◌++◌, Option, Some, None, Result, Ok, Err, length, take, drop, refl, sym, ap, ◌∙◌, option_and_then, arith}
+use Rattle.std.proofs.Common.{◌≡◌, ℕ, zero, suc, ◌-◌, true, List, [], ◌∷◌, ◌++◌, Option, Some, None, is_some, Result, Ok, Err, length, take, drop, refl, sym, ap, ◌∙◌, option_and_then, arith}
+use Rattle.std.proofs.lemmas.Bool.{false≢true}
 use Rattle.std.proofs.lemmas.List.{take_at, drop_at}
 use Rattle.std.proofs.lemmas.Option.{none-some, same_Some}
 use Rattle.k_num.specs.declared.place.Place.{Place}
@@ -12,10 +13,11 @@ use Rattle.k_lex_pieces.specs.Pieces.{class_of, class_in_pragma, class_in_includ
 use Rattle.k_lex.specs.declared.lines.Mode.{Mode}
 use Rattle.k_lex.specs.declared.lines.Mode.TheVariants as m
 use Rattle.k_lex.specs.Lines.{State, step}
-use Rattle.k_lex.specs.Tokens.{piece_in, turn, run, first_place}
-use Rattle.k_pragma_laws.proofs.Blind.{unplaced_mode, unplaced, if_ok, Agree, Alike, step_agrees}
+use Rattle.k_lex.specs.Tokens.{piece_in, splice_of, turn, turn_at, run, first_place}
+use Rattle.k_pragma_laws.proofs.Blind.{unplaced_mode, unplaced, if_ok, seen, Agree, Alike, step_agrees}
 use Rattle.k_pragma_laws.proofs.Classes.{cut_of, cut_in_pragma, cut_in_include}
 use Rattle.k_pragma_laws.proofs.Fronts.{IsCut, Follows, front_of, is_sound, keep, piece_of, sound_known}
+use Rattle.k_pragma_laws.proofs.Splices.{joins_fail, splice_unplaced}
 
 -- what has been read at the end of the text, without places: the first skip bytes belong to the piece before
 abbrev pub blind : ℕ → State → List ℕ → Option State
@@ -62,6 +64,15 @@ alike_same (m.Include hash) text = tt
 alike_same (m.Header d) text = tt
 alike_same m.Pragma text = tt
 
+turn_agrees : (place : Place) (old : State) (text : List ℕ) (x : Piece × ℕ) → Agree (turn place old text x) (turn first_place (unplaced old) text x)
+turn_agrees place old text x = by (splice_of old.mode place text x.1) (splice_of (unplaced_mode old.mode) first_place text x.1) (splice_unplaced old.mode place text x.1)
+  where
+    by : (o u : Option Place) → is_some o ≡ is_some u → Agree (turn_at o place old text x) (turn_at u first_place (unplaced old) text x)
+    by None None e = step_agrees old.mode place (take x.1 text) (drop x.1 text) (drop x.1 text) x.0 old (alike_same old.mode (drop x.1 text))
+    by None (Some at) e = absurd (false≢true e)
+    by (Some at) None e = absurd (false≢true (sym e))
+    by (Some at) (Some to) e = ap seen (joins_fail old.mode at old).1 ∙ sym (ap if_ok (joins_fail (unplaced_mode old.mode) to (unplaced old)).1)
+
 -- WHAT A TEXT GIVES does not depend on places, but for the places themselves.
 pub run_blind : (skip : ℕ) (place : Place) (old : State) (text : List ℕ) → final (run skip place old text) ≡ blind skip (unplaced old) text
 run_blind zero place old [] =
@@ -72,7 +83,7 @@ run_blind (suc skip) place old (b ∷ bs) = run_blind skip (after place b) old b
 run_blind zero place old (b ∷ bs) =
     let x = piece_in old.mode (b ∷ bs) in
     final_then (turn place old (b ∷ bs) x) (turn first_place (unplaced old) (b ∷ bs) x) (λ new. run (x.1 - 1) (after place b) new bs) (λ new. blind (x.1 - 1) new bs)
-    (step_agrees old.mode place (take x.1 (b ∷ bs)) (drop x.1 (b ∷ bs)) (drop x.1 (b ∷ bs)) x.0 old (alike_same old.mode (drop x.1 (b ∷ bs))))
+    (turn_agrees place old (b ∷ bs) x)
     (λ new. run_blind (x.1 - 1) (after place b) new bs)
     ∙ ap (λ (y : Piece × ℕ). option_and_then (λ new. blind (y.1 - 1) new bs) (if_ok (turn first_place (unplaced old) (b ∷ bs) y))) (sym (piece_in_unplaced old.mode (b ∷ bs)))
 
@@ -83,13 +94,14 @@ blind_skip k s [] rest e = ap (λ j. blind j s rest) e
 blind_skip zero s (x ∷ xs) rest e = absurd (omega arith)
 blind_skip (suc k) s (x ∷ xs) rest e = blind_skip k s xs rest (omega arith)
 
--- a piece at the front of a text, and what stands behind it
-pub blind_piece : (s new : State) (x : ℕ) (xs rest : List ℕ) (c : Piece) → piece_in s.mode (x ∷ (xs ++ rest)) ≡ (c, suc (length xs))
+-- a piece at the front of a text, where C joins no lines, and what stands behind it
+pub blind_piece : (s new : State) (x : ℕ) (xs rest : List ℕ) (c : Piece) → piece_in s.mode (x ∷ (xs ++ rest)) ≡ (c, suc (length xs)) → splice_of s.mode first_place (x ∷ (xs ++ rest)) (suc (length xs)) ≡ None
     → if_ok (step first_place (x ∷ xs) rest c s) ≡ Some new → blind 0 s (x ∷ (xs ++ rest)) ≡ blind 0 new rest
-blind_piece s new x xs rest c e done =
+blind_piece s new x xs rest c e none done =
     let n = suc (length xs) in
     let go = λ (next : State). blind (n - 1) next (xs ++ rest) in
     ap (λ (y : Piece × ℕ). option_and_then (λ next. blind (y.1 - 1) next (xs ++ rest)) (if_ok (turn first_place s (x ∷ (xs ++ rest)) y))) e
+    ∙ ap (λ (o : Option Place). option_and_then go (if_ok (turn_at o first_place s (x ∷ (xs ++ rest)) (c, n)))) none
     ∙ ap (λ t. option_and_then go (if_ok (step first_place t (drop n (x ∷ (xs ++ rest))) c s))) (take_at (x ∷ xs) rest n refl)
     ∙ ap (λ t. option_and_then go (if_ok (step first_place (x ∷ xs) t c s))) (drop_at (x ∷ xs) rest n refl)
     ∙ ap (option_and_then go) done

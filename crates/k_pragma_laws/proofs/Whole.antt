@@ -12,11 +12,12 @@ use Rattle.k_lex_pieces.specs.declared.fault.Refusal.TheVariants as r
 use Rattle.k_lex_pieces.specs.Outcome.{◌>>=◌, refused}
 use Rattle.k_lex.specs.Laws.{kinds_of}
 use Rattle.k_lex.specs.Lines.{State}
+use Rattle.k_lex.specs.PragmaLines.{pragma_lines}
 use Rattle.k_lex.specs.Tokens.{answer, first_place, join, join_kinds, joined, limits, nothing_read, run, tokens}
 use Rattle.k_lex.proofs.Outcomes.{Each}
-use Rattle.k_lex.proofs.TokenLaws.{tokens_right}
 use Rattle.k_pragma.specs.declared.notes.Note.{Note}
-use Rattle.k_pragma.specs.Insertions.{annotated, annotated_by, beginning, if_tokens, notes_of, with_notes}
+use Rattle.k_pragma_written.specs.Written.{if_tokens}
+use Rattle.k_pragma.specs.Insertions.{annotated, annotated_by, beginning, notes_of, with_notes}
 use Rattle.k_pragma.specs.Marked.{pragmas_in}
 use Rattle.k_regions.specs.Laws.{HasThePlace}
 use Rattle.k_regions.specs.Regions.{regions_of}
@@ -158,13 +159,14 @@ notes_keep bytes list notes e right few =
 
 pub inserting_keeps_tokens : InsertingKeepsTokens
 unfolding annotated annotated_by
-inserting_keeps_tokens bytes list typed marks regions rows among e at few =
+inserting_keeps_tokens bytes list written typed marks regions rows among e at few =
     let found : if_tokens (tokens bytes) ≡ list = ap if_tokens e in
-    let notes = λ (ts : List Token). notes_of regions (pragmas_in among marks.counted ts 0 typed.functions) rows in
-    let right : Each (λ n. IsHarmless n × HasThePlace list n.place) (notes list) = notes_of_right list (HasThePlace list) among marks.counted typed.functions regions rows (tokens_right bytes list e) at in
+    let notes = λ (ts : List Token). notes_of (pragma_lines bytes) ts regions (pragmas_in among marks.counted written 0 typed.functions) rows in
+    let right : Each (λ n. IsHarmless n × HasThePlace list n.place) (notes list) =
+    notes_of_right (pragma_lines bytes) list (HasThePlace list) among marks.counted written typed.functions regions rows at in
     subst (λ ts. length (with_notes (notes ts) beginning 0 bytes) ≤ 1048576 → ReadsAs (with_notes (notes ts) beginning 0 bytes) list) (sym found)
     (notes_keep bytes list (notes list) e right) few
 
 pub annotating_keeps_tokens : AnnotatingKeepsTokens
-annotating_keeps_tokens bytes list unit typed marks rows among e placed is few =
-    inserting_keeps_tokens bytes list typed marks (regions_of typed) rows among e (λ n region at. (come_of_tokens unit typed list placed is n region at).place) few
+annotating_keeps_tokens bytes list written unit typed marks rows among e placed is few =
+    inserting_keeps_tokens bytes list written typed marks (regions_of typed) rows among e (λ n region at. (come_of_tokens unit typed list placed is n region at).place) few

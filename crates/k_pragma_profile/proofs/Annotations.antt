@@ -23,6 +23,7 @@ use Rattle.k_report_profile.specs.Summed.{AreTold, IsSummed}
 use Rattle.k_report_profile.proofs.OneRun.{one_tree}
 use Rattle.k_data_profile.proofs.Pages.{alike, apart, plans, profile_of}
 use Rattle.k_carry_pairs.specs.declared.pairs.LoopPairs.{LoopPairs}
+use Rattle.k_pragma_written.proofs.One.{one_written}
 use Rattle.k_pragma.specs.Insertions.{annotated}
 use Rattle.k_pragma.specs.Marked.{candidates}
 use Rattle.k_pragma_profile.specs.Annotated.{ArePicked, IsAnnotationOf, IsRunAnnotation, large, picked_in, picked_of, whole}
@@ -74,7 +75,9 @@ module _ (source : List ℕ) (typed : TUnit) (marks : Marks) (found : List LoopP
           planned = a.are_picked.planned;
           is = a.are_picked.is;
         };
-        is = a.is ∙ (λ i. annotated source (tokens source) typed marks (is.regions i) a.rows (candidates found a.picked));
+        written = a.written;
+        reads = a.reads;
+        is = a.is ∙ (λ i. annotated source (tokens source) a.written typed marks (is.regions i) a.rows (candidates found a.picked));
       })
 
   -- that which is made of what is told of a run is the run's: where the dictionary is told, with the profile that has it
@@ -106,7 +109,8 @@ module _ (ran : Ran) (is_whole : IsWhole ran) (few : (nodes : List Node) → IsT
       let trees : nodes' ≡ nodes = one_tree ran nodes' nodes tree' tree in
       let rows : a.rows ≡ b.rows = rows_are_unique nodes a.rows b.rows a.are_rows (subst (λ (l : List Node). AreRows l b.rows) trees b.are_rows) in
       let picked : a.picked ≡ b.picked = one_picked nodes saved a.picked b.picked tree is a.are_picked (subst (λ (l : List Node). ArePicked ran.regions l b.picked) trees b.are_picked) in
-      a.is ∙ (λ i. annotated source (tokens source) typed marks ran.regions (rows i) (candidates found (picked i))) ∙ sym b.is
+      let written : a.written ≡ b.written = one_written source a.written b.written a.reads b.reads in
+      a.is ∙ (λ i. annotated source (tokens source) (written i) typed marks ran.regions (rows i) (candidates found (picked i))) ∙ sym b.is
   one_run_annotation source typed marks found _ _ (whole nodes saved one tree is a) (large nodes' tree' over) = absurd (apart ran is_whole few nodes nodes' saved tree tree' is over)
   one_run_annotation source typed marks found _ _ (large nodes tree over) (whole nodes' saved' other tree' is' b) = absurd (apart ran is_whole few nodes' nodes saved' tree' tree is' over)
   one_run_annotation source typed marks found _ _ (large nodes tree over) (large nodes' tree' over') = refl

@@ -18,6 +18,8 @@ use Rattle.k_plan.specs.declared.advice.Pick.{Pick}
 use Rattle.k_report_profile.specs.Report.{IsPlanned}
 use Rattle.k_report_profile.specs.RunReport.{IsLarge, IsProfileOf, Ran}
 use Rattle.k_carry_pairs.specs.declared.pairs.LoopPairs.{LoopPairs}
+use Rattle.k_pragma_written.specs.Written.{IsWritten}
+use Rattle.k_pragma_written.specs.declared.told.Written.{Written}
 use Rattle.k_pragma.specs.Insertions.{annotated}
 use Rattle.k_pragma.specs.Marked.{candidates}
 
@@ -47,13 +49,16 @@ pub record ArePicked (regions : List Region) (nodes : List Node) (picked : List 
   pub planned : IsPlanned contexts plan
   pub is : picked ≡ picked_in contexts plan
 
--- the annotated source of instances: their rows are told, and of their picked loops those are marked that carry nothing by this and may run in parallel
+-- the annotated source of instances: their rows are told, and of their picked loops those are marked that carry nothing by this and may run in parallel, by
+-- what the tree of the source tells of them
 pub record IsAnnotationOf (source : List ℕ) (typed : TUnit) (marks : Marks) (regions : List Region) (nodes : List Node) (found : List LoopPairs) (text : List ℕ) : Type 0 where
   pub rows : List Row
   pub picked : List ℕ
   pub are_rows : AreRows nodes rows
   pub are_picked : ArePicked regions nodes picked
-  pub is : text ≡ annotated source (tokens source) typed marks regions rows (candidates found picked)
+  pub written : Written
+  pub reads : IsWritten source written
+  pub is : text ≡ annotated source (tokens source) written typed marks regions rows (candidates found picked)
 
 -- THE ANNOTATED SOURCE of a run of a program, with its marks, whose loops carry this; or the source itself where the dictionary of the run is over its limits
 pub data IsRunAnnotation (source : List ℕ) (typed : TUnit) (marks : Marks) (ran : Ran) (found : List LoopPairs) : List ℕ → Type 0 where

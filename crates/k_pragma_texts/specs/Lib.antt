@@ -1,4 +1,5 @@
 pub mod Occurrences
 pub mod Actions
+pub mod Canonical
 pub mod Declarations
 pub mod Texts

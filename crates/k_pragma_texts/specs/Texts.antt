@@ -1,6 +1,6 @@
 -- Believed with the theorem on the top call.
 -- What stands in the text of a statement and of a function: where variables occur, which assignments feed reads behind them, and the loops.
-use Rattle.std.specs.Prelude.{ℕ, List, [], ◌∷◌, ◌++◌, map, Option, Some, None}
+use Rattle.std.specs.Prelude.{ℕ, false, List, [], ◌∷◌, ◌++◌, map, Option, Some, None}
 use Rattle.k_types_meaning.specs.declared.tree.expression.TExpr.{TExpr}
 use Rattle.k_types_meaning.specs.declared.tree.statement.Spot.{Spot}
 use Rattle.k_types_meaning.specs.declared.tree.statement.TFirst.{TFirst}
@@ -13,6 +13,7 @@ use Rattle.k_pragma_texts.specs.declared.occurrence.Occurrence.{Occurrence}
 use Rattle.k_pragma_texts.specs.declared.occurrence.Setter.{Setter}
 use Rattle.k_pragma_texts.specs.Occurrences.{occurs_in, last_in, sets}
 use Rattle.k_pragma_texts.specs.Actions.{action_occurs, counted_by}
+use Rattle.k_pragma_texts.specs.Canonical.{is_canonical}
 use Rattle.k_pragma_texts.specs.Declarations.{option_occurs, option_last, declared_occurs, declared_last, first_last, first_occurs, first_sets}
 
 -- what stands in a statement
@@ -82,12 +83,20 @@ a_loop spot text occurs fed body = record {
 
 -- the text of a loop that is tested alone, with this last node
 abbrev pub tested_text : Spot → ℕ → ℕ → LoopText
-tested_text spot number last = record { number = number; node = spot.number; head = spot.number; last = last; counter = None }
+tested_text spot number last =
+    record { number = number; node = spot.number; head = spot.number; test = spot.number; last = last; counter = None; canonical = false }
 
 -- the text of a `for` with this last node
-abbrev pub for_text : Spot → ℕ → ℕ → TFirst → Option TExpr → LoopText
-for_text spot number last start step =
-    record { number = number; node = spot.number; head = first_last spot.number start; last = last; counter = counted_by step }
+abbrev pub for_text : Spot → ℕ → ℕ → TFirst → Option TExpr → Option TExpr → LoopText
+for_text spot number last start test step = record {
+  number = number;
+  node = spot.number;
+  head = first_last spot.number start;
+  test = option_last (first_last spot.number start) test;
+  last = last;
+  counter = counted_by step;
+  canonical = is_canonical start test step;
+}
 
 -- where variables occur in a statement that may be left out
 abbrev pub occurs_there : Option Held → List Occurrence
@@ -160,7 +169,7 @@ held_step (TStmt-F.If spot test a b) = an_if spot test a b
 held_step (TStmt-F.While spot number test body) = a_loop spot (tested_text spot number body.last) (occurs_in test ++ body.occurs) None body
 held_step (TStmt-F.DoWhile spot number body test) = a_loop spot (tested_text spot number (last_in test)) (body.occurs ++ occurs_in test) None body
 held_step (TStmt-F.For spot number start test step body) =
-    a_loop spot (for_text spot number body.last start step)
+    a_loop spot (for_text spot number body.last start test step)
     (first_occurs spot.number start ++ (option_occurs test ++ (option_occurs step ++ body.occurs))) (first_sets start) body
 held_step (TStmt-F.Switch spot kind on parts) = a_switch spot on parts
 held_step (TStmt-F.Break spot) = simple spot spot.number None []

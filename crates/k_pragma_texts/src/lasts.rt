@@ -60,7 +60,7 @@ fn last_of_args(before: u32, args: &Seq<TExpr>) -> u32
 }
 
 /// The last node of an expression; where it is left out, the one before it.
-fn last_of_option(before: u32, expr: &Option<Box<TExpr>>) -> u32
+pub(crate) fn last_of_option(before: u32, expr: &Option<Box<TExpr>>) -> u32
     ensures { result ≡ option_last before expr.now }
 {
     match expr {

@@ -3,6 +3,7 @@
 #![tactic(auto)]
 
 mod actions;
+mod canonical;
 mod counters;
 mod declared;
 mod expressions;

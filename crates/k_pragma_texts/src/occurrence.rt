@@ -44,7 +44,11 @@ pub struct LoopText {
     pub node: u32,
     /// The last node of the first part of a `for`; without one its own node. Behind it stand test, step and body.
     pub head: u32,
+    /// The last node of the test of a `for`, which stands behind the head; without one, and of other loops, the head.
+    pub test: u32,
     pub last: u32,
     /// The variable that its step counts.
     pub counter: Option<u32>,
+    /// It is a `for` of OpenMP's canonical form, so far as the typed tree tells it.
+    pub canonical: bool,
 }

@@ -5,10 +5,11 @@ ghost use Rattle.k_pragma_texts.specs.Occurrences.{last_in, occurs_in};
 ghost use Rattle.k_pragma_texts.specs.Texts.{for_text, held, loops_in_parts, loops_in_row, loops_there, occurs_in_parts, occurs_in_row, occurs_there, part_held, setter, setters_in_block, setters_in_parts, setters_there, tested_text};
 
 use crate::actions::note_action;
+use crate::canonical::is_canonical;
 use crate::counters::counted_by;
 use crate::declared::{note_declared, note_first, note_option};
 use crate::expressions::note_expr;
-use crate::lasts::{last_of, last_of_first, last_of_stmt, last_of_stmts};
+use crate::lasts::{last_of, last_of_first, last_of_option, last_of_stmt, last_of_stmts};
 use crate::occurrence::{LoopText, Setter};
 use crate::setting::{first_sets, sets};
 use crate::text::Text;
@@ -78,8 +79,10 @@ fn note_tested(
         number,
         node: spot.number,
         head: spot.number,
+        test: spot.number,
         last,
         counter: None,
+        canonical: false,
     })?)
 }
 
@@ -89,17 +92,21 @@ fn note_for(
     number: u32,
     last: u32,
     first: &TFirst,
+    test: &Option<Box<TExpr>>,
     step: &Option<Box<TExpr>>,
     loops: &mut Vec<LoopText>,
 ) -> Result<(), NoMemory>
-    ensures { OnOk result (loops.new.items ≡ loops.old.items ++ for_text spot number last first.now step.now ∷ []) }
+    ensures { OnOk result (loops.new.items ≡ loops.old.items ++ for_text spot number last first.now test.now step.now ∷ []) }
 {
+    let head = last_of_first(spot.number, first);
     Ok(loops.push(LoopText {
         number,
         node: spot.number,
-        head: last_of_first(spot.number, first),
+        head,
+        test: last_of_option(head, test),
         last,
         counter: counted_by(step),
+        canonical: is_canonical(first, test, step),
     })?)
 }
 
@@ -204,11 +211,11 @@ fn note_counted(
 ) -> Result<(), NoMemory>
     ensures occurs { OnOk result (text.new.occurs.items ≡ text.old.occurs.items ++ (first_occurs spot.number first.now ++ (option_occurs test.now ++ (option_occurs step.now ++ (held body.now).occurs)))) }
     ensures setters { OnOk result (text.new.setters.items ≡ text.old.setters.items ++ (setter spot.number (held body.now).last (first_meant first.now) ++ (held body.now).setters)) }
-    ensures loops { OnOk result (text.new.loops.items ≡ text.old.loops.items ++ for_text spot turns (held body.now).last first.now step.now ∷ (held body.now).loops) }
+    ensures loops { OnOk result (text.new.loops.items ≡ text.old.loops.items ++ for_text spot turns (held body.now).last first.now test.now step.now ∷ (held body.now).loops) }
 {
     let last = last_of_stmt(body);
     let set = first_sets(alloc, first)?;
-    note_for(spot, turns, last, first, step, &mut text.loops)?;
+    note_for(spot, turns, last, first, test, step, &mut text.loops)?;
     note_setter(spot.number, last, set, &mut text.setters)?;
     note_first(spot.number, first, &mut text.occurs)?;
     note_option(test, &mut text.occurs)?;

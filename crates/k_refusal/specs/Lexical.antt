@@ -11,10 +11,10 @@ use Rattle.k_refusal.specs.declared.sentence.Token.TheVariants as token_says
 use Rattle.k_refusal.specs.Fronts.{behind_blanks, behind_word, first_byte, word_at}
 use Rattle.k_refusal.specs.Tables.{directives, headers, look_up}
 
--- a byte that begins no token: `.`, a backslash, `#`, a byte of 128 or more, or another one
+-- a byte that begins no token: `.`, a backslash or the `?` of the trigraph for one, `#`, a byte of 128 or more, or another one
 abbrev pub of_byte : ℕ → Sentence
 of_byte b =
-    if b == 46 then says.Token token_says.Member else if b == 92 then says.Token token_says.Backslash else if b == 35 then says.Token token_says.LateHash
+    if b == 46 then says.Token token_says.Member else if b == 92 || b == 63 then says.Token token_says.Backslash else if b == 35 then says.Token token_says.LateHash
     else if nat_le 128 b then says.Token token_says.NotAscii else says.Token token_says.StrayByte
 
 -- a literal that is not closed: a string, or a character constant

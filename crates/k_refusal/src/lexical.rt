@@ -6,13 +6,13 @@ use crate::front::{behind, behind_blanks, behind_word, first_byte, word_at};
 use crate::sentence::{Directive, Header, Sentence, Token};
 use crate::tables::{directive, header};
 
-/// A byte that begins no token.
+/// A byte that begins no token. A `?` is one where it begins the trigraph for a backslash.
 pub(crate) fn of_byte(byte: u8) -> Sentence
     ensures { result ≡ spec.of_byte byte }
 {
     if byte == b'.' {
         Sentence::Token(Token::Member)
-    } else if byte == b'\\' {
+    } else if byte == b'\\' || byte == b'?' {
         Sentence::Token(Token::Backslash)
     } else if byte == b'#' {
         Sentence::Token(Token::LateHash)

@@ -128,7 +128,7 @@ IsPaged outside file depth dict answer r =
     (source : List ℕ) × (outside.files file ≡ Some source) × AnswersPage file source depth dict answer r (run_of r).end
 
 -- ANNOTATE, where main returned: the source with what its functions and loops took, and a line before each loop that the plan picks, that carries nothing
--- from turn to turn, that shares nothing either where this is asked for, and that may run in parallel
+-- from turn to turn, that may run in parallel, and where this is asked for, that shares nothing either and had no instance too deep to be looked at
 pub record ToldAnnotated (source : List ℕ) (r : Running) (exit : ℤ) (depth : ℕ) (strict : Bool) (answer : Answer) : Type 0 where
   pub loops : List LoopPairs
   pub are_carried : AreCarried (regions_of r.typed) depth (run_of r).events loops

@@ -6,12 +6,13 @@ use Rattle.k_regions.specs.Regions.{regions_of}
 use Rattle.k_code.specs.declared.code.Code.{Code}
 use Rattle.k_lower_code.specs.Programs.{flattened}
 use Rattle.k_carry_pairs.specs.declared.pairs.LoopPairs.{LoopPairs}
+use Rattle.k_carry_storage_pairs.specs.Deep.{AreDeep}
 use Rattle.k_carry_storage_pairs.specs.Storage.{AreShared}
 use Rattle.k_carry_storage_pairs.specs.declared.access.Access.{Access}
 use Rattle.k_carry_storage_pairs.specs.declared.pairs.LoopStorage.{LoopStorage}
 use Rattle.k_carry_storage.specs.Accesses.{HasAccesses}
 use Rattle.k_carry_storage_text.specs.Lines.{storage_text}
-use Rattle.k_pragma_profile.specs.Strict.{unshared}
+use Rattle.k_pragma_profile.specs.Strict.{strictly_markable}
 use Rattle.k_top_answers.specs.Steps.{Running, run_of}
 
 -- the flat code of a program that is run
@@ -29,7 +30,9 @@ abbrev pub WritesStorage : Bool → Running → ℕ → List ℕ → Type 0
 WritesStorage false r depth text = text ≡ []
 WritesStorage true r depth text = (shared : List LoopStorage) × HasStorage r depth shared × (text ≡ storage_text (regions_of r.typed) shared)
 
--- the loops that may be marked, of those that are told with what they carry: where it is asked for those alone that share nothing, and else all
+-- the loops that may be marked, of those that are told with what they carry: where it is asked for those alone that share nothing and of whose instances
+-- each was looked at, and else all
 abbrev pub MayBeMarked : Bool → Running → ℕ → List LoopPairs → List LoopPairs → Type 0
 MayBeMarked false r depth loops found = found ≡ loops
-MayBeMarked true r depth loops found = (shared : List LoopStorage) × HasStorage r depth shared × (found ≡ unshared shared loops)
+MayBeMarked true r depth loops found = (shared : List LoopStorage) × HasStorage r depth shared
+    × ((deep : List Bool) × AreDeep depth (run_of r).events deep × (found ≡ strictly_markable deep shared loops))

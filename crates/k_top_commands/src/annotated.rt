@@ -53,7 +53,7 @@ fn annotation_text(
     )
 }
 
-/// What is told of the loops of a program's run that share nothing, of those that are told with what they carry.
+/// What is told of the loops of a program's run that share nothing and of whose instances each was looked at, of those that are told with what they carry.
 fn strictly(
     alloc: Global,
     ready: &Ready,
@@ -63,8 +63,9 @@ fn strictly(
     requires { IsFit ready.now depth }
     ensures { IfOk result (λ marked. MayBeMarked true (running_of ready.now) depth found.loops marked.loops) }
 {
-    let shared = storage_of(alloc, ready, depth)?;
-    Ok(unshared(shared.loops.as_slice(), found))
+    let told = storage_of(alloc, ready, depth)?;
+    let deep = told.deep.as_slice();
+    Ok(unshared(deep, told.pairs.loops.as_slice(), found))
 }
 
 /// The same where it is asked for, and else all that is told.

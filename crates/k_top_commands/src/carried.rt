@@ -1,12 +1,13 @@
 //! The answer of `carried`: what the loops of a run carry from turn to turn, and what their turns share.
 ghost use Rattle.std.specs.Prelude.{true, ◌≡◌, ◌++◌, IfOk};
+ghost use Rattle.k_carry_storage_pairs.specs.Deep.{AreDeep};
 ghost use Rattle.k_top_answers.specs.Answers.{AnswersCarried};
 ghost use Rattle.k_top_answers.specs.Steps.{run_of};
 ghost use Rattle.k_top_answers.specs.Storage.{HasStorage, WritesStorage};
 ghost use Rattle.k_top_lemmas.specs.Parts.{IsFit, TellsOfLoops, WritesLoops, running_of};
 
 use k_carry::{CarriedPairs, LoopPairs, carried};
-use k_carry_storage::{StoragePairs, storage};
+use k_carry_storage::{StorageTold, storage_told};
 use k_carry_storage_text::storage_text;
 use k_carry_text::carried_text;
 use k_ending::End;
@@ -27,14 +28,15 @@ pub(crate) fn loops_of(alloc: Global, ready: &Ready, depth: u32) -> Result<Carri
     carried(alloc, &code, ready.input.as_slice(), ready.steps, depth)
 }
 
-/// What the turns of the loops of a program's run share, of whose instances those below a depth are tracked.
-pub(crate) fn storage_of(alloc: Global, ready: &Ready, depth: u32) -> Result<StoragePairs, NoMemory>
+/// What the turns of the loops of a program's run share, of whose instances those below a depth are tracked, and which regions had a deeper one.
+pub(crate) fn storage_of(alloc: Global, ready: &Ready, depth: u32) -> Result<StorageTold, NoMemory>
     requires { IsFit ready.now depth }
-    ensures { IfOk result (λ shared. HasStorage (running_of ready.now) depth shared.loops) }
+    ensures storage { IfOk result (λ told. HasStorage (running_of ready.now) depth told.pairs.loops) }
+    ensures deep { IfOk result (λ told. AreDeep depth (run_of (running_of ready.now)).events told.deep) }
 {
     let program = &ready.program;
     let code = lower(alloc, &program.typed, &program.marks, &program.latencies)?;
-    storage(alloc, &code, ready.input.as_slice(), ready.steps, depth)
+    storage_told(alloc, &code, ready.input.as_slice(), ready.steps, depth)
 }
 
 /// The text on what the turns of the loops of a program's run share.
@@ -42,9 +44,9 @@ fn shared_text(alloc: Global, ready: &Ready, depth: u32) -> Result<Vec<u8>, NoMe
     requires { IsFit ready.now depth }
     ensures { IfOk result (λ text. WritesStorage true (running_of ready.now) depth text.items) }
 {
-    let shared = storage_of(alloc, ready, depth)?;
+    let told = storage_of(alloc, ready, depth)?;
     let regions = regions(alloc, &ready.program.typed)?;
-    storage_text(alloc, regions.as_slice(), shared.loops.as_slice())
+    storage_text(alloc, regions.as_slice(), told.pairs.loops.as_slice())
 }
 
 /// The same where it is asked for, and else no text.

@@ -1,5 +1,5 @@
 -- Words have an answer, whatever the outside holds.
-use Rattle.std.proofs.Common.{ℕ, ◌≡◌, ◌≤◌, Bool, true, false, refl, sym, subst, List, [], ◌∷◌, length, Option, Some, None, Result, Ok, Err, inl, inr}
+use Rattle.std.proofs.Common.{ℕ, ◌≡◌, ◌≤◌, Bool, true, false, refl, sym, ap, subst, List, [], ◌∷◌, length, Option, Some, None, Result, Ok, Err, inl, inr}
 use Rattle.std.specs.Prelude.{MatchBool}
 use Rattle.std.proofs.lemmas.Bool.{cases_lt}
 use Rattle.k_optab.specs.Latencies.{standard_latencies}
@@ -16,6 +16,7 @@ use Rattle.k_types_meaning.specs.declared.tree.unit.TUnit.{TUnit}
 use Rattle.k_marks_meaning.specs.Marking.{marks_of}
 use Rattle.k_evaluation.specs.Laws.{AreAtMost}
 use Rattle.k_types_calls.specs.Getchar.{calls_getchar}
+use Rattle.k_pragma_written.specs.Written.{if_tokens}
 use Rattle.k_top_answers.specs.declared.answer.Answer.{Answer}
 use Rattle.k_top_answers.specs.declared.failure.Failure.{Failure}
 use Rattle.k_top_answers.specs.declared.failure.Failure.TheVariants as why
@@ -41,14 +42,18 @@ Answered is = (answer : Answer) × is answer
 abbrev pub IsSoundWith : List ℕ → ℕ → TUnit → Type 0
 IsSoundWith latencies steps typed = (input : List ℕ) → IsSound (record { typed = typed; latencies = latencies; input = input; steps = steps })
 
+-- the bytes have a tree
+abbrev pub HasTree : List ℕ → Type 0
+HasTree bytes = (unit : tree.Unit) × IsParse (if_tokens (tokens bytes)) (Ok unit)
+
 -- A SOURCE is refused or accepted, and then answered
 module _ (told : Failure → Answer) (P : Answer → TUnit → Type 0) (latencies : List ℕ) (bounded : AreAtMost 10000 latencies) (steps : ℕ)
-    (limited : steps ≤ 1000000000) (next : (typed : TUnit) → IsSoundWith latencies steps typed → Answered (λ a. P a typed)) (bytes : List ℕ) where
+    (limited : steps ≤ 1000000000) (bytes : List ℕ) (next : (typed : TUnit) → HasTree bytes → IsSoundWith latencies steps typed → Answered (λ a. P a typed)) where
   accepted_answers : (list : List Token) (unit : tree.Unit) → tokens bytes ≡ Ok list → (parsed : IsParse list (Ok unit)) → faults unit ≡ []
       → (typed : TUnit) × IsTyped unit typed → Answered (λ a. AnswersTyped (λ failure. a ≡ told failure) (P a) unit [])
   accepted_answers list unit lexed parsed is (typed, is_typed) =
       let found : Answered (λ a. P a typed) =
-      next typed (λ input. record {
+      next typed (unit, subst (λ ts. IsParse ts (Ok unit)) (sym (ap if_tokens lexed)) parsed) (λ input. record {
         unit = unit;
         accepted = source_accepted bytes list unit (record { unit = typed; marks = marks_of typed; latencies = latencies }) lexed parsed is is_typed bounded;
         regions = source_regions bytes list unit typed lexed parsed is is_typed;
@@ -77,15 +82,20 @@ module _ (told : Failure → Answer) (P : Answer → TUnit → Type 0) (latencie
   pub source_answers : Answered (λ a. AnswersSource (λ failure. a ≡ told failure) (P a) bytes)
   source_answers = tokens_answers (tokens bytes) refl
 
--- A FILE is absent, too long, or answered
-pub found_answers : (limit : ℕ) (file : List ℕ) (N : Answer → List ℕ → Type 0) → ((bytes : List ℕ) → length bytes ≤ limit → Answered (λ a. N a bytes)) → (content : Option (List ℕ))
-    → Answered (λ a. AnswersFound (refused_by a) limit file (N a) content)
-found_answers limit file N next None = (refusal (why.Absent file), refl)
-found_answers limit file N next (Some bytes) =
+-- A FILE is absent, too long, or answered, by what it holds
+pub content_answers : (limit : ℕ) (file : List ℕ) (N : Answer → List ℕ → Type 0) (content : Option (List ℕ))
+    → ((bytes : List ℕ) → content ≡ Some bytes → length bytes ≤ limit → Answered (λ a. N a bytes)) → Answered (λ a. AnswersFound (refused_by a) limit file (N a) content)
+content_answers limit file N None next = (refusal (why.Absent file), refl)
+content_answers limit file N (Some bytes) next =
     elim (cases_lt limit (length bytes)) [
       | inl long ↦ (refusal (why.FileLong file), inl (long, refl))
-      | inr fits ↦ (let a : Answered (λ a. N a bytes) = next bytes fits in (a.0, inr (fits, a.1)))
+      | inr fits ↦ (let a : Answered (λ a. N a bytes) = next bytes refl fits in (a.0, inr (fits, a.1)))
     ]
+
+-- the same by its bytes alone
+pub found_answers : (limit : ℕ) (file : List ℕ) (N : Answer → List ℕ → Type 0) → ((bytes : List ℕ) → length bytes ≤ limit → Answered (λ a. N a bytes)) → (content : Option (List ℕ))
+    → Answered (λ a. AnswersFound (refused_by a) limit file (N a) content)
+found_answers limit file N next content = content_answers limit file N content (λ bytes is. next bytes)
 
 -- THE LATENCIES
 module _ (N : Answer → List ℕ → Type 0) (next : (latencies : List ℕ) → AreAtMost 10000 latencies → Answered (λ a. N a latencies)) where
@@ -110,24 +120,33 @@ input_answers N next true bytes =
     ]
 
 -- A PROGRAM OF TWO FILES WITH ITS INPUT
-module _ (outside : Outside) (steps : ℕ) (limited : steps ≤ 1000000000)
-    (P : Answer → Running → Type 0) (next : (r : Running) → IsSound r → Answered (λ a. P a r)) where
+module _ (outside : Outside) (steps : ℕ) (limited : steps ≤ 1000000000) (P : Answer → Running → Type 0) where
   -- what the input decides of a source with these latencies
   abbrev Input : Answer → List ℕ → TUnit → Type 0
   Input a latencies typed = AnswersInput (refused_by a) outside typed (λ input. P a (record { typed = typed; latencies = latencies; input = input; steps = steps }))
 
-  by_input : (latencies : List ℕ) (typed : TUnit) → IsSoundWith latencies steps typed → Answered (λ a. Input a latencies typed)
-  by_input latencies typed sound =
+  by_input : ((r : Running) → IsSound r → Answered (λ a. P a r)) → (latencies : List ℕ) (typed : TUnit) → IsSoundWith latencies steps typed
+      → Answered (λ a. Input a latencies typed)
+  by_input next latencies typed sound =
       input_answers (λ a input. P a (record { typed = typed; latencies = latencies; input = input; steps = steps }))
       (λ input. next (record { typed = typed; latencies = latencies; input = input; steps = steps }) (sound input)) (calls_getchar typed) outside.input
 
-  by_source : (bytes latencies : List ℕ) → AreAtMost 10000 latencies → Answered (λ a. AnswersSource (refused_by a) (Input a latencies) bytes)
-  by_source bytes latencies bounded = source_answers refusal (λ a. Input a latencies) latencies bounded steps limited (by_input latencies) bytes
+  by_source : (bytes : List ℕ) → (HasTree bytes → (r : Running) → IsSound r → Answered (λ a. P a r)) → (latencies : List ℕ) → AreAtMost 10000 latencies
+      → Answered (λ a. AnswersSource (refused_by a) (Input a latencies) bytes)
+  by_source bytes next latencies bounded =
+      source_answers refusal (λ a. Input a latencies) latencies bounded steps limited bytes (λ typed has. by_input (next has) latencies typed)
 
-  pub running_answers : (file : List ℕ) (latency : Option (List ℕ)) → Answered (λ a. AnswersRunning (refused_by a) outside file latency steps (P a))
-  running_answers file latency =
-      found_answers file_limit file (λ a bytes. AnswersLatency (refused_by a) outside latency (λ l. AnswersSource (refused_by a) (Input a l) bytes))
-      (λ bytes fits. latency_answers (λ a l. AnswersSource (refused_by a) (Input a l) bytes) (by_source bytes) outside latency) (outside.files file)
+  -- where the answer depends on the source that the file holds, and on its tree
+  pub held_answers : (file : List ℕ)
+      → ((bytes : List ℕ) → outside.files file ≡ Some bytes → HasTree bytes → (r : Running) → IsSound r → Answered (λ a. P a r))
+      → (latency : Option (List ℕ)) → Answered (λ a. AnswersRunning (refused_by a) outside file latency steps (P a))
+  held_answers file next latency =
+      content_answers file_limit file (λ a bytes. AnswersLatency (refused_by a) outside latency (λ l. AnswersSource (refused_by a) (Input a l) bytes))
+      (outside.files file) (λ bytes is fits. latency_answers (λ a l. AnswersSource (refused_by a) (Input a l) bytes) (by_source bytes (next bytes is)) outside latency)
+
+  pub running_answers : ((r : Running) → IsSound r → Answered (λ a. P a r)) → (file : List ℕ) (latency : Option (List ℕ))
+      → Answered (λ a. AnswersRunning (refused_by a) outside file latency steps (P a))
+  running_answers next file latency = held_answers file (λ bytes is has. next) latency
 
 -- the file of a program is absent
 pub absent_answers : (outside : Outside) (steps : ℕ) (P : Answer → Running → Type 0) (file : List ℕ) (latency : Option (List ℕ)) → outside.files file ≡ None

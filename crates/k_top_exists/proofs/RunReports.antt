@@ -29,6 +29,8 @@ use Rattle.k_lex.specs.Tokens.{tokens}
 use Rattle.k_types_meaning.specs.declared.tree.unit.TUnit.{TUnit}
 use Rattle.k_marks_meaning.specs.declared.Marks.{Marks}
 use Rattle.k_carry_pairs.specs.declared.pairs.LoopPairs.{LoopPairs}
+use Rattle.k_pragma_written.specs.Written.{IsWritten}
+use Rattle.k_pragma_written.specs.declared.told.Written.{Written}
 use Rattle.k_pragma.specs.Insertions.{annotated}
 use Rattle.k_pragma.specs.Marked.{candidates}
 use Rattle.k_pragma_profile.specs.Annotated.{ArePicked, IsAnnotationOf, IsRunAnnotation, picked_in}
@@ -146,7 +148,7 @@ module _ (rows_exist : RowsExist) (contexts_exist : ContextsExist) (plans_exist 
         pages.large nodes tree (record { entries = dictionary.0; which = which; dict = dictionary.1; passed = passed }),
       )
 
-  module _ (source : List ℕ) (typed : TUnit) (marks : Marks) (found : List LoopPairs) where
+  module _ (source : List ℕ) (written : Written) (reads : IsWritten source written) (typed : TUnit) (marks : Marks) (found : List LoopPairs) where
     annotations_exist : (saved : Saved) → IsSaved saved
         → (text : List ℕ) × IsAnnotationOf source typed marks saved.regions (nodes_of_profile saved) found text
     annotations_exist saved is =
@@ -154,8 +156,8 @@ module _ (rows_exist : RowsExist) (contexts_exist : ContextsExist) (plans_exist 
         let picked : List ℕ = picked_in p.contexts p.plan in
         let are : ArePicked saved.regions (nodes_of_profile saved) picked =
         record { contexts = p.contexts; plan = p.plan; are_contexts = p.are_contexts; planned = p.planned; is = refl } in (
-          annotated source (tokens source) typed marks saved.regions p.rows (candidates found picked),
-          record { rows = p.rows; picked = picked; are_rows = p.are_rows; are_picked = are; is = refl },
+          annotated source (tokens source) written typed marks saved.regions p.rows (candidates found picked),
+          record { rows = p.rows; picked = picked; are_rows = p.are_rows; are_picked = are; written = written; reads = reads; is = refl },
         )
 
     -- a run has an annotated source

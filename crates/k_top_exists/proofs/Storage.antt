@@ -6,10 +6,11 @@ use Rattle.k_lower_sound.specs.Laws.{IsLowered}
 use Rattle.k_lower_sound.proofs.Programs.{programs_are_lowered}
 use Rattle.k_carry_pairs.specs.declared.pairs.LoopPairs.{LoopPairs}
 use Rattle.k_carry_storage_pairs.specs.declared.pairs.LoopStorage.{LoopStorage}
+use Rattle.k_carry_storage_pairs.proofs.Deeper.{some_deep}
 use Rattle.k_carry_storage_pairs.proofs.Existing.{some_answer}
 use Rattle.k_carry_storage.specs.Accesses.{accesses_of}
 use Rattle.k_carry_storage_text.specs.Lines.{storage_text}
-use Rattle.k_pragma_profile.specs.Strict.{unshared}
+use Rattle.k_pragma_profile.specs.Strict.{strictly_markable}
 use Rattle.k_top_answers.specs.Steps.{Running, run_of}
 use Rattle.k_top_answers.specs.Storage.{HasStorage, MayBeMarked, WritesStorage, code_of}
 use Rattle.k_top_lemmas.proofs.RunLemmas.{IsSound, program_of}
@@ -39,4 +40,7 @@ module _ (r : Running) (sound : IsSound r) where
 
   pub marked_found : (depth : ℕ) (strict : Bool) (loops : List LoopPairs) → (found : List LoopPairs) × MayBeMarked strict r depth loops found
   marked_found depth false loops = (loops, refl)
-  marked_found depth true loops = (let there = storage_there depth in (unshared there.0 loops, (there.0, there.1, refl)))
+  marked_found depth true loops =
+      let there = storage_there depth in
+      let flags = some_deep depth (run_of r).events in
+      (strictly_markable flags.0 there.0 loops, (there.0, there.1, (flags.0, flags.1, refl)))

@@ -20,6 +20,7 @@ use Rattle.k_carry_text.specs.Lines.{carried_text}
 use Rattle.k_report.specs.Graph.{IsGraphText}
 use Rattle.k_data_profile.specs.Pages.{IsRunPage}
 use Rattle.k_marks_meaning.specs.Marking.{marks_of}
+use Rattle.k_pragma_written.specs.Written.{written_of}
 use Rattle.k_pragma_profile.specs.Annotated.{IsRunAnnotation}
 use Rattle.k_dict_saved.specs.declared.fault.SavedFault.TheVariants.{NotSaved}
 use Rattle.k_dict_saved.specs.declared.saved.Saved.{Saved}
@@ -52,7 +53,7 @@ use Rattle.k_top_exists.specs.Files.{SpellsProfileOrIsWrong}
 use Rattle.k_top_exists.specs.Laws.{WordsHaveOneAnswer}
 use Rattle.k_top_exists.specs.Profiles.{RunReportsExist}
 use Rattle.k_top_exists.proofs.CarriedLoops.{carried_exist}
-use Rattle.k_top_exists.proofs.Answers.{Answered, absent_answers, found_answers, running_answers, source_answers}
+use Rattle.k_top_exists.proofs.Answers.{Answered, HasTree, absent_answers, found_answers, held_answers, running_answers, source_answers}
 use Rattle.k_top_exists.proofs.GraphTexts.{graph_text_exists}
 use Rattle.k_top_exists.proofs.Listings.{listing_exists, tree_exists}
 use Rattle.k_top_exists.proofs.ReportParts.{contexts_exist, plans_exist}
@@ -159,36 +160,34 @@ paged_answers outside file latency steps depth dict limited some tracked (Some s
     running_answers outside steps limited (λ a r. IsPaged outside file depth dict a r) (paged outside file depth dict some tracked source is) file latency
 
 -- ANNOTATE
-annotated_told : (source : List ℕ) (depth : ℕ) (strict : Bool) (r : Running) → IsSound r → 1 ≤ depth → depth ≤ 32 → (exit : ℤ) → (run_of r).end ≡ end.Returned exit
+annotated_told : (source : List ℕ) → HasTree source → (depth : ℕ) (strict : Bool) (r : Running) → IsSound r → 1 ≤ depth → depth ≤ 32 → (exit : ℤ) → (run_of r).end ≡ end.Returned exit
     → (loops : List LoopPairs) × AreCarried (regions_of r.typed) depth (run_of r).events loops
     → Answered (λ a. AnswersAnnotated source depth strict a r (end.Returned exit))
-annotated_told source depth strict r sound some tracked exit is (loops, are_carried) =
+annotated_told source has depth strict r sound some tracked exit is (loops, are_carried) =
     let tree = tree_of r depth sound in
     let found : (found : List LoopPairs) × MayBeMarked strict r depth loops found = marked_found r sound depth strict loops in
     let told : (text : List ℕ) × IsRunAnnotation source r.typed (marks_of r.typed) (ran_of r exit depth) found.0 text =
-    run_annotations_exist rows_exist contexts_exist plans_exist source r.typed (marks_of r.typed) found.0 (ran_of r exit depth) tree.0
+    run_annotations_exist rows_exist contexts_exist plans_exist source (written_of has.0) (record { tree = has.0; read = has.1; is = refl }) r.typed (marks_of r.typed) found.0 (ran_of r exit depth) tree.0
     (run_whole r sound exit depth is (run_gives_int r sound exit is) some tracked) tree.1 (run_few r depth tree.0 sound tree.1) in
     (done told.0, record { loops = loops; are_carried = are_carried; found = found.0; may = found.1; text = told.0; annotated = told.1; is = refl })
 
-annotated_answers : (source : List ℕ) (depth : ℕ) (strict : Bool) (r : Running) → IsSound r → 1 ≤ depth → depth ≤ 32 → (how : End) → (run_of r).end ≡ how
+annotated_answers : (source : List ℕ) → HasTree source → (depth : ℕ) (strict : Bool) (r : Running) → IsSound r → 1 ≤ depth → depth ≤ 32 → (how : End) → (run_of r).end ≡ how
     → Answered (λ a. AnswersAnnotated source depth strict a r how)
-annotated_answers source depth strict r sound some tracked (end.Returned exit) is =
-    annotated_told source depth strict r sound some tracked exit is (carried_exist (regions_of r.typed) depth (run_of r).events)
-annotated_answers source depth strict r sound some tracked (end.Trapped trap place) is = (ended [] r.steps (end.Trapped trap place), refl)
-annotated_answers source depth strict r sound some tracked end.OutOfSteps is = (ended [] r.steps end.OutOfSteps, refl)
+annotated_answers source has depth strict r sound some tracked (end.Returned exit) is =
+    annotated_told source has depth strict r sound some tracked exit is (carried_exist (regions_of r.typed) depth (run_of r).events)
+annotated_answers source has depth strict r sound some tracked (end.Trapped trap place) is = (ended [] r.steps (end.Trapped trap place), refl)
+annotated_answers source has depth strict r sound some tracked end.OutOfSteps is = (ended [] r.steps end.OutOfSteps, refl)
 
 -- the annotated source of a run, of the source that the file holds
-annotated_held : (outside : Outside) (file : List ℕ) (depth : ℕ) (strict : Bool) → 1 ≤ depth → depth ≤ 32 → (source : List ℕ) → outside.files file ≡ Some source
+annotated_held : (outside : Outside) (file : List ℕ) (depth : ℕ) (strict : Bool) → 1 ≤ depth → depth ≤ 32 → (source : List ℕ) → outside.files file ≡ Some source → HasTree source
     → (r : Running) → IsSound r → Answered (λ a. IsAnnotated outside file depth strict a r)
-annotated_held outside file depth strict some tracked source is r sound =
-    let told = annotated_answers source depth strict r sound some tracked (run_of r).end refl in (told.0, (source, is, told.1))
+annotated_held outside file depth strict some tracked source is has r sound =
+    let told = annotated_answers source has depth strict r sound some tracked (run_of r).end refl in (told.0, (source, is, told.1))
 
 annotate_answers : (outside : Outside) (file : List ℕ) (latency : Option (List ℕ)) (steps depth : ℕ) (strict : Bool) → steps ≤ 1000000000 → 1 ≤ depth → depth ≤ 32
-    → (content : Option (List ℕ)) → outside.files file ≡ content → Answered (λ a. AnswersJob outside a (job.Annotate file steps depth latency strict))
-annotate_answers outside file latency steps depth strict limited some tracked None is =
-    absent_answers outside steps (λ a r. IsAnnotated outside file depth strict a r) file latency is
-annotate_answers outside file latency steps depth strict limited some tracked (Some source) is =
-    running_answers outside steps limited (λ a r. IsAnnotated outside file depth strict a r) (annotated_held outside file depth strict some tracked source is) file latency
+    → Answered (λ a. AnswersJob outside a (job.Annotate file steps depth latency strict))
+annotate_answers outside file latency steps depth strict limited some tracked =
+    held_answers outside steps limited (λ a r. IsAnnotated outside file depth strict a r) file (annotated_held outside file depth strict some tracked) latency
 
 -- SHOW
 by_profile : (form : Form) (bytes : List ℕ) → SpellsProfileOrIsWrong bytes → Answered (λ a. (read : Result Saved ℕ) × AnswersProfile form a bytes read)
@@ -214,7 +213,7 @@ shown_answers form bytes (inr begins_not) =
 checked_answers : (file bytes : List ℕ) → Answered (λ a. AnswersChecked file a bytes)
 checked_answers file bytes =
     source_answers (λ failure. checked (told file bytes failure) failure) (λ a typed. a ≡ done []) standard_latencies (standard_bounded standard_latencies refl) 1 (omega arith)
-    (λ typed sound. (done [], refl)) bytes
+    bytes (λ typed has sound. (done [], refl))
 
 -- DEMO
 made_answers : (number loops : ℕ) (r : Running) → IsSound r → (how : End) → (run_of r).end ≡ how → Answered (λ a. AnswersMade number loops a r how)
@@ -246,7 +245,7 @@ job_answers outside (job.Replay file steps depth latency workers seed) within =
 job_answers outside (job.Page file steps depth latency dict) within =
     paged_answers outside file latency steps depth dict within.steps.at_most within.depth.at_least within.depth.at_most (outside.files file) refl
 job_answers outside (job.Annotate file steps depth latency strict) within =
-    annotate_answers outside file latency steps depth strict within.steps.at_most within.depth.at_least within.depth.at_most (outside.files file) refl
+    annotate_answers outside file latency steps depth strict within.steps.at_most within.depth.at_least within.depth.at_most
 job_answers outside (job.Show file form) within =
     found_answers profile_limit file (AnswersShown form) (λ bytes fits. shown_answers form bytes (begins_decided bytes)) (outside.files file)
 job_answers outside (job.Merge save parts) within = merged_answers save outside parts
@@ -254,7 +253,7 @@ job_answers outside (job.Check file) within = found_answers file_limit file (Ans
 job_answers outside (job.Demo number loops) within =
     source_answers refusal (λ a t. AnswersMade number loops a (made_running t) (run_of (made_running t)).end)
     standard_latencies (standard_bounded standard_latencies refl) 100000000 (omega arith)
-    (λ t sound. made_answers number loops (made_running t) (sound []) (run_of (made_running t)).end refl) (program number loops)
+    (program number loops) (λ t has sound. made_answers number loops (made_running t) (sound []) (run_of (made_running t)).end refl)
 
 -- THE WORDS
 words_answer : (outside : Outside) (list : List (List ℕ)) (read : Result Job Usage) → words.IsAnswer list read → read ≢ Err usage.Memory

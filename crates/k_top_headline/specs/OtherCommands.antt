@@ -132,7 +132,8 @@ AnnotatesWithin source r ran loops nodes text (Some which) = text ≡ source
 
 -- THE ANNOTATED SOURCE of the graph of a run
 pub record AnnotatesGraph (source : List ℕ) (r : Running) (ran : Ran) (strict : Bool) (text : List ℕ) : Type 0 where
-  -- what the loops of the run carry from turn to turn, and those that may be marked: all, or those alone that share nothing
+  -- what the loops of the run carry from turn to turn, and those that may be marked: all, or those alone that share nothing and had no instance below the
+  -- tracked ones
   pub loops : List LoopPairs
   pub are_carried : AreCarried ran.regions ran.depth ran.events loops
   pub found : List LoopPairs

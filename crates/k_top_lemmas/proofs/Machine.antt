@@ -22,8 +22,10 @@ use Rattle.k_carry_pairs.specs.Carried.{AreCarried}
 use Rattle.k_carry_pairs.specs.declared.pairs.CarriedPairs.{CarriedPairs}
 use Rattle.k_carry_pairs.specs.declared.pairs.LoopPairs.{LoopPairs}
 use Rattle.k_carry_text.specs.Lines.{carried_text}
+use Rattle.k_carry_storage_pairs.specs.Deep.{AreDeep}
 use Rattle.k_carry_storage_pairs.specs.Storage.{AreShared}
 use Rattle.k_carry_storage_pairs.specs.declared.pairs.StoragePairs.{StoragePairs}
+use Rattle.k_carry_storage.specs.declared.told.StorageTold.{StorageTold}
 use Rattle.k_carry_storage.specs.Accesses.{HasAccesses, accesses_of}
 use Rattle.k_carry_storage.specs.Answer as storage
 use Rattle.k_lower_code.specs.Programs.{flattened}
@@ -139,6 +141,14 @@ module _ (ready : Ready) (depth : ℕ) (fit : IsFit ready depth) (code : Code) w
               subst (λ (rs : List Region). AreShared rs depth (run_of (running_of ready)).events (accesses_of code ready.input ready.steps is.outcome.count) s.loops) regions
               (subst (λ (es : List Event). AreShared code.regions depth es (accesses_of code ready.input ready.steps is.outcome.count) s.loops) events is.shared);
         }
+
+    -- and so is which regions had an instance that is not tracked
+    pub deep_told : (t : StorageTold) → storage.TellsAllOf code ready.input ready.steps depth t → AreDeep depth (run_of (running_of ready)).events t.deep
+    deep_told t is =
+        let pairs = is.pairs in
+        let events = (one_outcome code ready.input ready.steps pairs.events (run_of (running_of ready)).events pairs.output (run_of (running_of ready)).output
+        t.pairs.end (run_of (running_of ready)).end pairs.outcome (outcome runs)).0 in
+        subst (λ (es : List Event). AreDeep depth es t.deep) events is.deep
 
 -- no memory was found before the run
 pub not_run : (r : Running) (depth : ℕ) (old new : SinkState) → new ≡ old → RunsProgram r depth (Err putting.Memory) old new

@@ -1,5 +1,6 @@
-use Rattle.std.proofs.Common.{◌<◌, length, ap, ◌∙◌, arith}
+use Rattle.std.proofs.Common.{◌<◌, ◌≤◌, length, take, refl, ap, ◌∙◌, arith}
 use Rattle.std.proofs.lemmas.Bool.Decides.{nat_tests}
+use Rattle.std.proofs.lemmas.List.{length-take}
 use Rattle.k_lex.specs.Tokens.{piece_in}
 use Rattle.k_lex.specs.Shown.{shown}
 use Rattle.k_lex.proofs.RunLaws
@@ -11,15 +12,24 @@ split_at-requires c =
     let pe = c.piece_in-piece.ensures ∙ ap (λ m. piece_in m c.loop-rest.rest.now) c.mode.ensures in
     omega (arith, (RunLaws.piece_in_within c.loop-rest.state.mode c.loop-rest.rest.now some).1, ap (λ y. y.1) pe)
 
-pub step-requires-clause-sound : goal.step-requires-clause-sound
-step-requires-clause-sound c = c.loop-rest.invariant.sound
+pub turn-requires-clause-sound : goal.turn-requires-clause-sound
+turn-requires-clause-sound c = c.loop-rest.invariant.sound
 
-pub step-requires-clause-readable : goal.step-requires-clause-readable
-step-requires-clause-readable c =
+pub turn-requires-clause-within : goal.turn-requires-clause-within
+turn-requires-clause-within c =
+    let some : 0 < length c.loop-rest.rest.now = grind (arith, nat_tests, c.loop-rest-test.true, c.loop-rest-test.ensures) in
     let pe = c.piece_in-piece.ensures ∙ ap (λ m. piece_in m c.loop-rest.rest.now) c.mode.ensures in
+    omega (arith, (RunLaws.piece_in_within c.loop-rest.state.mode c.loop-rest.rest.now some).1, ap (λ y. y.1) pe)
+
+pub turn-requires-clause-readable : goal.turn-requires-clause-readable
+turn-requires-clause-readable c =
+    let pe = c.piece_in-piece.ensures ∙ ap (λ m. piece_in m c.loop-rest.rest.now) c.mode.ensures in
+    let text = c.loop-rest.rest.now in
+    let n = c.piece_in-piece.result.1 in
+    let short : length (take n text) ≤ length text = omega (arith, length-take n text) in
     record {
-      name = RunLaws.read_name c.loop-rest.state.mode c.loop-rest.rest.now c.split_at.result.0.now c.piece_in-piece.result.0 c.piece_in-piece.result.1 pe c.split_at.ensures.front;
-      room = (omega arith, omega arith);
+      name = RunLaws.read_name c.loop-rest.state.mode text (take n text) c.piece_in-piece.result.0 n pe refl;
+      room = (omega (arith, short), omega (arith, short));
     }
 
 pub behind-place-requires : goal.behind-place-requires
@@ -36,7 +46,7 @@ loop-rest-preserved c =
     let some : 0 < length c.loop-rest.rest.now = grind (arith, nat_tests, c.loop-rest-test.true, c.loop-rest-test.ensures) in
     let pe = c.piece_in-piece.ensures ∙ ap (λ m. piece_in m c.loop-rest.rest.now) c.mode.ensures in
     record {
-      left = RunLaws.run_step c.loop-rest.place c.behind-place.result (shown c.loop-rest.state) (shown c.step.new.state) c.loop-rest.rest.now c.split_at.result.0.now c.split_at.result.1.now
+      left = RunLaws.run_step c.loop-rest.place c.behind-place.result (shown c.loop-rest.state) (shown c.turn.new.state) c.loop-rest.rest.now c.split_at.result.0.now c.split_at.result.1.now
           c.piece_in-piece.result.0 c.piece_in-piece.result.1 _ pe some c.split_at.ensures.front c.split_at.ensures.back c.behind-place.ensures.exact c.in_default.ensures.gives c.loop-rest.invariant.left;
       sound = c.in_default.ensures.sound;
       line = omega arith;
@@ -47,11 +57,11 @@ pub returns-in-Err : goal.returns-in-Err
 returns-in-Err c =
     let some : 0 < length c.loop-rest.rest.now = grind (arith, nat_tests, c.loop-rest-test.true, c.loop-rest-test.ensures) in
     let pe = c.piece_in-piece.ensures ∙ ap (λ m. piece_in m c.loop-rest.rest.now) c.mode.ensures in
-    RunLaws.fails_run c.loop-rest.place (shown c.loop-rest.state) c.loop-rest.rest.now c.split_at.result.0.now c.split_at.result.1.now
-    c.piece_in-piece.result.0 c.piece_in-piece.result.1 c.in-Err.stop _ pe some c.split_at.ensures.front c.split_at.ensures.back c.in-Err.ensures.gives c.loop-rest.invariant.left
+    RunLaws.fails_run c.loop-rest.place (shown c.loop-rest.state) c.loop-rest.rest.now
+    c.piece_in-piece.result.0 c.piece_in-piece.result.1 c.in-Err.stop _ pe some c.in-Err.ensures.gives c.loop-rest.invariant.left
 
-pub step-requires-2-clause-sound : goal.step-requires-2-clause-sound
-step-requires-2-clause-sound c = c.loop-rest.invariant.sound
+pub step-requires-clause-sound : goal.step-requires-clause-sound
+step-requires-clause-sound c = c.loop-rest.invariant.sound
 
-pub step-requires-2-clause-readable : goal.step-requires-2-clause-readable
-step-requires-2-clause-readable c = record { name = λ e. cc; room = (omega arith, omega arith) }
+pub step-requires-clause-readable : goal.step-requires-clause-readable
+step-requires-clause-readable c = record { name = λ e. cc; room = (omega arith, omega arith) }

@@ -6,6 +6,6 @@ abbrev pub invariant-loop-function : goal.invariant-loop-function
 invariant-loop-function l = record {
   counted : l.number ≡ l.function-index;
   left :
-      l.pragmas.items ++ pragmas_in l.among l.counted l.tokens l.number (drop l.function-index l.functions)
-      ≡ pragmas_in l.among l.counted l.tokens 0 l.functions;
+      l.pragmas.items ++ pragmas_in l.among l.counted l.written l.number (drop l.function-index l.functions)
+      ≡ pragmas_in l.among l.counted l.written 0 l.functions;
 }

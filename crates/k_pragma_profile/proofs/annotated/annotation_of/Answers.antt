@@ -21,6 +21,8 @@ returns c =
       picked = c.in_ok-picked.picked;
       are_rows = subst P (at_root c.args.saved.now c.len-root.result c.len-root.ensures.count) c.in_ok-rows.ensures.rows;
       are_picked = c.in_ok-picked.ensures;
-      is = is;
+      written = is.0;
+      reads = is.1;
+      is = is.2;
     })
     c.annotate.ensures

@@ -1,11 +1,14 @@
-use Rattle.std.proofs.Common.{◌≡◌, ◌∙◌, List, ap}
-use Rattle.k_carry_storage_pairs.specs.declared.pairs.LoopStorage.{LoopStorage}
-use Rattle.k_pragma_profile.specs.Strict.{unshared}
+use Rattle.std.proofs.Common.{◌∙◌}
+use Rattle.k_pragma_profile.specs.Strict.{strictly_markable}
 use Rattle.k_top_commands.proofs.annotated.strictly.Goals as goal
 
 pub returns : goal.returns
 returns c = (
-  c.in_ok-shared.shared.loops,
-  c.in_ok-shared.ensures,
-  c.unshared.ensures.loops ∙ ap (λ (shared : List LoopStorage). unshared shared c.args.found.loops) c.as_slice.ensures,
+  c.in_ok-told.told.pairs.loops,
+  c.in_ok-told.ensures.storage,
+  (
+    c.in_ok-told.told.deep,
+    c.in_ok-told.ensures.deep,
+    c.unshared.ensures.loops ∙ (λ i. strictly_markable (c.as_slice-deep.ensures i) (c.as_slice.ensures i) c.args.found.loops),
+  ),
 )

@@ -10,8 +10,8 @@ pub returns : goal.returns
 returns c =
     IfOk-weaker c.storage_text.result _ _
     (λ text told. (
-      c.in_ok-shared.shared.loops,
-      c.in_ok-shared.ensures,
+      c.in_ok-told.told.pairs.loops,
+      c.in_ok-told.ensures.storage,
       told
           ∙ (ap (λ (rs : List Region). storage_text rs c.as_slice-2.result.now) (c.as_slice.ensures ∙ c.in_ok-regions.ensures)
           ∙ ap (λ (loops : List LoopStorage). storage_text (regions_of c.args.ready.now.program.typed) loops) c.as_slice-2.ensures),
