@@ -225,7 +225,7 @@ class Body:
         self.stored()
 
     def own_place(self):
-        name = self.name("m")
+        name = self.name("w")
         self.put(f"int {name}, *to{name} = &{name};", f"*to{name} = {self.value()};", f"{self.at} = {name};")
         self.stored()
 
@@ -241,7 +241,7 @@ class Body:
         self.stored()
 
     def outer_place(self):
-        name = self.name("m")
+        name = self.name("w")
         self.declared += [("int", name, None), ("int *", f"to{name}", None)]
         self.put(f"to{name} = &{name};", f"*to{name} = {self.value()};", f"{self.at} = {name};")
         self.privates.append(f"to{name}")

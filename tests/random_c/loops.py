@@ -92,8 +92,9 @@ class Function:
                 self.lines.append(f"{it[0]} = {it[1]};")
             self.lines.append(f"r = r * 7 + (unsigned){it[0] if isinstance(it, tuple) else it};")
         if self.deep:
-            # (what the loop sets anew in each iteration must not be read behind it)
-            given = ["3" if it[1] in self.body.privates else it[1] for it in self.parameters]
+            # (a variable of the loop must not be read behind it: where it is a parameter, it is given what the first call gives)
+            own = {it[1] for it in self.head.declared + self.body.declared}
+            given = [number(it[2][0], KIND_OF.get(it[0], "I32")) if it[1] in own else it[1] for it in self.parameters]
             self.lines.append(f"if (d > 0) r = r * 3 + (unsigned)f{self.at}({', '.join([*given, 'd - 1'])});")
         self.lines.append("return (int)(r & 65535);")
         arguments = ", ".join(f"{kind} {name}" for kind, name, _ in self.parameters) + (", int d" if self.deep else "")
