@@ -1,5 +1,5 @@
-//! Numbers and lists, pieces of text, the outside, latencies and the graph of a run: values from gcc and worked examples, by public calls. There is nothing here but
-//! tests: in a crate of their own they prove no other crate a second time.
+//! Files of the host, by public calls: what is loaded and saved in a folder, and what of it fails. There is nothing here
+//! but tests: in a crate of their own they prove no other crate a second time.
 #![tactic(auto)]
 
 #[cfg(test)]

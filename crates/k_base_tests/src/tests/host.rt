@@ -1,8 +1,26 @@
 //! Files of the host, in a folder of the test's own.
-use super::files::expect_loads;
 use k_edge::{Files, HostFiles, LoadFault, SaveFault};
+use std::alloc::Global;
+use std::process::Abort;
 use std::test::Fail;
 use std::{env, fs, process};
+
+/// Loads a name within a limit once for each wanted answer.
+fn expect_loads<F: Files>(
+    rt: &impl Abort,
+    alloc: Global,
+    files: &mut F,
+    wanted: &[(&'static str, u64, Result<&'static str, LoadFault>)],
+) {
+    for (name, limit, want) in wanted {
+        match files.load(alloc, name, *limit) {
+            Ok(bytes) => assert!(rt;
+                matches!(want, Ok(text) if text.as_bytes() == bytes.as_slice())
+            ),
+            Err(fault) => assert!(rt; matches!(want, Err(other) if *other == fault)),
+        }
+    }
+}
 
 #[test]
 fn host_files(rt: HostRuntime) -> Result<(), Fail> {

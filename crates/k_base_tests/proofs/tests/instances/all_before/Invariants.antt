@@ -1,6 +1,0 @@
-use Rattle.std.proofs.Common.{drop}
-use Rattle.k_optab.specs.Events.{AreBefore}
-use Rattle.k_base_tests.proofs.tests.instances.all_before.Given as goal
-
-abbrev pub invariant-loop-src : goal.invariant-loop-src
-invariant-loop-src l = AreBefore l.number (drop l.src-index l.sources) → AreBefore l.number l.sources

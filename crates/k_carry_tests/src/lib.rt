@@ -1,5 +1,0 @@
-//! What the loops of sources carry from turn to turn. There is nothing here but tests: in a crate of their own they prove no other crate a second time.
-#![tactic(auto)]
-
-#[cfg(test)]
-mod tests;

@@ -1,6 +1,0 @@
-use Rattle.std.proofs.Common.{drop}
-use Rattle.k_dict.specs.Entries.{AreRuns}
-use Rattle.k_dict_tests.proofs.tests.are_runs.Given as goal
-
-abbrev pub invariant-loop-run : goal.invariant-loop-run
-invariant-loop-run l = AreRuns l.low l.high (drop l.run-index l.runs) → AreRuns 0 l.fn.high l.fn.runs

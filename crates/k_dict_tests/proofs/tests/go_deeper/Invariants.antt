@@ -1,6 +1,0 @@
-use Rattle.std.proofs.Common.{drop}
-use Rattle.k_dict.specs.Trees.{GoDeeper}
-use Rattle.k_dict_tests.proofs.tests.go_deeper.Given as goal
-
-abbrev pub invariant-loop-node : goal.invariant-loop-node
-invariant-loop-node l = GoDeeper l.last (drop l.node-index l.nodes) → GoDeeper l.fn.before l.fn.nodes

@@ -1,2 +1,0 @@
-//! A program that the machine runs.
-mod smallest;

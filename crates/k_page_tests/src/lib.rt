@@ -1,5 +1,0 @@
-//! Pages of hostile sources, and of a small profile. There is nothing here but tests: in a crate of their own they prove no other crate a second time.
-#![tactic(auto)]
-
-#[cfg(test)]
-mod tests;

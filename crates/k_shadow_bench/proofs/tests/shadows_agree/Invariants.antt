@@ -1,5 +1,0 @@
-use Rattle.k_shadow_bench.proofs.tests.shadows_agree.Given as goal
-
--- the counter is of the ledger that was handed in
-abbrev pub ghosts-cases_agree : goal.ghosts-cases_agree
-ghosts-cases_agree g a = record { name = a.blank.name; parts = a.blank.parts }

@@ -1,6 +1,0 @@
-//! Tables of sources, each with what the stages from its bytes on make of it. There is nothing here but tests: in
-//! a crate of their own they prove no other crate a second time.
-#![tactic(auto)]
-
-#[cfg(test)]
-mod tests;

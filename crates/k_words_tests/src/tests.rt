@@ -1,4 +1,0 @@
-//! One file for what is tested.
-mod about;
-mod jobs;
-mod made;
