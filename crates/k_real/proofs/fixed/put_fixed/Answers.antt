@@ -1,0 +1,15 @@
+use Rattle.std.proofs.Common.{subst, ◌≡◌}
+use Rattle.std.specs.Prelude.{◌++◌, ◌/◌, ◌^◌, max}
+use Rattle.k_real.specs.Codes.{real_of}
+use Rattle.k_real.specs.Digits.{value}
+use Rattle.k_real.specs.Texts.{digits, count, scaled, fraction}
+use Rattle.k_real.proofs.SizeLaws.{pointed_written}
+use Rattle.k_real.proofs.fixed.put_fixed.Goals as goal
+
+pub returns : goal.returns
+returns c =
+    let out = c.args.out.now.items in
+    let many = c.args.many in
+    pointed_written c.in_ok-ys.ys.items out c.put_whole.new.out.items c.put_fraction.new.out.items many (scaled many (real_of c.args.a)) c.in_ok-ys.ensures
+    (subst (λ u. c.put_whole.new.out.items ≡ out ++ digits (max 1 (count (value u / 10 ^ many))) (value u / 10 ^ many)) c.deref.ensures.value c.in_ok-put_whole.ensures)
+    (subst (λ u. c.put_fraction.new.out.items ≡ c.put_whole.new.out.items ++ fraction many (value u)) c.deref-2.ensures.value c.in_ok-put_fraction.ensures)

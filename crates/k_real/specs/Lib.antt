@@ -1,0 +1,10 @@
+pub mod Arithmetic
+pub mod Codes
+pub mod Constants
+pub mod Conversions
+pub mod Digits
+pub mod General
+pub mod RealLaws
+pub mod Scientific
+pub mod Sizes
+pub mod Texts
