@@ -1,5 +1,5 @@
 -- What the calls of a shadow whose locations have rows make of its content.
-use Rattle.std.proofs.Common.{◌≡◌, ℕ, ◌+◌, ◌<◌, ◌≤◌, ◌≢◌, List, length, ap, sym, ◌∙◌, arith}
+use Rattle.std.proofs.Common.{◌≡◌, ℕ, ◌+◌, ◌<◌, ◌≤◌, ◌≢◌, ◌^◌, List, length, max, refl, ap, sym, ◌∙◌, arith}
 use Rattle.std.specs.Prelude.{slice_index}
 use Rattle.k_shadow.specs.Content.{depth, time_at, at_levels, entered, level_dropped, written, written_by, cleared}
 use Rattle.k_shadow.specs.Numbers.{Numbers, number_given, number_left, WereGiven}
@@ -58,3 +58,16 @@ content-passed rows others v limit from to rest here =
 pub content-stamped : (rows others : ℕ → Seen) (v : Numbers) (limit loc : ℕ) (f : ℕ → ℕ) → WereGiven v.given v.live → ((at : ℕ) → at ≢ loc → others at ≡ rows at) → (others loc).stamp ≡ v.given → ((k : ℕ) → k < length v.live → (others loc).time k ≡ f k) → content_of others v limit ≡ written_by loc f (content_of rows v limit)
 content-stamped rows others v limit loc f given rest stamp each =
     content-set rows others v limit loc f rest (λ k lt. row_time_since (others loc) (slice_index v.live k) k (let most : slice_index v.live k ≤ v.given = given_at v.given v.live given k lt in omega (arith, stamp)) ∙ each k lt)
+
+-- lanes that come of a row's times at the first eight levels come of its location's times
+pub lanes_here : (rows : ℕ → Seen) (v : Numbers) (limit loc : ℕ) (row : Seen) (starts before new : List ℕ) → row ≡ rows loc → v.given < 2 ^ 32 → depth (content_of rows v limit) ≤ 8
+    → (v.given < 2 ^ 32 → (k : ℕ) → k < 8 → k < length v.live → slice_index starts k ≡ slice_index v.live k)
+    → ((k : ℕ) → k < 8 → row_time row (slice_index starts k) k < 2 ^ 32 → slice_index new k ≡ max (slice_index before k) (row_time row (slice_index starts k) k))
+    → ((level : ℕ) → level < depth (content_of rows v limit) → time_at (content_of rows v limit) level loc < 2 ^ 32)
+    → (level : ℕ) → level < depth (content_of rows v limit) → slice_index new level ≡ max (slice_index before level) (time_at (content_of rows v limit) level loc)
+lanes_here rows v limit loc row starts before new here few shallow same each small level h =
+    let live : level < length v.live = omega (arith, depth_counted rows v limit) in
+    let inside : level < 8 = omega arith in
+    let number : slice_index starts level ≡ slice_index v.live level = same few level inside live in
+    let time : row_time row (slice_index starts level) level ≡ time_at (content_of rows v limit) level loc = ap (λ n. row_time row n level) number ∙ time_here rows v limit loc row v.live here refl level h in
+    each level inside (omega (arith, time, small level h)) ∙ ap (λ t. max (slice_index before level) t) time

@@ -1,6 +1,6 @@
 -- Lists that a function gives level by level.
 use Rattle.std.proofs.Common.{◌≡◌, ℕ, ◌+◌, ◌<◌, zero, suc, ◌≤◌, List, [], ◌∷◌, ◌++◌, length, take, get_or, refl, ap, ◌∙◌, arith}
-use Rattle.std.proofs.lemmas.List.{get_or-take, length-take-le, take_at}
+use Rattle.std.proofs.lemmas.List.{ext_get_or, get_or-take, length-take-le, take_at}
 use Rattle.k_shadow.specs.Content.{at_levels}
 
 pub length-at_levels : (n : ℕ) (f : ℕ → ℕ) → length (at_levels n f) ≡ n
@@ -32,3 +32,11 @@ lent-at_levels n m f new behind same long h = take_at new behind n long ∙ is-a
 -- a list whose front has these times
 pub front-at_levels : (n m : ℕ) (f : ℕ → ℕ) (times : List ℕ) → n ≡ m → n ≤ length times → ((k : ℕ) → k < m → get_or times k 0 ≡ f k) → take n times ≡ at_levels m f
 front-at_levels n m f times same few h = is-at_levels m f (take n times) (length-take-le n times few ∙ same) (λ k lt. get_or-take n times k 0 (omega arith) ∙ h k lt)
+
+-- lanes that have these times at the live levels
+pub lanes_front : (lanes times current : List ℕ) → times ≡ current → length lanes ≡ 8 → length current ≤ 8 → ((k : ℕ) → k < length times → get_or lanes k 0 ≡ get_or times k 0) → take (length current) lanes ≡ current
+lanes_front lanes times current same wide few each =
+    let all : length (take (length current) lanes) ≡ length current = length-take-le (length current) lanes (omega arith) in
+    ext_get_or 0 (take (length current) lanes) current all (λ k lt.
+    let inside : k < length current = omega (arith, all) in
+    get_or-take (length current) lanes k 0 inside ∙ each k (omega (arith, ap length same)) ∙ ap (λ ts. get_or ts k 0) same)

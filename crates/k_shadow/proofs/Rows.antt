@@ -1,12 +1,12 @@
 -- What the calls make of rows, and what that is of the maps that they stand for.
-use Rattle.std.proofs.Common.{◌≡◌, ℕ, ◌+◌, ◌-◌, ◌<◌, ◌≤◌, ◌≢◌, ⊎_elim, subst, zero, suc, List, [], ◌∷◌, ◌++◌, length, take, map, replicate, get_or, set, get_or-set_same, get_or-set_other, cond, Bool, true, false, nat_le, nat_lt, refl, ap, sym, ◌∙◌, arith}
+use Rattle.std.proofs.Common.{◌≡◌, ℕ, ◌+◌, ◌-◌, ◌%◌, ◌^◌, ◌<◌, ◌≤◌, ◌≢◌, ⊎_elim, subst, zero, suc, List, [], ◌∷◌, ◌++◌, length, take, map, replicate, get_or, set, get_or-set_same, get_or-set_other, cond, Bool, true, false, nat_le, nat_lt, refl, ap, sym, ◌∙◌, arith}
 use Rattle.std.specs.Prelude.{slice_index}
 use Rattle.std.proofs.lemmas.Bool.Decides.{nat_tests}
 use Rattle.std.proofs.lemmas.Bool.{cases_eq, cases_lt}
 use Rattle.std.proofs.lemmas.List.{get_or-replicate, get_or_past, length-replicate}
 use Rattle.k_shadow.specs.declared.row.Row.{Row}
 use Rattle.k_shadow.specs.Content.{with_time, set_times, without}
-use Rattle.k_shadow.specs.Numbers.{AreRising, WereGiven}
+use Rattle.k_shadow.specs.Numbers.{AreRising, AreStarts, WereGiven}
 use Rattle.k_shadow.specs.Rows.{Seen, seen, row_time, blank_row, unwritten, with_places, times_of, levels_of, row_at, WereStamped}
 use Rattle.k_shadow.proofs.Places.{length-with_places, with_places-append, with_places-take, get_or-with_places, with_places_same}
 
@@ -42,6 +42,17 @@ pub AreRising-take : (low k : ℕ) (ns : List ℕ) → AreRising low ns → AreR
 AreRising-take low zero ns h = tt
 AreRising-take low (suc k) [] h = tt
 AreRising-take low (suc k) (n ∷ ns) h = (h.0, AreRising-take n k ns h.1)
+
+-- the number of a level more, which one of the first eight keeps modulo 2^32
+pub starts-more : (depth : ℕ) (numbers starts new : List ℕ) (number : ℕ) → depth < length numbers → (depth < 8 → get_or new depth 0 ≡ number % 2 ^ 32) → ((k : ℕ) → k ≢ depth → get_or new k 0 ≡ get_or starts k 0) → AreStarts depth numbers starts → AreStarts (depth + 1) (set numbers depth number) new
+starts-more depth numbers starts new number h here others so_far k few lt = ⊎_elim
+    (λ (e : k ≡ depth). subst (λ (x : ℕ). get_or new x 0 ≡ get_or (set numbers depth number) x 0 % 2 ^ 32) (sym e) (here (omega arith) ∙ ap (λ n. n % 2 ^ 32) (sym (get_or-set_same numbers depth number 0 h))))
+    (λ (ne : k ≢ depth). others k ne ∙ so_far k few (omega arith) ∙ ap (λ n. n % 2 ^ 32) (sym (get_or-set_other numbers depth k number 0 ne)))
+    (cases_eq k depth)
+
+-- a number for which 32 bits are enough
+pub low_number : (n : ℕ) → n < 2 ^ 32 → n % 2 ^ 32 ≡ n
+low_number n h = omega arith
 
 pub above_low : (low : ℕ) (ns : List ℕ) → AreRising low ns → (k : ℕ) → k < length ns → low < get_or ns k 0
 above_low low [] h k lt = absurd (omega arith)

@@ -1,6 +1,6 @@
 -- For contracts between crates: nobody has to believe it.
 -- The numbers of the instances that are open at the live levels.
-use Rattle.std.specs.Prelude.{ℕ, ◌+◌, ◌-◌, ◌≤◌, ◌<◌, List, [], ◌∷◌, ◌++◌, length, take}
+use Rattle.std.specs.Prelude.{◌≡◌, ℕ, ◌+◌, ◌-◌, ◌%◌, ◌^◌, ◌≤◌, ◌<◌, List, [], ◌∷◌, ◌++◌, length, take, slice_index}
 
 -- the number of each live level's instance, outermost first, and the last number that was given
 pub record Numbers : Type 0 where
@@ -28,3 +28,7 @@ WereGiven given (n ∷ ns) = (0 < n) × (n ≤ given) × WereGiven given ns
 abbrev pub AreRising : ℕ → List ℕ → Type 0
 AreRising low [] = Unit {0}
 AreRising low (n ∷ ns) = (low < n) × AreRising n ns
+
+-- at the levels of the `depth` outermost that are among the first eight these are the numbers, modulo 2^32
+abbrev pub AreStarts : ℕ → List ℕ → List ℕ → Type 0
+AreStarts depth numbers starts = (k : ℕ) → k < 8 → k < depth → slice_index starts k ≡ slice_index numbers k % 2 ^ 32

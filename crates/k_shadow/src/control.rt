@@ -1,8 +1,8 @@
 //! The control stack: the entry on which the operations depend now, and the entries that were saved.
-ghost use Rattle.std.specs.Prelude.{◌≡◌, ◌+◌, ◌-◌, ◌^◌, ◌<◌, ◌≤◌, [], ◌∷◌, ◌++◌, true, length, take, slice_index, OnOk, OnErr};
+ghost use Rattle.std.specs.Prelude.{◌≡◌, ℕ, ◌+◌, ◌-◌, ◌^◌, ◌<◌, ◌≤◌, [], ◌∷◌, ◌++◌, true, length, take, slice_index, OnOk, OnErr};
 ghost use Rattle.k_shadow.specs.Stack.{IsNew, level_entered, level_left};
 
-use crate::lists::{copy_times, copy_to};
+use crate::lists::{copy_lanes, copy_times, copy_to, narrowed};
 use crate::saved_rows::{add_row, copy_entry, write_entry};
 use crate::{Row, Steps, Times, Versions};
 use k_num::NoMemory;
@@ -124,6 +124,16 @@ impl Control {
         copy_times(&mut self.current, times);
     }
 
+    /// Makes the times of the live levels' lanes the current entry.
+    #[inline]
+    pub fn set_lanes(&mut self, times: [u32; 8])
+        requires { length self.old.current ≤ 8 }
+        ensures current { self.new ≡ record self.old { current = take (length self.old.current) times } }
+    {
+        self.kept = false;
+        copy_lanes(&mut self.current, times);
+    }
+
     /// Drops the newest saved entry.
     #[inline]
     pub fn keep(&mut self)
@@ -182,7 +192,7 @@ impl Control {
         ensures few { length result.now ≤ 32 }
         ensures steps { steps.new ≡ steps.old + length self.now.current }
     {
-        let times = &self.current[..self.versions.depth()];
+        let times = self.entry();
         steps.tick_each(times);
         times
     }
@@ -195,5 +205,34 @@ impl Control {
         ensures steps { steps.new ≡ steps.old + length self.now.current }
     {
         copy_to(times, self.times(steps));
+    }
+
+    /// The current entry's times, each below 2^32, in lanes. What the other lanes have is not told. It takes no step: it is for whoever keeps the entry in
+    /// lanes from then on, on which nothing depends yet.
+    #[inline]
+    pub fn lanes(&self) -> [u32; 8]
+        requires shallow { length self.now.current ≤ 8 }
+        requires small { (k : ℕ) → k < length self.now.current → slice_index self.now.current k < 2 ^ 32 }
+        ensures times { take (length self.now.current) result ≡ self.now.current }
+        ensures size { length result ≡ 8 }
+    {
+        narrowed(self.entry())
+    }
+
+    /// The current entry's times.
+    #[inline]
+    fn entry(&self) -> &[u64]
+        ensures times { result.now ≡ self.now.current }
+        ensures few { length result.now ≤ 32 }
+    {
+        &self.current[..self.versions.depth()]
+    }
+
+    /// How many levels were entered so far.
+    #[inline]
+    pub fn entries(&self) -> u64
+        ensures { result ≡ self.now.entries }
+    {
+        self.versions.last_given()
     }
 }

@@ -17,7 +17,9 @@ mod versions;
 pub use cell::Cell;
 pub use control::Control;
 pub use level_maps::LevelMaps;
-pub use lists::{advance, copy_behind, copy_to, live_levels, raise_each, times_after};
+pub use lists::{
+    advance, copy_behind, copy_to, live_levels, narrowed, raise_each, times_after, widened,
+};
 pub use row::Row;
 pub use shadow::Shadow;
 pub use steps::Steps;

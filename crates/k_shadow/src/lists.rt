@@ -100,6 +100,44 @@ pub fn no_times() -> [u64; 32]
     [0; 32]
 }
 
+/// The times of eight lanes, at the front of a list for each level that may be live.
+#[inline]
+pub fn widened(lanes: [u32; 8]) -> [u64; 32]
+    ensures size { length result ≡ 32 }
+    ensures times { (k : ℕ) → k < 8 → slice_index result k ≡ slice_index lanes k }
+    ensures small { (k : ℕ) → k < 8 → slice_index result k ≤ 4294967295 }
+{
+    let mut times = no_times();
+    copy_lanes(&mut times, lanes);
+    times
+}
+
+/// Copies the times of eight lanes to the front of a list.
+#[inline]
+pub fn copy_lanes(to: &mut [u64; 32], lanes: [u32; 8])
+    ensures times { (k : ℕ) → k < 8 → slice_index to.new k ≡ slice_index lanes k }
+    ensures small { (k : ℕ) → k < 8 → slice_index to.new k ≤ 4294967295 }
+{
+    for level in 0..8 {
+        to[level] = lanes[level] as u64;
+    }
+}
+
+/// These times, none of them above 4,294,967,295, in as many lanes.
+#[inline]
+pub fn narrowed(times: &[u64]) -> [u32; 8]
+    requires few { length times.now ≤ 8 }
+    requires small { (k : ℕ) → k < length times.now → slice_index times.now k < 2 ^ 32 }
+    ensures size { length result ≡ 8 }
+    ensures times { (k : ℕ) → k < length times.now → slice_index result k ≡ slice_index times.now k }
+{
+    let mut lanes = [0; 8];
+    for level in 0..times.len() {
+        lanes[level] = times[level] as u32;
+    }
+    lanes
+}
+
 /// Copies the times of the levels from `first` on, two at a time: where one is copied at a time, LLVM makes a call of C's
 /// memcpy of the loop, which takes longer than the few levels that are live.
 #[inline]

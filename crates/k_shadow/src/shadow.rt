@@ -3,9 +3,10 @@ ghost use Rattle.std.specs.Prelude.{◌≡◌, ℕ, ◌+◌, ◌*◌, ◌^◌, �
 ghost use Rattle.k_shadow.specs.Rooms.{delayed, HasRoomFor};
 ghost use Rattle.k_shadow.specs.Content.{Content, depth, time_at, after_none, after_one, after_two, entered, level_dropped, written, written_by, cleared};
 
-use crate::lists::no_times;
+use crate::lists::{no_times, widened};
 use crate::{Steps, Times, advance, raise_each, times_after};
 use k_num::NoMemory;
+use std::simd::u32x8;
 use std::sync::ledger::Ledger;
 
 /// A time for each location and live level, in latencies: at which weight of the paths since the level's instance
@@ -84,6 +85,26 @@ pub trait Shadow: Drop {
         for level in 0..times.len() {
             times[level] = self.read(loc, level, steps).max(before[level]);
         }
+    }
+
+    /// The later of two times in the lane of each live level, the lane's and the location's, in one step a level. What the
+    /// other lanes have then is not told.
+    fn later_lanes<L: Ledger>(&self, loc: u32, before: u32x8, steps: &mut Steps<L>) -> u32x8
+        requires below { loc < (content self.now).limit }
+        requires shallow { depth (content self.now) ≤ 8 }
+        requires few { (content self.now).entries < 2 ^ 32 }
+        requires lanes { length before ≡ 8 }
+        requires small { (level : ℕ) → level < depth (content self.now) → time_at (content self.now) level loc < 2 ^ 32 }
+        ensures lanes { length result ≡ 8 }
+        ensures times { (level : ℕ) → level < depth (content self.now) → slice_index result level ≡ max (slice_index before level) (time_at (content self.now) level loc) }
+        ensures steps { steps.new ≡ steps.old + depth (content self.now) }
+    {
+        let mut times = before.to_array();
+        for level in 0..self.depth() {
+            let time = self.read(loc, level, steps);
+            times[level] = times[level].max(time as u32);
+        }
+        u32x8::from_array(times)
     }
 
     /// Fills the list with the times of an operation that waits for these times and for a location's: at each live level
@@ -247,6 +268,20 @@ pub trait Shadow: Drop {
         requires room { HasRoomFor (room self.old loc) (depth (content self.old)) (slice_index times.now) }
         ensures content { content self.new ≡ written loc times.now (content self.old) }
         ensures kept { (at most : ℕ) → room self.old at most → room self.new at most };
+
+    /// Gives a location the time of each live level's lane.
+    fn put_lanes(&mut self, loc: u32, times: u32x8)
+        requires below { loc < (content self.old).limit }
+        requires shallow { depth (content self.old) ≤ 8 }
+        requires lanes { length times ≡ 8 }
+        requires room { room self.old loc 4294967295 }
+        ensures content { content self.new ≡ written_by loc (slice_index times) (content self.old) }
+        ensures kept { (at most : ℕ) → room self.old at most → room self.new at most }
+    {
+        let depth = self.depth();
+        let each = widened(times.to_array());
+        self.put(loc, &each[..depth]);
+    }
 
     /// Makes the time of the `count` locations from `first` on 0 at every live level.
     fn clear(&mut self, first: u32, count: u32)

@@ -1,5 +1,5 @@
 -- Levels that were given times, range behind range.
-use Rattle.std.proofs.Common.{◌≡◌, ℕ, ◌+◌, ◌%◌, ◌^◌, ◌<◌, ◌≤◌, List, length, max, get_or, true, false, nat_le, refl, ap, sym, ◌∙◌, arith, ⊎_elim}
+use Rattle.std.proofs.Common.{◌≡◌, ℕ, ◌+◌, ◌%◌, ◌^◌, ◌<◌, ◌≤◌, List, length, max, get_or, true, false, nat_le, refl, ap, sym, ◌∙◌, arith, ⊎_elim, lit≤}
 use Rattle.std.proofs.lemmas.Bool.{cases_lt}
 use Rattle.std.proofs.lemmas.Bool.Decides.{nat_tests}
 use Rattle.k_shadow.specs.Content.{after_none, time_after}
@@ -7,6 +7,9 @@ use Rattle.k_shadow.specs.Numbers.{AreRising}
 use Rattle.k_shadow.specs.Rows.{Seen, row_time}
 use Rattle.k_shadow.proofs.Rows.{above_low, rising_to, row_time_since, row_time_later}
 use Rattle.k_shadow_rows.specs.Given.{AreGiven, IsLive, after_row, after_rows, after_live_row, after_live_rows}
+use Rattle.k_shadow_rows.specs.Rows.{greatest, width}
+use Rattle.k_shadow_rows.specs.declared.rows.Rows.{Rows}
+use Rattle.k_shadow_rows.specs.declared.rows.Rows.TheVariants.{NarrowEight, NarrowThirtyTwo, Eight, ThirtyTwo}
 
 -- no level
 pub given-none : (f : ℕ → ℕ) (to low : ℕ) (rows : ℕ → Seen) (paths : List ℕ) → AreGiven f to low low rows rows paths paths
@@ -112,3 +115,16 @@ live-by_stamp row numbers live inside outside = record {
   inside = λ k lt. row_time_since row (get_or numbers k 0) k (inside k lt);
   outside = λ k le lt. row_time_later row (get_or numbers k 0) k (outside k le lt);
 }
+
+-- rows of each kind have times of 32 bits for eight levels at least
+pub eight_wide : (rows : Rows) → 8 ≤ width rows
+eight_wide (NarrowEight rows) = omega arith
+eight_wide (NarrowThirtyTwo rows) = omega arith
+eight_wide (Eight rows) = omega arith
+eight_wide (ThirtyTwo rows) = omega arith
+
+pub narrow_great : (rows : Rows) → 4294967295 ≤ greatest rows
+narrow_great (NarrowEight rows) = lit≤ tt
+narrow_great (NarrowThirtyTwo rows) = lit≤ tt
+narrow_great (Eight rows) = lit≤ tt
+narrow_great (ThirtyTwo rows) = lit≤ tt

@@ -2,6 +2,7 @@
 #![tactic(auto)]
 
 mod given;
+mod lanes;
 mod level_row;
 mod lists;
 mod narrow;

@@ -1,5 +1,5 @@
 //! Rows of any of the four kinds.
-ghost use Rattle.std.specs.Prelude.{◌≡◌, ◌≢◌, ◌+◌, ◌<◌, ◌≤◌, ℕ, length, max, slice_index, OnOk, true};
+ghost use Rattle.std.specs.Prelude.{◌≡◌, ◌≢◌, ◌+◌, ◌^◌, ◌<◌, ◌≤◌, ℕ, length, max, slice_index, OnOk, true};
 ghost use Rattle.k_shadow.specs.Content.{after_none};
 ghost use Rattle.k_shadow.specs.Numbers.{AreRising};
 ghost use Rattle.k_shadow.specs.Rooms.{delayed};
@@ -7,10 +7,11 @@ ghost use Rattle.k_shadow.specs.Rows.{row_time, unwritten};
 ghost use Rattle.k_shadow_rows.specs.Given.{AreRaised, IsGiven, after_row, after_rows};
 ghost use Rattle.k_shadow_rows.specs.Rows.{greatest, row_in, size, width, HasRow};
 
-use crate::{NarrowRow, given, lists};
+use crate::{NarrowRow, given, lanes, lists};
 use k_num::NoMemory;
 use k_shadow::{Row, Steps};
 use std::alloc::Global;
+use std::simd::u32x8;
 use std::sync::ledger::Ledger;
 
 /// Rows of times in the order of locations, all of one width, and all narrow or none. A narrow row has times of 32 bits and
@@ -304,6 +305,38 @@ impl Rows {
             Rows::Eight(rows) => lists::put(rows, loc, stamp, times),
             Rows::ThirtyTwo(rows) => lists::put(rows, loc, stamp, times),
         }
+    }
+
+    /// The later of two times at each of the eight outermost levels: the lane's, and the location's, where that is below
+    /// 2^32. The levels' instances have these numbers.
+    #[inline(always)]
+    pub fn later_lanes(&self, loc: usize, starts: [u32; 8], before: u32x8) -> u32x8
+        requires lanes { length before ≡ 8 }
+        requires stamp { (row_in self.now loc).stamp < 2 ^ 32 }
+        ensures lanes { length result ≡ 8 }
+        ensures times { (k : ℕ) → k < 8 → row_time (row_in self.now loc) (slice_index starts k) k < 2 ^ 32 → slice_index result k ≡ max (slice_index before k) (row_time (row_in self.now loc) (slice_index starts k) k) }
+    {
+        match self {
+            Rows::NarrowEight(rows) => lanes::later(rows, loc, starts, before),
+            _ => lanes::later_slowly(self, loc, starts, before),
+        }
+    }
+
+    /// Writes the times of a location at the eight outermost levels.
+    #[inline(always)]
+    pub fn put_lanes(&mut self, loc: usize, stamp: u64, times: u32x8)
+        requires row { loc < size self.old }
+        requires lanes { length times ≡ 8 }
+        ensures given { IsGiven (slice_index times) loc stamp (length times) (row_in self.old) (row_in self.new) }
+        ensures size { size self.new ≡ size self.old }
+        ensures width { width self.new ≡ width self.old }
+        ensures greatest { greatest self.new ≡ greatest self.old }
+    {
+        if let Rows::NarrowEight(rows) = self {
+            lanes::put(rows, loc, stamp, times);
+            return;
+        }
+        lanes::put_slowly(self, loc, stamp, times);
     }
 
     /// Makes the rows from `first` to before `end` read 0 at every level.

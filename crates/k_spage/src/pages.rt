@@ -1,5 +1,5 @@
 //! Pages of rows, and the table that names them.
-ghost use Rattle.std.specs.Prelude.{◌≡◌, ◌≢◌, ℕ, ◌+◌, ◌-◌, ◌*◌, ◌/◌, ◌%◌, ◌<◌, ◌≤◌, length, max, None, true, slice_index, option_copied, count_by, IfOk, IsSome, is_some, OnOk, Some};
+ghost use Rattle.std.specs.Prelude.{◌≡◌, ◌≢◌, ℕ, ◌+◌, ◌-◌, ◌*◌, ◌/◌, ◌%◌, ◌^◌, ◌<◌, ◌≤◌, length, max, None, true, slice_index, option_copied, count_by, IfOk, IsSome, is_some, OnOk, Some};
 ghost use Rattle.slab.specs.Slab.{HasRoomFor};
 ghost use Rattle.k_shadow.specs.Numbers.{AreRising};
 ghost use Rattle.k_shadow.specs.Rows.{row_time, unwritten};
@@ -12,6 +12,7 @@ use k_shadow::{Steps, copy_to};
 use k_shadow_rows::Rows;
 use slab::Slab;
 use std::alloc::Global;
+use std::simd::u32x8;
 use std::sync::ledger::Ledger;
 
 /// How many locations a page has.
@@ -132,6 +133,39 @@ pub fn latest<L: Ledger>(
             copy_to(times, before);
         }
     }
+}
+
+/// The later of two times at each of the eight outermost levels: the lane's, and the location's, where that is below 2^32. The
+/// levels' instances have these numbers.
+#[inline(always)]
+pub fn later_lanes(
+    pages: &Slab<Rows>,
+    table: &[Option<usize>],
+    loc: usize,
+    starts: [u32; 8],
+    before: u32x8,
+) -> u32x8
+    requires lanes { length before ≡ 8 }
+    requires stamp { (paged_row pages.now.slots table.now loc).stamp < 2 ^ 32 }
+    ensures lanes { length result ≡ 8 }
+    ensures times { (k : ℕ) → k < 8 → row_time (paged_row pages.now.slots table.now loc) (slice_index starts k) k < 2 ^ 32 → slice_index result k ≡ max (slice_index before k) (row_time (paged_row pages.now.slots table.now loc) (slice_index starts k) k) }
+{
+    match rows_of(pages, table, loc / PAGE) {
+        Some(rows) => rows.later_lanes(loc % PAGE, starts, before),
+        None => before,
+    }
+}
+
+/// Writes the times of the row at a place of the page at a key, at the eight outermost levels.
+#[inline(always)]
+pub fn put_lanes(pages: &mut Slab<Rows>, key: usize, place: usize, stamp: u64, times: u32x8)
+    requires within { place < page_size (rows_under pages.old.slots (Some key)) }
+    requires lanes { length times ≡ 8 }
+    ensures page { IsOnePage pages.old.slots pages.new.slots key }
+    ensures given { IsGiven (slice_index times) place stamp (length times) (page_row (rows_under pages.old.slots (Some key))) (page_row (rows_under pages.new.slots (Some key))) }
+{
+    let rows = &mut pages[key];
+    rows.put_lanes(place, stamp, times);
 }
 
 /// Writes the times of the row at a place of the page at a key.

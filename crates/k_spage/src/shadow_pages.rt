@@ -10,6 +10,7 @@ use k_shadow::{Shadow, Steps, Times, Versions};
 use k_shadow_rows::Rows;
 use slab::Slab;
 use std::alloc::Global;
+use std::simd::u32x8;
 use std::sync::ledger::Ledger;
 
 /// A shadow over element numbers, which are below 4,194,304.
@@ -56,7 +57,7 @@ impl ShadowPages {
 impl Shadow for ShadowPages {
     ghost use Rattle.std.specs.Prelude.{◌+◌, ◌<◌, ◌^◌, length, slice_index, OnOk, true};
     ghost use Rattle.k_shadow.specs.Rooms.{HasRoomFor};
-    ghost use Rattle.k_shadow.specs.Content.{depth, time_at, entered, level_dropped, written, cleared};
+    ghost use Rattle.k_shadow.specs.Content.{depth, time_at, entered, level_dropped, written, written_by, cleared};
     ghost use Rattle.k_spage.specs.ShadowPages.{pages_content, has_room, has_page, HasSamePages, IsTouched};
 
     ghost content = { pages_content };
@@ -163,6 +164,13 @@ impl Shadow for ShadowPages {
         );
     }
 
+    #[inline(always)]
+    fn later_lanes<L: Ledger>(&self, loc: u32, before: u32x8, steps: &mut Steps<L>) -> u32x8 {
+        steps.tick_each(self.versions.live());
+        let starts = self.versions.starts();
+        pages::later_lanes(&self.pages, &self.table, loc as usize, starts, before)
+    }
+
     #[inline]
     fn write(&mut self, loc: u32, times: &Times)
         requires below { loc < (pages_content self.old).limit }
@@ -188,6 +196,21 @@ impl Shadow for ShadowPages {
         let stamp = self.versions.last_given();
         let key = pages::key_of_page(&self.table, loc as usize / PAGE);
         pages::put(&mut self.pages, key, loc as usize % PAGE, stamp, times);
+    }
+
+    #[inline(always)]
+    fn put_lanes(&mut self, loc: u32, times: u32x8)
+        requires below { loc < (pages_content self.old).limit }
+        requires shallow { depth (pages_content self.old) ≤ 8 }
+        requires lanes { length times ≡ 8 }
+        requires room { has_room self.old loc 4294967295 }
+        ensures content { pages_content self.new ≡ written_by loc (slice_index times) (pages_content self.old) }
+        ensures kept { (at most : ℕ) → has_room self.old at most → has_room self.new at most }
+        ensures pages { HasSamePages self.old self.new }
+    {
+        let stamp = self.versions.last_given();
+        let key = pages::key_of_page(&self.table, loc as usize / PAGE);
+        pages::put_lanes(&mut self.pages, key, loc as usize % PAGE, stamp, times);
     }
 
     fn clear(&mut self, first: u32, count: u32)

@@ -7,6 +7,7 @@ use k_num::NoMemory;
 use k_shadow::{Shadow, Steps, Versions};
 use k_shadow_rows::Rows;
 use std::alloc::Global;
+use std::simd::u32x8;
 use std::sync::ledger::Ledger;
 
 /// A shadow over absolute register numbers, which are below 2,097,152.
@@ -95,6 +96,13 @@ impl Shadow for ShadowRegs {
             .latest(loc as usize, self.versions.live(), before, times, steps);
     }
 
+    #[inline(always)]
+    fn later_lanes<L: Ledger>(&self, loc: u32, before: u32x8, steps: &mut Steps<L>) -> u32x8 {
+        steps.tick_each(self.versions.live());
+        self.rows
+            .later_lanes(loc as usize, self.versions.starts(), before)
+    }
+
     #[inline]
     fn write_after(&mut self, before: &[u64], latency: u64, to: u32, paths: &mut [u64]) {
         let stamp = self.versions.last_given();
@@ -161,6 +169,12 @@ impl Shadow for ShadowRegs {
     fn put(&mut self, loc: u32, times: &[u64]) {
         let stamp = self.versions.last_given();
         self.rows.put(loc as usize, stamp, times);
+    }
+
+    #[inline(always)]
+    fn put_lanes(&mut self, loc: u32, times: u32x8) {
+        let stamp = self.versions.last_given();
+        self.rows.put_lanes(loc as usize, stamp, times);
     }
 
     #[inline]
