@@ -8,6 +8,7 @@ use crate::Start;
 use k_num::NoMemory;
 
 /// The cell at that place.
+#[inline(always)]
 pub fn cell_at(cells: &[Option<i128>], at: usize) -> Option<i128>
     requires { at < length cells.now }
     ensures { slice_get cells.now at ≡ Some result }

@@ -1,5 +1,5 @@
 //! Where the elements of a live object stand among the cells.
-ghost use Rattle.std.specs.Prelude.{◌≡◌, ◌+◌, ◌<◌, ◌≤◌, ◌^◌, ◌+ℤ◌, pos, length, slice_get, option_map, IfOk};
+ghost use Rattle.std.specs.Prelude.{◌≡◌, ◌+◌, ◌<◌, ◌≤◌, ◌^◌, ◌+ℤ◌, Some, pos, length, slice_get, option_map, IfOk, IfSome};
 ghost use Rattle.k_mem.specs.declared.extent.Extent.{Extent};
 ghost use Rattle.k_mem.specs.Calls.{where_live, where_within, where_both_live, offset_within, difference, is_same};
 ghost use Rattle.k_mem.specs.Layout.{AreExtents, extent_with, element_among, store_among, fill_among, shift_among};
@@ -17,6 +17,7 @@ pub struct Extent {
 
 impl Extent {
     /// The number of the element at that offset.
+    #[inline(always)]
     fn element(self, offset: u64) -> Result<u32, MemTrap>
         requires { self.first + self.length < 2 ^ 32 }
         ensures { result ≡ where_within self.length offset (Ok (self.first + offset)) }
@@ -41,8 +42,37 @@ impl Extent {
     }
 }
 
-/// The extent of the live object of that number.
+/// The extent of the live object of that number. Most stand where their number says, as all do until an object has died.
+#[inline(always)]
 fn extent_of(extents: &[Extent], number: u64) -> Result<Extent, MemTrap>
+    requires { AreExtents extents.now }
+    ensures extent { result ≡ where_live (extent_with extents.now number) (λ e. Ok e) }
+    ensures small { IfOk result (λ e. e.first + e.length ≤ 4194304) }
+{
+    match extent_in_place(extents, number) {
+        Some(extent) => Ok(extent),
+        None => extent_searched(extents, number),
+    }
+}
+
+/// The extent of the object of that number, where its number is its place.
+#[inline(always)]
+fn extent_in_place(extents: &[Extent], number: u64) -> Option<Extent>
+    requires { AreExtents extents.now }
+    ensures extent { IfSome result (λ e. extent_with extents.now number ≡ Some e) }
+    ensures small { IfSome result (λ e. e.first + e.length ≤ 4194304) }
+{
+    let place = number as usize;
+    if place < extents.len() && extents[place].number == number {
+        Some(extents[place])
+    } else {
+        None
+    }
+}
+
+/// The extent of the live object of that number, wherever it stands.
+#[inline(never)]
+fn extent_searched(extents: &[Extent], number: u64) -> Result<Extent, MemTrap>
     requires { AreExtents extents.now }
     ensures extent { result ≡ where_live (extent_with extents.now number) (λ e. Ok e) }
     ensures small { IfOk result (λ e. e.first + e.length ≤ 4194304) }
@@ -62,6 +92,7 @@ pub fn extent_at(extents: &[Extent], at: usize) -> Extent
 }
 
 /// The number of the object whose extent is at that place.
+#[inline(always)]
 pub fn number_at(extents: &[Extent], at: usize) -> Option<u64>
     ensures { result ≡ option_map (λ (e : Extent). e.number) (slice_get extents.now at) }
 {
@@ -72,6 +103,7 @@ pub fn number_at(extents: &[Extent], at: usize) -> Option<u64>
 }
 
 /// The number of the element pointed to.
+#[inline(always)]
 pub fn element_at(extents: &[Extent], at: Pointer) -> Result<u32, MemTrap>
     requires { AreExtents extents.now }
     ensures { result ≡ element_among extents.now at }
@@ -80,6 +112,7 @@ pub fn element_at(extents: &[Extent], at: Pointer) -> Result<u32, MemTrap>
 }
 
 /// The number of the element pointed to, which may be written.
+#[inline(always)]
 pub fn writable_at(extents: &[Extent], at: Pointer) -> Result<u32, MemTrap>
     requires { AreExtents extents.now }
     ensures { result ≡ store_among extents.now at }
@@ -115,6 +148,7 @@ pub fn first_of(extents: &[Extent], number: u64) -> Result<u32, MemTrap>
 }
 
 /// How many elements a live object has.
+#[inline(always)]
 pub fn length_of(extents: &[Extent], number: u64) -> Result<u32, MemTrap>
     requires { AreExtents extents.now }
     ensures { result ≡ where_live (extent_with extents.now number) (λ e. Ok e.length) }

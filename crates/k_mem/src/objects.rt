@@ -1,5 +1,5 @@
 //! The objects of a running program.
-ghost use Rattle.std.specs.Prelude.{◌≡◌, ◌+◌, ◌^◌, ◌<◌, ◌≤◌, [], ◌∷◌, ◌++◌, length, vec_len, IfOk, OnOk, OnErr, ◌↔◌, None, Some, slice_get, option_map};
+ghost use Rattle.std.specs.Prelude.{◌≡◌, ◌+◌, ◌^◌, ◌<◌, ◌≤◌, [], ◌∷◌, ◌++◌, length, vec_len, IfOk, OnOk, OnErr, ◌↔◌, None, Some, Ok, slice_get, option_map};
 ghost use Rattle.k_mem.specs.Memory.{IsLaidOut, Object, live_elements};
 ghost use Rattle.k_mem.specs.Layout.{extent_made};
 ghost use Rattle.k_mem.specs.Calls.{HasLength, elements_at, is_over_limit, push_of, popped, load_of, store_of, stored, fill_of, filled, first_of, length_of, element_of, shift_of, order_of, same_of};
@@ -98,6 +98,7 @@ impl Objects {
     }
 
     /// How many objects are live.
+    #[inline(always)]
     pub fn live_objects(&self) -> u64
         ensures count { result ≡ length self.now.live }
         ensures laid_out { IsLaidOut self.now }
@@ -114,6 +115,7 @@ impl Objects {
     }
 
     /// The value of the element pointed to, and the element's number.
+    #[inline(always)]
     pub fn load(&self, at: Pointer) -> Result<(i128, u32), MemTrap>
         ensures value { result ≡ load_of self.now at }
         ensures laid_out { IsLaidOut self.now }
@@ -126,6 +128,7 @@ impl Objects {
     }
 
     /// Writes the element pointed to, and answers its number.
+    #[inline(always)]
     pub fn store(&mut self, at: Pointer, v: i128) -> Result<u32, MemTrap>
         ensures element { result ≡ store_of self.old at }
         ensures ok { OnOk result (self.new ≡ stored self.old at v) }
@@ -135,6 +138,17 @@ impl Objects {
         let element = writable_at(&self.extents, at)?;
         self.cells[element as usize] = Some(v);
         Ok(element)
+    }
+
+    /// Writes the element pointed to, which may be written and of which the caller knows the number.
+    #[inline(always)]
+    pub fn set(&mut self, at: Pointer, element: u32, v: i128)
+        requires { store_of self.old at ≡ Ok element }
+        ensures written { self.new ≡ stored self.old at v }
+        ensures laid_out { IsLaidOut self.new }
+    {
+        let cell = element as usize;
+        self.cells[cell] = Some(v);
     }
 
     /// Sets all elements of an object: to the values from the first on, and to 0 beyond them. Values past the last
@@ -164,6 +178,7 @@ impl Objects {
     }
 
     /// How many elements an object has.
+    #[inline(always)]
     pub fn length(&self, object: u64) -> Result<u32, MemTrap>
         ensures count { result ≡ length_of self.now object }
         ensures laid_out { IsLaidOut self.now }
@@ -172,6 +187,7 @@ impl Objects {
     }
 
     /// The number of the element pointed to, also of an unset one.
+    #[inline(always)]
     pub fn element(&self, at: Pointer) -> Result<u32, MemTrap>
         ensures element { result ≡ element_of self.now at }
         ensures laid_out { IsLaidOut self.now }
@@ -180,6 +196,7 @@ impl Objects {
     }
 
     /// The number of the element pointed to, where it may be written.
+    #[inline(always)]
     pub fn element_to_store(&self, at: Pointer) -> Result<u32, MemTrap>
         ensures element { result ≡ store_of self.now at }
         ensures laid_out { IsLaidOut self.now }
@@ -188,6 +205,7 @@ impl Objects {
     }
 
     /// The number of the live object at a place among them, the oldest of which is at 0.
+    #[inline(always)]
     pub fn number_at(&self, place: u64) -> Option<u64>
         ensures number { result ≡ option_map (λ (o : Object). o.number) (slice_get self.now.live place) }
         ensures laid_out { IsLaidOut self.now }

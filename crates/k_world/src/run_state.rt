@@ -22,6 +22,7 @@ use std::marker::Model;
 
 mod counts;
 mod objects;
+mod quick;
 
 /// A running program's state, which contracts see as a world without events in which nothing is told. Each live element has an origin, and there are no others.
 #[derive(Drop)]
@@ -91,6 +92,7 @@ impl<'a> RunState<'a> {
     }
 
     /// The control source now. Nothing is told here.
+    #[inline(always)]
     pub fn control(&self) -> Option<u64>
         ensures source { result ≡ self.now.control }
         ensures quiet { self.now.telling ≡ false }
@@ -99,6 +101,7 @@ impl<'a> RunState<'a> {
     }
 
     /// The control source is this from now on.
+    #[inline(always)]
     pub fn set_control(&mut self, control: Option<u64>)
         ensures { self.new ≡ record self.old { control = control } }
     {
@@ -139,6 +142,7 @@ impl<'a> RunState<'a> {
     }
 
     /// Moves a value by an operation, which is left: so it is made.
+    #[inline(always)]
     #[tactic(auto, using(crate::proofs::Operations::move_made))]
     pub fn move_held(&mut self, held: Held) -> Done
         requires { 0 < self.old.left }
@@ -154,6 +158,7 @@ impl<'a> RunState<'a> {
     }
 
     /// An operation was made.
+    #[inline(always)]
     fn count(&mut self, performed: Performed, control: Option<u64>) -> Done
         requires { 0 < self.old.left }
         ensures state { self.new ≡ record self.old { made = self.old.made + 1; left = self.old.left - 1 } }
@@ -319,6 +324,7 @@ fn performed(given: Result<Value, Trap>) -> Result<Performed, Refusal>
 }
 
 /// The operation that gave an element its value.
+#[inline(always)]
 fn origin_at(origins: &[Option<u64>], element: u32) -> Option<u64>
     requires { element < length origins.now }
     ensures { result ≡ origin_of (Some element) origins.now }
@@ -327,6 +333,7 @@ fn origin_at(origins: &[Option<u64>], element: u32) -> Option<u64>
 }
 
 /// An element's value came from the operation of this number.
+#[inline(always)]
 fn set_origin(origins: &mut [Option<u64>], element: u32, number: u64)
     requires { element < length origins.old }
     ensures { origins.new ≡ with_origin (Some element) number origins.old }

@@ -5,6 +5,7 @@ use super::RunState;
 
 impl<'a> RunState<'a> {
     /// How many operations may still be made.
+    #[inline(always)]
     pub fn left(&self) -> u64
         ensures { result ≡ self.now.left }
     {
@@ -12,6 +13,7 @@ impl<'a> RunState<'a> {
     }
 
     /// How many operations were made.
+    #[inline(always)]
     pub fn made(&self) -> u64
         ensures { result ≡ self.now.made }
     {
@@ -19,6 +21,7 @@ impl<'a> RunState<'a> {
     }
 
     /// How many objects are live.
+    #[inline(always)]
     pub fn live_objects(&self) -> u64
         ensures { result ≡ length self.now.memory.live }
     {

@@ -51,6 +51,7 @@ impl<'a> RunState<'a> {
     }
 
     /// The number of the live object at a place among them, the oldest of which is at 0.
+    #[inline(always)]
     pub fn number_at(&self, place: u64) -> Option<u64>
         ensures { result ≡ option_map (λ (o : Object). o.number) (slice_get self.now.memory.live place) }
     {
@@ -65,6 +66,7 @@ impl<'a> RunState<'a> {
     }
 
     /// How many elements an object has.
+    #[inline(always)]
     pub fn length(&self, object: u64) -> Result<u32, MemTrap>
         ensures { result ≡ length_of self.now.memory object }
     {

@@ -3,7 +3,7 @@ use Rattle.std.proofs.lemmas.Cmp.{ranked}
 use Rattle.std.proofs.lemmas.List.Sorted.{answers_always}
 use Rattle.k_mem.specs.declared.extent.Extent.{Extent}
 use Rattle.k_mem.proofs.Extents.{fill_at, comparisons_rise, found_at, found_in_gap}
-use Rattle.k_mem.proofs.extent.extent_of.Goals as goal
+use Rattle.k_mem.proofs.extent.extent_searched.Goals as goal
 
 -- what the goals read past the end
 abbrev blank : Extent
