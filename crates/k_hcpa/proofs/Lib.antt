@@ -9,7 +9,6 @@ pub mod Listed
 pub mod Moving
 pub mod Now
 pub mod Pieces
-pub mod Returned
 pub mod Steps
 pub mod Telling
 pub mod Underway

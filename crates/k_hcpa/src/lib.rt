@@ -2,6 +2,7 @@
 //! closed children, and one dictionary, but no list of operations.
 #![tactic(auto)]
 
+mod decoded;
 mod machine;
 mod output;
 mod profile;

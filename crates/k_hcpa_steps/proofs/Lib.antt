@@ -1,11 +1,15 @@
 pub mod Beginning
 pub mod Bounds
 pub mod Calling
+pub mod Few
 pub mod Here
 pub mod Levels
 pub mod OtherRow
+pub mod Quietly
 pub mod Reading
 pub mod Returning
 pub mod Rooms
+pub mod Running
 pub mod Silence
+pub mod Surely
 pub mod Turns

@@ -10,6 +10,7 @@ mod returns;
 mod silent;
 mod start;
 mod step;
+mod sure;
 mod turn;
 
 pub use parts::Parts;

@@ -3,6 +3,7 @@ pub mod Entering
 pub mod Ints
 pub mod Keeping
 pub mod Leaving
+pub mod Looking
 pub mod Longer
 pub mod Making
 pub mod Moving
@@ -11,4 +12,5 @@ pub mod Operating
 pub mod Sending
 pub mod Setting
 pub mod Stepping
+pub mod Surely
 pub mod Telling

@@ -6,3 +6,4 @@ pub mod Opening
 pub mod Parts
 pub mod Slots
 pub mod Sound
+pub mod Sure

@@ -9,9 +9,12 @@ mod made;
 mod operands;
 mod register;
 mod registers;
+mod said;
 mod state;
 mod store;
 
 pub use answer::{Alone, Calling};
 pub use operands::act_in;
+pub use register::Slot;
+pub use said::Next;
 pub use store::Store;

@@ -1,9 +1,9 @@
 //! What a register holds, in few bytes: a number of `int` takes 32 bits, so that an operation on ints needs no arithmetic beyond 64 bits.
-ghost use Rattle.std.specs.Prelude.{◌≡◌, IfSome, Some};
+ghost use Rattle.std.specs.Prelude.{◌≡◌, IfSome, None, Some};
 ghost use Rattle.k_world.specs.declared.value.Value.TheVariants.{Number};
 ghost use Rattle.k_world.specs.Acts.{in_one, number_of as number_meant, pointer_of as pointer_meant};
 ghost use Rattle.k_world.specs.Operands.{source_in as source_meant};
-ghost use Rattle.k_hcpa_store.specs.Slots.{CanKeep, held_of, source_of, value_of, wide};
+ghost use Rattle.k_hcpa_store.specs.Slots.{CanKeep, held_from, held_of, source_of, value_of, wide};
 
 use k_mem::Pointer;
 use k_world::{Held, Value};
@@ -108,6 +108,14 @@ pub fn register_of(held: Option<Held>) -> Register
             source: 0,
         },
     }
+}
+
+/// The register that holds this, which no operation gave.
+#[inline(always)]
+pub fn without_source(slot: Slot) -> Register
+    ensures { held_of result ≡ held_from None (value_of slot) }
+{
+    Register { slot, source: 0 }
 }
 
 /// The slot that keeps a value.

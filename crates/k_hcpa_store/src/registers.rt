@@ -216,7 +216,7 @@ fn held(registers: &Registers, first: usize, r: u32) -> Option<Held>
 /// The value that a register of the call holds, as it keeps it.
 #[tactic(auto, using(crate::proofs::Keeping::value_from))]
 #[inline(always)]
-fn kept_slot(registers: &Registers, first: usize, r: u32) -> Slot
+pub fn kept_slot(registers: &Registers, first: usize, r: u32) -> Slot
     requires { first ≤ length registers.now }
     ensures { value_meant (window registers.now first r) ≡ value_of result }
 {

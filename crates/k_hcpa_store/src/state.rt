@@ -11,9 +11,11 @@ use k_code::Code;
 use k_world::{Held, Read, RunState};
 use std::marker::Model;
 
+mod accesses;
 mod alone;
 mod calls;
 mod getters;
+mod looks;
 mod operations;
 mod quick;
 mod regions;
@@ -63,7 +65,7 @@ impl<'a> State<'a> {
 
     /// The same of what a register holds, as it keeps it.
     #[inline(always)]
-    fn keep_and_on(&mut self, to: Option<u32>, register: Register, pc: usize)
+    pub fn keep_and_on(&mut self, to: Option<u32>, register: Register, pc: usize)
         requires { IsWithin self.old.call.first to self.old.registers }
         ensures { self.new ≡ set_and_on to (held_of register) pc self.old }
     {

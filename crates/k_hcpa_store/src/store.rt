@@ -22,6 +22,8 @@ use k_world::{Done, Read, Stop};
 use std::alloc::Global;
 use std::marker::Model;
 
+mod sure;
+
 /// An exact configuration of flat code with its sources, but without its events and without the output that was taken.
 #[derive(Drop)]
 pub struct Store<'a> {
@@ -71,6 +73,15 @@ impl<'a> Store<'a> {
         ensures { IsNext self.now result.now }
     {
         self.state.instruction()
+    }
+
+    /// The number of the instruction that is next.
+    #[tactic(auto, unfolding(crate::specs::Kept::configuration_of))]
+    #[inline(always)]
+    pub fn pc(&self) -> usize
+        ensures { result ≡ (configuration_of self.now).pc }
+    {
+        self.state.pc()
     }
 
     /// Does an instruction that makes an operation and goes on in its call.

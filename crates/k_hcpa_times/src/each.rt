@@ -1,9 +1,9 @@
 //! Lists with one time for each live level.
-ghost use Rattle.std.specs.Prelude.{◌≡◌, ◌+◌, ◌-◌, ◌<◌, [], ◌∷◌, ◌++◌, if◌then◌else◌, length, map, replicate};
+ghost use Rattle.std.specs.Prelude.{◌≡◌, ℕ, ◌+◌, ◌-◌, ◌^◌, ◌<◌, ◌≤◌, [], ◌∷◌, ◌++◌, if◌then◌else◌, true, length, map, replicate, slice_index, take};
 ghost use Rattle.k_shadow.specs.Content.{depth};
 ghost use Rattle.k_hcpa_meaning.specs.Timings.{later, after, without_last};
 
-use k_shadow::{Shadow, Steps, Times, advance};
+use k_shadow::{Shadow, Steps, Times, advance, widened};
 use std::sync::ledger::Ledger;
 
 /// A level more, with time 0.
@@ -161,4 +161,27 @@ pub fn read_by<S: Shadow, L: Ledger>(
 {
     zero_times(times);
     raise_by(shadow, location, times, steps);
+}
+
+/// Tells whether each time is below 2^32.
+pub fn are_small(times: &[u64]) -> bool
+    ensures { result ≡ true → (level : ℕ) → level < length times.now → slice_index times.now level < 2 ^ 32 }
+{
+    for level in 0..times.len() {
+        if times[level] > 4_294_967_295 {
+            return false;
+        }
+    }
+    true
+}
+
+/// The times become those of as many lanes.
+pub fn put_times(times: &mut Times, lanes: [u32; 8])
+    requires { length times.old ≤ 8 }
+    ensures { times.new ≡ take (length times.old) lanes }
+{
+    let wide = widened(lanes);
+    let times = times.as_mut_slice();
+    let count = times.len();
+    times.copy_from_slice(&wide[..count]);
 }

@@ -3,8 +3,11 @@
 
 mod at_once;
 mod each;
+mod lane_times;
+mod laned;
 mod location_times;
 mod timed;
 
+pub use laned::{From, Laned, Lanes};
 pub use location_times::LocationTimes;
 pub use timed::Timed;

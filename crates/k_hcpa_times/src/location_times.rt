@@ -1,8 +1,10 @@
 //! The times of all locations over two shadows.
-ghost use Rattle.std.specs.Prelude.{◌≡◌, ◌≤◌, length};
+ghost use Rattle.std.specs.Prelude.{◌≡◌, ◌^◌, ◌<◌, ◌≤◌, length};
 ghost use Rattle.k_shadow.specs.Content.{empty};
-ghost use Rattle.k_hcpa_meaning.specs.Timings.{HasLevels, no_levels};
-ghost use Rattle.k_hcpa_times.specs.Seen.{seen_of, AreWithin};
+ghost use Rattle.k_hcpa_meaning.specs.Timings.{HasLevels, innermost_gone, no_levels};
+ghost use Rattle.k_hcpa_times.specs.Seen.{level_entered, made, seen_of, AreWithin};
+
+mod in_lanes;
 
 use crate::at_once::{write_none, write_one, write_two};
 use crate::each::{
@@ -60,6 +62,41 @@ impl<R: Shadow, P: Shadow> LocationTimes<R, P> {
             admitted: 0,
         }
     }
+
+    /// Enters a level in all that is kept.
+    fn enter_everywhere(&mut self)
+        requires shallow { length self.old.paths < 32 }
+        requires few { (R.content self.old.registers).entries < 2 ^ 62 }
+        ensures entered { ⟦<LocationTimes<R, P> as Timed>⟧.seen self.new ≡ level_entered (⟦<LocationTimes<R, P> as Timed>⟧.seen self.old) }
+        ensures reach { self.new.reach ≡ self.old.reach }
+        ensures admitted { self.new.admitted ≡ self.old.admitted }
+    {
+        self.registers.enter();
+        self.elements.enter();
+        self.control.enter();
+        enter_times(&mut self.in_cell);
+        enter_times(&mut self.out_cell);
+        enter_times(&mut self.row);
+        enter_times(&mut self.paths);
+        enter_times(&mut self.handed);
+    }
+
+    /// Leaves the innermost level in all that is kept.
+    fn leave_everywhere(&mut self)
+        requires { 0 < length self.old.paths }
+        ensures left { ⟦<LocationTimes<R, P> as Timed>⟧.seen self.new ≡ made innermost_gone (⟦<LocationTimes<R, P> as Timed>⟧.seen self.old) }
+        ensures reach { self.new.reach ≡ self.old.reach }
+        ensures admitted { self.new.admitted ≡ self.old.admitted }
+    {
+        self.registers.leave();
+        self.elements.leave();
+        self.control.leave();
+        leave_times(&mut self.in_cell);
+        leave_times(&mut self.out_cell);
+        leave_times(&mut self.row);
+        leave_times(&mut self.paths);
+        leave_times(&mut self.handed);
+    }
 }
 
 impl<R: Shadow, P: Shadow> Timed for LocationTimes<R, P> {
@@ -80,25 +117,11 @@ impl<R: Shadow, P: Shadow> Timed for LocationTimes<R, P> {
     }
 
     fn enter(&mut self) {
-        self.registers.enter();
-        self.elements.enter();
-        self.control.enter();
-        enter_times(&mut self.in_cell);
-        enter_times(&mut self.out_cell);
-        enter_times(&mut self.row);
-        enter_times(&mut self.paths);
-        enter_times(&mut self.handed);
+        self.enter_everywhere();
     }
 
     fn leave(&mut self) {
-        self.registers.leave();
-        self.elements.leave();
-        self.control.leave();
-        leave_times(&mut self.in_cell);
-        leave_times(&mut self.out_cell);
-        leave_times(&mut self.row);
-        leave_times(&mut self.paths);
-        leave_times(&mut self.handed);
+        self.leave_everywhere();
     }
 
     #[inline]

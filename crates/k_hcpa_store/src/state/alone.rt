@@ -68,6 +68,7 @@ impl<'a> State<'a> {
     }
 
     /// The number of the instruction behind the next one.
+    #[inline(always)]
     pub fn next(&self) -> usize
         requires { self.now.pc + 1 < 2 ^ 64 }
         ensures { result ≡ self.now.pc + 1 }
@@ -76,14 +77,16 @@ impl<'a> State<'a> {
     }
 
     /// The run goes on at an instruction.
-    fn go(&mut self, pc: usize)
+    #[inline(always)]
+    pub fn go(&mut self, pc: usize)
         ensures { self.new ≡ record self.old { pc = pc } }
     {
         self.pc = pc;
     }
 
     /// The control source is saved.
-    fn save(&mut self, next: usize) -> Result<Alone, Stop>
+    #[inline(always)]
+    pub fn save(&mut self, next: usize) -> Result<Alone, Stop>
         ensures { Comes (record self.old { pc = next; saved = self.old.saved ++ self.old.world.control ∷ [] }) self.old result self.new }
     {
         let control = self.world.control();
@@ -97,7 +100,8 @@ impl<'a> State<'a> {
     }
 
     /// The control source that was saved last is dropped.
-    fn drop_saved(&mut self, next: usize) -> Option<u64>
+    #[inline(always)]
+    pub fn drop_saved(&mut self, next: usize) -> Option<u64>
         requires { 0 < length self.old.saved }
         ensures rest { self.new ≡ record self.old { pc = next; saved = self.new.saved } }
         ensures newest { self.old.saved ≡ self.new.saved ++ result ∷ [] }
@@ -110,7 +114,8 @@ impl<'a> State<'a> {
     }
 
     /// The control source that was saved last.
-    fn newest_saved(&self) -> Option<u64>
+    #[inline(always)]
+    pub fn newest_saved(&self) -> Option<u64>
         requires { 0 < length self.now.saved }
         ensures { result ≡ slice_index_or self.now.saved (length self.now.saved - 1) None }
     {
@@ -118,7 +123,8 @@ impl<'a> State<'a> {
     }
 
     /// The control source is this from now on.
-    fn set_control(&mut self, control: Option<u64>, next: usize)
+    #[inline(always)]
+    pub fn set_control(&mut self, control: Option<u64>, next: usize)
         ensures { self.new ≡ record self.old { pc = next; world = record self.old.world { control = control } } }
     {
         self.world.set_control(control);
@@ -126,7 +132,8 @@ impl<'a> State<'a> {
     }
 
     /// The number of the object of the newest call that has this number among its own.
-    fn local_object(&self, number: u32) -> Option<u64>
+    #[inline(always)]
+    pub fn local_object(&self, number: u32) -> Option<u64>
         ensures { result ≡ number_of (slice_get self.now.world.memory.live (self.now.call.base + number)) }
     {
         let _live = self.world.live_objects();

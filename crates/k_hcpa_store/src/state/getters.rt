@@ -36,6 +36,14 @@ impl<'a> State<'a> {
         &code.instrs.as_slice()[self.pc]
     }
 
+    /// The number of the next instruction.
+    #[inline(always)]
+    pub fn pc(&self) -> usize
+        ensures { result ≡ self.now.pc }
+    {
+        self.pc
+    }
+
     /// The place of the newest call's first register.
     #[inline(always)]
     pub fn first(&self) -> usize

@@ -45,7 +45,8 @@ impl<'a> State<'a> {
     }
 
     /// So many regions of the newest call are open from now on, and the run goes on at an instruction.
-    fn set_regions(&mut self, regions: u64, pc: usize)
+    #[inline(always)]
+    pub fn set_regions(&mut self, regions: u64, pc: usize)
         ensures { self.new ≡ record self.old { pc = pc; call = record self.old.call { regions = regions } } }
     {
         self.call.regions = regions;

@@ -1,0 +1,4 @@
+pub mod Counting
+pub mod Moving
+pub mod Returned
+pub mod Ruled
