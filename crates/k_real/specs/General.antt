@@ -17,9 +17,11 @@ stripped (suc p) v = if v % 10 == 0 then stripped p (v / 10) else fraction (suc 
 abbrev pub carries : ℕ → ℕ → Bool
 carries many a = nat_lt many (count (leading many a))
 
+-- the digits that are shown, as a number
 abbrev pub shown : ℕ → ℕ → ℕ
 shown many a = if carries many a then leading many a / 10 else leading many a
 
+-- the k of above: one more without a carry
 abbrev pub point_at : ℕ → ℕ → ℕ
 point_at many a = if carries many a then places a else suc (places a)
 
@@ -27,6 +29,7 @@ point_at many a = if carries many a then places a else suc (places a)
 abbrev pub plain : ℕ → ℕ → List ℕ
 plain p v = digits (max 1 (count (v / 10 ^ p))) (v / 10 ^ p) ++ stripped p v
 
+-- as `e`, its fraction without zeros at the end
 abbrev pub with_exponent : ℕ → ℕ → ℕ → ℕ → List ℕ
 with_exponent p v c k = (48 + v / 10 ^ p % 10) ∷ (stripped p v ++ 101 ∷ signed_digits c k)
 
@@ -46,5 +49,6 @@ unsigned_general many a nan = codes "nan"
 unsigned_general many a (inf s) = codes "inf"
 unsigned_general many a (fin s m e) = general many a
 
+-- `g` of a real, its `-` before it where the sign is negative
 abbrev pub general_text : ℕ → ℕ → List ℕ
 general_text p a = (if is_sign_negative (real_of a) then 45 ∷ [] else []) ++ unsigned_general (max 1 p) a (real_of a)

@@ -16,12 +16,15 @@ IsHeld x = real_of (code_of x) ≡ x
 abbrev pub CodesAreHeld : Type 0
 CodesAreHeld = (a : ℕ) → IsHeld (real_of a)
 
+-- a sum, a difference, a product or a quotient loses nothing by its code
 abbrev pub ResultsAreHeld : Type 0
 ResultsAreHeld = (p : Precision) (x y : Float) → IsHeld (add (format p) x y) × IsHeld (sub (format p) x y) × IsHeld (mul (format p) x y) × IsHeld (div (format p) x y)
 
+-- nor does what an integer or a real is converted to
 abbrev pub ConvertedAreHeld : Type 0
 ConvertedAreHeld = (p : Precision) (v : ℤ) (a : ℕ) → IsHeld (of_int (format p) v) × IsHeld (rounded p (real_of a))
 
+-- nor does a negated real
 abbrev pub NegatedAreHeld : Type 0
 NegatedAreHeld = (a : ℕ) → IsHeld (neg (real_of a))
 

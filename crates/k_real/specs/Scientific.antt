@@ -19,6 +19,7 @@ leading many a = closest (exact a * 10 ^ (many - count (exact a))) (10 ^ (count 
 abbrev pub exponent_digits : ℕ → List ℕ
 exponent_digits n = if nat_lt n 100 then (48 + n / 10 % 10) ∷ (48 + n / 1 % 10) ∷ [] else (48 + n / 100 % 10) ∷ (48 + n / 10 % 10) ∷ (48 + n / 1 % 10) ∷ []
 
+-- the sign of c - k, and its digits
 abbrev pub signed_digits : ℕ → ℕ → List ℕ
 signed_digits c k = if nat_lt c k then 45 ∷ exponent_digits (k - c) else 43 ∷ exponent_digits (c - k)
 
@@ -38,5 +39,6 @@ unsigned_scientific p a nan = codes "nan"
 unsigned_scientific p a (inf s) = codes "inf"
 unsigned_scientific p a (fin s m e) = scientific p a
 
+-- `e` of a real with a precision, its `-` before it where the sign is negative
 abbrev pub scientific_text : ℕ → ℕ → List ℕ
 scientific_text p a = (if is_sign_negative (real_of a) then 45 ∷ [] else []) ++ unsigned_scientific p a (real_of a)

@@ -15,6 +15,7 @@ unfoldable pub count_within : ℕ → ℕ → ℕ
 count_within zero v = 0
 count_within (suc most) v = if v == 0 then 0 else suc (count_within most (v / 10))
 
+-- how many decimal digits a number has, none for 0
 abbrev pub count : ℕ → ℕ
 count v = count_within v v
 
@@ -41,5 +42,6 @@ unsigned_text p nan = codes "nan"
 unsigned_text p (inf s) = codes "inf"
 unsigned_text p (fin s m e) = fixed p (fin s m e)
 
+-- `f` of a real with a precision, its `-` before it where the sign is negative
 abbrev pub fixed_text : ℕ → Float → List ℕ
 fixed_text p x = (if is_sign_negative x then 45 ∷ [] else []) ++ unsigned_text p x
