@@ -1,9 +1,9 @@
 //! Lists with one time for each live level.
-ghost use Rattle.std.specs.Prelude.{◌≡◌, ℕ, ◌+◌, ◌-◌, ◌^◌, ◌<◌, ◌≤◌, [], ◌∷◌, ◌++◌, if◌then◌else◌, true, length, map, replicate, slice_index, take};
+ghost use Rattle.std.specs.Prelude.{◌≡◌, ℕ, ◌+◌, ◌-◌, ◌^◌, ◌<◌, ◌≤◌, [], ◌∷◌, ◌++◌, if◌then◌else◌, true, length, map, replicate, slice_index};
 ghost use Rattle.k_shadow.specs.Content.{depth};
 ghost use Rattle.k_hcpa_meaning.specs.Timings.{later, after, without_last};
 
-use k_shadow::{Shadow, Steps, Times, advance, widened};
+use k_shadow::{Shadow, Steps, Times, advance};
 use std::sync::ledger::Ledger;
 
 /// A level more, with time 0.
@@ -21,8 +21,7 @@ pub fn leave_times(times: &mut Times)
     requires { 0 < length times.old }
     ensures { times.new ≡ without_last times.old }
 {
-    let left = times.len() - 1;
-    times.resize(left);
+    times.pop();
 }
 
 /// The list becomes the other, which is as long.
@@ -173,15 +172,4 @@ pub fn are_small(times: &[u64]) -> bool
         }
     }
     true
-}
-
-/// The times become those of as many lanes.
-pub fn put_times(times: &mut Times, lanes: [u32; 8])
-    requires { length times.old ≤ 8 }
-    ensures { times.new ≡ take (length times.old) lanes }
-{
-    let wide = widened(lanes);
-    let times = times.as_mut_slice();
-    let count = times.len();
-    times.copy_from_slice(&wide[..count]);
 }

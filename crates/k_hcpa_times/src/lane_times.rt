@@ -1,14 +1,13 @@
-//! Times of operations in lanes, one for each of at most eight levels.
-ghost use Rattle.std.specs.Prelude.{◌≡◌, ℕ, ◌+◌, ◌*◌, ◌%◌, ◌^◌, ◌<◌, ◌≤◌, true, [], ◌∷◌, ◌++◌, length, map, max, take, slice_index};
-ghost use Rattle.k_shadow.specs.Content.{depth};
+//! Times of operations in lanes, one for each of the outermost levels.
+ghost use Rattle.std.specs.Prelude.{◌≡◌, ℕ, ◌+◌, ◌*◌, ◌^◌, ◌<◌, ◌≤◌, true, false, [], ◌∷◌, ◌++◌, length, map, slice_index, take};
+ghost use Rattle.k_shadow.specs.Content.{at_levels, depth};
 ghost use Rattle.k_hcpa_meaning.specs.Timings.{Timing, Element, later, after, begun, raised_all, operated};
 ghost use Rattle.k_hcpa_times.specs.Seen.{NoneAbove};
 ghost use Rattle.k_hcpa_times.specs.Lanes.{locations_from, AreRegistersBelow, Holds, MayDelay};
 
 use crate::laned::{From, Lanes};
 use k_num::NoMemory;
-use k_shadow::{Shadow, Steps};
-use std::simd::u32x8;
+use k_shadow::{Control, Shadow, Steps, TimeLanes, Times, widened};
 use std::sync::ledger::Ledger;
 
 /// The greatest time that a lane has.
@@ -27,40 +26,17 @@ pub fn admit_lanes<S: Shadow>(shadow: &mut S, location: u32) -> bool
     }
 }
 
-/// The later of two times at each level.
-#[inline(always)]
-fn latest(a: u32x8, b: u32x8) -> u32x8
-    requires left { length a ≡ 8 }
-    requires right { length b ≡ 8 }
-    ensures lanes { length result ≡ 8 }
-    ensures times { (k : ℕ) → k < 8 → slice_index result k ≡ max (slice_index a k) (slice_index b k) }
-{
-    a.simd_max(b)
-}
-
-/// The times so much later.
-#[inline(always)]
-fn delay_lanes(times: u32x8, latency: u32) -> u32x8
-    requires { length times ≡ 8 }
-    ensures lanes { length result ≡ 8 }
-    ensures times { (k : ℕ) → k < 8 → slice_index result k ≡ (slice_index times k + latency) % 2 ^ 32 }
-{
-    times + u32x8::splat(latency)
-}
-
 /// Each time is at least the location's at its level, for which that is read once.
 #[inline(always)]
-pub fn raise_lanes<S: Shadow, L: Ledger>(
+pub fn raise_lanes<S: Shadow, V: TimeLanes, L: Ledger>(
     shadow: &S,
     location: u32,
-    times: u32x8,
+    times: V,
     steps: &mut Steps<L>,
-) -> u32x8
+) -> V
     requires below { location < (S.content shadow.now).limit }
-    requires holds { Holds (S.content shadow.now) }
-    requires lanes { length times ≡ 8 }
-    ensures lanes { length result ≡ 8 }
-    ensures raised { take (depth (S.content shadow.now)) result ≡ later (take (depth (S.content shadow.now)) times) (map (λ level. level location) (S.content shadow.now).levels) }
+    requires holds { Holds V.count (S.content shadow.now) }
+    ensures raised { at_levels (depth (S.content shadow.now)) (V.time result) ≡ later (at_levels (depth (S.content shadow.now)) (V.time times)) (map (λ level. level location) (S.content shadow.now).levels) }
     ensures steps { steps.new ≡ steps.old + depth (S.content shadow.now) }
 {
     shadow.later_lanes(location, times, steps)
@@ -68,23 +44,21 @@ pub fn raise_lanes<S: Shadow, L: Ledger>(
 
 /// The times of an operation that depends on registers: each is at least the control source's, and theirs, for which these are read once.
 #[inline(always)]
-pub fn waited<S: Shadow, L: Ledger>(
+pub fn waited<S: Shadow, V: TimeLanes, L: Ledger>(
     registers: &S,
-    control: [u32; 8],
+    control: V,
     from: From,
     steps: &mut Steps<L>,
-) -> u32x8
-    requires holds { Holds (S.content registers.now) }
+) -> V
+    requires holds { Holds V.count (S.content registers.now) }
     requires from { AreRegistersBelow (S.content registers.now).limit (locations_from from) }
-    ensures lanes { length result ≡ 8 }
-    ensures waits { (t : Timing) → t.registers ≡ (S.content registers.now).levels → t.control ≡ take (depth (S.content registers.now)) control → raised_all (locations_from from) (begun t) ≡ record t { row = take (depth (S.content registers.now)) result } }
+    ensures waits { (t : Timing) → t.registers ≡ (S.content registers.now).levels → t.control ≡ at_levels (depth (S.content registers.now)) (V.time control) → raised_all (locations_from from) (begun t) ≡ record t { row = at_levels (depth (S.content registers.now)) (V.time result) } }
     ensures steps { steps.new ≡ steps.old + length (locations_from from) * depth (S.content registers.now) }
 {
-    let times = u32x8::from_array(control);
     if from.sources == 0 {
-        return times;
+        return control;
     }
-    let times = raise_lanes(registers, from.left, times, steps);
+    let times = raise_lanes(registers, from.left, control, steps);
     if from.sources == 1 {
         return times;
     }
@@ -93,37 +67,35 @@ pub fn waited<S: Shadow, L: Ledger>(
 
 /// The times of an operation that waits for these and takes so long; each path is at least that.
 #[inline(always)]
-pub fn settle_lanes(lanes: &mut Lanes, waits: u32x8, latency: u32) -> u32x8
-    requires waits { length waits ≡ 8 }
-    requires paths { length lanes.old.paths ≡ 8 }
-    ensures lanes { length result ≡ 8 }
-    ensures paths_lanes { length lanes.new.paths ≡ 8 }
-    ensures times { (count reach : ℕ) → count ≤ 8 → NoneAbove reach (take count waits) → reach + latency < 2 ^ 32 → take count result ≡ after latency (take count waits) }
-    ensures paths { (count : ℕ) → count ≤ 8 → take count lanes.new.paths ≡ later (take count lanes.old.paths) (take count result) }
+pub fn settle_lanes<V: TimeLanes>(lanes: &mut Lanes<V>, waits: V, latency: u32) -> V
+    ensures times { (count reach : ℕ) → count ≤ V.count → NoneAbove reach (at_levels count (V.time waits)) → reach + latency < 2 ^ 32 → at_levels count (V.time result) ≡ after latency (at_levels count (V.time waits)) }
+    ensures paths { (count : ℕ) → count ≤ V.count → take count lanes.new.paths ≡ later (take count lanes.old.paths) (at_levels count (V.time result)) }
     ensures control { lanes.new.control ≡ lanes.old.control }
+    ensures count { lanes.new.lanes ≡ V.count }
+    ensures paths_lanes { length lanes.new.paths ≡ V.count }
 {
-    let times = delay_lanes(waits, latency);
-    lanes.paths = latest(u32x8::from_array(lanes.paths), times).to_array();
+    let times = waits.delayed(latency);
+    lanes.paths = lanes.paths.later(times);
     times
 }
 
 /// The times of an operation that depends on registers and takes so long; each path is at least that.
 #[inline(always)]
-pub fn operate_lanes<S: Shadow, L: Ledger>(
+pub fn operate_lanes<S: Shadow, V: TimeLanes, L: Ledger>(
     registers: &S,
-    lanes: &mut Lanes,
+    lanes: &mut Lanes<V>,
     from: From,
     latency: u32,
     steps: &mut Steps<L>,
-) -> u32x8
-    requires holds { Holds (S.content registers.now) }
+) -> V
+    requires holds { Holds lanes.old.lanes (S.content registers.now) }
     requires from { AreRegistersBelow (S.content registers.now).limit (locations_from from) }
-    requires paths { length lanes.old.paths ≡ 8 }
     requires may { MayDelay latency (take (depth (S.content registers.now)) lanes.old.control) (S.content registers.now).levels [] }
-    ensures lanes { length result ≡ 8 }
-    ensures paths_lanes { length lanes.new.paths ≡ 8 }
+    ensures was { lanes.old.lanes ≡ V.count }
+    ensures count { lanes.new.lanes ≡ V.count }
+    ensures paths_lanes { length lanes.new.paths ≡ V.count }
     ensures control { lanes.new.control ≡ lanes.old.control }
-    ensures operated { (t : Timing) → t.registers ≡ (S.content registers.now).levels → t.control ≡ take (depth (S.content registers.now)) lanes.old.control → t.paths ≡ take (depth (S.content registers.now)) lanes.old.paths → operated (locations_from from) latency t ≡ record t { row = take (depth (S.content registers.now)) result; paths = take (depth (S.content registers.now)) lanes.new.paths } }
+    ensures operated { (t : Timing) → t.registers ≡ (S.content registers.now).levels → t.control ≡ take (depth (S.content registers.now)) lanes.old.control → t.paths ≡ take (depth (S.content registers.now)) lanes.old.paths → operated (locations_from from) latency t ≡ record t { row = at_levels (depth (S.content registers.now)) (V.time result); paths = take (depth (S.content registers.now)) lanes.new.paths } }
     ensures steps { steps.new ≡ steps.old + length (locations_from from) * depth (S.content registers.now) }
 {
     let waits = waited(registers, lanes.control, from, steps);
@@ -132,29 +104,89 @@ pub fn operate_lanes<S: Shadow, L: Ledger>(
 
 /// The times of an operation that depends on registers and an element and takes so long; each path is at least that.
 #[inline(always)]
-pub fn load_with<R: Shadow, P: Shadow, L: Ledger>(
+pub fn load_with<R: Shadow, P: Shadow, V: TimeLanes, L: Ledger>(
     registers: &R,
     elements: &P,
-    lanes: &mut Lanes,
+    lanes: &mut Lanes<V>,
     from: From,
     element: u32,
     latency: u32,
     steps: &mut Steps<L>,
-) -> u32x8
-    requires registers { Holds (R.content registers.now) }
-    requires elements { Holds (P.content elements.now) }
+) -> V
+    requires registers { Holds lanes.old.lanes (R.content registers.now) }
+    requires elements { Holds lanes.old.lanes (P.content elements.now) }
     requires same { depth (P.content elements.now) ≡ depth (R.content registers.now) }
     requires from { AreRegistersBelow (R.content registers.now).limit (locations_from from) }
     requires element { element < (P.content elements.now).limit }
-    requires paths { length lanes.old.paths ≡ 8 }
     requires may { MayDelay latency (take (depth (R.content registers.now)) lanes.old.control) (R.content registers.now).levels (P.content elements.now).levels }
-    ensures lanes { length result ≡ 8 }
-    ensures paths_lanes { length lanes.new.paths ≡ 8 }
+    ensures was { lanes.old.lanes ≡ V.count }
+    ensures count { lanes.new.lanes ≡ V.count }
+    ensures paths_lanes { length lanes.new.paths ≡ V.count }
     ensures control { lanes.new.control ≡ lanes.old.control }
-    ensures operated { (t : Timing) → t.registers ≡ (R.content registers.now).levels → t.elements ≡ (P.content elements.now).levels → t.control ≡ take (depth (R.content registers.now)) lanes.old.control → t.paths ≡ take (depth (R.content registers.now)) lanes.old.paths → operated (locations_from from ++ Element element ∷ []) latency t ≡ record t { row = take (depth (R.content registers.now)) result; paths = take (depth (R.content registers.now)) lanes.new.paths } }
+    ensures operated { (t : Timing) → t.registers ≡ (R.content registers.now).levels → t.elements ≡ (P.content elements.now).levels → t.control ≡ take (depth (R.content registers.now)) lanes.old.control → t.paths ≡ take (depth (R.content registers.now)) lanes.old.paths → operated (locations_from from ++ Element element ∷ []) latency t ≡ record t { row = at_levels (depth (R.content registers.now)) (V.time result); paths = take (depth (R.content registers.now)) lanes.new.paths } }
     ensures steps { steps.new ≡ steps.old + (length (locations_from from) + 1) * depth (R.content registers.now) }
 {
     let waits = waited(registers, lanes.control, from, steps);
     let waits = raise_lanes(elements, element, waits, steps);
     settle_lanes(lanes, waits, latency)
+}
+
+/// The lanes get the control source's times.
+#[inline(always)]
+pub fn read_control<V: TimeLanes>(control: &Control, lanes: &mut Lanes<V>)
+    requires most { lanes.old.lanes ≤ 32 }
+    requires shallow { length control.now.current ≤ lanes.old.lanes }
+    requires small { (k : ℕ) → k < length control.now.current → slice_index control.now.current k < 2 ^ 32 }
+    ensures control { take (length control.now.current) lanes.new.control ≡ control.now.current }
+    ensures control_lanes { length lanes.new.control ≡ lanes.old.lanes }
+    ensures paths { lanes.new.paths ≡ lanes.old.paths }
+    ensures count { lanes.new.lanes ≡ lanes.old.lanes }
+{
+    let paths = lanes.paths;
+    *lanes = Lanes {
+        control: control.lanes(),
+        paths,
+    };
+}
+
+/// The control source gets the times of the lanes.
+#[inline(always)]
+pub fn set_control<V: TimeLanes>(control: &mut Control, lanes: &Lanes<V>)
+    requires most { lanes.now.lanes ≤ 32 }
+    requires shallow { length control.old.current ≤ lanes.now.lanes }
+    ensures { control.new ≡ record control.old { current = take (length control.old.current) lanes.now.control } }
+{
+    control.set_lanes(lanes.control);
+}
+
+/// The paths become those of the lanes.
+pub fn set_paths<V: TimeLanes>(paths: &mut Times, lanes: &Lanes<V>)
+    requires most { lanes.now.lanes ≤ 32 }
+    requires few { length paths.old ≤ lanes.now.lanes }
+    ensures { paths.new ≡ take (length paths.old) lanes.now.paths }
+{
+    let wide = widened(lanes.paths);
+    let paths = paths.as_mut_slice();
+    let count = paths.len();
+    paths.copy_from_slice(&wide[..count]);
+}
+
+/// A level that is entered has a lane, with time 0. It answers false where there is none for it.
+#[inline(always)]
+pub fn enter_lane<V: TimeLanes>(lanes: &mut Lanes<V>, level: usize) -> bool
+    ensures room { result ≡ true → level < lanes.old.lanes }
+    ensures control { result ≡ true → take (level + 1) lanes.new.control ≡ take level lanes.old.control ++ 0 ∷ [] }
+    ensures control_lanes { result ≡ true → length lanes.new.control ≡ lanes.old.lanes }
+    ensures paths { result ≡ true → take (level + 1) lanes.new.paths ≡ take level lanes.old.paths ++ 0 ∷ [] }
+    ensures paths_lanes { result ≡ true → length lanes.new.paths ≡ lanes.old.lanes }
+    ensures count { lanes.new.lanes ≡ lanes.old.lanes }
+    ensures same { result ≡ false → lanes.new ≡ lanes.old }
+{
+    let control = lanes.control;
+    if level >= V::count() {
+        return false;
+    }
+    lanes.control = control.with_time(level, 0);
+    lanes.paths = lanes.paths.with_time(level, 0);
+    true
 }

@@ -6,15 +6,25 @@ ghost use Rattle.k_hcpa_times.specs.Seen.{levels, made, instance_entered};
 ghost use Rattle.k_hcpa_times.specs.Lanes.{with_lanes, locations_from, AreRegistersBelow};
 
 use crate::timed::Timed;
-use k_shadow::Steps;
+use k_shadow::{Steps, TimeLanes};
+use std::marker::Model;
 use std::sync::ledger::Ledger;
 
-/// The times of the control source, and the weight of the heaviest path, in a lane for each of at most eight levels. The lanes of levels that are not
+/// The times of the control source, and the weight of the heaviest path, in a lane for each of the outermost levels. The lanes of levels that are not
 /// live hold anything.
-#[derive(Clone, Copy)]
-pub struct Lanes {
-    pub control: [u32; 8],
-    pub paths: [u32; 8],
+#[derive(Drop)]
+pub struct Lanes<V: TimeLanes> {
+    pub control: V,
+    pub paths: V,
+}
+
+impl<V: TimeLanes> Model for Lanes<V> {
+    ghost use Rattle.k_shadow.specs.Content.{at_levels};
+    ghost use Rattle.k_hcpa_times.specs.Lanes.{Laid};
+
+    ghost Value = { Laid };
+
+    ghost view = { λ l. record { lanes = V.count; control = at_levels V.count (V.time l.control); paths = at_levels V.count (V.time l.paths) } };
 }
 
 /// The registers on which an operation depends: as many of these two as there are sources. They are numbered among those of all live calls.
@@ -25,32 +35,33 @@ pub struct From {
     pub right: u32,
 }
 
-/// Times that are made in lanes where no time needs more than 32 bits and at most eight levels are live. Between `open` and `close` the lanes have the
+/// Times that are made in lanes where no time needs more than 32 bits and each live level has a lane. Between `open` and `close` the lanes have the
 /// control source's times and the paths; what is kept of these is old.
 ///
 /// A call that answers false changed nothing that is seen, and took no step: what it was asked for may need more than lanes have, or memory.
 pub trait Laned: Timed {
-    ghost use Rattle.k_hcpa_times.specs.declared.laned.Lanes.{Lanes};
+    ghost use Rattle.k_hcpa_times.specs.Lanes.{Laid};
 
     /// These lanes may stand for the control source's times and the paths.
-    ghost laned: { Self → Lanes → Type 0 };
+    ghost laned: { Self → Laid → Type 0 };
 
     /// Moves the control source's times and the paths into lanes, where these can hold them. It takes no step: the control source is read by the operations
     /// that depend on it.
-    fn open(&mut self) -> Option<Lanes>
+    fn open<V: TimeLanes>(&mut self) -> Option<Lanes<V>>
+        requires { V.count ≤ 32 }
         ensures same { Self.seen self.new ≡ Self.seen self.old }
         ensures laned { IfSome result (λ l. laned self.new l) }
         ensures lanes { IfSome result (λ l. with_lanes l (Self.seen self.new) ≡ Self.seen self.new) };
 
     /// Moves them back.
-    fn close(&mut self, lanes: &Lanes)
+    fn close<V: TimeLanes>(&mut self, lanes: &Lanes<V>)
         requires { laned self.old lanes.now }
         ensures { Self.seen self.new ≡ with_lanes lanes.now (Self.seen self.old) };
 
     /// An operation is made at once that depends on registers, and a register holds what it gave.
-    fn give_lanes<L: Ledger>(
+    fn give_lanes<V: TimeLanes, L: Ledger>(
         &mut self,
-        lanes: &mut Lanes,
+        lanes: &mut Lanes<V>,
         from: From,
         latency: u32,
         to: u32,
@@ -66,9 +77,9 @@ pub trait Laned: Timed {
         ensures none { result ≡ false → steps.new ≡ steps.old };
 
     /// The same, where the operation also depends on an element.
-    fn load_lanes<L: Ledger>(
+    fn load_lanes<V: TimeLanes, L: Ledger>(
         &mut self,
-        lanes: &mut Lanes,
+        lanes: &mut Lanes<V>,
         from: From,
         element: u32,
         latency: u32,
@@ -86,9 +97,9 @@ pub trait Laned: Timed {
         ensures none { result ≡ false → steps.new ≡ steps.old };
 
     /// An operation is made at once that depends on registers, and an element holds what it gave.
-    fn store_lanes<L: Ledger>(
+    fn store_lanes<V: TimeLanes, L: Ledger>(
         &mut self,
-        lanes: &mut Lanes,
+        lanes: &mut Lanes<V>,
         from: From,
         latency: u32,
         element: u32,
@@ -104,9 +115,9 @@ pub trait Laned: Timed {
         ensures none { result ≡ false → steps.new ≡ steps.old };
 
     /// An operation is made at once that depends on registers, and is the control source.
-    fn test_lanes<L: Ledger>(
+    fn test_lanes<V: TimeLanes, L: Ledger>(
         &mut self,
-        lanes: &mut Lanes,
+        lanes: &mut Lanes<V>,
         from: From,
         latency: u32,
         steps: &mut Steps<L>,
@@ -120,50 +131,50 @@ pub trait Laned: Timed {
         ensures none { result ≡ false → steps.new ≡ steps.old };
 
     /// A register holds what no operation gave.
-    fn clear_lanes(&mut self, lanes: &Lanes, to: u32)
+    fn clear_lanes<V: TimeLanes>(&mut self, lanes: &Lanes<V>, to: u32)
         requires laned { laned self.old lanes.now }
         requires below { to < (Self.seen self.old).registers }
         ensures laned { laned self.new lanes.now }
         ensures cleared { with_lanes lanes.now (Self.seen self.new) ≡ made (registers_cleared to 1) (with_lanes lanes.now (Self.seen self.old)) };
 
-    /// Enters an instance where so many are open, of which those below the depth have levels. It answers false where a ninth level would be live, or where
-    /// entries are no longer counted in 32 bits.
-    fn enter_lanes(&mut self, lanes: &mut Lanes, depth: u32, opened: u64) -> bool
+    /// Enters an instance where so many are open, of which those below the depth have levels. It answers false where no lane is left for a level more,
+    /// or where entries are no longer counted in 32 bits.
+    fn enter_lanes<V: TimeLanes>(&mut self, lanes: &mut Lanes<V>, depth: u32, opened: u64) -> bool
         requires { laned self.old lanes.old }
         ensures laned { laned self.new lanes.new }
         ensures entered { result ≡ true → with_lanes lanes.new (Self.seen self.new) ≡ instance_entered depth opened (with_lanes lanes.old (Self.seen self.old)) }
         ensures same { result ≡ false → with_lanes lanes.new (Self.seen self.new) ≡ with_lanes lanes.old (Self.seen self.old) };
 
     /// Leaves the innermost of so many open instances, of which those below the depth have levels.
-    fn leave_lanes(&mut self, lanes: &Lanes, depth: u32, opened: u64)
+    fn leave_lanes<V: TimeLanes>(&mut self, lanes: &Lanes<V>, depth: u32, opened: u64)
         requires laned { laned self.old lanes.now }
         requires live { opened ≤ depth → 0 < levels (with_lanes lanes.now (Self.seen self.old)) }
         ensures laned { laned self.new lanes.now }
         ensures left { with_lanes lanes.now (Self.seen self.new) ≡ made (left_below depth opened) (with_lanes lanes.now (Self.seen self.old)) };
 
     /// Saves the control source, which stays the current one. It answers false where it finds no memory.
-    fn save_lanes(&mut self, lanes: &Lanes) -> bool
+    fn save_lanes<V: TimeLanes>(&mut self, lanes: &Lanes<V>) -> bool
         requires { laned self.old lanes.now }
         ensures laned { laned self.new lanes.now }
         ensures saved { result ≡ true → with_lanes lanes.now (Self.seen self.new) ≡ made control_saved (with_lanes lanes.now (Self.seen self.old)) }
         ensures same { result ≡ false → with_lanes lanes.now (Self.seen self.new) ≡ with_lanes lanes.now (Self.seen self.old) };
 
     /// Drops the newest saved control source.
-    fn keep_lanes(&mut self, lanes: &Lanes)
+    fn keep_lanes<V: TimeLanes>(&mut self, lanes: &Lanes<V>)
         requires laned { laned self.old lanes.now }
         requires some { 0 < length (Self.seen self.old).timing.saved }
         ensures laned { laned self.new lanes.now }
         ensures dropped { with_lanes lanes.now (Self.seen self.new) ≡ made control_kept (with_lanes lanes.now (Self.seen self.old)) };
 
     /// Makes the newest saved control source the current one, and drops it.
-    fn back_lanes(&mut self, lanes: &mut Lanes)
+    fn back_lanes<V: TimeLanes>(&mut self, lanes: &mut Lanes<V>)
         requires laned { laned self.old lanes.old }
         requires some { 0 < length (Self.seen self.old).timing.saved }
         ensures laned { laned self.new lanes.new }
         ensures back { with_lanes lanes.new (Self.seen self.new) ≡ made control_back (with_lanes lanes.old (Self.seen self.old)) };
 
     /// Makes the newest saved control source the current one, which stays saved. It answers false where it finds no memory.
-    fn restore_lanes(&mut self, lanes: &mut Lanes) -> bool
+    fn restore_lanes<V: TimeLanes>(&mut self, lanes: &mut Lanes<V>) -> bool
         requires laned { laned self.old lanes.old }
         requires some { 0 < length (Self.seen self.old).timing.saved }
         ensures laned { laned self.new lanes.new }

@@ -59,15 +59,15 @@ pub content-stamped : (rows others : ℕ → Seen) (v : Numbers) (limit loc : �
 content-stamped rows others v limit loc f given rest stamp each =
     content-set rows others v limit loc f rest (λ k lt. row_time_since (others loc) (slice_index v.live k) k (let most : slice_index v.live k ≤ v.given = given_at v.given v.live given k lt in omega (arith, stamp)) ∙ each k lt)
 
--- lanes that come of a row's times at the first eight levels come of its location's times
-pub lanes_here : (rows : ℕ → Seen) (v : Numbers) (limit loc : ℕ) (row : Seen) (starts before new : List ℕ) → row ≡ rows loc → v.given < 2 ^ 32 → depth (content_of rows v limit) ≤ 8
-    → (v.given < 2 ^ 32 → (k : ℕ) → k < 8 → k < length v.live → slice_index starts k ≡ slice_index v.live k)
-    → ((k : ℕ) → k < 8 → row_time row (slice_index starts k) k < 2 ^ 32 → slice_index new k ≡ max (slice_index before k) (row_time row (slice_index starts k) k))
+-- lanes that come of a row's times at the outermost levels come of its location's times
+pub lanes_here : (n : ℕ) (rows : ℕ → Seen) (v : Numbers) (limit loc : ℕ) (row : Seen) (starts : List ℕ) (before new : ℕ → ℕ) → row ≡ rows loc → v.given < 2 ^ 32 → depth (content_of rows v limit) ≤ n
+    → (v.given < 2 ^ 32 → (k : ℕ) → k < length v.live → slice_index starts k ≡ slice_index v.live k)
+    → ((k : ℕ) → k < n → row_time row (slice_index starts k) k < 2 ^ 32 → new k ≡ max (before k) (row_time row (slice_index starts k) k))
     → ((level : ℕ) → level < depth (content_of rows v limit) → time_at (content_of rows v limit) level loc < 2 ^ 32)
-    → (level : ℕ) → level < depth (content_of rows v limit) → slice_index new level ≡ max (slice_index before level) (time_at (content_of rows v limit) level loc)
-lanes_here rows v limit loc row starts before new here few shallow same each small level h =
+    → (level : ℕ) → level < depth (content_of rows v limit) → new level ≡ max (before level) (time_at (content_of rows v limit) level loc)
+lanes_here n rows v limit loc row starts before new here few shallow same each small level h =
     let live : level < length v.live = omega (arith, depth_counted rows v limit) in
-    let inside : level < 8 = omega arith in
-    let number : slice_index starts level ≡ slice_index v.live level = same few level inside live in
+    let inside : level < n = omega arith in
+    let number : slice_index starts level ≡ slice_index v.live level = same few level live in
     let time : row_time row (slice_index starts level) level ≡ time_at (content_of rows v limit) level loc = ap (λ n. row_time row n level) number ∙ time_here rows v limit loc row v.live here refl level h in
-    each level inside (omega (arith, time, small level h)) ∙ ap (λ t. max (slice_index before level) t) time
+    each level inside (omega (arith, time, small level h)) ∙ ap (λ t. max (before level) t) time

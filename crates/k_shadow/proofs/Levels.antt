@@ -1,6 +1,6 @@
 -- Lists that a function gives level by level.
-use Rattle.std.proofs.Common.{◌≡◌, ℕ, ◌+◌, ◌<◌, zero, suc, ◌≤◌, List, [], ◌∷◌, ◌++◌, length, take, get_or, refl, ap, ◌∙◌, arith}
-use Rattle.std.proofs.lemmas.List.{ext_get_or, get_or-take, length-take-le, take_at}
+use Rattle.std.proofs.Common.{◌≡◌, ℕ, ◌+◌, ◌<◌, zero, suc, ◌≤◌, List, [], ◌∷◌, ◌++◌, length, take, get_or, refl, ap, sym, ◌∙◌, arith}
+use Rattle.std.proofs.lemmas.List.{get_or-take, length-take-le, take_at}
 use Rattle.k_shadow.specs.Content.{at_levels}
 
 pub length-at_levels : (n : ℕ) (f : ℕ → ℕ) → length (at_levels n f) ≡ n
@@ -34,9 +34,6 @@ pub front-at_levels : (n m : ℕ) (f : ℕ → ℕ) (times : List ℕ) → n ≡
 front-at_levels n m f times same few h = is-at_levels m f (take n times) (length-take-le n times few ∙ same) (λ k lt. get_or-take n times k 0 (omega arith) ∙ h k lt)
 
 -- lanes that have these times at the live levels
-pub lanes_front : (lanes times current : List ℕ) → times ≡ current → length lanes ≡ 8 → length current ≤ 8 → ((k : ℕ) → k < length times → get_or lanes k 0 ≡ get_or times k 0) → take (length current) lanes ≡ current
-lanes_front lanes times current same wide few each =
-    let all : length (take (length current) lanes) ≡ length current = length-take-le (length current) lanes (omega arith) in
-    ext_get_or 0 (take (length current) lanes) current all (λ k lt.
-    let inside : k < length current = omega (arith, all) in
-    get_or-take (length current) lanes k 0 inside ∙ each k (omega (arith, ap length same)) ∙ ap (λ ts. get_or ts k 0) same)
+pub lanes_front : (lane : ℕ → ℕ) (times current : List ℕ) → times ≡ current → ((k : ℕ) → k < length times → lane k ≡ get_or times k 0) → at_levels (length current) lane ≡ current
+lanes_front lane times current same each =
+    sym (is-at_levels (length current) lane current refl (λ k lt. ap (λ ts. get_or ts k 0) (sym same) ∙ sym (each k (omega (arith, ap length same)))))

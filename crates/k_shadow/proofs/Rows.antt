@@ -43,11 +43,12 @@ AreRising-take low zero ns h = tt
 AreRising-take low (suc k) [] h = tt
 AreRising-take low (suc k) (n ∷ ns) h = (h.0, AreRising-take n k ns h.1)
 
--- the number of a level more, which one of the first eight keeps modulo 2^32
-pub starts-more : (depth : ℕ) (numbers starts new : List ℕ) (number : ℕ) → depth < length numbers → (depth < 8 → get_or new depth 0 ≡ number % 2 ^ 32) → ((k : ℕ) → k ≢ depth → get_or new k 0 ≡ get_or starts k 0) → AreStarts depth numbers starts → AreStarts (depth + 1) (set numbers depth number) new
-starts-more depth numbers starts new number h here others so_far k few lt = ⊎_elim
-    (λ (e : k ≡ depth). subst (λ (x : ℕ). get_or new x 0 ≡ get_or (set numbers depth number) x 0 % 2 ^ 32) (sym e) (here (omega arith) ∙ ap (λ n. n % 2 ^ 32) (sym (get_or-set_same numbers depth number 0 h))))
-    (λ (ne : k ≢ depth). others k ne ∙ so_far k few (omega arith) ∙ ap (λ n. n % 2 ^ 32) (sym (get_or-set_other numbers depth k number 0 ne)))
+-- the number of a level more, modulo 2^32
+pub starts-more : (depth : ℕ) (numbers starts : List ℕ) (number : ℕ) → depth < length numbers → depth < length starts → AreStarts depth numbers starts → AreStarts (depth + 1) (set numbers depth number) (set starts depth (number % 2 ^ 32))
+starts-more depth numbers starts number h within so_far k lt = ⊎_elim
+    (λ (e : k ≡ depth). subst (λ (x : ℕ). get_or (set starts depth (number % 2 ^ 32)) x 0 ≡ get_or (set numbers depth number) x 0 % 2 ^ 32) (sym e)
+    (get_or-set_same starts depth (number % 2 ^ 32) 0 within ∙ ap (λ n. n % 2 ^ 32) (sym (get_or-set_same numbers depth number 0 h))))
+    (λ (ne : k ≢ depth). get_or-set_other starts depth k (number % 2 ^ 32) 0 ne ∙ so_far k (omega arith) ∙ ap (λ n. n % 2 ^ 32) (sym (get_or-set_other numbers depth k number 0 ne)))
     (cases_eq k depth)
 
 -- a number for which 32 bits are enough

@@ -29,6 +29,6 @@ abbrev pub AreRising : ℕ → List ℕ → Type 0
 AreRising low [] = Unit {0}
 AreRising low (n ∷ ns) = (low < n) × AreRising n ns
 
--- at the levels of the `depth` outermost that are among the first eight these are the numbers, modulo 2^32
+-- at the `depth` outermost levels these are the numbers, modulo 2^32
 abbrev pub AreStarts : ℕ → List ℕ → List ℕ → Type 0
-AreStarts depth numbers starts = (k : ℕ) → k < 8 → k < depth → slice_index starts k ≡ slice_index numbers k % 2 ^ 32
+AreStarts depth numbers starts = (k : ℕ) → k < depth → slice_index starts k ≡ slice_index numbers k % 2 ^ 32

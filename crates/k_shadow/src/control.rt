@@ -1,10 +1,11 @@
 //! The control stack: the entry on which the operations depend now, and the entries that were saved.
 ghost use Rattle.std.specs.Prelude.{◌≡◌, ℕ, ◌+◌, ◌-◌, ◌^◌, ◌<◌, ◌≤◌, [], ◌∷◌, ◌++◌, true, length, take, slice_index, OnOk, OnErr};
+ghost use Rattle.k_shadow.specs.Content.{at_levels};
 ghost use Rattle.k_shadow.specs.Stack.{IsNew, level_entered, level_left};
 
 use crate::lists::{copy_lanes, copy_times, copy_to, narrowed};
 use crate::saved_rows::{add_row, copy_entry, write_entry};
-use crate::{Row, Steps, Times, Versions};
+use crate::{Row, Steps, TimeLanes, Times, Versions};
 use k_num::NoMemory;
 use std::alloc::Global;
 use std::marker::Model;
@@ -126,9 +127,10 @@ impl Control {
 
     /// Makes the times of the live levels' lanes the current entry.
     #[inline]
-    pub fn set_lanes(&mut self, times: [u32; 8])
-        requires { length self.old.current ≤ 8 }
-        ensures current { self.new ≡ record self.old { current = take (length self.old.current) times } }
+    pub fn set_lanes<V: TimeLanes>(&mut self, times: V)
+        requires within { V.count ≤ 32 }
+        requires shallow { length self.old.current ≤ V.count }
+        ensures current { self.new ≡ record self.old { current = at_levels (length self.old.current) (V.time times) } }
     {
         self.kept = false;
         copy_lanes(&mut self.current, times);
@@ -210,11 +212,11 @@ impl Control {
     /// The current entry's times, each below 2^32, in lanes. What the other lanes have is not told. It takes no step: it is for whoever keeps the entry in
     /// lanes from then on, on which nothing depends yet.
     #[inline]
-    pub fn lanes(&self) -> [u32; 8]
-        requires shallow { length self.now.current ≤ 8 }
+    pub fn lanes<V: TimeLanes>(&self) -> V
+        requires within { V.count ≤ 32 }
+        requires shallow { length self.now.current ≤ V.count }
         requires small { (k : ℕ) → k < length self.now.current → slice_index self.now.current k < 2 ^ 32 }
-        ensures times { take (length self.now.current) result ≡ self.now.current }
-        ensures size { length result ≡ 8 }
+        ensures times { at_levels (length self.now.current) (V.time result) ≡ self.now.current }
     {
         narrowed(self.entry())
     }

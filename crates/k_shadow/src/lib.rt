@@ -11,6 +11,7 @@ mod row;
 mod saved_rows;
 mod shadow;
 mod steps;
+mod time_lanes;
 mod times;
 mod versions;
 
@@ -23,5 +24,6 @@ pub use lists::{
 pub use row::Row;
 pub use shadow::Shadow;
 pub use steps::Steps;
+pub use time_lanes::TimeLanes;
 pub use times::Times;
 pub use versions::Versions;

@@ -3,6 +3,8 @@ ghost use Rattle.std.specs.Prelude.{◌≡◌, ℕ, ◌+◌, ◌%◌, ◌^◌, �
 ghost use Rattle.k_shadow.specs.Content.{after_none};
 ghost use Rattle.k_shadow.specs.Numbers.{AreRising};
 
+use crate::TimeLanes;
+
 /// At how many levels what was written when that stamp was given is live. The levels' instances have these numbers,
 /// which rise from level to level: so it is live at the outermost ones.
 #[inline]
@@ -100,42 +102,46 @@ pub fn no_times() -> [u64; 32]
     [0; 32]
 }
 
-/// The times of eight lanes, at the front of a list for each level that may be live.
+/// The times of lanes, at the front of a list for each level that may be live.
 #[inline]
-pub fn widened(lanes: [u32; 8]) -> [u64; 32]
+pub fn widened<V: TimeLanes>(lanes: V) -> [u64; 32]
+    requires { V.count ≤ 32 }
     ensures size { length result ≡ 32 }
-    ensures times { (k : ℕ) → k < 8 → slice_index result k ≡ slice_index lanes k }
-    ensures small { (k : ℕ) → k < 8 → slice_index result k ≤ 4294967295 }
+    ensures times { (k : ℕ) → k < V.count → slice_index result k ≡ V.time lanes k }
+    ensures small { (k : ℕ) → k < V.count → slice_index result k ≤ 4294967295 }
 {
     let mut times = no_times();
     copy_lanes(&mut times, lanes);
     times
 }
 
-/// Copies the times of eight lanes to the front of a list.
+/// Copies the times of lanes to the front of a list.
 #[inline]
-pub fn copy_lanes(to: &mut [u64; 32], lanes: [u32; 8])
-    ensures times { (k : ℕ) → k < 8 → slice_index to.new k ≡ slice_index lanes k }
-    ensures small { (k : ℕ) → k < 8 → slice_index to.new k ≤ 4294967295 }
+pub fn copy_lanes<V: TimeLanes>(to: &mut [u64; 32], lanes: V)
+    requires { V.count ≤ 32 }
+    ensures times { (k : ℕ) → k < V.count → slice_index to.new k ≡ V.time lanes k }
+    ensures small { (k : ℕ) → k < V.count → slice_index to.new k ≤ 4294967295 }
 {
-    for level in 0..8 {
-        to[level] = lanes[level] as u64;
+    let mut narrow = [0; 32];
+    lanes.copy_to(&mut narrow);
+    for level in 0..V::count() {
+        to[level] = narrow[level] as u64;
     }
 }
 
 /// These times, none of them above 4,294,967,295, in as many lanes.
 #[inline]
-pub fn narrowed(times: &[u64]) -> [u32; 8]
-    requires few { length times.now ≤ 8 }
+pub fn narrowed<V: TimeLanes>(times: &[u64]) -> V
+    requires within { V.count ≤ 32 }
+    requires few { length times.now ≤ V.count }
     requires small { (k : ℕ) → k < length times.now → slice_index times.now k < 2 ^ 32 }
-    ensures size { length result ≡ 8 }
-    ensures times { (k : ℕ) → k < length times.now → slice_index result k ≡ slice_index times.now k }
+    ensures times { (k : ℕ) → k < length times.now → V.time result k ≡ slice_index times.now k }
 {
-    let mut lanes = [0; 8];
+    let mut narrow = [0; 32];
     for level in 0..times.len() {
-        lanes[level] = times[level] as u32;
+        narrow[level] = times[level] as u32;
     }
-    lanes
+    V::of(&narrow)
 }
 
 /// Copies the times of the levels from `first` on, two at a time: where one is copied at a time, LLVM makes a call of C's

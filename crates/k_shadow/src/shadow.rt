@@ -4,9 +4,8 @@ ghost use Rattle.k_shadow.specs.Rooms.{delayed, HasRoomFor};
 ghost use Rattle.k_shadow.specs.Content.{Content, depth, time_at, after_none, after_one, after_two, entered, level_dropped, written, written_by, cleared};
 
 use crate::lists::{no_times, widened};
-use crate::{Steps, Times, advance, raise_each, times_after};
+use crate::{Steps, TimeLanes, Times, advance, raise_each, times_after};
 use k_num::NoMemory;
-use std::simd::u32x8;
 use std::sync::ledger::Ledger;
 
 /// A time for each location and live level, in latencies: at which weight of the paths since the level's instance
@@ -89,22 +88,21 @@ pub trait Shadow: Drop {
 
     /// The later of two times in the lane of each live level, the lane's and the location's, in one step a level. What the
     /// other lanes have then is not told.
-    fn later_lanes<L: Ledger>(&self, loc: u32, before: u32x8, steps: &mut Steps<L>) -> u32x8
+    fn later_lanes<V: TimeLanes, L: Ledger>(&self, loc: u32, before: V, steps: &mut Steps<L>) -> V
         requires below { loc < (content self.now).limit }
-        requires shallow { depth (content self.now) ≤ 8 }
+        requires within { V.count ≤ 32 }
+        requires shallow { depth (content self.now) ≤ V.count }
         requires few { (content self.now).entries < 2 ^ 32 }
-        requires lanes { length before ≡ 8 }
         requires small { (level : ℕ) → level < depth (content self.now) → time_at (content self.now) level loc < 2 ^ 32 }
-        ensures lanes { length result ≡ 8 }
-        ensures times { (level : ℕ) → level < depth (content self.now) → slice_index result level ≡ max (slice_index before level) (time_at (content self.now) level loc) }
+        ensures times { (level : ℕ) → level < depth (content self.now) → V.time result level ≡ max (V.time before level) (time_at (content self.now) level loc) }
         ensures steps { steps.new ≡ steps.old + depth (content self.now) }
     {
-        let mut times = before.to_array();
+        let mut times = before;
         for level in 0..self.depth() {
-            let time = self.read(loc, level, steps);
-            times[level] = times[level].max(time as u32);
+            let time = self.read(loc, level, steps) as u32;
+            times = times.with_time(level, times.at(level).max(time));
         }
-        u32x8::from_array(times)
+        times
     }
 
     /// Fills the list with the times of an operation that waits for these times and for a location's: at each live level
@@ -270,16 +268,16 @@ pub trait Shadow: Drop {
         ensures kept { (at most : ℕ) → room self.old at most → room self.new at most };
 
     /// Gives a location the time of each live level's lane.
-    fn put_lanes(&mut self, loc: u32, times: u32x8)
+    fn put_lanes<V: TimeLanes>(&mut self, loc: u32, times: V)
         requires below { loc < (content self.old).limit }
-        requires shallow { depth (content self.old) ≤ 8 }
-        requires lanes { length times ≡ 8 }
+        requires within { V.count ≤ 32 }
+        requires shallow { depth (content self.old) ≤ V.count }
         requires room { room self.old loc 4294967295 }
-        ensures content { content self.new ≡ written_by loc (slice_index times) (content self.old) }
+        ensures content { content self.new ≡ written_by loc (V.time times) (content self.old) }
         ensures kept { (at most : ℕ) → room self.old at most → room self.new at most }
     {
         let depth = self.depth();
-        let each = widened(times.to_array());
+        let each = widened(times);
         self.put(loc, &each[..depth]);
     }
 

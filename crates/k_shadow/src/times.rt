@@ -45,6 +45,15 @@ impl Times {
         self.items.push_reserved(t);
     }
 
+    /// Takes the last time away.
+    #[inline]
+    pub fn pop(&mut self)
+        requires { 0 < length self.old }
+        ensures { self.new ≡ take (length self.old - 1) self.old }
+    {
+        self.items.pop();
+    }
+
     /// The time of a level.
     #[inline]
     pub fn get(&self, level: usize) -> u64

@@ -1,5 +1,5 @@
 //! Numbers by which old times are told from live ones.
-ghost use Rattle.std.specs.Prelude.{◌≡◌, ◌≢◌, ◌<◌, ◌≤◌, ◌%◌, ◌^◌, ℕ, length, slice_index};
+ghost use Rattle.std.specs.Prelude.{◌≡◌, ◌<◌, ◌≤◌, ◌^◌, ℕ, length, slice_index};
 ghost use Rattle.k_shadow.specs.Numbers.{none_given, number_given, number_left, AreRising, WereGiven};
 
 use std::marker::Model;
@@ -8,8 +8,8 @@ use std::marker::Model;
 #[derive(Debug, Drop)]
 pub struct Versions {
     numbers: [u64; 32],
-    /// The numbers of the eight outermost levels, modulo 2^32.
-    starts: [u32; 8],
+    /// The same numbers, modulo 2^32.
+    starts: [u32; 32],
     given: u64,
     depth: usize,
 }
@@ -33,7 +33,7 @@ impl Versions {
     {
         Versions {
             numbers: [0; 32],
-            starts: [0; 8],
+            starts: [0; 32],
             given: 0,
             depth: 0,
         }
@@ -48,7 +48,7 @@ impl Versions {
     {
         self.given += 1;
         self.numbers[self.depth] = self.given;
-        set_start(&mut self.starts, self.depth, self.given);
+        self.starts[self.depth] = (self.given % 4_294_967_296) as u32;
         self.depth += 1;
     }
 
@@ -92,14 +92,14 @@ impl Versions {
         &self.numbers[..self.depth]
     }
 
-    /// The numbers of the instances at the eight outermost levels, for which 32 bits are enough while so many were given.
+    /// The numbers of the instances at all live levels, for which 32 bits are enough while so many were given.
     /// What stands at a level that is not live is not told.
     #[inline(always)]
-    pub fn starts(&self) -> [u32; 8]
-        ensures size { length result ≡ 8 }
-        ensures starts { self.now.given < 2 ^ 32 → (k : ℕ) → k < 8 → k < length self.now.live → slice_index result k ≡ slice_index self.now.live k }
+    pub fn starts(&self) -> &[u32; 32]
+        ensures size { length result.now ≡ 32 }
+        ensures starts { self.now.given < 2 ^ 32 → (k : ℕ) → k < length self.now.live → slice_index result.now k ≡ slice_index self.now.live k }
     {
-        self.starts
+        &self.starts
     }
 
     /// The last number that was given, 0 where none was.
@@ -110,16 +110,5 @@ impl Versions {
         ensures given { WereGiven self.now.given self.now.live }
     {
         self.given
-    }
-}
-
-/// Makes a number that of the instance at a level, modulo 2^32, where the level is among the first eight.
-#[inline]
-fn set_start(starts: &mut [u32; 8], level: usize, number: u64)
-    ensures here { level < 8 → slice_index starts.new level ≡ number % 2 ^ 32 }
-    ensures others { (k : ℕ) → k ≢ level → slice_index starts.new k ≡ slice_index starts.old k }
-{
-    if level < 8 {
-        starts[level] = (number % 4_294_967_296) as u32;
     }
 }

@@ -7,7 +7,7 @@ use Rattle.k_shadow.specs.Numbers.{AreRising}
 use Rattle.k_shadow.specs.Rows.{Seen, row_time}
 use Rattle.k_shadow.proofs.Rows.{above_low, rising_to, row_time_since, row_time_later}
 use Rattle.k_shadow_rows.specs.Given.{AreGiven, IsLive, after_row, after_rows, after_live_row, after_live_rows}
-use Rattle.k_shadow_rows.specs.Rows.{greatest, width}
+use Rattle.k_shadow_rows.specs.Rows.{greatest}
 use Rattle.k_shadow_rows.specs.declared.rows.Rows.{Rows}
 use Rattle.k_shadow_rows.specs.declared.rows.Rows.TheVariants.{NarrowEight, NarrowThirtyTwo, Eight, ThirtyTwo}
 
@@ -116,13 +116,7 @@ live-by_stamp row numbers live inside outside = record {
   outside = λ k le lt. row_time_later row (get_or numbers k 0) k (outside k le lt);
 }
 
--- rows of each kind have times of 32 bits for eight levels at least
-pub eight_wide : (rows : Rows) → 8 ≤ width rows
-eight_wide (NarrowEight rows) = omega arith
-eight_wide (NarrowThirtyTwo rows) = omega arith
-eight_wide (Eight rows) = omega arith
-eight_wide (ThirtyTwo rows) = omega arith
-
+-- rows of each kind have times of 32 bits at least
 pub narrow_great : (rows : Rows) → 4294967295 ≤ greatest rows
 narrow_great (NarrowEight rows) = lit≤ tt
 narrow_great (NarrowThirtyTwo rows) = lit≤ tt

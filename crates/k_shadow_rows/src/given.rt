@@ -299,21 +299,22 @@ fn stamp_at<R: LevelRow>(rows: &[R], loc: usize) -> u64
 /// Gives a row the times of an operation that waits for these times alone.
 #[inline]
 pub fn write_none<R: LevelRow>(
-    rows: &mut [R],
+    rows: &mut Vec<R>,
     to: usize,
     stamp: u64,
     before: &[u64],
     latency: u64,
     paths: &mut [u64],
 )
-    requires row { to < length rows.old }
+    requires row { to < length rows.old.items }
     requires few { length before.now ≤ R.width }
     requires paths { length paths.old ≡ length before.now }
     requires within { (k : ℕ) → k < length before.now → delayed (slice_index before.now k) latency ≤ R.greatest }
-    ensures given { IsGiven (after_none before.now latency) to stamp (length before.now) (rows_at R.seen R.blank rows.old) (rows_at R.seen R.blank rows.new) }
+    ensures given { IsGiven (after_none before.now latency) to stamp (length before.now) (rows_at R.seen R.blank rows.old.items) (rows_at R.seen R.blank rows.new.items) }
     ensures raised { AreRaised (after_none before.now latency) (length before.now) paths.old paths.new }
-    ensures size { length rows.new ≡ length rows.old }
+    ensures size { length rows.new.items ≡ length rows.old.items }
 {
+    let rows = rows.as_mut_slice();
     give_none(rows, to, 0, before, latency, paths);
     stamp_row(rows, to, stamp);
 }
@@ -321,7 +322,7 @@ pub fn write_none<R: LevelRow>(
 /// Gives a row the times of an operation that waits for these times and for a row's.
 #[inline]
 pub fn write_one<R: LevelRow>(
-    rows: &mut [R],
+    rows: &mut Vec<R>,
     from: usize,
     to: usize,
     numbers: &[u64],
@@ -330,16 +331,17 @@ pub fn write_one<R: LevelRow>(
     latency: u64,
     paths: &mut [u64],
 )
-    requires row { to < length rows.old }
+    requires row { to < length rows.old.items }
     requires few { length before.now ≤ R.width }
     requires live { length before.now ≡ length numbers.now }
     requires paths { length paths.old ≡ length before.now }
     requires rising { AreRising 0 numbers.now }
-    requires within { (k : ℕ) → k < length before.now → delayed (max (row_time (rows_at R.seen R.blank rows.old from) (slice_index numbers.now k) k) (slice_index before.now k)) latency ≤ R.greatest }
-    ensures given { IsGiven (after_row (rows_at R.seen R.blank rows.old from) numbers.now before.now latency) to stamp (length before.now) (rows_at R.seen R.blank rows.old) (rows_at R.seen R.blank rows.new) }
-    ensures raised { AreRaised (after_row (rows_at R.seen R.blank rows.old from) numbers.now before.now latency) (length before.now) paths.old paths.new }
-    ensures size { length rows.new ≡ length rows.old }
+    requires within { (k : ℕ) → k < length before.now → delayed (max (row_time (rows_at R.seen R.blank rows.old.items from) (slice_index numbers.now k) k) (slice_index before.now k)) latency ≤ R.greatest }
+    ensures given { IsGiven (after_row (rows_at R.seen R.blank rows.old.items from) numbers.now before.now latency) to stamp (length before.now) (rows_at R.seen R.blank rows.old.items) (rows_at R.seen R.blank rows.new.items) }
+    ensures raised { AreRaised (after_row (rows_at R.seen R.blank rows.old.items from) numbers.now before.now latency) (length before.now) paths.old paths.new }
+    ensures size { length rows.new.items ≡ length rows.old.items }
 {
+    let rows = rows.as_mut_slice();
     let written = stamp_at(rows, from);
     let live = give_one(rows, from, to, 0, written, numbers, before, latency, paths);
     give_none(rows, to, live, before, latency, paths);
@@ -349,7 +351,7 @@ pub fn write_one<R: LevelRow>(
 /// Gives a row the times of an operation that waits for these times and for two rows'.
 #[inline]
 pub fn write_both<R: LevelRow>(
-    rows: &mut [R],
+    rows: &mut Vec<R>,
     left: usize,
     right: usize,
     to: usize,
@@ -359,16 +361,17 @@ pub fn write_both<R: LevelRow>(
     latency: u64,
     paths: &mut [u64],
 )
-    requires row { to < length rows.old }
+    requires row { to < length rows.old.items }
     requires few { length before.now ≤ R.width }
     requires live { length before.now ≡ length numbers.now }
     requires paths { length paths.old ≡ length before.now }
     requires rising { AreRising 0 numbers.now }
-    requires within { (k : ℕ) → k < length before.now → delayed (max (max (row_time (rows_at R.seen R.blank rows.old left) (slice_index numbers.now k) k) (row_time (rows_at R.seen R.blank rows.old right) (slice_index numbers.now k) k)) (slice_index before.now k)) latency ≤ R.greatest }
-    ensures given { IsGiven (after_rows (rows_at R.seen R.blank rows.old left) (rows_at R.seen R.blank rows.old right) numbers.now before.now latency) to stamp (length before.now) (rows_at R.seen R.blank rows.old) (rows_at R.seen R.blank rows.new) }
-    ensures raised { AreRaised (after_rows (rows_at R.seen R.blank rows.old left) (rows_at R.seen R.blank rows.old right) numbers.now before.now latency) (length before.now) paths.old paths.new }
-    ensures size { length rows.new ≡ length rows.old }
+    requires within { (k : ℕ) → k < length before.now → delayed (max (max (row_time (rows_at R.seen R.blank rows.old.items left) (slice_index numbers.now k) k) (row_time (rows_at R.seen R.blank rows.old.items right) (slice_index numbers.now k) k)) (slice_index before.now k)) latency ≤ R.greatest }
+    ensures given { IsGiven (after_rows (rows_at R.seen R.blank rows.old.items left) (rows_at R.seen R.blank rows.old.items right) numbers.now before.now latency) to stamp (length before.now) (rows_at R.seen R.blank rows.old.items) (rows_at R.seen R.blank rows.new.items) }
+    ensures raised { AreRaised (after_rows (rows_at R.seen R.blank rows.old.items left) (rows_at R.seen R.blank rows.old.items right) numbers.now before.now latency) (length before.now) paths.old paths.new }
+    ensures size { length rows.new.items ≡ length rows.old.items }
 {
+    let rows = rows.as_mut_slice();
     let left_stamp = stamp_at(rows, left);
     let right_stamp = stamp_at(rows, right);
     give_rows(

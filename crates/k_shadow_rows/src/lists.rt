@@ -25,7 +25,7 @@ pub fn time_of<R: LevelRow>(rows: &[R], loc: usize, number: u64, level: usize) -
 /// Raises each of these times to the location's at its level, where it is lower, in one step a level.
 #[inline]
 pub fn raise<R: LevelRow, L: Ledger>(
-    rows: &[R],
+    rows: &Vec<R>,
     loc: usize,
     numbers: &[u64],
     times: &mut [u64],
@@ -33,7 +33,7 @@ pub fn raise<R: LevelRow, L: Ledger>(
 )
     requires each { length times.old ≡ length numbers.now }
     requires rising { AreRising 0 numbers.now }
-    ensures raised { (k : ℕ) → k < length numbers.now → slice_index times.new k ≡ max (slice_index times.old k) (row_time (rows_at R.seen R.blank rows.now loc) (slice_index numbers.now k) k) }
+    ensures raised { (k : ℕ) → k < length numbers.now → slice_index times.new k ≡ max (slice_index times.old k) (row_time (rows_at R.seen R.blank rows.now.items loc) (slice_index numbers.now k) k) }
     ensures steps { steps.new ≡ steps.old + length numbers.now }
 {
     match rows.get(loc) {
@@ -45,7 +45,7 @@ pub fn raise<R: LevelRow, L: Ledger>(
 /// Fills the list with the later of two times at each level, `before`'s and the location's, in one step a level.
 #[inline]
 pub fn latest<R: LevelRow, L: Ledger>(
-    rows: &[R],
+    rows: &Vec<R>,
     loc: usize,
     numbers: &[u64],
     before: &[u64],
@@ -55,7 +55,7 @@ pub fn latest<R: LevelRow, L: Ledger>(
     requires each { length before.now ≡ length numbers.now }
     requires times { length times.old ≡ length numbers.now }
     requires rising { AreRising 0 numbers.now }
-    ensures times { (k : ℕ) → k < length numbers.now → slice_index times.new k ≡ max (row_time (rows_at R.seen R.blank rows.now loc) (slice_index numbers.now k) k) (slice_index before.now k) }
+    ensures times { (k : ℕ) → k < length numbers.now → slice_index times.new k ≡ max (row_time (rows_at R.seen R.blank rows.now.items loc) (slice_index numbers.now k) k) (slice_index before.now k) }
     ensures steps { steps.new ≡ steps.old + length numbers.now }
 {
     match rows.get(loc) {
@@ -69,23 +69,52 @@ pub fn latest<R: LevelRow, L: Ledger>(
 
 /// Writes the times of a location.
 #[inline]
-pub fn put<R: LevelRow>(rows: &mut [R], loc: usize, stamp: u64, times: &[u64])
-    requires within { loc < length rows.old }
+pub fn put<R: LevelRow>(rows: &mut Vec<R>, loc: usize, stamp: u64, times: &[u64])
+    requires within { loc < length rows.old.items }
     requires few { length times.now ≤ R.width }
     requires small { (k : ℕ) → k < length times.now → slice_index times.now k ≤ R.greatest }
-    ensures given { IsGiven (slice_index times.now) loc stamp (length times.now) (rows_at R.seen R.blank rows.old) (rows_at R.seen R.blank rows.new) }
-    ensures size { length rows.new ≡ length rows.old }
+    ensures given { IsGiven (slice_index times.now) loc stamp (length times.now) (rows_at R.seen R.blank rows.old.items) (rows_at R.seen R.blank rows.new.items) }
+    ensures size { length rows.new.items ≡ length rows.old.items }
 {
     let row = &mut rows[loc];
     level_row::write(row, stamp, times);
 }
 
+/// Makes the rows from `first` to before `end` read 0 at every level: one most often, without a loop.
+#[inline(always)]
+pub fn clear<R: LevelRow>(rows: &mut Vec<R>, first: usize, end: usize)
+    ensures among { (k : ℕ) → first ≤ k → k < end → (rows_at R.seen R.blank rows.new.items k).stamp ≡ 0 }
+    ensures before { (k : ℕ) → k < first → rows_at R.seen R.blank rows.new.items k ≡ rows_at R.seen R.blank rows.old.items k }
+    ensures behind { (k : ℕ) → end ≤ k → rows_at R.seen R.blank rows.new.items k ≡ rows_at R.seen R.blank rows.old.items k }
+    ensures size { length rows.new.items ≡ length rows.old.items }
+{
+    if first < end && end - first == 1 {
+        clear_row(rows, first);
+    } else {
+        clear_rows(rows, first, end);
+    }
+}
+
+/// Makes a row read 0 at every level.
+#[inline(always)]
+fn clear_row<R: LevelRow>(rows: &mut Vec<R>, at: usize)
+    ensures here { (rows_at R.seen R.blank rows.new.items at).stamp ≡ 0 }
+    ensures others { (k : ℕ) → k ≢ at → rows_at R.seen R.blank rows.new.items k ≡ rows_at R.seen R.blank rows.old.items k }
+    ensures size { length rows.new.items ≡ length rows.old.items }
+{
+    if at < rows.len() {
+        let row = &mut rows[at];
+        row.set_stamp(0);
+    }
+}
+
 /// Makes the rows from `first` to before `end` read 0 at every level.
-pub fn clear<R: LevelRow>(rows: &mut [R], first: usize, end: usize)
-    ensures among { (k : ℕ) → first ≤ k → k < end → (rows_at R.seen R.blank rows.new k).stamp ≡ 0 }
-    ensures before { (k : ℕ) → k < first → rows_at R.seen R.blank rows.new k ≡ rows_at R.seen R.blank rows.old k }
-    ensures behind { (k : ℕ) → end ≤ k → rows_at R.seen R.blank rows.new k ≡ rows_at R.seen R.blank rows.old k }
-    ensures size { length rows.new ≡ length rows.old }
+#[inline(never)]
+fn clear_rows<R: LevelRow>(rows: &mut Vec<R>, first: usize, end: usize)
+    ensures among { (k : ℕ) → first ≤ k → k < end → (rows_at R.seen R.blank rows.new.items k).stamp ≡ 0 }
+    ensures before { (k : ℕ) → k < first → rows_at R.seen R.blank rows.new.items k ≡ rows_at R.seen R.blank rows.old.items k }
+    ensures behind { (k : ℕ) → end ≤ k → rows_at R.seen R.blank rows.new.items k ≡ rows_at R.seen R.blank rows.old.items k }
+    ensures size { length rows.new.items ≡ length rows.old.items }
 {
     for at in first..end.min(rows.len()) {
         let row = &mut rows[at];
@@ -95,11 +124,11 @@ pub fn clear<R: LevelRow>(rows: &mut [R], first: usize, end: usize)
 
 /// Gives a location the row of another, or a blank one where that has none.
 #[inline]
-pub fn copy<R: LevelRow>(rows: &mut [R], from: usize, to: usize)
-    requires { to < length rows.old }
-    ensures here { rows_at R.seen R.blank rows.new to ≡ rows_at R.seen R.blank rows.old from }
-    ensures others { (at : ℕ) → at ≢ to → rows_at R.seen R.blank rows.new at ≡ rows_at R.seen R.blank rows.old at }
-    ensures size { length rows.new ≡ length rows.old }
+pub fn copy<R: LevelRow>(rows: &mut Vec<R>, from: usize, to: usize)
+    requires { to < length rows.old.items }
+    ensures here { rows_at R.seen R.blank rows.new.items to ≡ rows_at R.seen R.blank rows.old.items from }
+    ensures others { (at : ℕ) → at ≢ to → rows_at R.seen R.blank rows.new.items at ≡ rows_at R.seen R.blank rows.old.items at }
+    ensures size { length rows.new.items ≡ length rows.old.items }
 {
     let row = row_or_blank(rows, from);
     rows[to] = row;

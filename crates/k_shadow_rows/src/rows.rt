@@ -9,9 +9,8 @@ ghost use Rattle.k_shadow_rows.specs.Rows.{greatest, row_in, size, width, HasRow
 
 use crate::{NarrowRow, given, lanes, lists};
 use k_num::NoMemory;
-use k_shadow::{Row, Steps};
+use k_shadow::{Row, Steps, TimeLanes};
 use std::alloc::Global;
-use std::simd::u32x8;
 use std::sync::ledger::Ledger;
 
 /// Rows of times in the order of locations, all of one width, and all narrow or none. A narrow row has times of 32 bits and
@@ -111,8 +110,21 @@ impl Rows {
                 depth <= 8 && most <= 4_294_967_295 && count <= rows.len()
             }
             Rows::NarrowThirtyTwo(rows) => most <= 4_294_967_295 && count <= rows.len(),
+            _ => self.has_wide_rows(count, depth),
+        }
+    }
+
+    /// The same of rows that aren't narrow, which have times of any size.
+    #[cold]
+    #[inline(never)]
+    fn has_wide_rows(&self, count: usize, depth: usize) -> bool
+        requires { depth ≤ 32 }
+        ensures { result ≡ true → (count ≤ size self.now) × (depth ≤ width self.now) × (greatest self.now ≡ 18446744073709551615) }
+    {
+        match self {
             Rows::Eight(rows) => depth <= 8 && count <= rows.len(),
             Rows::ThirtyTwo(rows) => count <= rows.len(),
+            _ => false,
         }
     }
 
@@ -307,27 +319,28 @@ impl Rows {
         }
     }
 
-    /// The later of two times at each of the eight outermost levels: the lane's, and the location's, where that is below
-    /// 2^32. The levels' instances have these numbers.
+    /// The later of two times in each lane: the lane's, and the location's, where that is below 2^32. The levels' instances
+    /// have the numbers `starts`.
     #[inline(always)]
-    pub fn later_lanes(&self, loc: usize, starts: [u32; 8], before: u32x8) -> u32x8
-        requires lanes { length before ≡ 8 }
+    pub fn later_lanes<V: TimeLanes>(&self, loc: usize, starts: &[u32; 32], before: V) -> V
+        requires within { V.count ≤ 32 }
         requires stamp { (row_in self.now loc).stamp < 2 ^ 32 }
-        ensures lanes { length result ≡ 8 }
-        ensures times { (k : ℕ) → k < 8 → row_time (row_in self.now loc) (slice_index starts k) k < 2 ^ 32 → slice_index result k ≡ max (slice_index before k) (row_time (row_in self.now loc) (slice_index starts k) k) }
+        ensures times { (k : ℕ) → k < V.count → row_time (row_in self.now loc) (slice_index starts.now k) k < 2 ^ 32 → V.time result k ≡ max (V.time before k) (row_time (row_in self.now loc) (slice_index starts.now k) k) }
     {
         match self {
             Rows::NarrowEight(rows) => lanes::later(rows, loc, starts, before),
+            Rows::NarrowThirtyTwo(rows) => lanes::later(rows, loc, starts, before),
             _ => lanes::later_slowly(self, loc, starts, before),
         }
     }
 
-    /// Writes the times of a location at the eight outermost levels.
+    /// Writes the times of a location at the `depth` outermost levels.
     #[inline(always)]
-    pub fn put_lanes(&mut self, loc: usize, stamp: u64, times: u32x8)
-        requires row { loc < size self.old }
-        requires lanes { length times ≡ 8 }
-        ensures given { IsGiven (slice_index times) loc stamp (length times) (row_in self.old) (row_in self.new) }
+    pub fn put_lanes<V: TimeLanes>(&mut self, loc: usize, stamp: u64, depth: usize, times: V)
+        requires row { HasRow self.old loc depth }
+        requires within { V.count ≤ 32 }
+        requires depth { depth ≤ V.count }
+        ensures given { IsGiven (V.time times) loc stamp depth (row_in self.old) (row_in self.new) }
         ensures size { size self.new ≡ size self.old }
         ensures width { width self.new ≡ width self.old }
         ensures greatest { greatest self.new ≡ greatest self.old }
@@ -336,10 +349,15 @@ impl Rows {
             lanes::put(rows, loc, stamp, times);
             return;
         }
-        lanes::put_slowly(self, loc, stamp, times);
+        if let Rows::NarrowThirtyTwo(rows) = self {
+            lanes::put(rows, loc, stamp, times);
+            return;
+        }
+        lanes::put_slowly(self, loc, stamp, depth, times);
     }
 
     /// Makes the rows from `first` to before `end` read 0 at every level.
+    #[inline(always)]
     pub fn clear(&mut self, first: usize, end: usize)
         ensures among { (k : ℕ) → first ≤ k → k < end → (row_in self.new k).stamp ≡ 0 }
         ensures before { (k : ℕ) → k < first → row_in self.new k ≡ row_in self.old k }

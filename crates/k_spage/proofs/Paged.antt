@@ -1,10 +1,9 @@
 -- What the calls make of pages and of the rows in them.
 use Rattle.std.proofs.Common.{◌≡◌, ◌≢◌, ℕ, ◌+◌, ◌/◌, ◌%◌, ◌<◌, ◌≤◌, List, length, set, get_or, get_or-set_same, get_or-set_other, Option, Some, None, Bool, true, false, is_some, count_by, refl, ap, sym, ◌∙◌, subst, arith, ⊎_elim}
-use Rattle.std.specs.Prelude.{slice_index, IsSome}
+use Rattle.std.specs.Prelude.{IsSome}
 use Rattle.std.proofs.lemmas.Bool.{cases_eq, cases_lt}
 use Rattle.std.proofs.lemmas.List.{length-set, get_or_past}
 use Rattle.k_shadow.specs.Rows.{Seen, unwritten}
-use Rattle.k_shadow.proofs.Rows.{IsWritten}
 use Rattle.k_shadow_rows.specs.Given.{IsGiven}
 use Rattle.k_shadow_rows.specs.Rows.{row_in, size, width, greatest}
 use Rattle.k_shadow_rows.specs.declared.rows.Rows.{Rows}
@@ -179,12 +178,12 @@ page_changed R old key rows changed h r =
     let Q : Option Rows → Type 0 = λ o. R (row_in rows) (page_row o) in
     subst P (sym h) (subst Q (sym (page_here old key rows changed h)) r)
 
--- a write to one location
-pub IsWritten-paged : (old new : Pages) (table : List (Option ℕ)) (loc key stamp given : ℕ) (times : List ℕ) → ArePages old table → key_of table (loc / 256) ≡ Some key → IsOnePage old new key → IsGiven (slice_index times) (loc % 256) stamp (length times) (page_row (rows_under old (Some key))) (page_row (rows_under new (Some key))) → stamp ≡ given → IsWritten (paged_row old table) (paged_row new table) loc given times
-IsWritten-paged old new table loc key stamp given times pages named one is last =
+-- a row of a page that was given times is its location's
+pub given-paged : (f : ℕ → ℕ) (old new : Pages) (table : List (Option ℕ)) (loc key stamp depth : ℕ) → ArePages old table → key_of table (loc / 256) ≡ Some key → IsOnePage old new key → IsGiven f (loc % 256) stamp depth (page_row (rows_under old (Some key))) (page_row (rows_under new (Some key))) → IsGiven f loc stamp depth (paged_row old table) (paged_row new table)
+given-paged f old new table loc key stamp depth pages named one is =
     let here : paged_row new table loc ≡ page_row (rows_under new (Some key)) (loc % 256) = row_here new table (loc / 256) key loc named refl in
     record {
-      stamp = ap (λ r. r.stamp) here ∙ is.stamped ∙ last;
-      each = λ k lt. ap (λ r. r.time k) here ∙ is.given k lt;
-      rest = λ at ne. row_kept old new table (loc / 256) key at pages named one (λ same. is.others (at % 256) (λ place. ne (omega (arith, same, place))));
+      stamped = ap (λ r. r.stamp) here ∙ is.stamped;
+      given = λ k lt. ap (λ r. r.time k) here ∙ is.given k lt;
+      others = λ at ne. row_kept old new table (loc / 256) key at pages named one (λ same. is.others (at % 256) (λ place. ne (omega (arith, same, place))));
     }

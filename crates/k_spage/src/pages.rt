@@ -8,11 +8,10 @@ ghost use Rattle.k_shadow_rows.specs.Rows.{row_in, size, width, greatest};
 ghost use Rattle.k_spage.specs.Pages.{rows_under, key_of, page_row, page_size, page_width, page_greatest, paged_row, paged_width, paged_greatest, ArePages, HasRowsFor, IsOnePage};
 
 use k_num::NoMemory;
-use k_shadow::{Steps, copy_to};
+use k_shadow::{Steps, TimeLanes, copy_to};
 use k_shadow_rows::Rows;
 use slab::Slab;
 use std::alloc::Global;
-use std::simd::u32x8;
 use std::sync::ledger::Ledger;
 
 /// How many locations a page has.
@@ -135,20 +134,19 @@ pub fn latest<L: Ledger>(
     }
 }
 
-/// The later of two times at each of the eight outermost levels: the lane's, and the location's, where that is below 2^32. The
-/// levels' instances have these numbers.
+/// The later of two times in each lane: the lane's, and the location's, where that is below 2^32. The levels' instances have
+/// the numbers `starts`.
 #[inline(always)]
-pub fn later_lanes(
+pub fn later_lanes<V: TimeLanes>(
     pages: &Slab<Rows>,
     table: &[Option<usize>],
     loc: usize,
-    starts: [u32; 8],
-    before: u32x8,
-) -> u32x8
-    requires lanes { length before ≡ 8 }
+    starts: &[u32; 32],
+    before: V,
+) -> V
+    requires within { V.count ≤ 32 }
     requires stamp { (paged_row pages.now.slots table.now loc).stamp < 2 ^ 32 }
-    ensures lanes { length result ≡ 8 }
-    ensures times { (k : ℕ) → k < 8 → row_time (paged_row pages.now.slots table.now loc) (slice_index starts k) k < 2 ^ 32 → slice_index result k ≡ max (slice_index before k) (row_time (paged_row pages.now.slots table.now loc) (slice_index starts k) k) }
+    ensures times { (k : ℕ) → k < V.count → row_time (paged_row pages.now.slots table.now loc) (slice_index starts.now k) k < 2 ^ 32 → V.time result k ≡ max (V.time before k) (row_time (paged_row pages.now.slots table.now loc) (slice_index starts.now k) k) }
 {
     match rows_of(pages, table, loc / PAGE) {
         Some(rows) => rows.later_lanes(loc % PAGE, starts, before),
@@ -156,16 +154,25 @@ pub fn later_lanes(
     }
 }
 
-/// Writes the times of the row at a place of the page at a key, at the eight outermost levels.
+/// Writes the times of the row at a place of the page at a key, at the `depth` outermost levels.
 #[inline(always)]
-pub fn put_lanes(pages: &mut Slab<Rows>, key: usize, place: usize, stamp: u64, times: u32x8)
-    requires within { place < page_size (rows_under pages.old.slots (Some key)) }
-    requires lanes { length times ≡ 8 }
+pub fn put_lanes<V: TimeLanes>(
+    pages: &mut Slab<Rows>,
+    key: usize,
+    place: usize,
+    stamp: u64,
+    depth: usize,
+    times: V,
+)
+    requires row { place < page_size (rows_under pages.old.slots (Some key)) }
+    requires few { depth ≤ page_width (rows_under pages.old.slots (Some key)) }
+    requires within { V.count ≤ 32 }
+    requires depth { depth ≤ V.count }
     ensures page { IsOnePage pages.old.slots pages.new.slots key }
-    ensures given { IsGiven (slice_index times) place stamp (length times) (page_row (rows_under pages.old.slots (Some key))) (page_row (rows_under pages.new.slots (Some key))) }
+    ensures given { IsGiven (V.time times) place stamp depth (page_row (rows_under pages.old.slots (Some key))) (page_row (rows_under pages.new.slots (Some key))) }
 {
     let rows = &mut pages[key];
-    rows.put_lanes(place, stamp, times);
+    rows.put_lanes(place, stamp, depth, times);
 }
 
 /// Writes the times of the row at a place of the page at a key.

@@ -6,11 +6,10 @@ ghost use Rattle.k_spage.specs.Pages.{paged_row, ArePages};
 use crate::pages;
 use crate::pages::PAGE;
 use k_num::NoMemory;
-use k_shadow::{Shadow, Steps, Times, Versions};
+use k_shadow::{Shadow, Steps, TimeLanes, Times, Versions};
 use k_shadow_rows::Rows;
 use slab::Slab;
 use std::alloc::Global;
-use std::simd::u32x8;
 use std::sync::ledger::Ledger;
 
 /// A shadow over element numbers, which are below 4,194,304.
@@ -165,7 +164,7 @@ impl Shadow for ShadowPages {
     }
 
     #[inline(always)]
-    fn later_lanes<L: Ledger>(&self, loc: u32, before: u32x8, steps: &mut Steps<L>) -> u32x8 {
+    fn later_lanes<V: TimeLanes, L: Ledger>(&self, loc: u32, before: V, steps: &mut Steps<L>) -> V {
         steps.tick_each(self.versions.live());
         let starts = self.versions.starts();
         pages::later_lanes(&self.pages, &self.table, loc as usize, starts, before)
@@ -199,18 +198,26 @@ impl Shadow for ShadowPages {
     }
 
     #[inline(always)]
-    fn put_lanes(&mut self, loc: u32, times: u32x8)
+    fn put_lanes<V: TimeLanes>(&mut self, loc: u32, times: V)
         requires below { loc < (pages_content self.old).limit }
-        requires shallow { depth (pages_content self.old) ≤ 8 }
-        requires lanes { length times ≡ 8 }
+        requires within { V.count ≤ 32 }
+        requires shallow { depth (pages_content self.old) ≤ V.count }
         requires room { has_room self.old loc 4294967295 }
-        ensures content { pages_content self.new ≡ written_by loc (slice_index times) (pages_content self.old) }
+        ensures content { pages_content self.new ≡ written_by loc (V.time times) (pages_content self.old) }
         ensures kept { (at most : ℕ) → has_room self.old at most → has_room self.new at most }
         ensures pages { HasSamePages self.old self.new }
     {
         let stamp = self.versions.last_given();
+        let depth = self.versions.depth();
         let key = pages::key_of_page(&self.table, loc as usize / PAGE);
-        pages::put_lanes(&mut self.pages, key, loc as usize % PAGE, stamp, times);
+        pages::put_lanes(
+            &mut self.pages,
+            key,
+            loc as usize % PAGE,
+            stamp,
+            depth,
+            times,
+        );
     }
 
     fn clear(&mut self, first: u32, count: u32)

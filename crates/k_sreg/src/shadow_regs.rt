@@ -4,10 +4,9 @@ ghost use Rattle.k_shadow.specs.Content.{empty};
 ghost use Rattle.k_shadow_rows.specs.Rows.{row_in};
 
 use k_num::NoMemory;
-use k_shadow::{Shadow, Steps, Versions};
+use k_shadow::{Shadow, Steps, TimeLanes, Versions};
 use k_shadow_rows::Rows;
 use std::alloc::Global;
-use std::simd::u32x8;
 use std::sync::ledger::Ledger;
 
 /// A shadow over absolute register numbers, which are below 2,097,152.
@@ -97,7 +96,7 @@ impl Shadow for ShadowRegs {
     }
 
     #[inline(always)]
-    fn later_lanes<L: Ledger>(&self, loc: u32, before: u32x8, steps: &mut Steps<L>) -> u32x8 {
+    fn later_lanes<V: TimeLanes, L: Ledger>(&self, loc: u32, before: V, steps: &mut Steps<L>) -> V {
         steps.tick_each(self.versions.live());
         self.rows
             .later_lanes(loc as usize, self.versions.starts(), before)
@@ -172,12 +171,13 @@ impl Shadow for ShadowRegs {
     }
 
     #[inline(always)]
-    fn put_lanes(&mut self, loc: u32, times: u32x8) {
+    fn put_lanes<V: TimeLanes>(&mut self, loc: u32, times: V) {
         let stamp = self.versions.last_given();
-        self.rows.put_lanes(loc as usize, stamp, times);
+        let depth = self.versions.depth();
+        self.rows.put_lanes(loc as usize, stamp, depth, times);
     }
 
-    #[inline]
+    #[inline(always)]
     fn clear(&mut self, first: u32, count: u32) {
         if self.versions.depth() > 0 {
             self.rows.clear(first as usize, (first + count) as usize);

@@ -1,10 +1,13 @@
 //! The times of all locations over two shadows, while the control source's and the paths stand in lanes.
-use crate::each::{are_small, put_times};
-use crate::lane_times::{GREATEST, admit_lanes, load_with, operate_lanes};
+use crate::each::are_small;
+use crate::lane_times::{
+    GREATEST, admit_lanes, enter_lane, load_with, operate_lanes, read_control, set_control,
+    set_paths,
+};
 use crate::laned::{From, Laned, Lanes};
 use crate::location_times::LocationTimes;
 use k_num::NoMemory;
-use k_shadow::{Shadow, Steps, narrowed};
+use k_shadow::{Shadow, Steps, TimeLanes, narrowed};
 use std::sync::ledger::Ledger;
 
 impl<R: Shadow, P: Shadow> Laned for LocationTimes<R, P> {
@@ -13,8 +16,11 @@ impl<R: Shadow, P: Shadow> Laned for LocationTimes<R, P> {
 
     ghost laned = { λ t l. AreLanes (length t.paths) (R.content t.registers).entries t.reach t.admitted l };
 
-    fn open(&mut self) -> Option<Lanes> {
-        if self.paths.len() > 8 || self.control.entries() > GREATEST || self.reach > GREATEST {
+    fn open<V: TimeLanes>(&mut self) -> Option<Lanes<V>> {
+        if self.paths.len() > V::count()
+            || self.control.entries() > GREATEST
+            || self.reach > GREATEST
+        {
             return None;
         }
         if !are_small(self.paths.as_slice()) {
@@ -27,16 +33,16 @@ impl<R: Shadow, P: Shadow> Laned for LocationTimes<R, P> {
         })
     }
 
-    fn close(&mut self, lanes: &Lanes) {
-        self.control.set_lanes(lanes.control);
-        put_times(&mut self.paths, lanes.paths);
+    fn close<V: TimeLanes>(&mut self, lanes: &Lanes<V>) {
+        set_control(&mut self.control, lanes);
+        set_paths(&mut self.paths, lanes);
     }
 
     #[tactic(auto, using(k_shadow::proofs::Laws::depth_written))]
     #[inline(always)]
-    fn give_lanes<L: Ledger>(
+    fn give_lanes<V: TimeLanes, L: Ledger>(
         &mut self,
-        lanes: &mut Lanes,
+        lanes: &mut Lanes<V>,
         from: From,
         latency: u32,
         to: u32,
@@ -55,9 +61,9 @@ impl<R: Shadow, P: Shadow> Laned for LocationTimes<R, P> {
 
     #[tactic(auto, using(k_shadow::proofs::Laws::depth_written))]
     #[inline(always)]
-    fn load_lanes<L: Ledger>(
+    fn load_lanes<V: TimeLanes, L: Ledger>(
         &mut self,
-        lanes: &mut Lanes,
+        lanes: &mut Lanes<V>,
         from: From,
         element: u32,
         latency: u32,
@@ -79,9 +85,9 @@ impl<R: Shadow, P: Shadow> Laned for LocationTimes<R, P> {
 
     #[tactic(auto, using(k_shadow::proofs::Laws::depth_written))]
     #[inline(always)]
-    fn store_lanes<L: Ledger>(
+    fn store_lanes<V: TimeLanes, L: Ledger>(
         &mut self,
-        lanes: &mut Lanes,
+        lanes: &mut Lanes<V>,
         from: From,
         latency: u32,
         element: u32,
@@ -99,9 +105,9 @@ impl<R: Shadow, P: Shadow> Laned for LocationTimes<R, P> {
     }
 
     #[inline(always)]
-    fn test_lanes<L: Ledger>(
+    fn test_lanes<V: TimeLanes, L: Ledger>(
         &mut self,
-        lanes: &mut Lanes,
+        lanes: &mut Lanes<V>,
         from: From,
         latency: u32,
         steps: &mut Steps<L>,
@@ -112,66 +118,64 @@ impl<R: Shadow, P: Shadow> Laned for LocationTimes<R, P> {
         }
         steps.tick_each(self.paths.as_slice());
         let times = operate_lanes(&self.registers, lanes, from, latency, steps);
-        lanes.control = times.to_array();
+        lanes.control = times;
         self.reach = reach;
         true
     }
 
     #[inline(always)]
-    fn clear_lanes(&mut self, _lanes: &Lanes, to: u32) {
+    fn clear_lanes<V: TimeLanes>(&mut self, _lanes: &Lanes<V>, to: u32) {
         self.registers.clear(to, 1);
     }
 
     #[inline]
-    fn enter_lanes(&mut self, lanes: &mut Lanes, depth: u32, opened: u64) -> bool {
+    fn enter_lanes<V: TimeLanes>(&mut self, lanes: &mut Lanes<V>, depth: u32, opened: u64) -> bool {
         if opened >= depth as u64 {
             return true;
         }
         let level = self.paths.len();
-        if level >= 8 || self.control.entries() >= GREATEST {
+        if self.control.entries() >= GREATEST || !enter_lane(lanes, level) {
             return false;
         }
         self.enter_everywhere();
-        lanes.control[level] = 0;
-        lanes.paths[level] = 0;
         true
     }
 
     #[inline]
-    fn leave_lanes(&mut self, _lanes: &Lanes, depth: u32, opened: u64) {
+    fn leave_lanes<V: TimeLanes>(&mut self, _lanes: &Lanes<V>, depth: u32, opened: u64) {
         if opened <= depth as u64 {
             self.leave_everywhere();
         }
     }
 
     #[inline]
-    fn save_lanes(&mut self, lanes: &Lanes) -> bool {
+    fn save_lanes<V: TimeLanes>(&mut self, lanes: &Lanes<V>) -> bool {
         if let Err(NoMemory) = self.control.reserve() {
             return false;
         }
-        self.control.set_lanes(lanes.control);
+        set_control(&mut self.control, lanes);
         self.control.save();
         true
     }
 
     #[inline]
-    fn keep_lanes(&mut self, _lanes: &Lanes) {
+    fn keep_lanes<V: TimeLanes>(&mut self, _lanes: &Lanes<V>) {
         self.control.keep();
     }
 
     #[inline]
-    fn back_lanes(&mut self, lanes: &mut Lanes) {
+    fn back_lanes<V: TimeLanes>(&mut self, lanes: &mut Lanes<V>) {
         self.control.back();
-        lanes.control = self.control.lanes();
+        read_control(&self.control, lanes);
     }
 
     #[inline]
-    fn restore_lanes(&mut self, lanes: &mut Lanes) -> bool {
+    fn restore_lanes<V: TimeLanes>(&mut self, lanes: &mut Lanes<V>) -> bool {
         if let Err(NoMemory) = self.control.reserve() {
             return false;
         }
         self.control.back();
-        lanes.control = self.control.lanes();
+        read_control(&self.control, lanes);
         self.control.save();
         true
     }

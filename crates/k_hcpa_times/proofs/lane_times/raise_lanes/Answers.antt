@@ -4,5 +4,5 @@ use Rattle.k_hcpa_times.proofs.lane_times.raise_lanes.Goals as goal
 
 pub returns-clause-raised : goal.returns-clause-raised
 returns-clause-raised g c =
-    lanes_raised _ c.args.location c.later_lanes.result c.args.times (g.S.Shadow.content c.args.shadow.now).levels c.later_lanes.ensures.lanes c.requires.lanes refl c.requires.holds.shallow
-    c.later_lanes.ensures.times
+    let time = g.V.TimeLanes.time in
+    lanes_raised _ c.args.location (time c.later_lanes.result) (time c.args.times) (g.S.Shadow.content c.args.shadow.now).levels refl c.later_lanes.ensures.times

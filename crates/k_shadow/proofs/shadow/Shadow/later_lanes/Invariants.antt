@@ -1,12 +1,11 @@
-use Rattle.std.proofs.Common.{◌≡◌, ℕ, ◌+◌, ◌<◌, ◌≤◌, length, get_or, max}
+use Rattle.std.proofs.Common.{◌≡◌, ℕ, ◌+◌, ◌<◌, ◌≤◌, max}
 use Rattle.k_shadow.specs.Content.{time_at}
 use Rattle.k_shadow.proofs.shadow.Shadow.later_lanes.Given as goal
 
 -- the lanes so far were raised, and the others are as before
 abbrev pub invariant-loop-level : goal.invariant-loop-level
 invariant-loop-level g l = record {
-  wide : length l.times ≡ 8;
-  raised : (k : ℕ) → k < l.level → get_or l.times k 0 ≡ max (get_or l.fn.before k 0) (time_at (g.Self.Shadow.content l.self) k l.loc);
-  rest : (k : ℕ) → l.level ≤ k → get_or l.times k 0 ≡ get_or l.fn.before k 0;
+  raised : (k : ℕ) → k < l.level → g.V.TimeLanes.time l.times k ≡ max (g.V.TimeLanes.time l.fn.before k) (time_at (g.Self.Shadow.content l.self) k l.loc);
+  rest : (k : ℕ) → l.level ≤ k → k < g.V.TimeLanes.count → g.V.TimeLanes.time l.times k ≡ g.V.TimeLanes.time l.fn.before k;
   steps : l.steps ≡ l.initial.steps + l.level;
 }

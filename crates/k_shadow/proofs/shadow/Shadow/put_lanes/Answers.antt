@@ -1,5 +1,4 @@
 use Rattle.std.proofs.Common.{◌<◌, ap, ◌∙◌, arith}
-use Rattle.std.specs.Prelude.{slice_index}
 use Rattle.std.proofs.lemmas.List.{get_or-take}
 use Rattle.k_shadow.specs.Content.{written, depth}
 use Rattle.k_shadow.proofs.Levels.{front-at_levels}
@@ -17,4 +16,4 @@ put-requires-clause-room g c = record {
 pub returns-clause-content : goal.returns-clause-content
 returns-clause-content g c =
     let content = g.Self.Shadow.content c.args.self.now in
-    c.put.ensures.content ∙ ap (λ times. written c.args.loc times content) (front-at_levels _ (depth content) (slice_index c.args.times) c.widened-each.result (omega arith) (omega arith) (λ k lt. c.widened-each.ensures.times k (omega arith)))
+    c.put.ensures.content ∙ ap (λ times. written c.args.loc times content) (front-at_levels _ (depth content) (g.V.TimeLanes.time c.args.times) c.widened-each.result (omega arith) (omega arith) (λ k lt. c.widened-each.ensures.times k (omega arith)))

@@ -9,4 +9,4 @@ invariant_of-self c =
     let same : length (take s.depth s.numbers) ≡ length c.args.self.now.live = ap (λ v. length v.live) c.self.view_is in
     let h : s.depth < length s.numbers = omega (arith, length-take s.depth s.numbers, c.requires.shallow) in
     let more = take_more_set s.numbers s.depth (s.given + 1) h in
-    (omega arith, rw more (WereGiven-next _ _ c.self.invariant.1), rw more (AreRising-next 0 _ _ (omega arith) c.self.invariant.1 c.self.invariant.2), starts-more s.depth s.numbers s.starts c.set_start.new.starts (s.given + 1) h c.set_start.ensures.here c.set_start.ensures.others c.self.invariant.3)
+    (omega arith, rw more (WereGiven-next _ _ c.self.invariant.1), rw more (AreRising-next 0 _ _ (omega arith) c.self.invariant.1 c.self.invariant.2), starts-more s.depth s.numbers s.starts (s.given + 1) h (omega arith) c.self.invariant.3)

@@ -11,4 +11,4 @@ invariant_of-self c =
     let Q : List ℕ → Type 0 = λ ns. AreRising 0 ns in
     let fewer : s.depth - 1 ≤ s.depth = omega arith in
     let same = take-take (s.depth - 1) s.depth s.numbers fewer in
-    (omega arith, subst P same (WereGiven-take s.given (s.depth - 1) (take s.depth s.numbers) c.self.invariant.1), subst Q same (AreRising-take 0 (s.depth - 1) (take s.depth s.numbers) c.self.invariant.2), λ k few lt. c.self.invariant.3 k few (omega (arith, lt)))
+    (omega arith, subst P same (WereGiven-take s.given (s.depth - 1) (take s.depth s.numbers) c.self.invariant.1), subst Q same (AreRising-take 0 (s.depth - 1) (take s.depth s.numbers) c.self.invariant.2), λ k lt. c.self.invariant.3 k (omega (arith, lt)))

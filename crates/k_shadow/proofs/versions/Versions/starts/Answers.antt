@@ -4,7 +4,7 @@ use Rattle.k_shadow.proofs.Rows.{given_at, low_number}
 use Rattle.k_shadow.proofs.versions.Versions.starts.Goals as goal
 
 pub returns-clause-starts : goal.returns-clause-starts
-returns-clause-starts c few k lt live =
+returns-clause-starts c few k live =
     let s = c.self.inside in
     let same : take s.depth s.numbers ≡ c.args.self.now.live = ap (λ v. v.live) c.self.view_is in
     let counted : length (take s.depth s.numbers) ≡ length c.args.self.now.live = ap length same in
@@ -12,4 +12,4 @@ returns-clause-starts c few k lt live =
     let number : get_or s.numbers k 0 ≡ get_or (take s.depth s.numbers) k 0 = sym (get_or-take s.depth s.numbers k 0 inside) in
     let given = given_at s.given (take s.depth s.numbers) c.self.invariant.1 k (omega (arith, counted, live)) in
     let total : s.given ≡ c.args.self.now.given = ap (λ v. v.given) c.self.view_is in
-    c.self.invariant.3 k lt inside ∙ low_number (get_or s.numbers k 0) (omega (arith, number, given, total, few)) ∙ number ∙ ap (λ ns. get_or ns k 0) same
+    c.self.invariant.3 k inside ∙ low_number (get_or s.numbers k 0) (omega (arith, number, given, total, few)) ∙ number ∙ ap (λ ns. get_or ns k 0) same

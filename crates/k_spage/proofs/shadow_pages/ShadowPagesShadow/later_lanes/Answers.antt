@@ -13,7 +13,7 @@ pub returns-clause-times : goal.returns-clause-times
 returns-clause-times g c =
     let s = c.args.self.now in
     let here = ap (λ table. paged_row s.pages.slots table c.args.loc) c.deref.ensures.value in
-    lanes_here (paged_row s.pages.slots s.table.items) s.versions 4194304 c.args.loc (paged_row s.pages.slots c.deref.result.now c.args.loc) c.starts-starts.result c.args.before c.later_lanes.result here c.requires.few c.requires.shallow c.starts-starts.ensures.starts c.later_lanes.ensures.times c.requires.small
+    lanes_here g.V.TimeLanes.count (paged_row s.pages.slots s.table.items) s.versions 4194304 c.args.loc (paged_row s.pages.slots c.deref.result.now c.args.loc) c.starts-starts.result.now (g.V.TimeLanes.time c.args.before) (g.V.TimeLanes.time c.later_lanes.result) here c.requires.few c.requires.shallow c.starts-starts.ensures.starts c.later_lanes.ensures.times c.requires.small
 
 pub returns-clause-steps : goal.returns-clause-steps
 returns-clause-steps g c =

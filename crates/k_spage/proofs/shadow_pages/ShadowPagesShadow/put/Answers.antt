@@ -1,7 +1,9 @@
 use Rattle.std.proofs.Common.{◌≡◌, ℕ, ◌/◌, ◌≤◌, length, Option, Some, ◌∙◌, ap, sym, subst, arith}
+use Rattle.std.specs.Prelude.{slice_index}
 use Rattle.k_shadow.proofs.Contents.{depth_counted, content-written}
+use Rattle.k_shadow.proofs.Rows.{IsWritten}
 use Rattle.k_spage.specs.Pages.{rows_under, key_of, page_width, page_greatest, paged_row}
-use Rattle.k_spage.proofs.Paged.{IsWritten-paged}
+use Rattle.k_spage.proofs.Paged.{given-paged}
 use Rattle.k_spage.proofs.shadow_pages.ShadowPagesShadow.put.Goals as goal
 
 pub put-requires-clause-few : goal.put-requires-clause-few
@@ -31,5 +33,6 @@ returns-clause-content c =
     let times = c.args.times.now in
     let stamp = c.last_given-stamp in
     let named : key_of table (loc / 256) ≡ Some key = sym (c.key_of_page-key.ensures ∙ ap (λ keys. key_of keys (loc / 256)) c.deref.ensures.value) in
-    let w = IsWritten-paged old new table loc key stamp.result s.versions.given times s.kept named c.put.ensures.page c.put.ensures.given stamp.ensures.last in
+    let is = given-paged (slice_index times) old new table loc key stamp.result (length times) s.kept named c.put.ensures.page c.put.ensures.given in
+    let w : IsWritten (paged_row old table) (paged_row new table) loc s.versions.given times = record { stamp = is.stamped ∙ stamp.ensures.last; each = is.given; rest = is.others } in
     content-written (paged_row old table) (paged_row new table) s.versions 4194304 loc times w stamp.ensures.given c.requires.each

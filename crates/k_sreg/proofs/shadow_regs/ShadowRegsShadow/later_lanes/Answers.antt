@@ -12,7 +12,7 @@ pub returns-clause-times : goal.returns-clause-times
 returns-clause-times g c =
     let s = c.args.self.now in
     let rows = row_in s.rows in
-    lanes_here rows s.versions 2097152 c.args.loc (rows c.args.loc) c.starts.result c.args.before c.later_lanes.result refl c.requires.few c.requires.shallow c.starts.ensures.starts c.later_lanes.ensures.times c.requires.small
+    lanes_here g.V.TimeLanes.count rows s.versions 2097152 c.args.loc (rows c.args.loc) c.starts.result.now (g.V.TimeLanes.time c.args.before) (g.V.TimeLanes.time c.later_lanes.result) refl c.requires.few c.requires.shallow c.starts.ensures.starts c.later_lanes.ensures.times c.requires.small
 
 pub returns-clause-steps : goal.returns-clause-steps
 returns-clause-steps g c =

@@ -18,10 +18,10 @@ invariant_of-self-2-clause-within g c =
     let t : Timing = (with_lanes c.args.lanes.now (seen_of content (g.P.Shadow.content s.elements) s.control s.in_cell s.out_cell s.row s.paths)).timing in
     let counts : depth admitted ≡ length s.paths = ap (λ (x : Content). length x.levels) same ∙ s.levels.registers in
     let fits : s.reach + latency < 2 ^ 32 = omega arith in
-    let op = operated_at (locations_from from ++ Element c.args.element ∷ []) latency t c.args.lanes.now.control c.args.lanes.now.paths c.load_with-times.result c.load_with-times.new.lanes.paths _ _ counts
+    let op = operated_at (locations_from from ++ Element c.args.element ∷ []) latency t c.args.lanes.now.control c.args.lanes.now.paths c.load_with-times.new.lanes.paths (g.V.TimeLanes.time c.load_with-times.result) _ _ counts
     (c.load_with-times.ensures.operated t (sym (ap (λ (x : Content). x.levels) same)) refl) refl refl in
     let times = none_loaded s.reach latency from.sources from.left from.right c.args.element t _ _ op c.requires.laned.within s.within.registers s.within.elements fits in
-    let given = content_given c.args.to (length s.paths) c.load_with-times.result content admitted _ same s.levels.registers c.requires.laned.shallow c.load_with-times.ensures.lanes c.put_lanes.ensures.content in
+    let given = content_given c.args.to (length s.paths) (g.V.TimeLanes.time c.load_with-times.result) content admitted _ same s.levels.registers c.put_lanes.ensures.content in
     let more = within_more {n = s.reach + latency} (omega arith) s.within in
     within_registers (none_written (s.reach + latency) c.args.to _ content _ given times more.registers) more.row more
 
@@ -36,7 +36,7 @@ returns-clause-given g c done =
     let counts : depth admitted ≡ length s.paths = ap (λ (x : Content). length x.levels) same ∙ s.levels.registers in
     let old = c.args.lanes.now in
     let new = c.load_with-times.new.lanes in
-    let op = operated_at (locations_from c.args.from ++ Element c.args.element ∷ []) c.args.latency t old.control old.paths c.load_with-times.result new.paths _ _ counts
+    let op = operated_at (locations_from c.args.from ++ Element c.args.element ∷ []) c.args.latency t old.control old.paths new.paths (g.V.TimeLanes.time c.load_with-times.result) _ _ counts
     (c.load_with-times.ensures.operated t (sym (ap (λ (x : Content). x.levels) same)) refl) refl refl in
-    let given = content_given c.args.to (length s.paths) c.load_with-times.result content admitted _ same s.levels.registers c.requires.laned.shallow c.load_with-times.ensures.lanes c.put_lanes.ensures.content in
-    register_given content _ elements s.control s.in_cell s.out_cell s.row s.paths old new (locations_from c.args.from ++ Element c.args.element ∷ []) c.args.latency c.args.to c.load_with-times.result given c.load_with-times.ensures.control op
+    let given = content_given c.args.to (length s.paths) (g.V.TimeLanes.time c.load_with-times.result) content admitted _ same s.levels.registers c.put_lanes.ensures.content in
+    register_given content _ elements s.control s.in_cell s.out_cell s.row s.paths old new (locations_from c.args.from ++ Element c.args.element ∷ []) c.args.latency c.args.to (g.V.TimeLanes.time c.load_with-times.result) given c.load_with-times.ensures.control op

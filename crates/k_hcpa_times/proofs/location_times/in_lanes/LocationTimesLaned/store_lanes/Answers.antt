@@ -15,11 +15,10 @@ invariant_of-self-2-clause-within g c =
     let elements : Content = g.P.Shadow.content s.elements in
     let t : Timing = (with_lanes c.args.lanes.now (seen_of (g.R.Shadow.content s.registers) elements s.control s.in_cell s.out_cell s.row s.paths)).timing in
     let fits : s.reach + latency < 2 ^ 32 = omega arith in
-    let op = operated_at (locations_from from) latency t c.args.lanes.now.control c.args.lanes.now.paths c.operate_lanes-times.result c.operate_lanes-times.new.lanes.paths _ _ s.levels.registers
+    let op = operated_at (locations_from from) latency t c.args.lanes.now.control c.args.lanes.now.paths c.operate_lanes-times.new.lanes.paths (g.V.TimeLanes.time c.operate_lanes-times.result) _ _ s.levels.registers
     (c.operate_lanes-times.ensures.operated t refl) refl refl in
     let times = none_operated s.reach latency from.sources from.left from.right t _ _ op c.requires.laned.within s.within.registers fits in
-    let given = content_given c.args.element (length s.paths) c.operate_lanes-times.result elements _ _ c.admit_lanes.ensures.same s.levels.elements c.requires.laned.shallow c.operate_lanes-times.ensures.lanes
-    c.put_lanes.ensures.content in
+    let given = content_given c.args.element (length s.paths) (g.V.TimeLanes.time c.operate_lanes-times.result) elements _ _ c.admit_lanes.ensures.same s.levels.elements c.put_lanes.ensures.content in
     let more = within_more {n = s.reach + latency} (omega arith) s.within in
     within_elements (none_written (s.reach + latency) c.args.element _ elements _ given times more.elements) more
 
@@ -31,7 +30,6 @@ returns-clause-given g c done =
     let t : Timing = (with_lanes c.args.lanes.now (seen_of registers elements s.control s.in_cell s.out_cell s.row s.paths)).timing in
     let old = c.args.lanes.now in
     let new = c.operate_lanes-times.new.lanes in
-    let op = operated_at (locations_from c.args.from) c.args.latency t old.control old.paths c.operate_lanes-times.result new.paths _ _ s.levels.registers (c.operate_lanes-times.ensures.operated t refl) refl refl in
-    let given = content_given c.args.element (length s.paths) c.operate_lanes-times.result elements _ _ c.admit_lanes.ensures.same s.levels.elements c.requires.laned.shallow c.operate_lanes-times.ensures.lanes
-    c.put_lanes.ensures.content in
-    element_given registers _ elements s.control s.in_cell s.out_cell s.row s.paths old new (locations_from c.args.from) c.args.latency c.args.element c.operate_lanes-times.result given c.operate_lanes-times.ensures.control op
+    let op = operated_at (locations_from c.args.from) c.args.latency t old.control old.paths new.paths (g.V.TimeLanes.time c.operate_lanes-times.result) _ _ s.levels.registers (c.operate_lanes-times.ensures.operated t refl) refl refl in
+    let given = content_given c.args.element (length s.paths) (g.V.TimeLanes.time c.operate_lanes-times.result) elements _ _ c.admit_lanes.ensures.same s.levels.elements c.put_lanes.ensures.content in
+    element_given registers _ elements s.control s.in_cell s.out_cell s.row s.paths old new (locations_from c.args.from) c.args.latency c.args.element (g.V.TimeLanes.time c.operate_lanes-times.result) given c.operate_lanes-times.ensures.control op
