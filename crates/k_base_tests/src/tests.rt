@@ -1,2 +1,3 @@
 //! One file for what is tested.
 mod host;
+mod math;

@@ -1,0 +1,4 @@
+pub mod ReductionLaws
+pub mod ScaledLaws
+pub mod SeriesLaws
+pub mod SignLaws

@@ -1,0 +1,15 @@
+pub mod Arcs
+pub mod Circle
+pub mod Doubles
+pub mod Exponential
+pub mod Hyperbolic
+pub mod Library
+pub mod Logarithm
+pub mod Pairs
+pub mod Powers
+pub mod Reduction
+pub mod Roots
+pub mod Scaling
+pub mod Series
+pub mod Tests
+pub mod Trigonometric
