@@ -11,8 +11,8 @@ use k_ending::{End, Listing};
 use k_hcpa::{Machine, Turn};
 use k_marks_meaning::Marks;
 use k_num::NoMemory;
-use k_optab::{Event, count_operations, standard};
-use k_plain::plain;
+use k_optab::{Event, count_operations};
+use k_plain::listing_of_code;
 use k_shadow::{Shadow, Steps};
 use k_sources::{Reader, read_source};
 use k_spage::ShadowPages;
@@ -197,17 +197,9 @@ struct Watching<'a> {
 }
 
 impl Reader for Watching<'_> {
-    fn take(&mut self, unit: &TUnit, marks: &Marks, code: &Code) {
+    fn take(&mut self, _unit: &TUnit, _marks: &Marks, code: &Code) {
         let given = self.given;
-        let listing = plain(
-            self.alloc,
-            unit,
-            marks,
-            &standard(),
-            given.input,
-            given.budget,
-        );
-        if let Ok(listing) = listing {
+        if let Ok(listing) = listing_of_code(self.alloc, code, given.input, given.budget) {
             self.end = end_like(self.alloc, code, given, &listing);
             drop(listing);
         }

@@ -12,7 +12,7 @@ use crate::operators::{binary, convert, move_value};
 use crate::places::offset;
 use k_code::{Arg, Do, Instr};
 use k_num::{Bin, Kind, NoMemory, Place, promote};
-use k_plain_state::{kind_of, kind_or_int, scale_of};
+use k_typed_parts::{kind_of, kind_or_int, scale_of};
 use k_types_meaning::{Change, Node};
 
 /// The kind of the right operand of an operation in a kind.

@@ -25,7 +25,7 @@ use crate::operators::{OnTwo, convert, move_value, on_two, test, unary};
 use crate::places::{address_at, element_at, object_place, string_value, value_at, variable_place};
 use k_code::{Arg, Do, Instr};
 use k_num::{Bin, Box, Kind, NoMemory, Place, Seq, Un};
-use k_plain_state::{kind_of, kind_or_int, scale_of};
+use k_typed_parts::{kind_of, kind_or_int, scale_of};
 use k_types_meaning::{Change, Node, Piece, TExpr, TType};
 use k_world::Out;
 

@@ -10,7 +10,7 @@ use crate::around::Around;
 use k_code::{Arg, Do, Instr};
 use k_num::{NoMemory, Place};
 use k_optab::{Class, Latencies, of};
-use k_plain_state::class_of;
+use k_typed_parts::class_of;
 use std::mem;
 
 /// The latency of the operation that an instruction makes, or 0 where it makes none.

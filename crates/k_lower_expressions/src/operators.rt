@@ -11,7 +11,7 @@ use crate::places::offset;
 use k_code::{Arg, Do, Instr};
 use k_num::{Bin, Kind, NoMemory, Place, Un};
 use k_optab::Class;
-use k_plain_state::scale_of;
+use k_typed_parts::scale_of;
 use k_types_meaning::{Node, TType};
 
 /// What is done with two operands.

@@ -12,7 +12,7 @@ use crate::designated::Designated;
 use crate::instructions::sets;
 use k_code::{Arg, Do, Home, Instr};
 use k_num::{NoMemory, Place};
-use k_plain_state::flag;
+use k_typed_parts::flag;
 use k_types_meaning::{Node, TType};
 
 /// The number of the object of a string: strings are made behind the file objects.

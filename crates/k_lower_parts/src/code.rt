@@ -7,8 +7,8 @@ use crate::objects::objects;
 use crate::registers::all_needed;
 use k_code::{Code, CodeFunc, Instr};
 use k_num::{NoMemory, Seq};
-use k_plain_state::function_region;
 use k_regions::regions;
+use k_typed_parts::function_region;
 use k_types_meaning::{TFunc, TUnit};
 use std::alloc::Global;
 

@@ -10,7 +10,7 @@ use crate::site::Site;
 use k_code::{Do, Home, Instr};
 use k_lower_expressions::{Around, Designated, above, does, sets, value, write};
 use k_num::{NoMemory, Place, Seq};
-use k_plain_state::values_of;
+use k_typed_parts::values_of;
 use k_types_meaning::{TDeclarator, TExpr, TFirst, TInit, TItem};
 
 /// The first temporary of a function: it stands behind its variables.

@@ -6,7 +6,7 @@ ghost use Rattle.k_lower_turns.specs.Turns.{source_turns};
 use k_lower_expressions::Around;
 use k_lower_extents::Extent;
 use k_num::{NoMemory, Place};
-use k_plain_state::{flag, loop_region};
+use k_typed_parts::{flag, loop_region};
 use k_types_meaning::Spot;
 
 /// A loop but for its step, its test and the code of its body: where it stands, its region, whether it is counted, whether it begins with

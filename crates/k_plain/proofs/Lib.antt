@@ -1,4 +1,4 @@
-pub mod TurnRows
-pub mod FrameRows
-pub mod MainRows
-pub mod FitRows
+pub mod Advancing
+pub mod Exits
+pub mod Going
+pub mod Listed

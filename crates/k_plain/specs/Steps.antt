@@ -1,30 +1,22 @@
 -- For contracts between crates: nobody has to believe it.
--- What a turn of a run leads to.
-use Rattle.std.specs.Prelude.{◌≡◌, Option, Result, Ok, Err}
-use Rattle.k_world.specs.declared.answer.Stop.{Stop}
-use Rattle.k_world.specs.declared.answer.Stop.TheVariants as stop
-use Rattle.k_world.specs.declared.value.Held.{Held}
-use Rattle.k_evaluation.specs.States.{Outcome, Goes, Stops}
-use Rattle.k_plain_tasks.specs.declared.given.Given.{Given}
-use Rattle.k_plain.specs.declared.machine.Turn.{Turn}
-use Rattle.k_plain.specs.declared.machine.Turn.TheVariants as turn
-use Rattle.k_plain.specs.declared.frame.Machine.{Machine}
-use Rattle.k_plain.specs.Behind.{going}
+-- What one instruction of a run comes to while its events are listed.
+use Rattle.std.specs.Prelude.{◌≡◌, List, ◌++◌, Option, Some, None}
+use Rattle.k_optab.specs.declared.event.Event.{Event}
+use Rattle.k_ending.specs.declared.ending.End.{End}
+use Rattle.k_world.specs.Worlds.{World}
+use Rattle.k_code.specs.Steps.{Over}
+use Rattle.k_hcpa_meaning.specs.Behind.{world_behind}
+use Rattle.k_hcpa_store.specs.Kept.{Kept, configuration_of}
+use Rattle.k_hcpa_store.specs.Leads.{GoesOn, StepsTo}
 
--- The rest of a run is now the rest of this one; or the run has ended; or no memory was found.
-abbrev pub Steps : Result Given Stop → Outcome (Option Held) → Machine → Type 0
-Steps (Ok g) before m = before ≡ going m g
-Steps (Err (stop.Ended end)) before m = before ≡ Stops end m.runner.evaluator.world
-Steps (Err stop.Memory) before m = Unit {0}
+-- the run goes on behind these events, or ends with what was written
+abbrev pub GoesOrEnds : Kept → List Event → Option End → Kept → Type 0
+GoesOrEnds old more None new = GoesOn old more new
+GoesOrEnds old more (Some end) new =
+    (w : World) × (w.output ≡ (configuration_of new).world.output) × StepsTo old (λ events taken. Over end (world_behind (events ++ more) taken w))
 
--- The same of a turn, behind which the run may be over.
-abbrev pub Turns : Turn → Outcome (Option Held) → Machine → Type 0
-Turns (turn.Next g) before m = before ≡ going m g
-Turns (turn.Over held) before m = before ≡ Goes held m.runner.evaluator
-Turns (turn.Stopped (stop.Ended end)) before m = before ≡ Stops end m.runner.evaluator.world
-Turns (turn.Stopped stop.Memory) before m = Unit {0}
-
--- a step, as a turn
-abbrev pub as_turn : Result Given Stop → Turn
-as_turn (Ok g) = turn.Next g
-as_turn (Err stop) = turn.Stopped stop
+-- an instruction did this, and its events stand behind those that were listed
+pub record Advanced (old : Kept) (end : Option End) (new : Kept) (before after : List Event) : Type 0 where
+  pub more : List Event
+  pub goes : GoesOrEnds old more end new
+  pub listed : after ≡ before ++ more

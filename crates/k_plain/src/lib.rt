@@ -1,10 +1,13 @@
-//! The listing interpreter: calls as frames on a stack, and the whole run of a source.
+//! The listing of a run: its events, what it writes, and how it ends, from a walk over the values of its flat code.
 #![tactic(auto)]
 
-mod call;
-mod frame;
-mod machine;
+mod advance;
+mod kind;
+mod log;
 mod program;
+mod running;
+mod setting;
 
 pub use k_ending::Listing;
 pub use program::plain;
+pub use running::listing_of_code;

@@ -1,3 +1,0 @@
-pub mod Framed
-pub mod Made
-pub mod Passed

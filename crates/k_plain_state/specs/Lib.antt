@@ -1,3 +1,0 @@
-pub mod Arounds
-pub mod Comes
-pub mod Frames

@@ -1,4 +1,0 @@
-pub mod Noted
-pub mod Parts
-pub mod Tasks
-pub mod Resumes

@@ -1,4 +1,0 @@
-pub mod Givens
-pub mod Tasks
-pub mod Leads
-pub mod EarlyOperands
