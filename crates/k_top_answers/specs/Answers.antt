@@ -54,19 +54,19 @@ use Rattle.k_top_answers.specs.Texts.{IsSummary, with_report}
 
 -- the call ran to its end, and saved nothing
 abbrev pub done : List ℕ → Answer
-done text = record { out = text; failure = None; saved = None }
+done text = record { out = text; failure = None; more = None; saved = None }
 
 -- a refusal: nothing is put on out
 abbrev pub refusal : Failure → Answer
-refusal failure = record { out = []; failure = Some failure; saved = None }
+refusal failure = record { out = []; failure = Some failure; more = None; saved = None }
 
--- a refusal of which this is told
+-- a refusal of which this is told on err, behind its line
 abbrev pub checked : List ℕ → Failure → Answer
-checked text failure = record { out = text; failure = Some failure; saved = None }
+checked text failure = record { out = []; failure = Some failure; more = Some text; saved = None }
 
 -- a run's answer where nothing is saved: what is put on out, and why the run failed, if it did
 abbrev pub ended : List ℕ → ℕ → End → Answer
-ended text steps end = record { out = text; failure = failure_of_end steps end; saved = None }
+ended text steps end = record { out = text; failure = failure_of_end steps end; more = None; saved = None }
 
 -- a run from which main returned this number, of which the instances below a depth are tracked
 abbrev pub ran_of : Running → ℤ → ℕ → Ran
@@ -83,7 +83,7 @@ pub record IsReported (r : Running) (exit : ℤ) (depth : ℕ) (dict : Bool) (sa
   pub profile : Option Saved
   pub report : List ℕ
   pub is_report : IsRunReport (ran_of r exit depth) dict profile report
-  pub is : answer ≡ record { out = with_report (run_of r).output report; failure = None; saved = saved_file save profile }
+  pub is : answer ≡ record { out = with_report (run_of r).output report; failure = None; more = None; saved = saved_file save profile }
 
 -- RUN, by how the run ended: where main did not return, the output so far, and nothing more
 abbrev pub AnswersRun : ℕ → Bool → Option (List ℕ) → Answer → Running → End → Type 0
@@ -170,13 +170,14 @@ abbrev pub AnswersSumShown : Form → Answer → List ℕ → Result Sum ℕ →
 AnswersSumShown form answer bytes (Ok sum) = ReadsSum bytes (Ok sum) × ((text : List ℕ) × IsSumShown form sum text × (answer ≡ done text))
 AnswersSumShown form answer bytes (Err place) = ReadsSum bytes (Err (NotSaved place)) × (answer ≡ refusal (why.Saved place))
 
--- SHOW: of a sum where the first line is that of one, and else of a profile
+-- SHOW: sums are a third format of saved files, beside formats 1 and 2 of a profile. The first line tells the format, and by its rules the file is shown or
+-- refused at its first wrong line; one that tells none of the three is wrong itself, at byte 0
 abbrev pub AnswersShown : Form → Answer → List ℕ → Type 0
 AnswersShown form answer bytes =
     (BeginsSum bytes × ((read : Result Sum ℕ) × AnswersSumShown form answer bytes read))
     ⊎ ((¬ BeginsSum bytes) × ((read : Result Saved ℕ) × AnswersProfile form answer bytes read))
 
--- CHECK: nothing of a source that is accepted, and of one that is refused what is told of that
+-- CHECK puts nothing on out: nothing is told of a source that is accepted, and of one that is refused, on err behind the line, where and why
 abbrev pub AnswersChecked : List ℕ → Answer → List ℕ → Type 0
 AnswersChecked file answer source =
     AnswersSource (λ failure. answer ≡ checked (told file source failure) failure) (λ typed. answer ≡ done []) source

@@ -13,7 +13,7 @@ use Rattle.k_top_answers.specs.declared.answer.SavedFile.{SavedFile}
 use Rattle.k_top_answers.specs.declared.failure.Failure.{Failure}
 use Rattle.k_top_answers.specs.declared.failure.Failure.TheVariants as why
 use Rattle.k_top_answers.specs.Answers.{CallsForFiles, CallsForInput, IsAnswer}
-use Rattle.k_top_answers.specs.Failures.{failure_line, status_of}
+use Rattle.k_top_answers.specs.Failures.{err_text, failure_line, status_of}
 use Rattle.k_top_answers.specs.Requests.{AreMade, AreToLoad, EndsAt, IsFront, saves_of}
 use Rattle.k_top_answers.specs.Steps.{Outside, input_limit}
 
@@ -107,28 +107,28 @@ WasAskedFor read_fault words answers = Unit {0}
 WasAskedFor put_fault words answers = (answer : Answer) → answers answer → answer.out ≢ []
 WasAskedFor save_fault words answers = (answer : Answer) → answers answer → IsSome answer.saved
 
--- err has grown by a prefix of a line, and by the whole line where its count of faults did not rise
-pub record Told (line : List ℕ) (old new : SinkState) : Type 0 where
-  pub part : GrowsInPart old.written line new.written
-  pub whole : (Rose old.faults new.faults → ⊥) → Grows old.written line new.written
+-- err has grown by a prefix of a text, and by the whole text where its count of faults did not rise
+pub record Told (text : List ℕ) (old new : SinkState) : Type 0 where
+  pub part : GrowsInPart old.written text new.written
+  pub whole : (Rose old.faults new.faults → ⊥) → Grows old.written text new.written
 
--- nothing was told on err, or the line of a failure
-abbrev pub TellsEnd : Option Failure → SinkState → SinkState → Type 0
-TellsEnd None old new = new ≡ old
-TellsEnd (Some failure) old new = Told (failure_line failure) old new
+-- nothing was told on err, or the line of a failure, and behind it what more is told of that: `check` alone tells more of a source than its line
+abbrev pub TellsEnd : Option Failure → Option (List ℕ) → SinkState → SinkState → Type 0
+TellsEnd None more old new = new ≡ old
+TellsEnd (Some failure) more old new = Told (err_text failure more) old new
 
 -- the files are as before, or one of them has new content
 abbrev pub HoldsAfter : Option SavedFile → FilesState → FilesState → Type 0
 HoldsAfter None old new = new.held ≡ old.held
 HoldsAfter (Some file) old new = KeepsOthers old.held file.name new.held × Has new.held file.name (Some file.bytes)
 
--- the status is that of an answer, out has grown by its bytes, its line was told on err, and the files are those after it
+-- the status is that of an answer, out has grown by its bytes, its failure was told on err, and the files are those after it
 pub record IsGiven (answers : Answer → Type 0) (status : ℕ) (old new : World) : Type 0 where
   pub answer : Answer
   pub is_answer : answers answer
   pub status_is : status ≡ status_of answer.failure
   pub grows : Grows old.out.written answer.out new.out.written
-  pub told : TellsEnd answer.failure old.err new.err
+  pub told : TellsEnd answer.failure answer.more old.err new.err
   pub files : HoldsAfter answer.saved old.files new.files
 
 -- ANSWERED. On every status but 6, 7 and 8 the whole answer was given

@@ -81,6 +81,11 @@ failure_text (why.FileLong file) = codes "file too long: " ++ file
 abbrev pub failure_line : Failure → List ℕ
 failure_line failure = codes "kremlin: " ++ failure_text failure ++ codes "\n"
 
+-- what is told on err of it: its line, and behind it what more is told, if more is
+abbrev pub err_text : Failure → Option (List ℕ) → List ℕ
+err_text failure None = failure_line failure
+err_text failure (Some more) = failure_line failure ++ more
+
 -- the exit status: 0 where nothing failed
 abbrev pub status_of : Option Failure → ℕ
 status_of None = 0

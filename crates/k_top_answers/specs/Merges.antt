@@ -67,7 +67,7 @@ AnswersSum failed outside next (part ∷ parts) =
 
 -- nothing is put on out, and these bytes are saved
 abbrev pub saving : List ℕ → List ℕ → Answer
-saving save bytes = record { out = []; failure = None; saved = Some (record { name = save; bytes = bytes }) }
+saving save bytes = record { out = []; failure = None; more = None; saved = Some (record { name = save; bytes = bytes }) }
 
 -- MERGE: the sum is saved
 abbrev pub IsMerge : List ℕ → Answer → Sum → Type 0

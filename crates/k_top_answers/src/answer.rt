@@ -15,12 +15,13 @@ pub struct SavedFile {
     pub bytes: Seq<u8>,
 }
 
-/// What the call answers: what is put on out, why it does not end with status 0, if it doesn't, and the file that is saved, if
-/// one is.
+/// What the call answers: what is put on out, why it does not end with status 0, if it doesn't, what more is told of that on err,
+/// behind the line that tells why, if more is, and the file that is saved, if one is.
 #[derive(Drop)]
 pub struct Answer {
     pub out: Seq<u8>,
     pub failure: Option<Failure>,
+    pub more: Option<Seq<u8>>,
     pub saved: Option<SavedFile>,
 }
 
@@ -32,6 +33,7 @@ impl Answer {
         Answer {
             out: Seq::from_vec(text),
             failure: None,
+            more: None,
             saved: None,
         }
     }
@@ -43,6 +45,7 @@ impl Answer {
         Answer {
             out: Seq::new(alloc),
             failure: None,
+            more: None,
             saved: Some(SavedFile {
                 name,
                 bytes: Seq::from_vec(bytes),
@@ -50,13 +53,14 @@ impl Answer {
         }
     }
 
-    /// What `check` puts on out of a source that is refused so, in a file of this name.
-    pub fn checked(text: Vec<u8>, failure: Failure) -> Answer
+    /// Nothing is put on out, and this is told on err behind the line of a failure.
+    pub fn checked(alloc: Global, text: Vec<u8>, failure: Failure) -> Answer
         ensures { result ≡ checked text.items failure }
     {
         Answer {
-            out: Seq::from_vec(text),
+            out: Seq::new(alloc),
             failure: Some(failure),
+            more: Some(Seq::from_vec(text)),
             saved: None,
         }
     }
@@ -68,6 +72,7 @@ impl Answer {
         Answer {
             out,
             failure: Failure::of_end(steps, end),
+            more: None,
             saved: None,
         }
     }

@@ -121,7 +121,7 @@ impl Failure {
         )
     }
 
-    /// What `check` tells of this source, in a file of this name: its refusal, at its place.
+    /// What `check` tells of this source, in a file of this name, behind the line on err: its refusal, at its place.
     pub fn told(&self, alloc: Global, file: &str, source: &[u8]) -> Result<Vec<u8>, NoMemory>
         ensures { IfOk result (λ told. told.items ≡ spec.told file.now source.now self.now) }
     {

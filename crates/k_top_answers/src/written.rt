@@ -1,13 +1,13 @@
 //! What is told of a failure.
 ghost use Rattle.std.specs.Prelude.{◌≡◌, Some, IfOk, string_bytes};
 ghost use Rattle.std.specs.Fmt.{DisplaysOnOk};
-ghost use Rattle.k_top_answers.specs.Failures.{failure_line, failure_text, saved_in_text};
+ghost use Rattle.k_top_answers.specs.Failures.{err_text, failure_line, failure_text, saved_in_text};
 ghost use Rattle.k_top_answers.specs.Refusals.{about, at_word, lex_text, named_at, parse_text, table_text, type_text, usage_text};
 
 use crate::failure::Failure;
 use k_ending::name as trap_name;
 use k_lex::LexFault;
-use k_num::{NoMemory, Place};
+use k_num::{NoMemory, Place, Seq};
 use k_optab::TableFault;
 use k_parse::ParseFault;
 use k_types_meaning::TypeFault;
@@ -183,9 +183,21 @@ impl fmt::Display for Failure {
 
 impl Failure {
     /// The line on err.
-    pub fn line(&self, alloc: Global) -> Result<String, NoMemory>
+    fn line(&self, alloc: Global) -> Result<String, NoMemory>
         ensures { IfOk result (λ line. string_bytes line ≡ failure_line self.now) }
     {
         Ok(format!(in alloc; "kremlin: {self}\n")?)
+    }
+
+    /// What is told on err: the line, and behind it what more is told, if more is.
+    pub fn err_text(&self, alloc: Global, more: &Option<Seq<u8>>) -> Result<Vec<u8>, NoMemory>
+        ensures { IfOk result (λ text. text.items ≡ err_text self.now more.now) }
+    {
+        let line = self.line(alloc)?;
+        let mut text = Vec::from_slice(alloc, line.as_bytes())?;
+        if let Some(more) = more {
+            text.extend_from_slice(more.as_slice())?;
+        }
+        Ok(text)
     }
 }

@@ -1,4 +1,4 @@
-//! The answer of `check`: a source is read and checked, and what is refused is told in its line.
+//! The answer of `check`: a source is read and checked, and what is refused is told in its line, on err alone.
 ghost use Rattle.std.specs.Prelude.{Err};
 ghost use Rattle.k_top_lemmas.specs.Parts.{AcceptsSource, ChecksFile, ChecksSource};
 
@@ -9,7 +9,7 @@ use k_top_answers::{Answer, Failure};
 use k_top_programs::{FILE_LIMIT, accept, load};
 use std::alloc::Global;
 
-/// The answer to a source that is not accepted, in a file of this name: what is told of it where it is refused.
+/// The answer to a source that is not accepted, in a file of this name: where it is refused, what is told of that on err.
 fn refused_answer(
     alloc: Global,
     file: &str,
@@ -23,7 +23,7 @@ fn refused_answer(
         return Err(failure);
     }
     let text = failure.told(alloc, file, source)?;
-    Ok(Answer::checked(text, failure))
+    Ok(Answer::checked(alloc, text, failure))
 }
 
 /// The answer to a source in a file of this name: nothing where it is accepted.

@@ -64,6 +64,7 @@ fn report_answer(
     Ok(Answer {
         out: Seq::from_vec(out),
         failure: None,
+        more: None,
         saved,
     })
 }

@@ -1,5 +1,5 @@
 -- Rules of the files of sums that are decided: each holds, or does not.
-use Rattle.std.proofs.Common.{◌≡◌, ◌⊎◌, inl, inr, ℕ, ℤ, ◌-◌, ◌<◌, ◌≤◌, Bool, true, false, List, [], ◌∷◌, ◌++◌, length, replicate, int_lt, refl, sym, ap, subst, arith}
+use Rattle.std.proofs.Common.{◌≡◌, inl, inr, ℕ, ℤ, ◌-◌, ◌<◌, ◌≤◌, Bool, true, false, List, [], ◌∷◌, ◌++◌, length, replicate, int_lt, refl, sym, subst, arith}
 use Rattle.std.proofs.lemmas.Bool.{cases_eq}
 use Rattle.k_optab.specs.declared.region.Region.{Region}
 use Rattle.k_dict.specs.Entries.{NameBelow, NameEarlier}
@@ -13,7 +13,6 @@ use Rattle.k_dict_saved.specs.declared.reading.extents.Sums.{Sums}
 use Rattle.k_sum.specs.declared.exits.Exit.{Exit}
 use Rattle.k_sum_order.proofs.Comparing.{before_itself, before_not, before_or, linked_order, order_linked}
 use Rattle.k_sum_order.specs.Order.{AreInOrder, ComesBefore}
-use Rattle.k_sum_order.specs.Placing.{AreLinked}
 use Rattle.k_sum_read.proofs.ExitSteps.{last_lower, lower_all}
 use Rattle.k_sum_read.proofs.ListSteps.{goes_on_push, last_of_push, split}
 use Rattle.k_sum_read.proofs.RootSteps.{are_within, marks_tell, roots_are, some_roots}

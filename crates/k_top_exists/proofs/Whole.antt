@@ -88,7 +88,7 @@ reported : (r : Running) (exit : ℤ) (depth : ℕ) (dict : Bool) (save : Option
     → (profile : Option Saved) × (report : List ℕ) × IsRunReport (ran_of r exit depth) dict profile report
     → Answered (λ a. AnswersRun depth dict save a r (end.Returned exit))
 reported r exit depth dict save sound is some tracked (profile, report, is_report) = (
-  record { out = with_report (run_of r).output report; failure = None; saved = saved_file save profile },
+  record { out = with_report (run_of r).output report; failure = None; more = None; saved = saved_file save profile },
   record { profile = profile; report = report; is_report = is_report; is = refl },
 )
 

@@ -1,5 +1,5 @@
 //! That each question has an answer: each function's contract is a law, and its body does nothing.
-ghost use Rattle.k_top_exists.specs.Files.{FileIsAnswered, SavedFileIsAnswered, TableIsAnswered, WordsAreAnswered};
+ghost use Rattle.k_top_exists.specs.Files.{FileIsAnswered, FileOfThreeIsAnswered, OtherFileIsRefused, SavedFileIsAnswered, TableIsAnswered, WordsAreAnswered};
 ghost use Rattle.k_top_exists.specs.Graphs.{GraphTextsExist, HeaviestPathsExist, ListingsExist, TreesExist};
 ghost use Rattle.k_top_exists.specs.Laws.{WordsHaveOneAnswer};
 ghost use Rattle.k_top_exists.specs.Loops.{CarriedPairsExist};
@@ -26,9 +26,12 @@ pub fn files()
     ensures { FileIsAnswered }
 {}
 
-/// Any bytes spell a saved profile, in either format, or have a first wrong line.
+/// Any bytes spell a saved profile, in either format, or have a first wrong line. Sums are a third format: bytes with its first line spell a sum, or have a first
+/// wrong line by its rules. Bytes with none of the three first lines are wrong at byte 0.
 pub fn saved_files()
-    ensures { SavedFileIsAnswered }
+    ensures profile { SavedFileIsAnswered }
+    ensures sum { FileOfThreeIsAnswered }
+    ensures other { OtherFileIsRefused }
 {}
 
 /// The tokens of a source are read to a tree of syntax, or to a refusal, and want of memory is none.

@@ -21,7 +21,7 @@ use Rattle.k_top_answers.specs.Storage.{MayBeMarked}
 use Rattle.k_top_headline.specs.OtherCommands.{AnnotateIsTold, Annotates, AnnotatesGraph, AnnotatesWithin}
 use Rattle.k_top_headline.proofs.Given.{job_given}
 use Rattle.k_top_headline.proofs.Ready.{held_outside, run_answered}
-use Rattle.k_top_headline.proofs.Runs.{told_of_run}
+use Rattle.k_top_headline.proofs.Runs.{ending_at, ending_of, told_of_run}
 
 -- THE ANNOTATED SOURCE of a run is that of its graph
 of_graph : (source : List ℕ) (r : Running) (ran : Ran) (strict : Bool) (loops found : List LoopPairs) (text : List ℕ) → AreCarried ran.regions ran.depth ran.events loops
@@ -58,11 +58,11 @@ module _ (source : List ℕ) (depth : ℕ) (strict : Bool) (answer : Answer) (r 
   annotated (end.Trapped trap place) is = ap (λ (a : Answer). a.out) is
   annotated end.OutOfSteps is = ap (λ (a : Answer). a.out) is
 
-  -- why it failed, if it did
-  fails : (how : End) → AnswersAnnotated source depth strict answer r how → answer.failure ≡ failure_of_end r.steps how
-  fails (end.Returned exit) is = ap (λ (a : Answer). a.failure) is.is
-  fails (end.Trapped trap place) is = ap (λ (a : Answer). a.failure) is
-  fails end.OutOfSteps is = ap (λ (a : Answer). a.failure) is
+  -- how it ends the call
+  fails : (how : End) → AnswersAnnotated source depth strict answer r how → ending_of answer ≡ ending_at r how
+  fails (end.Returned exit) is = ap ending_of is.is
+  fails (end.Trapped trap place) is = ap ending_of is
+  fails end.OutOfSteps is = ap ending_of is
 
 -- ANNOTATE
 pub annotate_is_told : AnnotateIsTold

@@ -34,24 +34,24 @@ bytes_given words status old new file bytes keeps is holds =
     }
 
 -- an answer that was given, and is known
-tells_answer : (answers : Answer → Type 0) (status : ℕ) (old new : World) (given : IsGiven answers status old new) (text : List ℕ) (failure : Option Failure)
-    → given.answer ≡ record { out = text; failure = failure; saved = None } → Tells text failure status old new
-tells_answer answers status old new given text failure is = record {
+tells_answer : (answers : Answer → Type 0) (status : ℕ) (old new : World) (given : IsGiven answers status old new) (failure : Option Failure)
+    (more : Option (List ℕ)) → given.answer ≡ record { out = []; failure = failure; more = more; saved = None } → Tells failure more status old new
+tells_answer answers status old new given failure more is = record {
   grows = subst (λ (a : Answer). Grows old.out.written a.out new.out.written) is given.grows;
   status_is = given.status_is ∙ ap (λ (a : Answer). status_of a.failure) is;
-  told = subst (λ (a : Answer). TellsEnd a.failure old.err new.err) is given.told;
+  told = subst (λ (a : Answer). TellsEnd a.failure a.more old.err new.err) is given.told;
 }
 
 -- A SOURCE IS ACCEPTED
 pub accepted_is_told : AcceptedIsTold
 accepted_is_told words status old new file bytes typed keeps is holds accepted =
     let given = bytes_given words status old new file bytes keeps is holds in
-    tells_answer (λ (answer : Answer). AnswersChecked file answer bytes) status old new given [] None
+    tells_answer (λ (answer : Answer). AnswersChecked file answer bytes) status old new given None None
     (source_answered (λ failure. given.answer ≡ checked (told file bytes failure) failure) (λ (t : TUnit). given.answer ≡ done []) bytes typed accepted given.is_answer)
 
 -- A SOURCE IS REFUSED
 pub refusal_is_told : RefusalIsTold
 refusal_is_told words status old new file bytes failure keeps is holds refused =
     let given = bytes_given words status old new file bytes keeps is holds in
-    tells_answer (λ (answer : Answer). AnswersChecked file answer bytes) status old new given (told file bytes failure) (Some failure)
+    tells_answer (λ (answer : Answer). AnswersChecked file answer bytes) status old new given (Some failure) (Some (told file bytes failure))
     (source_refused (λ other. given.answer ≡ checked (told file bytes other) other) (λ (t : TUnit). given.answer ≡ done []) failure bytes refused given.is_answer)

@@ -14,7 +14,7 @@ use Rattle.k_top_answers.specs.Steps.{Running, run_of}
 use Rattle.k_top_headline.specs.OtherCommands.{CarriedIsTold, DemoIsTold, GraphIsTold, Sums, WritesCarried}
 use Rattle.k_top_headline.proofs.Given.{job_given}
 use Rattle.k_top_headline.proofs.Ready.{run_answered, source_answered}
-use Rattle.k_top_headline.proofs.Runs.{told_of_run}
+use Rattle.k_top_headline.proofs.Runs.{ending_at, ending_of, told_of_run}
 
 -- GRAPH
 pub graph_is_told : GraphIsTold
@@ -29,7 +29,7 @@ graph_is_told words status old new file r depth keeps is program =
       text = listed.text;
       is_text = listed.is_text;
       tells = told_of_run (λ (answer : Answer). AnswersJob keeps.outside answer j) r listed.text status old new given
-          (ap (λ (a : Answer). a.out) listed.is) (ap (λ (a : Answer). a.failure) listed.is);
+          (ap (λ (a : Answer). a.out) listed.is) (ap ending_of listed.is);
     }
 
 module _ (depth : ℕ) (storage : Bool) (answer : Answer) (r : Running) where
@@ -39,11 +39,11 @@ module _ (depth : ℕ) (storage : Bool) (answer : Answer) (r : Running) where
   carried_written (end.Trapped trap place) is = ap (λ (a : Answer). a.out) is
   carried_written end.OutOfSteps is = ap (λ (a : Answer). a.out) is
 
-  -- why it failed, if it did
-  carried_fails : (how : End) → AnswersCarried depth storage answer r how → answer.failure ≡ failure_of_end r.steps how
-  carried_fails (end.Returned exit) is = ap (λ (a : Answer). a.failure) is.is
-  carried_fails (end.Trapped trap place) is = ap (λ (a : Answer). a.failure) is
-  carried_fails end.OutOfSteps is = ap (λ (a : Answer). a.failure) is
+  -- how it ends the call
+  carried_fails : (how : End) → AnswersCarried depth storage answer r how → ending_of answer ≡ ending_at r how
+  carried_fails (end.Returned exit) is = ap ending_of is.is
+  carried_fails (end.Trapped trap place) is = ap ending_of is
+  carried_fails end.OutOfSteps is = ap ending_of is
 
 -- CARRIED
 pub carried_is_told : CarriedIsTold
@@ -68,11 +68,11 @@ module _ (number loops : ℕ) (answer : Answer) (r : Running) where
   summed (end.Trapped trap place) is = ap (λ (a : Answer). a.out) is
   summed end.OutOfSteps is = ap (λ (a : Answer). a.out) is
 
-  -- why it failed, if it did
-  fails : (how : End) → AnswersMade number loops answer r how → answer.failure ≡ failure_of_end r.steps how
-  fails (end.Returned exit) (text, is, made) = ap (λ (a : Answer). a.failure) made
-  fails (end.Trapped trap place) is = ap (λ (a : Answer). a.failure) is
-  fails end.OutOfSteps is = ap (λ (a : Answer). a.failure) is
+  -- how it ends the call
+  fails : (how : End) → AnswersMade number loops answer r how → ending_of answer ≡ ending_at r how
+  fails (end.Returned exit) (text, is, made) = ap ending_of made
+  fails (end.Trapped trap place) is = ap ending_of is
+  fails end.OutOfSteps is = ap ending_of is
 
 -- DEMO
 pub demo_is_told : DemoIsTold

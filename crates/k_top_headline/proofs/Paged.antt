@@ -18,7 +18,7 @@ use Rattle.k_top_answers.specs.Steps.{Running, run_of}
 use Rattle.k_top_headline.specs.OtherCommands.{PageIsTold, Pages, PagesGraph, PagesWithin}
 use Rattle.k_top_headline.proofs.Given.{job_given}
 use Rattle.k_top_headline.proofs.Ready.{held_outside, run_answered}
-use Rattle.k_top_headline.proofs.Runs.{told_of_run}
+use Rattle.k_top_headline.proofs.Runs.{ending_at, ending_of, told_of_run}
 
 -- THE PAGE of a run is that of its graph
 of_graph : (file source : List ℕ) (ran : Ran) (dict : Bool) (text : List ℕ) → IsRunPage file source ran dict text → PagesGraph file source ran dict text
@@ -46,11 +46,11 @@ module _ (file source : List ℕ) (depth : ℕ) (dict : Bool) (answer : Answer) 
   paged (end.Trapped trap place) is = ap (λ (a : Answer). a.out) is
   paged end.OutOfSteps is = ap (λ (a : Answer). a.out) is
 
-  -- why it failed, if it did
-  fails : (how : End) → AnswersPage file source depth dict answer r how → answer.failure ≡ failure_of_end r.steps how
-  fails (end.Returned exit) (text, page, is) = ap (λ (a : Answer). a.failure) is
-  fails (end.Trapped trap place) is = ap (λ (a : Answer). a.failure) is
-  fails end.OutOfSteps is = ap (λ (a : Answer). a.failure) is
+  -- how it ends the call
+  fails : (how : End) → AnswersPage file source depth dict answer r how → ending_of answer ≡ ending_at r how
+  fails (end.Returned exit) (text, page, is) = ap ending_of is
+  fails (end.Trapped trap place) is = ap ending_of is
+  fails end.OutOfSteps is = ap ending_of is
 
 -- PAGE
 pub page_is_told : PageIsTold

@@ -12,7 +12,7 @@ use Rattle.k_top_answers.specs.Steps.{Running, run_of}
 use Rattle.k_top_headline.specs.Replay.{ReplayIsTold, WritesReplay}
 use Rattle.k_top_headline.proofs.Given.{job_given}
 use Rattle.k_top_headline.proofs.Ready.{run_answered}
-use Rattle.k_top_headline.proofs.Runs.{told_of_run}
+use Rattle.k_top_headline.proofs.Runs.{ending_at, ending_of, told_of_run}
 
 module _ (workers seed : ℕ) (answer : Answer) (r : Running) where
   -- what the answer puts on out
@@ -22,11 +22,11 @@ module _ (workers seed : ℕ) (answer : Answer) (r : Running) where
   written (end.Trapped trap place) is = ap (λ (a : Answer). a.out) is
   written end.OutOfSteps is = ap (λ (a : Answer). a.out) is
 
-  -- why it failed, if it did
-  fails : (how : End) → AnswersReplayed workers seed answer r how → answer.failure ≡ failure_of_end r.steps how
-  fails (end.Returned exit) (text, is, made) = ap (λ (a : Answer). a.failure) made
-  fails (end.Trapped trap place) is = ap (λ (a : Answer). a.failure) is
-  fails end.OutOfSteps is = ap (λ (a : Answer). a.failure) is
+  -- how it ends the call
+  fails : (how : End) → AnswersReplayed workers seed answer r how → ending_of answer ≡ ending_at r how
+  fails (end.Returned exit) (text, is, made) = ap ending_of made
+  fails (end.Trapped trap place) is = ap ending_of is
+  fails end.OutOfSteps is = ap ending_of is
 
 pub replay_is_told : ReplayIsTold
 replay_is_told words status old new file r depth workers seed keeps is program =

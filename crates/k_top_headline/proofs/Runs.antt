@@ -16,6 +16,7 @@ use Rattle.k_top_answers.specs.Answers.{AnswersJob, AnswersRun, ran_of, refusal}
 use Rattle.k_top_answers.specs.Clauses.{IsGiven, TellsEnd, World}
 use Rattle.k_top_answers.specs.Failures.{failure_of_end, status_of}
 use Rattle.k_top_answers.specs.Steps.{Running, run_of}
+use Rattle.k_top_lemmas.specs.declared.ending.Ending.{Ending}
 use Rattle.k_top_headline.specs.Headline.{ReportsGraph, ReportsWithin, RunIsTold, TellsOfRun, Writes, end_status}
 use Rattle.k_top_headline.proofs.Given.{job_given}
 use Rattle.k_top_headline.proofs.Ready.{run_answered}
@@ -37,6 +38,13 @@ of_graph ran dict _ _ (reports.large nodes tree over) = record {
   within = subst (λ (found : Option Which). ReportsWithin ran dict nodes over.entries (large_text ran.exit (ops_of ran)) found) (sym over.passed) refl;
 }
 
+-- how an answer ends the call, and how a run does that ended so
+abbrev pub ending_of : Answer → Ending
+ending_of answer = record { failure = answer.failure; more = answer.more }
+
+abbrev pub ending_at : Running → End → Ending
+ending_at r how = record { failure = failure_of_end r.steps how; more = None }
+
 module _ (depth : ℕ) (dict : Bool) (save : Option (List ℕ)) (answer : Answer) (r : Running) where
   -- what the answer puts on out
   written : (how : End) → AnswersRun depth dict save answer r how → Writes r depth dict answer.out how
@@ -44,11 +52,11 @@ module _ (depth : ℕ) (dict : Bool) (save : Option (List ℕ)) (answer : Answer
   written (end.Trapped trap place) is = ap (λ (a : Answer). a.out) is
   written end.OutOfSteps is = ap (λ (a : Answer). a.out) is
 
-  -- why it failed, if it did
-  fails : (how : End) → AnswersRun depth dict save answer r how → answer.failure ≡ failure_of_end r.steps how
-  fails (end.Returned exit) is = ap (λ (a : Answer). a.failure) is.is
-  fails (end.Trapped trap place) is = ap (λ (a : Answer). a.failure) is
-  fails end.OutOfSteps is = ap (λ (a : Answer). a.failure) is
+  -- how it ends the call
+  fails : (how : End) → AnswersRun depth dict save answer r how → ending_of answer ≡ ending_at r how
+  fails (end.Returned exit) is = ap ending_of is.is
+  fails (end.Trapped trap place) is = ap ending_of is
+  fails end.OutOfSteps is = ap ending_of is
 
 -- the status of a failure is that of the end
 status_of_end : (steps : ℕ) (how : End) → status_of (failure_of_end steps how) ≡ end_status how
@@ -58,11 +66,11 @@ status_of_end steps end.OutOfSteps = refl
 
 -- what is told where an answer was given, which has a text and fails as its run does
 pub told_of_run : (answers : Answer → Type 0) (r : Running) (text : List ℕ) (status : ℕ) (old new : World) (given : IsGiven answers status old new)
-    → given.answer.out ≡ text → given.answer.failure ≡ failure_of_end r.steps (run_of r).end → TellsOfRun r text status old new
-told_of_run answers r text status old new given out failure = record {
+    → given.answer.out ≡ text → ending_of given.answer ≡ ending_at r (run_of r).end → TellsOfRun r text status old new
+told_of_run answers r text status old new given out ending = record {
   grows = subst (λ (t : List ℕ). Grows old.out.written t new.out.written) out given.grows;
-  status_is = given.status_is ∙ ap status_of failure ∙ status_of_end r.steps (run_of r).end;
-  told = subst (λ (f : Option Failure). TellsEnd f old.err new.err) failure given.told;
+  status_is = given.status_is ∙ ap (λ (e : Ending). status_of e.failure) ending ∙ status_of_end r.steps (run_of r).end;
+  told = subst (λ (e : Ending). TellsEnd e.failure e.more old.err new.err) ending given.told;
 }
 
 -- THE HEADLINE

@@ -201,5 +201,5 @@ show_is_told words status old new name file form keeps is holds =
       shows = report.1;
       grows = subst (λ (t : List ℕ). Grows old.out.written t new.out.written) out given.grows;
       status_is = given.status_is ∙ ap status_of failure;
-      told = subst (λ (f : Option Failure). TellsEnd f old.err new.err) failure given.told;
+      told = subst (λ (f : Option Failure). TellsEnd f given.answer.more old.err new.err) failure given.told;
     }

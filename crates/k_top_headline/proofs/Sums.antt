@@ -94,7 +94,7 @@ merge_is_told words status old new save part parts all keeps is holds =
       kept = after.0;
       grows = subst (λ (t : List ℕ). Grows old.out.written t new.out.written) out given.grows;
       status_is = given.status_is ∙ ap status_of failure;
-      told = subst (λ (f : Option Failure). TellsEnd f old.err new.err) failure given.told;
+      told = subst (λ (f : Option Failure). TellsEnd f given.answer.more old.err new.err) failure given.told;
     }
 
 -- ---- show
@@ -128,5 +128,5 @@ sum_is_told words status old new name sum form keeps is holds =
       shows = report.1;
       grows = subst (λ (t : List ℕ). Grows old.out.written t new.out.written) out given.grows;
       status_is = given.status_is ∙ ap status_of failure;
-      told = subst (λ (f : Option Failure). TellsEnd f old.err new.err) failure given.told;
+      told = subst (λ (f : Option Failure). TellsEnd f given.answer.more old.err new.err) failure given.told;
     }

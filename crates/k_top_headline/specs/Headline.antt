@@ -119,7 +119,7 @@ end_status OutOfSteps = 2
 pub record TellsOfRun (r : Running) (text : List ℕ) (status : ℕ) (old new : World) : Type 0 where
   pub grows : Grows old.out.written text new.out.written
   pub status_is : status ≡ end_status (run_of r).end
-  pub told : TellsEnd (failure_of_end r.steps (run_of r).end) old.err new.err
+  pub told : TellsEnd (failure_of_end r.steps (run_of r).end) None old.err new.err
 
 -- THE CONCLUSIONS for `run`
 pub record RunTells (r : Running) (depth : ℕ) (dict : Bool) (status : ℕ) (old new : World) : Type 0 where

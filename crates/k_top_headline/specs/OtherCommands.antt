@@ -220,25 +220,26 @@ pub record HoldsSource (old : World) (file bytes : List ℕ) : Type 0 where
   pub held : TellsFile old.files.held file bytes
   pub few : length bytes ≤ file_limit
 
--- what a call tells that has this text to write, and ends so: out has grown by the text, the status is that of the end, and err has grown by its line
-pub record Tells (text : List ℕ) (failure : Option Failure) (status : ℕ) (old new : World) : Type 0 where
-  pub grows : Grows old.out.written text new.out.written
+-- what a call tells that writes nothing, and ends so: out has grown by nothing, the status is that of the end, and err has grown by its line, and behind that by
+-- what more is told
+pub record Tells (failure : Option Failure) (more : Option (List ℕ)) (status : ℕ) (old new : World) : Type 0 where
+  pub grows : Grows old.out.written [] new.out.written
   pub status_is : status ≡ status_of failure
-  pub told : TellsEnd failure old.err new.err
+  pub told : TellsEnd failure more old.err new.err
 
--- CHECK of a source that is accepted: the words ask to check a file, and it is one; nothing is written, and the status is 0
+-- CHECK of a source that is accepted: the words ask to check a file, and it is one; nothing is written on out or err, and the status is 0
 abbrev pub AcceptedIsTold : Type 0
 AcceptedIsTold = (words : List (List ℕ)) (status : ℕ) (old new : World) (file bytes : List ℕ) (typed : TUnit)
     → Keeps words status old new → WentWell words (job.Check file) status old new → HoldsSource old file bytes → IsAccepted bytes typed
-    → Tells [] None status old new
+    → Tells None None status old new
 
--- CHECK of a source that is refused: the words ask to check a file, and its first fault is this one; out has grown by what is told of that fault,
--- and the status and the line on err are those of the refusal
+-- CHECK of a source that is refused: the words ask to check a file, and its first fault is this one; nothing is written on out, the status is that of the refusal,
+-- and err has grown by its line and by what is told of that fault
 abbrev pub RefusalIsTold : Type 0
 RefusalIsTold = (words : List (List ℕ)) (status : ℕ) (old new : World) (file bytes : List ℕ) (failure : Failure)
     → Keeps words status old new → WentWell words (job.Check file) status old new → HoldsSource old file bytes
     → AnswersSource (λ first. first ≡ failure) (λ typed. ⊥) bytes
-    → Tells (told file bytes failure) (Some failure) status old new
+    → Tells (Some failure) (Some (told file bytes failure)) status old new
 
 -- what is written of a made program, by how its run ended: the summary of the run where main returned, and else nothing
 abbrev pub Sums : ℕ → ℕ → Running → List ℕ → End → Type 0

@@ -47,7 +47,8 @@ pub fn annotate_is_told()
     ensures { AnnotateIsTold }
 {}
 
-/// `check` writes nothing of a source that is accepted, and of one that is refused its place, a sentence, and its line with a caret.
+/// `check` writes nothing of a source that is accepted; of one that is refused it tells on err, behind the line of the refusal, its place, a sentence, and its line
+/// with a caret.
 pub fn check_is_told()
     ensures accepted { AcceptedIsTold }
     ensures refused { RefusalIsTold }

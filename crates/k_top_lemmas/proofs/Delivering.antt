@@ -21,7 +21,8 @@ use Rattle.k_top_answers.specs.Answers.{CallsForInput, IsAnswer}
 use Rattle.k_top_answers.specs.Clauses.{AsksFiles, Cause, HoldsAfter, IsGiven, GoesFar, Keeps, KeepsAllBut, MayGive, ReadsInput, TellsEnd, TellsFault, World, faults_of, is_blame, nothing, put_fault, save_fault}
 use Rattle.k_top_answers.specs.Failures.{failure_line, failure_of_put, failure_of_save, failure_status, status_of}
 use Rattle.k_top_answers.specs.Requests.{AreMade, AreToLoad, IsFront, saves_of}
-use Rattle.k_top_lemmas.specs.Parts.{Delivers, EndsAs, EndsBy, PutsAll, SavesFile, Tells}
+use Rattle.k_top_lemmas.specs.declared.ending.Ending.{Ending}
+use Rattle.k_top_lemmas.specs.Parts.{Delivers, EndsAs, PutsAll, SavesFile, Tells}
 use Rattle.k_top_lemmas.specs.Phases.{Around, InputDone, IsEnd, IsView, Shows, View}
 use Rattle.k_top_answers.specs.Steps.{Outside, input_limit}
 use Rattle.k_top_lemmas.proofs.ReadyLemmas.{told_once}
@@ -76,15 +77,10 @@ input_faultless : (calls : Outside → Type 0) (view : View) (old new : SourceSt
 input_faultless calls view old new (inl (same, calls_not)) = ap (λ (s : SourceState). s.faults) same
 input_faultless calls view old new (inr (bytes, is, calls_it, reads)) = reads.3
 
--- what stands in a place that may be empty
-abbrev failure_in : Option Failure → Failure
-failure_in None = why.NoMemory
-failure_in (Some failure) = failure
-
--- how a call ended whose answer was delivered: its status and its line are those of the answer, or the line could not be made
-pub record EndsWell (failure : Option Failure) (status : ℕ) (old new : SinkState) : Type 0 where
+-- how a call ended whose answer was delivered: its status and what it told on err are those of the answer, or what it had to tell could not be made
+pub record EndsWell (failure : Option Failure) (more : Option (List ℕ)) (status : ℕ) (old new : SinkState) : Type 0 where
   pub status_is : status ≡ status_of failure
-  pub told : TellsEnd failure old new
+  pub told : TellsEnd failure more old new
   pub small : status ≤ 3
 
 -- the line of want of memory was told in part, of an answer that is a failure
@@ -93,30 +89,18 @@ pub record EndsShort (failure : Option Failure) (status : ℕ) (old new : SinkSt
   pub told : GrowsInPart old.written (failure_line why.NoMemory) new.written
   pub failed : failure ≡ None → ⊥
 
-abbrev EndsSo : Option Failure → ℕ → SinkState → SinkState → Type 0
-EndsSo failure status old new = EndsWell failure status old new ⊎ EndsShort failure status old new
+abbrev EndsSo : Option Failure → Option (List ℕ) → ℕ → SinkState → SinkState → Type 0
+EndsSo failure more status old new = EndsWell failure more status old new ⊎ EndsShort failure status old new
 
 -- something is not nothing
 some_there : (failure : Failure) → Some failure ≡ None → ⊥
 some_there failure is = (let wrong : true ≡ false = ap is_some is in cc)
 
-none_there : (failure : Failure) → None ≡ Some failure → ⊥
-none_there failure is = (let wrong : false ≡ true = ap is_some is in cc)
-
-ends_failed : (given : Failure) (low : failure_status given ≤ 3) (other : Failure) → Some given ≡ Some other → (status : ℕ) (old new : SinkState)
-    → Tells (Err other) status old new → EndsSo (Some given) status old new
-ends_failed given low other same status old new tells = by_line (subst (λ f. Tells (Err f) status old new) (sym (ap failure_in same)) tells)
-  where
-    by_line : Tells (Err given) status old new → EndsSo (Some given) status old new
-    by_line (inl (is, told)) = inl (record { status_is = is; told = told; small = omega (arith, is, low) })
-    by_line (inr (eight, part)) = inr (record { eight = eight; told = part; failed = some_there given })
-
-ends : (failure : Option Failure) → status_of failure ≤ 3 → (done : Result ⊤ Failure) → EndsBy done failure → (status : ℕ) (old new : SinkState)
-    → Tells done status old new → EndsSo failure status old new
-ends None low (Ok done) by status old new (is, same) = inl (record { status_is = is; told = same; small = omega (arith, is) })
-ends None low (Err failure) by status old new tells = absurd (none_there failure by)
-ends (Some given) low (Ok done) by status old new tells = absurd (some_there given by)
-ends (Some given) low (Err failure) by status old new tells = ends_failed given low failure by status old new tells
+ends : (failure : Option Failure) (more : Option (List ℕ)) → status_of failure ≤ 3 → (status : ℕ) (old new : SinkState) → Tells failure more status old new
+    → EndsSo failure more status old new
+ends None more low status old new (is, same) = inl (record { status_is = is; told = same; small = omega (arith, is) })
+ends (Some given) more low status old new (inl (is, told)) = inl (record { status_is = is; told = told; small = omega (arith, is, low) })
+ends (Some given) more low status old new (inr (eight, part)) = inr (record { eight = eight; told = part; failed = some_there given })
 
 -- a low status blames nothing outside
 low_blame : (status : ℕ) → status ≤ 3 → is_blame status ≡ false
@@ -147,7 +131,7 @@ held_same : (saved : Option SavedFile) (old new : FilesState) → saved ≡ None
 held_same saved old new none holds = subst (λ s. HoldsAfter s old new) none holds
 
 -- what is told of want of memory has status 8
-eight_told : (status : ℕ) (old new : SinkState) → Tells (Err why.NoMemory) status old new → (status ≡ 8) × GrowsInPart old.written (failure_line why.NoMemory) new.written
+eight_told : (status : ℕ) (old new : SinkState) → Tells (Some why.NoMemory) None status old new → (status ≡ 8) × GrowsInPart old.written (failure_line why.NoMemory) new.written
 eight_told status old new (inl (eight, told)) = (eight, told.part)
 eight_told status old new (inr (eight, part)) = (eight, part)
 
@@ -159,7 +143,7 @@ module _ (words : List (List ℕ)) (old new : World) (view : View) (is_view : Is
 
   -- it failed
   put_failed : (status : ℕ) → ((other : Answer) → IsAnswer words (outside_of old view) other → PutsAll (Err putting.Failed) other.out old.out new.out)
-      → Rose old.out.faults new.out.faults → Tells (Err why.WriteFault) status old.err new.err → Keeps words status old new
+      → Rose old.out.faults new.out.faults → Tells (Some why.WriteFault) None status old.err new.err → Keeps words status old new
   put_failed status puts rose tells = record {
     outside = outside_of old view;
     cause = put_fault;
@@ -177,20 +161,20 @@ module _ (words : List (List ℕ)) (old new : World) (view : View) (is_view : Is
       alone : faults_of new ≡ record { files = old.files.counts; reads = old.input.faults; puts = new.out.faults }
       alone = λ i. record { files = (same i).counts; reads = reads_same i; puts = new.out.faults }
 
-      by_line : Tells (Err why.WriteFault) status old.err new.err → (status ≡ 7) ⊎ (status ≡ 8)
+      by_line : Tells (Some why.WriteFault) None status old.err new.err → (status ≡ 7) ⊎ (status ≡ 8)
       by_line (inl (seven, told)) = inl seven
       by_line (inr (eight, part)) = inr eight
 
-      seven_or_eight : Tells (Err why.WriteFault) status old.err new.err
+      seven_or_eight : Tells (Some why.WriteFault) None status old.err new.err
           → (status ≡ 6) ⊎ (status ≡ 7) ⊎ (status ≡ 8) ⊎ IsGiven (IsAnswer words (outside_of old view)) status old new
       seven_or_eight (inl (seven, told)) = inr (inl seven)
       seven_or_eight (inr (eight, part)) = inr (inr (inl eight))
 
-      not_nine : Tells (Err why.WriteFault) status old.err new.err → status ≢ 9
+      not_nine : Tells (Some why.WriteFault) None status old.err new.err → status ≢ 9
       not_nine (inl (seven, told)) nine = omega (arith, seven, nine)
       not_nine (inr (eight, part)) nine = omega (arith, eight, nine)
 
-      told_fault : Tells (Err why.WriteFault) status old.err new.err → TellsFault status old.err new.err
+      told_fault : Tells (Some why.WriteFault) None status old.err new.err → TellsFault status old.err new.err
       told_fault (inl (seven, told)) = record {
         read_fault = λ six. absurd (omega (arith, seven, six));
         write_fault = λ is. told;
@@ -226,7 +210,7 @@ module _ (words : List (List ℕ)) (old new : World) (view : View) (is_view : Is
 
   pub cut_off : (status : ℕ) (fault : PutFault) → IsCounted fault old.out new.out
       → ((other : Answer) → IsAnswer words (outside_of old view) other → PutsAll (Err fault) other.out old.out new.out)
-      → Tells (Err (failure_of_put fault)) status old.err new.err → Keeps words status old new
+      → Tells (Some (failure_of_put fault)) None status old.err new.err → Keeps words status old new
   cut_off status putting.Failed rose puts tells = put_failed status puts rose tells
   cut_off status putting.Memory calm puts tells = put_short status puts calm (eight_told status old.err new.err tells)
 
@@ -266,7 +250,7 @@ module _ (words : List (List ℕ)) (old new : World) (view : View) (is_view : Is
     faultless = no_fault old new counts (input_faultless (CallsForInput words) view old.input new.input input) puts
 
     -- no file changes but with status 0
-    files_kept : answer.failure ≡ None ⊎ (answer.saved ≡ None) → EndsWell answer.failure status old.err new.err → (status ≡ 0) ⊎ (new.files.held ≡ old.files.held)
+    files_kept : answer.failure ≡ None ⊎ (answer.saved ≡ None) → EndsWell answer.failure answer.more status old.err new.err → (status ≡ 0) ⊎ (new.files.held ≡ old.files.held)
     files_kept (inl none) well = inl (well.status_is ∙ ap status_of none)
     files_kept (inr none) well = inr (held_same answer.saved old.files new.files none holds)
 
@@ -274,7 +258,7 @@ module _ (words : List (List ℕ)) (old new : World) (view : View) (is_view : Is
     files_short (inl none) failed = absurd (failed none)
     files_short (inr none) failed = inr (held_same answer.saved old.files new.files none holds)
 
-    pub delivered : EndsSo answer.failure status old.err new.err → Keeps words status old new
+    pub delivered : EndsSo answer.failure answer.more status old.err new.err → Keeps words status old new
     delivered (inl well) = record {
       outside = outside_of old view;
       cause = nothing;
@@ -325,7 +309,7 @@ module _ (words : List (List ℕ)) (old new : World) (view : View) (is_view : Is
 
   -- THE SAVE FAILED
   save_failed : (status : ℕ) (file : SavedFile) → answer.saved ≡ Some file → Grows old.out.written answer.out new.out.written → new.out.faults ≡ old.out.faults
-      → Saves (Err saving.Failed) file.name file.bytes (after all old.files) new.files → Tells (Err why.WriteFault) status old.err new.err → Keeps words status old new
+      → Saves (Err saving.Failed) file.name file.bytes (after all old.files) new.files → Tells (Some why.WriteFault) None status old.err new.err → Keeps words status old new
   save_failed status file saved grows puts (others, rose, counts, requests) tells = record {
     outside = outside_of old view;
     cause = save_fault;
@@ -341,20 +325,20 @@ module _ (words : List (List ℕ)) (old new : World) (view : View) (is_view : Is
     told = told_fault tells;
   }
     where
-      by_line : Tells (Err why.WriteFault) status old.err new.err → (status ≡ 7) ⊎ (status ≡ 8)
+      by_line : Tells (Some why.WriteFault) None status old.err new.err → (status ≡ 7) ⊎ (status ≡ 8)
       by_line (inl (seven, told)) = inl seven
       by_line (inr (eight, part)) = inr eight
 
-      seven_or_eight : Tells (Err why.WriteFault) status old.err new.err
+      seven_or_eight : Tells (Some why.WriteFault) None status old.err new.err
           → (status ≡ 6) ⊎ (status ≡ 7) ⊎ (status ≡ 8) ⊎ IsGiven (IsAnswer words (outside_of old view)) status old new
       seven_or_eight (inl (seven, told)) = inr (inl seven)
       seven_or_eight (inr (eight, part)) = inr (inr (inl eight))
 
-      not_nine : Tells (Err why.WriteFault) status old.err new.err → status ≢ 9
+      not_nine : Tells (Some why.WriteFault) None status old.err new.err → status ≢ 9
       not_nine (inl (seven, told)) nine = omega (arith, seven, nine)
       not_nine (inr (eight, part)) nine = omega (arith, eight, nine)
 
-      told_fault : Tells (Err why.WriteFault) status old.err new.err → TellsFault status old.err new.err
+      told_fault : Tells (Some why.WriteFault) None status old.err new.err → TellsFault status old.err new.err
       told_fault (inl (seven, told)) = record {
         read_fault = λ six. absurd (omega (arith, seven, six));
         write_fault = λ is. told;
@@ -389,14 +373,14 @@ module _ (words : List (List ℕ)) (old new : World) (view : View) (is_view : Is
   }
 
   by_put : (status : ℕ) (fault : PutFault) → PutsAll (Err fault) answer.out old.out new.out → new.files ≡ after all old.files
-      → Tells (Err (failure_of_put fault)) status old.err new.err → Keeps words status old new
+      → Tells (Some (failure_of_put fault)) None status old.err new.err → Keeps words status old new
   by_put status fault puts same tells =
       cut_off words old new view is_view input all named same status fault (counted answer.out old.out new.out fault puts)
       (λ other is. subst (λ (a : Answer). PutsAll (Err fault) a.out old.out new.out) (unique other is) puts) tells
 
   by_save : (status : ℕ) (file : SavedFile) (fault : SaveFault) → answer.saved ≡ Some file → Grows old.out.written answer.out new.out.written
       → new.out.faults ≡ old.out.faults → Saves (Err fault) file.name file.bytes (after all old.files) new.files
-      → Tells (Err (failure_of_save fault)) status old.err new.err → Keeps words status old new
+      → Tells (Some (failure_of_save fault)) None status old.err new.err → Keeps words status old new
   by_save status file saving.Failed saved grows puts saves tells = save_failed status file saved grows puts saves tells
   by_save status file saving.Memory saved grows puts (inl same) tells =
       let (eight, part) = eight_told status old.err new.err tells in
@@ -409,14 +393,14 @@ module _ (words : List (List ℕ)) (old new : World) (view : View) (is_view : Is
 
   by_file : (status : ℕ) (saved : Option SavedFile) (failure : Failure) → answer.saved ≡ saved → Grows old.out.written answer.out new.out.written
       → new.out.faults ≡ old.out.faults → SavesFile (Err failure) saved (after all old.files) new.files
-      → Tells (Err failure) status old.err new.err → Keeps words status old new
+      → Tells (Some failure) None status old.err new.err → Keeps words status old new
   by_file status None failure is grows puts saves tells = absurd saves
   by_file status (Some file) failure is grows puts (fault, same, saves) tells =
-      by_save status file fault is grows puts saves (subst (λ f. Tells (Err f) status old.err new.err) same tells)
+      by_save status file fault is grows puts saves (subst (λ f. Tells (Some f) None status old.err new.err) same tells)
 
   undelivered : (status : ℕ) (failure : Failure) → Delivers (Err failure) answer (after all old.files) new.files old.out new.out
-      → Tells (Err failure) status old.err new.err → Keeps words status old new
-  undelivered status failure (inl (fault, is, puts, same)) tells = by_put status fault puts same (subst (λ f. Tells (Err f) status old.err new.err) is tells)
+      → Tells (Some failure) None status old.err new.err → Keeps words status old new
+  undelivered status failure (inl (fault, is, puts, same)) tells = by_put status fault puts same (subst (λ f. Tells (Some f) None status old.err new.err) is tells)
   undelivered status failure (inr ((grows, puts), saves)) tells = by_file status answer.saved failure refl grows puts saves tells
 
   -- what a save that was done leaves
@@ -430,9 +414,11 @@ module _ (words : List (List ℕ)) (old new : World) (view : View) (is_view : Is
   saved_well (Some file) (others, has, counts, requests) = ((others, has), counts, requests ∙ append_assoc old.files.requests all (Save file.name ∷ []))
 
   -- AN ANSWER THAT WAS FOUND meets the theorem, however its delivery ended
-  pub found : (status : ℕ) (done delivered : Result ⊤ Failure) → Delivers delivered answer (after all old.files) new.files old.out new.out
-      → EndsAs done delivered answer → Tells done status old.err new.err → Keeps words status old new
-  found status done (Ok ok) ((grows, puts), saves) by tells =
+  pub found : (status : ℕ) (ending : Ending) (delivered : Result ⊤ Failure) → Delivers delivered answer (after all old.files) new.files old.out new.out
+      → EndsAs ending delivered answer → Tells ending.failure ending.more status old.err new.err → Keeps words status old new
+  found status ending (Ok ok) ((grows, puts), saves) by tells =
       let (holds, counts, requests) = saved_well answer.saved saves in
-      delivered status grows puts holds counts requests (ends answer.failure is_end.low done by status old.err new.err tells)
-  found status done (Err failure) delivers is tells = undelivered status failure delivers (subst (λ d. Tells d status old.err new.err) is tells)
+      delivered status grows puts holds counts requests
+      (ends answer.failure answer.more is_end.low status old.err new.err (subst (λ (e : Ending). Tells e.failure e.more status old.err new.err) by tells))
+  found status ending (Err failure) delivers is tells =
+      undelivered status failure delivers (subst (λ (e : Ending). Tells e.failure e.more status old.err new.err) is tells)

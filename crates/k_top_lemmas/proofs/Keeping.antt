@@ -15,6 +15,7 @@ use Rattle.k_top_answers.specs.Answers.{CallsForFiles, CallsForInput, IsAnswer, 
 use Rattle.k_top_answers.specs.Clauses.{AsksFiles, Cause, HasRun, IsAnswered, GoesFar, IsOr8, Keeps, ReadsInput, TellsFault, World, faults_of, is_blame, load_fault, long, miss, nothing, read_fault}
 use Rattle.k_top_answers.specs.Failures.{failure_line, failure_status, status_of}
 use Rattle.k_top_answers.specs.Requests.{AreMade, AreToLoad, EndsAt, IsFront, saves_of}
+use Rattle.k_top_lemmas.specs.declared.ending.Ending.{Ending}
 use Rattle.k_top_lemmas.specs.Parts.{Delivers, IfRefusal, Tells}
 use Rattle.k_top_lemmas.specs.Phases.{Around, Everywhere, FailsBefore, FilesAfter, InputAfter, IsQuiet, IsView, LoadsAll, LoadsStop, Stops, View}
 use Rattle.k_top_lemmas.specs.Streams.{Performs, behind}
@@ -62,7 +63,7 @@ module _ (words : List (List ℕ)) (old new : World) (view : View) (is_view : Is
       (λ other is. (front_longer made all (saves_of other.saved) front, λ not_8. absurd (not_8 eight))) asked
 
   -- a refusal is the answer, whose line was told, or the line of want of memory in part
-  refused : (status : ℕ) (failure : Failure) → IsAnswer words (outside_of old view) (refusal failure) → Tells (Err failure) status old.err new.err
+  refused : (status : ℕ) (failure : Failure) → IsAnswer words (outside_of old view) (refusal failure) → Tells (Some failure) None status old.err new.err
       → IsAnswered (IsAnswer words (outside_of old view)) status old new
   refused status failure is (inl (same, told)) = inr (inr (inr (record {
     answer = refusal failure;
@@ -75,13 +76,13 @@ module _ (words : List (List ℕ)) (old new : World) (view : View) (is_view : Is
   refused status failure is (inr (eight, part)) = inr (inr (inl eight))
 
   -- the status is the failure's, or 8
-  status_or_8 : (status : ℕ) (failure : Failure) → Tells (Err failure) status old.err new.err → (status ≡ failure_status failure) ⊎ (status ≡ 8)
+  status_or_8 : (status : ℕ) (failure : Failure) → Tells (Some failure) None status old.err new.err → (status ≡ failure_status failure) ⊎ (status ≡ 8)
   status_or_8 status failure (inl (same, told)) = inl same
   status_or_8 status failure (inr (eight, part)) = inr eight
 
   -- a refusal tells no fault
   refusal_told : (status : ℕ) (failure : Failure) → failure_status failure ≢ 6 → failure_status failure ≢ 7 → failure_status failure ≢ 8
-      → Tells (Err failure) status old.err new.err → TellsFault status old.err new.err
+      → Tells (Some failure) None status old.err new.err → TellsFault status old.err new.err
   refusal_told status failure not_6 not_7 not_8 (inl (same, told)) = record {
     read_fault = λ six. absurd (not_6 (sym same ∙ six));
     write_fault = λ seven. absurd (not_7 (sym same ∙ seven));
@@ -90,7 +91,7 @@ module _ (words : List (List ℕ)) (old new : World) (view : View) (is_view : Is
   refusal_told status failure not_6 not_7 not_8 (inr (eight, part)) = told_8 status eight old.err new.err part
 
   -- a failed read tells its line
-  read_told : (status : ℕ) → Tells (Err why.ReadFault) status old.err new.err → TellsFault status old.err new.err
+  read_told : (status : ℕ) → Tells (Some why.ReadFault) None status old.err new.err → TellsFault status old.err new.err
   read_told status (inl (six, told)) = record {
     read_fault = λ is. told;
     write_fault = λ seven. absurd (omega (arith, six, seven));
@@ -148,7 +149,7 @@ module _ (words : List (List ℕ)) (old new : World) (view : View) (is_view : Is
   calm : (status : ℕ) (failure : Failure) → 3 ≤ failure_status failure → failure_status failure ≢ 6 → failure_status failure ≢ 7 → failure_status failure ≢ 8
       → failure_status failure ≢ 9 → is_blame (failure_status failure) ≡ false → IsAnswer words (outside_of old view) (refusal failure)
       → (all : List Request) → AreToLoad words all → (made : List Request) → IsFront made all → AreMade (Some failure) all made → new.files ≡ after made old.files
-      → new.input ≡ old.input → Tells (Err failure) status old.err new.err → Keeps words status old new
+      → new.input ≡ old.input → Tells (Some failure) None status old.err new.err → Keeps words status old new
   calm status failure low not_6 not_7 not_8 not_9 blame is all named made front far files input tells = record {
     outside = outside_of old view;
     cause = nothing;
@@ -176,7 +177,7 @@ module _ (words : List (List ℕ)) (old new : World) (view : View) (is_view : Is
 
   -- A FILE IS MISSING, or too long
   missing : (status : ℕ) (file : List ℕ) → IsAnswer words (outside_of old view) (refusal (why.Absent file)) → (all : List Request) → AreToLoad words all
-      → (made : List Request) → Stops (why.Absent file) all made → FilesAfter (why.Absent file) made old.files new.files → new.input ≡ old.input → Tells (Err (why.Absent file)) status old.err new.err → Keeps words status old new
+      → (made : List Request) → Stops (why.Absent file) all made → FilesAfter (why.Absent file) made old.files new.files → new.input ≡ old.input → Tells (Some (why.Absent file)) None status old.err new.err → Keeps words status old new
   missing status file is all named made (front, ends) (rose, same) input tells = record {
     outside = outside_of old view;
     cause = miss;
@@ -202,7 +203,7 @@ module _ (words : List (List ℕ)) (old new : World) (view : View) (is_view : Is
       never_9 (inr eight) nine = omega (arith, eight, nine)
 
   long_file : (status : ℕ) (file : List ℕ) → IsAnswer words (outside_of old view) (refusal (why.FileLong file)) → (all : List Request) → AreToLoad words all
-      → (made : List Request) → Stops (why.FileLong file) all made → FilesAfter (why.FileLong file) made old.files new.files → new.input ≡ old.input → Tells (Err (why.FileLong file)) status old.err new.err → Keeps words status old new
+      → (made : List Request) → Stops (why.FileLong file) all made → FilesAfter (why.FileLong file) made old.files new.files → new.input ≡ old.input → Tells (Some (why.FileLong file)) None status old.err new.err → Keeps words status old new
   long_file status file is all named made (front, ends) (rose, same) input tells = record {
     outside = outside_of old view;
     cause = long;
@@ -229,7 +230,7 @@ module _ (words : List (List ℕ)) (old new : World) (view : View) (is_view : Is
 
   -- A LOAD FAILED
   unloaded : (status : ℕ) → CallsForFiles words → (all : List Request) → AreToLoad words all → (made : List Request) → Stops why.ReadFault all made
-      → FilesAfter why.ReadFault made old.files new.files → new.input ≡ old.input → Tells (Err why.ReadFault) status old.err new.err → Keeps words status old new
+      → FilesAfter why.ReadFault made old.files new.files → new.input ≡ old.input → Tells (Some why.ReadFault) None status old.err new.err → Keeps words status old new
   unloaded status calls all named made stops (rose, same) input tells = record {
     outside = outside_of old view;
     cause = load_fault;
@@ -252,14 +253,14 @@ module _ (words : List (List ℕ)) (old new : World) (view : View) (is_view : Is
       never_9 (inl six) nine = omega (arith, six, nine)
       never_9 (inr eight) nine = omega (arith, eight, nine)
 
-      six_or_8 : Tells (Err why.ReadFault) status old.err new.err → IsAnswered (IsAnswer words (outside_of old view)) status old new
+      six_or_8 : Tells (Some why.ReadFault) None status old.err new.err → IsAnswered (IsAnswer words (outside_of old view)) status old new
       six_or_8 (inl (six, told)) = inl six
       six_or_8 (inr (eight, part)) = inr (inr (inl eight))
 
   -- A READ OF THE INPUT FAILED
   unread : (status : ℕ) → CallsForInput words (outside_of old view) → (all : List Request) → AreToLoad words all → new.files ≡ after all old.files
       → DrawsWithin input_limit old.input new.input
-      → Rose old.input.faults new.input.faults → new.input.ended ≡ old.input.ended → Tells (Err why.ReadFault) status old.err new.err → Keeps words status old new
+      → Rose old.input.faults new.input.faults → new.input.ended ≡ old.input.ended → Tells (Some why.ReadFault) None status old.err new.err → Keeps words status old new
   unread status calls all named same draws rose unended tells = record {
     outside = outside_of old view;
     cause = read_fault;
@@ -282,7 +283,7 @@ module _ (words : List (List ℕ)) (old new : World) (view : View) (is_view : Is
       never_9 (inl six) nine = omega (arith, six, nine)
       never_9 (inr eight) nine = omega (arith, eight, nine)
 
-      six_or_8 : Tells (Err why.ReadFault) status old.err new.err → IsAnswered (IsAnswer words (outside_of old view)) status old new
+      six_or_8 : Tells (Some why.ReadFault) None status old.err new.err → IsAnswered (IsAnswer words (outside_of old view)) status old new
       six_or_8 (inl (six, told)) = inl six
       six_or_8 (inr (eight, part)) = inr (inr (inl eight))
 
@@ -307,7 +308,7 @@ module _ (words : List (List ℕ)) (old new : World) (view : View) (is_view : Is
   -- THE INPUT IS TOO LONG
   input_long : (status : ℕ) → IsAnswer words (outside_of old view) (refusal why.InputLong) → CallsForInput words (outside_of old view) → (all : List Request)
       → AreToLoad words all → new.files ≡ after all old.files → DrawsTooMany input_limit old.input new.input → new.input.faults ≡ old.input.faults → new.input.ended ≡ old.input.ended
-      → Tells (Err why.InputLong) status old.err new.err → Keeps words status old new
+      → Tells (Some why.InputLong) None status old.err new.err → Keeps words status old new
   input_long status is calls all named same draws reads unended tells = record {
     outside = outside_of old view;
     cause = nothing;
@@ -337,7 +338,7 @@ module _ (words : List (List ℕ)) (old new : World) (view : View) (is_view : Is
 
   -- no memory was found, and nothing was asked of the input
   short_of_memory : (status : ℕ) (all : List Request) → AreToLoad words all → (made : List Request) → IsFront made all → new.files ≡ after made old.files
-      → new.input ≡ old.input → Tells (Err why.NoMemory) status old.err new.err → Keeps words status old new
+      → new.input ≡ old.input → Tells (Some why.NoMemory) None status old.err new.err → Keeps words status old new
   short_of_memory status all named made front files input (inl (eight, told)) =
       no_memory status (untouched status (λ nine. omega (arith, eight, nine)) (not_run status 8 (omega arith) (λ e. omega (arith, e)) (inr eight)) input)
       all named made front files (ap (λ (s : SourceState). s.faults) input) eight told.part
@@ -348,7 +349,7 @@ module _ (words : List (List ℕ)) (old new : World) (view : View) (is_view : Is
   -- or some of the input was drawn
   drawn_short : (status : ℕ) → CallsForInput words (outside_of old view) → DrawsWithin input_limit old.input new.input
       → (all : List Request) → AreToLoad words all → new.files ≡ after all old.files → new.input.faults ≡ old.input.faults → new.input.ended ≤ old.input.ended + 1
-      → Tells (Err why.NoMemory) status old.err new.err → Keeps words status old new
+      → Tells (Some why.NoMemory) None status old.err new.err → Keeps words status old new
   drawn_short status calls draws all named files reads once (inl (eight, told)) =
       no_memory status (drawn status calls draws once (λ nine. omega (arith, eight, nine)) (not_run status 8 (omega arith) (λ e. omega (arith, e)) (inr eight)))
       all named all (front_same all all refl) files reads eight told.part
@@ -364,7 +365,7 @@ module _ (words : List (List ℕ)) (old new : World) (view : View) (is_view : Is
   -- the failure of a status that is neither of a fault nor 9
   by_files : (status : ℕ) (failure : Failure) → CallsForFiles words → (all : List Request) → AreToLoad words all → LoadsStop failure all old.files new.files
       → new.input ≡ old.input
-      → IfRefusal failure (IsAnswer words (outside_of old view) (refusal failure)) → Tells (Err failure) status old.err new.err → Keeps words status old new
+      → IfRefusal failure (IsAnswer words (outside_of old view) (refusal failure)) → Tells (Some failure) None status old.err new.err → Keeps words status old new
   by_files status (why.Trapped trap place) loads all named (made, stops, left) input is tells = absurd left
   by_files status (why.OutOfSteps steps) loads all named (made, stops, left) input is tells = absurd left
   by_files status (why.Lex fault) loads all named (made, stops, left) input is tells =
@@ -394,7 +395,7 @@ module _ (words : List (List ℕ)) (old new : World) (view : View) (is_view : Is
 
   by_input : (status : ℕ) (failure : Failure) → CallsForInput words (outside_of old view) → LoadsAll (AreToLoad words) old.files new.files
       → InputAfter failure old.input new.input
-      → IfRefusal failure (IsAnswer words (outside_of old view) (refusal failure)) → Tells (Err failure) status old.err new.err → Keeps words status old new
+      → IfRefusal failure (IsAnswer words (outside_of old view) (refusal failure)) → Tells (Some failure) None status old.err new.err → Keeps words status old new
   by_input status (why.Trapped trap place) calls loaded left is tells = absurd left
   by_input status (why.OutOfSteps steps) calls loaded left is tells = absurd left
   by_input status (why.Lex fault) calls loaded left is tells = absurd left
@@ -415,7 +416,7 @@ module _ (words : List (List ℕ)) (old new : World) (view : View) (is_view : Is
 
   -- nothing was asked of the outside
   quiet : (status : ℕ) (failure : Failure) → IsQuiet failure → IfRefusal failure (AreToLoad words []) → new.files ≡ after [] old.files → new.input ≡ old.input
-      → IfRefusal failure (IsAnswer words (outside_of old view) (refusal failure)) → Tells (Err failure) status old.err new.err → Keeps words status old new
+      → IfRefusal failure (IsAnswer words (outside_of old view) (refusal failure)) → Tells (Some failure) None status old.err new.err → Keeps words status old new
   quiet status (why.Trapped trap place) silent none files input is tells = absurd silent
   quiet status (why.OutOfSteps steps) silent none files input is tells = absurd silent
   quiet status (why.Lex fault) silent none files input is tells =
@@ -440,7 +441,7 @@ module _ (words : List (List ℕ)) (old new : World) (view : View) (is_view : Is
   quiet status (why.SumLarge file) silent none files input is tells = absurd silent
 
   pub not_found : (status : ℕ) (failure : Failure) → FailsBefore failure (CallsForFiles words) (AreToLoad words) (CallsForInput words) view (around old) (around new)
-      → IfRefusal failure (Everywhere view (λ outside. IsAnswer words outside (refusal failure))) → Tells (Err failure) status old.err new.err → Keeps words status old new
+      → IfRefusal failure (Everywhere view (λ outside. IsAnswer words outside (refusal failure))) → Tells (Some failure) None status old.err new.err → Keeps words status old new
   not_found status failure (inl (loads, (all, named, stop), input)) is tells = by_files status failure loads all named stop input (here failure is) tells
   not_found status failure (inr (inl (calls, loaded, left))) is tells =
       by_input status failure (calls (outside_of old view) (shows old view is_view)) loaded left (here failure is) tells
@@ -474,19 +475,20 @@ held_before failure loads named calls view old new (inr (inl (called, (all, is, 
 held_before failure loads named calls view old new (inr (inr (silent, none, same))) = ap (λ (a : Around). a.files.held) same
 
 -- WHAT THE CALL COMES TO meets the theorem
-pub keeps : AnswersAreUnique → (words : List (List ℕ)) (status : ℕ) (done : Result ⊤ Failure) (old new : World)
-    → Performs done words (around old) (around new) old.out new.out → Tells done status old.err new.err → Keeps words status old new
-keeps unique words status done old new (inl (failure, is, inl ((view, is_view, (before, refusal)), same_out))) tells =
+pub keeps : AnswersAreUnique → (words : List (List ℕ)) (status : ℕ) (ending : Ending) (old new : World)
+    → Performs ending words (around old) (around new) old.out new.out → Tells ending.failure ending.more status old.err new.err → Keeps words status old new
+keeps unique words status ending old new (inl (failure, is, inl ((view, is_view, (before, refusal)), same_out))) tells =
     not_found words old new view is_view same_out (unique words (outside_of old view))
     (held_before failure (CallsForFiles words) (AreToLoad words) (CallsForInput words) view (around old) (around new) before)
-    status failure before refusal (subst (λ d. Tells d status old.err new.err) is tells)
-keeps unique words status done old new (inl (failure, is, inr (view, is_view, (fault, same_failure, counts, (all, named, same), input, puts)))) tells =
+    status failure before refusal (subst (λ (e : Ending). Tells e.failure e.more status old.err new.err) is tells)
+keeps unique words status ending old new (inl (failure, is, inr (view, is_view, (fault, same_failure, counts, (all, named, same), input, puts)))) tells =
     cut_off words old new view is_view input all named same status fault counts (puts (outside_of old view) (shows old view is_view))
-    (subst (λ f. Tells (Err f) status old.err new.err) same_failure (subst (λ d. Tells d status old.err new.err) is tells))
-keeps unique words status done old new
+    (subst (λ f. Tells (Some f) None status old.err new.err) same_failure
+    (subst (λ (e : Ending). Tells e.failure e.more status old.err new.err) is tells))
+keeps unique words status ending old new
     (inr (answer, delivered, mid, out_mid, (first, puts, (view, is_view, ((all, named, same), input, is_end, is_answer))), delivers, ends)) tells =
     let is = is_answer (outside_of old view) (shows old view is_view) in
     found words old new view is_view (behind first answer) is (λ other other_is. unique words (outside_of old view) (behind first answer) other is other_is) is_end input
-    all named status done delivered
+    all named status ending delivered
     (subst (λ (f : FilesState). Delivers delivered (behind first answer) f new.files old.out new.out) same
-    (delivered_behind first answer delivered mid new.files old.out out_mid new.out puts delivers)) (ends_behind first answer done delivered ends) tells
+    (delivered_behind first answer delivered mid new.files old.out out_mid new.out puts delivers)) (ends_behind first answer ending delivered ends) tells

@@ -31,6 +31,7 @@ pub mod FileLemmas
 mod Sounding
 mod OneSummary
 pub mod OneAnswer
+mod NothingPut
 mod Putting
 mod Delivering
 pub mod Streaming

@@ -26,4 +26,4 @@ one_reported r exit depth dict save one other is returned fits some tracked a b 
     let tree = tree_of (ran_of r exit depth) dict a.profile a.report a.is_report in
     let both = run_report_is_unique (ran_of r exit depth) tree.0 dict a.profile b.profile a.report b.report
     (run_whole r is exit depth returned fits some tracked) tree.1 (run_few r depth tree.0 is tree.1) a.is_report b.is_report in
-    a.is ∙ (λ i. record { out = with_report (run_of r).output (both.1 i); failure = None; saved = saved_file save (both.0 i) }) ∙ sym b.is
+    a.is ∙ (λ i. record { out = with_report (run_of r).output (both.1 i); failure = None; more = None; saved = saved_file save (both.0 i) }) ∙ sym b.is

@@ -23,6 +23,7 @@ use Rattle.k_top_answers.specs.Answers.{AnswersAsked, AnswersJob, AnswersRun, An
 use Rattle.k_top_answers.specs.Requests.{loads_of}
 use Rattle.k_top_answers.specs.Steps.{Outside, Running, run_of}
 use Rattle.k_top_answers.specs.Texts.{ends_line, with_report}
+use Rattle.k_top_lemmas.specs.declared.ending.Ending.{Ending}
 use Rattle.k_top_lemmas.specs.declared.running.Ready.{Ready}
 use Rattle.k_top_lemmas.specs.Parts.{Delivers, EndsAs, IsProfileOfRun, PutsAll, running_of}
 use Rattle.k_top_lemmas.specs.Phases.{Around, FindsAnswer, FindsJob, MakesReady}
@@ -41,9 +42,9 @@ delivered_behind first answer (Err failure) files files' out mid out' puts (inl 
     inl (fault, is, second_cut first answer.out out mid out' fault puts rest, same)
 delivered_behind first answer (Err failure) files files' out mid out' puts (inr (rest, saves)) = inr (both_put first answer.out out mid out' puts rest, saves)
 
-pub ends_behind : (first : List ℕ) (answer : Answer) (result done : Result ⊤ Failure) → EndsAs result done answer → EndsAs result done (behind first answer)
-ends_behind first answer result (Ok ok) ends = ends
-ends_behind first answer result (Err failure) ends = ends
+pub ends_behind : (first : List ℕ) (answer : Answer) (ending : Ending) (done : Result ⊤ Failure) → EndsAs ending done answer → EndsAs ending done (behind first answer)
+ends_behind first answer ending (Ok ok) ends = ends
+ends_behind first answer ending (Err failure) ends = ends
 
 -- NOTHING IS PUT while the answer of another command is found
 pub nothing_first : (result : Result Answer Failure) (asked : Job) (old new : Around) (out out' : SinkState) → out' ≡ out → FindsJob result asked old new
@@ -128,6 +129,7 @@ module _ (r : Running) (depth : ℕ) (dict : Bool) (save : Option (List ℕ)) (f
   whole_of answer how same = λ i. record {
     out = (ap (λ (a : Answer). first ++ a.out) same ∙ is.output) i;
     failure = (same i).failure;
+    more = (same i).more;
     saved = (same i).saved;
   }
 
@@ -195,8 +197,8 @@ module _ (file : List ℕ) (latency : Option (List ℕ)) (steps depth : ℕ) (di
       )
 
 -- AN ANSWER that was found, and whose rest was then delivered
-pub found_delivered : (list : List (List ℕ)) (answer : Answer) (delivered result : Result ⊤ Failure) (old mid : Around) (files : FilesState) (out out_mid out' : SinkState)
-    → StreamsAnswer (Ok answer) list old mid out out_mid → Delivers delivered answer mid.files files out_mid out' → EndsAs result delivered answer
-    → Performs result list old (record { files = files; input = mid.input }) out out'
-found_delivered list answer delivered result old mid files out out_mid out' found delivers ends =
+pub found_delivered : (list : List (List ℕ)) (answer : Answer) (delivered : Result ⊤ Failure) (ending : Ending) (old mid : Around) (files : FilesState) (out out_mid out' : SinkState)
+    → StreamsAnswer (Ok answer) list old mid out out_mid → Delivers delivered answer mid.files files out_mid out' → EndsAs ending delivered answer
+    → Performs ending list old (record { files = files; input = mid.input }) out out'
+found_delivered list answer delivered ending old mid files out out_mid out' found delivers ends =
     inr (answer, delivered, mid.files, out_mid, found, delivers, ends)

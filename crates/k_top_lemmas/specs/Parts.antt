@@ -49,11 +49,12 @@ use Rattle.k_top_answers.specs.declared.answer.Answer.{Answer}
 use Rattle.k_top_answers.specs.declared.answer.SavedFile.{SavedFile}
 use Rattle.k_top_answers.specs.declared.failure.Failure.{Failure}
 use Rattle.k_top_answers.specs.declared.failure.Failure.TheVariants as why
+use Rattle.k_top_lemmas.specs.declared.ending.Ending.{Ending}
 use Rattle.k_top_lemmas.specs.declared.program.Program.{Program}
 use Rattle.k_top_lemmas.specs.declared.running.Ready.{Ready}
 use Rattle.k_top_answers.specs.Answers.{AnswersChecked, AnswersShown, done, refusal}
 use Rattle.k_top_answers.specs.Clauses.{Told}
-use Rattle.k_top_answers.specs.Failures.{failure_line, failure_of_load, failure_of_put, failure_of_reading, failure_of_save, failure_of_table, failure_status}
+use Rattle.k_top_answers.specs.Failures.{err_text, failure_line, failure_of_load, failure_of_put, failure_of_reading, failure_of_save, failure_of_table, failure_status}
 use Rattle.k_top_answers.specs.Steps.{AnswersSource, Running, file_limit, input_limit, profile_limit, run_of}
 use Rattle.k_top_answers.specs.Storage.{MayBeMarked, WritesStorage}
 use Rattle.k_top_answers.specs.Texts.{plan_line, tree_lines}
@@ -274,23 +275,22 @@ Delivers (Err failure) answer files files' out out' =
     ((fault : PutFault) × (failure ≡ failure_of_put fault) × PutsAll (Err fault) answer.out out out' × (files' ≡ files))
     ⊎ (PutsAll (Ok tt) answer.out out out' × SavesFile (Err failure) answer.saved files files')
 
--- how the call ends once its answer is delivered
-abbrev pub EndsBy : Result ⊤ Failure → Option Failure → Type 0
-EndsBy (Ok done) failure = failure ≡ None
-EndsBy (Err other) failure = failure ≡ Some other
+-- the call ends by a failure, of which its line alone is told
+abbrev pub failed : Failure → Ending
+failed failure = record { failure = Some failure; more = None }
 
 -- how the call ends behind an answer, whose delivery came to that
-abbrev pub EndsAs : Result ⊤ Failure → Result ⊤ Failure → Answer → Type 0
-EndsAs result (Ok done) answer = EndsBy result answer.failure
-EndsAs result (Err failure) answer = result ≡ Err failure
+abbrev pub EndsAs : Ending → Result ⊤ Failure → Answer → Type 0
+EndsAs ending (Ok done) answer = ending ≡ record { failure = answer.failure; more = answer.more }
+EndsAs ending (Err failure) answer = ending ≡ failed failure
 
--- a line was put on err, and this status answered: 8 in place of the one given where memory was wanting for the put
-abbrev pub PutsLine : List ℕ → ℕ → ℕ → SinkState → SinkState → Type 0
-PutsLine line given status old new = ((status ≡ given) × Told line old new) ⊎ ((status ≡ 8) × (new ≡ old))
+-- a text was put on err, and this status answered: 8 in place of the one given where memory was wanting for the put
+abbrev pub PutsText : List ℕ → ℕ → ℕ → SinkState → SinkState → Type 0
+PutsText text given status old new = ((status ≡ given) × Told text old new) ⊎ ((status ≡ 8) × (new ≡ old))
 
--- what was told on err of how the call ended, and the status that was answered: 8 where memory was wanting for the line
-abbrev pub Tells : Result ⊤ Failure → ℕ → SinkState → SinkState → Type 0
-Tells (Ok done) status old new = (status ≡ 0) × (new ≡ old)
-Tells (Err failure) status old new =
-    ((status ≡ failure_status failure) × Told (failure_line failure) old new)
+-- what was told on err of how the call ended, and the status that was answered: 8 where memory was wanting for the text
+abbrev pub Tells : Option Failure → Option (List ℕ) → ℕ → SinkState → SinkState → Type 0
+Tells None more status old new = (status ≡ 0) × (new ≡ old)
+Tells (Some failure) more status old new =
+    ((status ≡ failure_status failure) × Told (err_text failure more) old new)
     ⊎ ((status ≡ 8) × GrowsInPart old.written (failure_line why.NoMemory) new.written)

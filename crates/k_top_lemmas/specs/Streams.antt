@@ -14,7 +14,8 @@ use Rattle.k_top_answers.specs.Answers.{AnswersJob, AnswersRun, CallsForInput, I
 use Rattle.k_top_answers.specs.Failures.{failure_of_put}
 use Rattle.k_top_answers.specs.Requests.{AreToLoad, loads_of}
 use Rattle.k_top_answers.specs.Steps.{Outside, Running, run_of}
-use Rattle.k_top_lemmas.specs.Parts.{Delivers, EndsAs, PutsAll}
+use Rattle.k_top_lemmas.specs.declared.ending.Ending.{Ending}
+use Rattle.k_top_lemmas.specs.Parts.{Delivers, EndsAs, PutsAll, failed}
 use Rattle.k_top_lemmas.specs.Phases.{Around, Everywhere, FindsAnswer, FindsJob, InputDone, IsView, LoadsAll, View}
 
 -- the answer that puts these bytes before those of another
@@ -60,9 +61,9 @@ StreamsAnswer (Err failure) words old new out out' =
     ⊎ ((view : View) × IsView view old × GivesUp failure (AreToLoad words) (CallsForInput words) (IsAnswer words) view old new out out')
 
 -- what the whole call comes to, but for err: an answer is found and its rest delivered, or none is found
-abbrev pub Performs : Result ⊤ Failure → List (List ℕ) → Around → Around → SinkState → SinkState → Type 0
-Performs result words old new out out' =
-    ((failure : Failure) × (result ≡ Err failure) × StreamsAnswer (Err failure) words old new out out')
+abbrev pub Performs : Ending → List (List ℕ) → Around → Around → SinkState → SinkState → Type 0
+Performs ending words old new out out' =
+    ((failure : Failure) × (ending ≡ failed failure) × StreamsAnswer (Err failure) words old new out out')
     ⊎ ((answer : Answer) × (delivered : Result ⊤ Failure) × (mid : FilesState) × (out_mid : SinkState)
     × StreamsAnswer (Ok answer) words old (record { files = mid; input = new.input }) out out_mid
-    × Delivers delivered answer mid new.files out_mid out' × EndsAs result delivered answer)
+    × Delivers delivered answer mid new.files out_mid out' × EndsAs ending delivered answer)

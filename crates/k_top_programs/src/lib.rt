@@ -1,5 +1,5 @@
-//! A program of a file is made ready to run, and run: its files and its input are read, its source is accepted or refused, and it runs on the machine or
-//! before the interpreter that lists its events.
+//! A program of a file is made ready to run, and run: its files and its input are read, its source is accepted or refused, and it runs on the machine, or
+//! its events are listed.
 #![tactic(auto)]
 
 mod input;

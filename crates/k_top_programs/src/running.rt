@@ -1,6 +1,5 @@
 //! A program that is ready to run, and its run.
 ghost use Rattle.std.specs.Prelude.{◌≡◌, IfOk};
-ghost use Rattle.k_marks_meaning.specs.Marking.{marks_of};
 ghost use Rattle.k_evaluation.specs.Runs.{listing_of};
 ghost use Rattle.k_top_lemmas.specs.Parts.{CanRun, running_of};
 ghost use Rattle.k_top_lemmas.specs.Phases.{MakesReady};
@@ -40,7 +39,7 @@ pub fn make_ready<F: Files, S: Source>(
 
 /// The run of a program: its events, its output and its end.
 pub fn listing(alloc: Global, ready: &Ready) -> Result<Listing, NoMemory>
-    requires { ready.now.program.marks ≡ marks_of ready.now.program.typed }
+    requires { CanRun ready.now.program }
     ensures { IfOk result (λ listing. listing ≡ listing_of (run_of (running_of ready.now))) }
 {
     plain(

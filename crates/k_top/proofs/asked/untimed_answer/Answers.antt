@@ -1,7 +1,6 @@
 use Rattle.std.proofs.Common.{refl, sym, subst}
 use Rattle.k_words.specs.Within.{IsJobWithin}
 use Rattle.k_words.specs.declared.job.Job.{Job}
-use Rattle.k_words.specs.declared.job.Job.TheVariants as job
 use Rattle.k_top_lemmas.specs.Phases.{Around, FindsJob}
 use Rattle.k_top_lemmas.proofs.FileLemmas.{check_found, show_found}
 use Rattle.k_top_lemmas.proofs.MergeLemmas.{merge_found}

@@ -28,6 +28,7 @@ returns c =
         out = (ap (λ bytes. first ++ bytes) (c.from_vec.ensures ∙ c.in_ok-out.ensures ∙ ap (λ report. with_report c.args.rest.now report) c.as_slice.ensures.value)
             ∙ held_report first c.args.rest.now output profiled.report.items held) i;
         failure = None;
+        more = None;
         saved = c.in_ok-saved.ensures i;
       };
     }
