@@ -341,7 +341,7 @@ class Expressions:
         return self.place(False, depth) or self.literal()
 
     def comma(self, depth):
-        """A comma. Left of it there is always care: the interpreter doesn't read a value that isn't used, so that it has no trap there."""
+        """A comma. Left of it there is always care: a run doesn't read a value that isn't used, so it has no trap there."""
         value, careful = self.expression(depth - 1), self.safe
         self.safe = True
         left = self.expression(depth - 2)
