@@ -1,6 +1,7 @@
 pub mod Beginning
 pub mod Bounds
 pub mod Calling
+pub mod CallingSurely
 pub mod Few
 pub mod Here
 pub mod Levels

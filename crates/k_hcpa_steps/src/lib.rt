@@ -2,8 +2,11 @@
 #![tactic(auto)]
 
 mod calls;
+mod calls_surely;
+mod group;
 mod instances;
 mod instructions;
+mod joined;
 mod operation;
 mod parts;
 mod returns;

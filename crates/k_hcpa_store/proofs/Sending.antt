@@ -42,7 +42,7 @@ use Rattle.k_hcpa_store.specs.Calls.{slots_of, held_up_to, CallsTo, IsOver, IsEn
 use Rattle.k_hcpa_store.specs.Calls.{called as called_kept}
 use Rattle.k_hcpa_meaning.specs.Locations.{width, registers_of}
 use Rattle.k_hcpa_store.specs.Kept.{Kept, window, frame_of, waiting_of, configuration_of}
-use Rattle.k_hcpa_store.specs.Leads.{IsNext, GoesOn, EndsHere, EndsBehind, Calls, call_event}
+use Rattle.k_hcpa_store.specs.Leads.{IsNext, IsWithinLimits, GoesOn, EndsHere, EndsBehind, Calls, NotOver, call_event}
 use Rattle.k_hcpa_store.specs.Parts.{reads_in}
 use Rattle.k_hcpa_store.specs.Sound.{IsSound}
 use Rattle.k_hcpa_store.proofs.Longer.{operation_behind, operation_ends}
@@ -268,3 +268,22 @@ module _ (s : Kept) (i : Instr) (sound : IsSound s) (next : IsNext s i) (func : 
             subst (λ (h : CodeFunc). Calls s i h r new) which all.0,
         all.1,
       )
+
+  -- where a call more passes no limit, none is passed
+  never : (r : Result Calling Stop) (new : Kept) → CallsTo i.place f func args to s r new → overflows s.world f.size ≡ false → NotOver r
+  never (Ok calling.Entered) new told few = tt
+  never (Ok (calling.Overflowed end)) new o few =
+      let kept = calls_kept class.Call i.latency i.place does.Call (reads_of (configuration_of s) i.act) s.world new.world o.done (makes_here (Ok o.done) new.world o.made) in
+      let same : overflows new.world f.size ≡ overflows s.world f.size = λ j. overflows (record s.world { calls = kept.0 j; size = kept.1 j }) f.size in
+      let lie : true ≡ false = sym o.many ∙ same ∙ few in
+      absurd (cc lie)
+  never (Err e) new told few = tt
+
+  pub never_over : (r : Result Calling Stop) (new : Kept) (lent : List Arg) → lent ≡ args → CallsTo i.place f func lent to s r new → IsWithinLimits s i.act → NotOver r
+  never_over r new lent lent_is told within =
+      never r new (subst (λ (xs : List Arg). CallsTo i.place f func xs to s r new) lent_is told) (within func args to f is at)
+
+-- a call that was not made has changed nothing
+pub not_called : (s : Kept) (i : Instr) (f : CodeFunc) (e : Stop) (new : Kept) → Calls s i f (Err e) new → new ≡ s
+not_called s i f (stop.Ended end) new here = here.0
+not_called s i f stop.Memory new same = same

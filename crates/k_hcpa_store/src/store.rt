@@ -11,7 +11,7 @@ ghost use Rattle.k_code.specs.Steps.{reads_of};
 ghost use Rattle.k_code.specs.Valid.{IsValid};
 ghost use Rattle.k_hcpa_meaning.specs.Locations.{first_register as first_meant, frames_of, saved_in, waiting_frames, width, widths};
 ghost use Rattle.k_hcpa_store.specs.Kept.{configuration_of};
-ghost use Rattle.k_hcpa_store.specs.Leads.{Calls, GoesAlone, GoesOn, IsNext, Leaves, MakesBy, MayReturn, Operates, Starts, back_register as back_meant, goes_alone, goes_by, may_leave, source_read, stored_element};
+ghost use Rattle.k_hcpa_store.specs.Leads.{Calls, CallsSurely, GoesAlone, GoesOn, IsNext, Leaves, MakesBy, MayReturn, Operates, Starts, back_register as back_meant, goes_alone, goes_by, may_leave, source_read, stored_element};
 
 use crate::state::State;
 use crate::{Alone, Calling};
@@ -137,6 +137,14 @@ impl<'a> Store<'a> {
         ensures { (func : ℕ) (args : List Arg) (to : Option ℕ) (f : CodeFunc) → instr.now.act ≡ act.Call func args to → slice_get self.old.code.funcs func ≡ Some f → Calls self.old instr.now f result self.new }
     {
         self.state.call(instr)
+    }
+
+    /// The same where that is sure: it answers false where nothing is changed.
+    pub fn call_surely(&mut self, instr: &'a Instr) -> bool
+        requires { IsNext self.old instr.now }
+        ensures { (func : ℕ) (args : List Arg) (to : Option ℕ) (f : CodeFunc) → instr.now.act ≡ act.Call func args to → slice_get self.old.code.funcs func ≡ Some f → CallsSurely self.old instr.now f result self.new }
+    {
+        self.state.call_surely(instr)
     }
 
     /// The element that a store would write, for any other instruction none.

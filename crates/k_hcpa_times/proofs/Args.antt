@@ -77,7 +77,7 @@ steps_on first a rest whole args s t before behind start same live taken reached
 abbrev pub first_handed : ℕ → ℕ → Arg → Seen → Seen
 first_handed first to a s = made (arguments_handed first to 1 (a ∷ [])) s
 
-one_handed : (first to n : ℕ) (a : Arg) (rest : List Arg) (t : Timing)
+pub one_handed : (first to n : ℕ) (a : Arg) (rest : List Arg) (t : Timing)
     → arguments_handed first (to + 1) n rest (arguments_handed first to 1 (a ∷ []) t) ≡ arguments_handed first to (suc n) (a ∷ rest) t
 one_handed first to n (Number k) rest t = refl
 one_handed first to n (Reg r broken) rest t = refl

@@ -1,11 +1,13 @@
 //! The contract of the times of all locations while the control source's and the paths stand in lanes.
-ghost use Rattle.std.specs.Prelude.{◌≡◌, ℕ, ◌+◌, ◌*◌, ◌<◌, ◌≤◌, true, false, [], ◌∷◌, ◌++◌, length, IfSome};
-ghost use Rattle.k_hcpa_meaning.specs.Timings.{Register, Element, Control, operated, given_to, registers_cleared, control_saved, control_restored, control_kept, control_back, left_below};
+ghost use Rattle.std.specs.Prelude.{◌≡◌, ℕ, ◌+◌, ◌*◌, ◌^◌, ◌<◌, ◌≤◌, true, false, [], ◌∷◌, ◌++◌, length, IfSome};
+ghost use Rattle.k_hcpa_meaning.specs.Calls.{arguments_handed};
+ghost use Rattle.k_hcpa_meaning.specs.Timings.{Register, Element, Control, begun, settled, operated, given_to, registers_cleared, control_saved, control_restored, control_kept, control_back, left_below};
 ghost use Rattle.k_hcpa_times.specs.AtOnce.{at_once};
-ghost use Rattle.k_hcpa_times.specs.Seen.{levels, made, instance_entered};
+ghost use Rattle.k_hcpa_times.specs.Seen.{AreBelow, levels, made, instance_entered};
 ghost use Rattle.k_hcpa_times.specs.Lanes.{with_lanes, locations_from, AreRegistersBelow};
 
 use crate::timed::Timed;
+use k_code::Arg;
 use k_shadow::{Steps, TimeLanes};
 use std::marker::Model;
 use std::sync::ledger::Ledger;
@@ -27,6 +29,17 @@ impl<V: TimeLanes> Model for Lanes<V> {
     ghost view = { λ l. record { lanes = V.count; control = at_levels V.count (V.time l.control); paths = at_levels V.count (V.time l.paths) } };
 }
 
+/// The same lanes. What stands in a copy stands in memory wherever that is lent, and these do not.
+#[inline(always)]
+pub fn copied<V: TimeLanes>(lanes: &Lanes<V>) -> Lanes<V>
+    ensures { result ≡ lanes.now }
+{
+    Lanes {
+        control: lanes.control,
+        paths: lanes.paths,
+    }
+}
+
 /// The registers on which an operation depends: as many of these two as there are sources. They are numbered among those of all live calls.
 #[derive(Clone, Copy)]
 pub struct From {
@@ -44,6 +57,12 @@ pub trait Laned: Timed {
 
     /// These lanes may stand for the control source's times and the paths.
     ghost laned: { Self → Laid → Type 0 };
+
+    /// A call may be made whose parameters, so many, are in the registers from this one on, by an operation that takes so long.
+    ghost calls: { Self → ℕ → ℕ → ℕ → Type 0 };
+
+    /// An instance may be entered where so many are open, of which those below the depth have levels.
+    ghost enters: { Self → Laid → ℕ → ℕ → Type 0 };
 
     /// Moves the control source's times and the paths into lanes, where these can hold them. It takes no step: the control source is read by the operations
     /// that depend on it.
@@ -137,11 +156,54 @@ pub trait Laned: Timed {
         ensures laned { laned self.new lanes.now }
         ensures cleared { with_lanes lanes.now (Self.seen self.new) ≡ made (registers_cleared to 1) (with_lanes lanes.now (Self.seen self.old)) };
 
+    /// Makes room for a call, whose parameters are in the registers from this one on, and which enters an instance. It answers false where a call may not be
+    /// made in lanes.
+    fn admit_call<V: TimeLanes>(
+        &mut self,
+        lanes: &Lanes<V>,
+        to: u32,
+        params: u32,
+        latency: u32,
+        depth: u32,
+        opened: u64,
+    ) -> bool
+        requires laned { laned self.old lanes.now }
+        requires to { to + params ≤ (Self.seen self.old).registers }
+        ensures laned { laned self.new lanes.now }
+        ensures same { Self.seen self.new ≡ Self.seen self.old }
+        ensures calls { result ≡ true → calls self.new to params latency }
+        ensures enters { result ≡ true → enters self.new lanes.now depth opened };
+
+    /// A call is made: its operation depends on the operands, whose values are handed to the parameters. The caller's registers are numbered from `first`
+    /// on, those of the new call from `to` on. There are no more operands than parameters.
+    fn call_lanes<V: TimeLanes, L: Ledger>(
+        &mut self,
+        lanes: &mut Lanes<V>,
+        first: u32,
+        to: u32,
+        params: u32,
+        args: &[Arg],
+        latency: u32,
+        steps: &mut Steps<L>,
+    )
+        requires laned { laned self.old lanes.old }
+        requires calls { calls self.old to params latency }
+        requires args { AreBelow first (Self.seen self.old).registers args.now }
+        requires to { to + params ≤ (Self.seen self.old).registers }
+        requires few { length args.now ≤ params }
+        requires small { to + params < 2 ^ 32 }
+        ensures laned { laned self.new lanes.new }
+        ensures called { with_lanes lanes.new (Self.seen self.new) ≡ made (at_once (λ t. settled latency (arguments_handed first to params args.now (begun t)))) (with_lanes lanes.old (Self.seen self.old)) }
+        ensures enters { (depth opened : ℕ) → enters self.old lanes.old depth opened → enters self.new lanes.new depth opened }
+        ensures least { steps.old ≤ steps.new }
+        ensures steps { steps.new ≤ steps.old + (1 + length args.now) * levels (with_lanes lanes.old (Self.seen self.old)) };
+
     /// Enters an instance where so many are open, of which those below the depth have levels. It answers false where no lane is left for a level more,
     /// or where entries are no longer counted in 32 bits.
     fn enter_lanes<V: TimeLanes>(&mut self, lanes: &mut Lanes<V>, depth: u32, opened: u64) -> bool
         requires { laned self.old lanes.old }
         ensures laned { laned self.new lanes.new }
+        ensures sure { enters self.old lanes.old depth opened → result ≡ true }
         ensures entered { result ≡ true → with_lanes lanes.new (Self.seen self.new) ≡ instance_entered depth opened (with_lanes lanes.old (Self.seen self.old)) }
         ensures same { result ≡ false → with_lanes lanes.new (Self.seen self.new) ≡ with_lanes lanes.old (Self.seen self.old) };
 

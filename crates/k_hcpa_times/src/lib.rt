@@ -8,6 +8,6 @@ mod laned;
 mod location_times;
 mod timed;
 
-pub use laned::{From, Laned, Lanes};
+pub use laned::{From, Laned, Lanes, copied};
 pub use location_times::LocationTimes;
 pub use timed::Timed;

@@ -1,7 +1,7 @@
 -- What entering and leaving a level make of the entries of a control stack.
 use Rattle.std.proofs.Common.{◌≡◌, ℕ, zero, suc, ◌+◌, ◌-◌, ◌<◌, ◌≤◌, List, [], ◌∷◌, ◌++◌, length, take, set, get_or, map, Bool, refl, ap, sym, ◌∙◌, arith}
 use Rattle.std.specs.Prelude.{slice_index}
-use Rattle.std.proofs.lemmas.List.{ext_get_or, get_or-take, length-append, length-take-le, take-append-le, take-take, take_more, take_more_set}
+use Rattle.std.proofs.lemmas.List.{ext_get_or, get_or-map, get_or-take, length-append, length-take-le, take-append-le, take-take, take_more, take_more_set}
 use Rattle.k_shadow.specs.declared.row.Row.{Row}
 use Rattle.k_shadow.specs.Numbers.{Numbers, number_given, number_left, WereGiven}
 use Rattle.k_shadow.specs.Rows.{Seen, seen, blank_row, row_at, row_time, times_of, stack_in, WereStamped}
@@ -108,6 +108,17 @@ pub saved_counted : (rows : List (Row 32)) (live : List ℕ) (count : ℕ) → c
 saved_counted rows live zero h = refl
 saved_counted [] live (suc n) h = absurd (omega arith)
 saved_counted (row ∷ rows) live (suc n) h = ap suc (saved_counted rows live n (omega arith))
+
+-- the newest saved entry
+pub newest_saved : (rows : List (Row 32)) (live : List ℕ) (count : ℕ) (saved : List (List ℕ)) → 0 < count → count ≤ length rows → map (λ row. times_of (seen row) live) (take count rows) ≡ saved → get_or saved (length saved - 1) [] ≡ times_of (row_at rows (count - 1)) live
+newest_saved rows live count saved some few same =
+    let f : Row 32 → List ℕ = λ row. times_of (seen row) live in
+    let all : length saved ≡ count = sym (ap length same) ∙ saved_counted rows live count few in
+    let low : count - 1 < length (take count rows) = omega (arith, length-take-le count rows few) in
+    ap (λ xs. get_or xs (length saved - 1) []) (sym same)
+    ∙ ap (λ n. get_or (map f (take count rows)) (n - 1) []) all
+    ∙ get_or-map f (take count rows) (count - 1) (blank_row 32) [] low
+    ∙ ap f (get_or-take count rows (count - 1) (blank_row 32) (omega arith))
 
 -- without the newest saved entry
 pub saved-dropped : (rows : List (Row 32)) (live : List ℕ) (count : ℕ) (saved : List (List ℕ)) → count ≤ length rows → map (λ row. times_of (seen row) live) (take count rows) ≡ saved → map (λ row. times_of (seen row) live) (take (count - 1) rows) ≡ take (length saved - 1) saved

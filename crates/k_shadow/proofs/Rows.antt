@@ -306,3 +306,11 @@ unwritten_time number level = cond_same (nat_le number 0)
     cond_same : (b : Bool) → ◌≡◌ {A = ℕ} (cond b 0 0) 0
     cond_same true = refl
     cond_same false = refl
+
+-- a time of a row that has 32 bits where it is live
+pub cut_time : (row : Seen) (number level : ℕ) → row_time row number level < 2 ^ 32 → cond (nat_le number row.stamp) (row.time level % 2 ^ 32) 0 ≡ row_time row number level
+cut_time row number level small = cut_if (nat_le number row.stamp) (row.time level) small
+  where
+    cut_if : (b : Bool) (t : ℕ) → cond b t 0 < 2 ^ 32 → cond b (t % 2 ^ 32) 0 ≡ cond b t 0
+    cut_if true t low = omega arith
+    cut_if false t low = refl

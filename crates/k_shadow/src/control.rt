@@ -1,10 +1,10 @@
 //! The control stack: the entry on which the operations depend now, and the entries that were saved.
-ghost use Rattle.std.specs.Prelude.{◌≡◌, ℕ, ◌+◌, ◌-◌, ◌^◌, ◌<◌, ◌≤◌, [], ◌∷◌, ◌++◌, true, length, take, slice_index, OnOk, OnErr};
+ghost use Rattle.std.specs.Prelude.{◌≡◌, ℕ, ◌+◌, ◌-◌, ◌^◌, ◌<◌, ◌≤◌, [], ◌∷◌, ◌++◌, true, length, take, slice_index, slice_index_or, OnOk, OnErr};
 ghost use Rattle.k_shadow.specs.Content.{at_levels};
 ghost use Rattle.k_shadow.specs.Stack.{IsNew, level_entered, level_left};
 
-use crate::lists::{copy_lanes, copy_times, copy_to, narrowed};
-use crate::saved_rows::{add_row, copy_entry, write_entry};
+use crate::lists::{copy_lanes, copy_times, copy_to, cut};
+use crate::saved_rows::{add_row, copy_entry, read_lanes, write_entry, write_lanes};
 use crate::{Row, Steps, TimeLanes, Times, Versions};
 use k_num::NoMemory;
 use std::alloc::Global;
@@ -31,7 +31,7 @@ pub struct Control {
 }
 
 impl Model for Control {
-    ghost use Rattle.std.specs.Prelude.{◌≤◌, length, take, nat_lt, vec_len};
+    ghost use Rattle.std.specs.Prelude.{◌≡◌, ◌≤◌, length, take, nat_lt, vec_len};
     ghost use Rattle.k_shadow.specs.Stack.{Stack};
     ghost use Rattle.k_shadow.specs.Numbers.{WereGiven};
     ghost use Rattle.k_shadow.specs.Rows.{stack_in, IsKept, WereStamped};
@@ -40,7 +40,7 @@ impl Model for Control {
 
     ghost view = { λ c. stack_in c.current (take c.count c.rows.items) c.versions (nat_lt c.count (vec_len c.rows)) };
 
-    ghost invariant = { λ c. (length c.versions.live ≤ 32) × WereStamped c.versions.given c.rows.items × WereGiven c.versions.given c.versions.live × (c.count ≤ vec_len c.rows) × IsKept c.kept c.rows.items c.count c.versions.live c.current };
+    ghost invariant = { λ c. (length c.versions.live ≤ 32) × WereStamped c.versions.given c.rows.items × WereGiven c.versions.given c.versions.live × (c.count ≤ vec_len c.rows) × IsKept c.kept c.rows.items c.count c.versions.live c.current × (length c.current ≡ 32) };
 }
 
 impl Control {
@@ -104,6 +104,34 @@ impl Control {
         );
         self.count += 1;
         self.kept = false;
+    }
+
+    /// Saves the times of the live levels' lanes, as `save` does the current entry's.
+    #[inline(always)]
+    pub fn save_lanes<V: TimeLanes>(&mut self, times: V)
+        requires room { self.old.room ≡ true }
+        requires within { V.count ≤ 32 }
+        requires shallow { length self.old.current ≤ V.count }
+        ensures saved { self.new.saved ≡ self.old.saved ++ at_levels (length self.old.current) (V.time times) ∷ [] }
+        ensures current { self.new.current ≡ self.old.current }
+        ensures entries { self.new.entries ≡ self.old.entries }
+    {
+        write_lanes(&mut self.rows, self.count, &self.versions, times);
+        self.count += 1;
+        self.kept = false;
+    }
+
+    /// The newest saved entry's times, each below 2^32, in lanes. What the other lanes have is not told.
+    #[inline(always)]
+    pub fn saved_lanes<V: TimeLanes>(&self) -> V
+        requires some { 0 < length self.now.saved }
+        requires within { V.count ≤ 32 }
+        requires shallow { length self.now.current ≤ V.count }
+        requires few { self.now.entries < 2 ^ 32 }
+        requires small { (k : ℕ) → k < length self.now.current → slice_index (slice_index_or self.now.saved (length self.now.saved - 1) []) k < 2 ^ 32 }
+        ensures times { at_levels (length self.now.current) (V.time result) ≡ slice_index_or self.now.saved (length self.now.saved - 1) [] }
+    {
+        read_lanes(&self.rows, self.count - 1, &self.versions)
     }
 
     /// Makes these times the current entry.
@@ -218,7 +246,7 @@ impl Control {
         requires small { (k : ℕ) → k < length self.now.current → slice_index self.now.current k < 2 ^ 32 }
         ensures times { at_levels (length self.now.current) (V.time result) ≡ self.now.current }
     {
-        narrowed(self.entry())
+        cut(&self.current)
     }
 
     /// The current entry's times.

@@ -116,7 +116,7 @@ pub fn widened<V: TimeLanes>(lanes: V) -> [u64; 32]
 }
 
 /// Copies the times of lanes to the front of a list.
-#[inline]
+#[inline(always)]
 pub fn copy_lanes<V: TimeLanes>(to: &mut [u64; 32], lanes: V)
     requires { V.count ≤ 32 }
     ensures times { (k : ℕ) → k < V.count → slice_index to.new k ≡ V.time lanes k }
@@ -140,6 +140,20 @@ pub fn narrowed<V: TimeLanes>(times: &[u64]) -> V
     let mut narrow = [0; 32];
     for level in 0..times.len() {
         narrow[level] = times[level] as u32;
+    }
+    V::of(&narrow)
+}
+
+/// The times at the front of a list, modulo 2^32, in lanes. LLVM knows how many lanes there are, so it makes vectors of the
+/// loop: one over the live levels alone takes longer.
+#[inline(always)]
+pub fn cut<V: TimeLanes>(times: &[u64; 32]) -> V
+    requires { V.count ≤ 32 }
+    ensures times { (k : ℕ) → k < V.count → V.time result k ≡ slice_index times.now k % 2 ^ 32 }
+{
+    let mut narrow = [0; 32];
+    for level in 0..V::count() {
+        narrow[level] = (times[level] % 4_294_967_296) as u32;
     }
     V::of(&narrow)
 }

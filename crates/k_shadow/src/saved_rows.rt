@@ -1,8 +1,10 @@
 //! The saved entries of a control stack as rows, with free rows behind them.
-ghost use Rattle.std.specs.Prelude.{◌≡◌, ℕ, ◌<◌, ◌≤◌, true, length, take, slice_index, vec_len, OnOk, OnErr};
-ghost use Rattle.k_shadow.specs.Rows.{row_at, row_time, IsKept, WereStamped};
+ghost use Rattle.std.specs.Prelude.{◌≡◌, ℕ, ◌^◌, ◌<◌, ◌≤◌, true, length, take, slice_index, vec_len, OnOk, OnErr};
+ghost use Rattle.k_shadow.specs.Content.{at_levels};
+ghost use Rattle.k_shadow.specs.Rows.{row_at, row_time, times_of, IsKept, WereStamped};
 
-use crate::{Row, Versions};
+use crate::lists::{copy_lanes, cut};
+use crate::{Row, TimeLanes, Versions};
 use k_num::NoMemory;
 
 /// Makes a free row behind so many, where there is none. A refusal changes nothing.
@@ -54,4 +56,36 @@ pub fn copy_entry(rows: &Vec<Row<32>>, at: usize, numbers: &[u64], to: &mut [u64
 {
     let row = &rows[at];
     row.copy_to(numbers, to);
+}
+
+/// Makes the row at a place have the times of lanes at the live levels.
+#[inline(always)]
+pub fn write_lanes<V: TimeLanes>(rows: &mut Vec<Row<32>>, at: usize, versions: &Versions, times: V)
+    requires within { at < vec_len rows.old }
+    requires lanes { V.count ≤ 32 }
+    requires shallow { length versions.now.live ≤ V.count }
+    ensures held { times_of (row_at rows.new.items at) versions.now.live ≡ at_levels (length versions.now.live) (V.time times) }
+    ensures size { vec_len rows.new ≡ vec_len rows.old }
+    ensures front { take at rows.new.items ≡ take at rows.old.items }
+    ensures stamped { WereStamped versions.now.given rows.old.items → WereStamped versions.now.given rows.new.items }
+{
+    let row = &mut rows[at];
+    row.stamp = versions.last_given();
+    copy_lanes(&mut row.times, times);
+}
+
+/// The times of the row at a place, in lanes.
+#[inline(always)]
+pub fn read_lanes<V: TimeLanes>(rows: &Vec<Row<32>>, at: usize, versions: &Versions) -> V
+    requires within { at < vec_len rows.now }
+    requires lanes { V.count ≤ 32 }
+    requires shallow { length versions.now.live ≤ V.count }
+    requires few { versions.now.given < 2 ^ 32 }
+    requires stamp { (row_at rows.now.items at).stamp ≤ versions.now.given }
+    requires small { (k : ℕ) → k < length versions.now.live → row_time (row_at rows.now.items at) (slice_index versions.now.live k) k < 2 ^ 32 }
+    ensures { times_of (row_at rows.now.items at) versions.now.live ≡ at_levels (length versions.now.live) (V.time result) }
+{
+    let row = &rows[at];
+    let times: V = cut(&row.times);
+    times.begun(V::of(versions.starts()), row.stamp as u32)
 }

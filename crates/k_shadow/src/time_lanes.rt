@@ -97,8 +97,9 @@ impl<const N: usize> TimeLanes for Simd<u32, N> {
 
     #[inline(always)]
     fn begun(self, starts: Simd<u32, N>, stamp: u32) -> Simd<u32, N> {
-        starts
-            .simd_le(Simd::splat(stamp))
-            .select(self, Simd::splat(0))
+        let live = Simd::splat(stamp)
+            .simd_lt(starts)
+            .select(Simd::splat(0), Simd::splat(u32::MAX));
+        self.simd_min(live)
     }
 }

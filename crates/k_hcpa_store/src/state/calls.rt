@@ -11,7 +11,7 @@ ghost use Rattle.k_hcpa_store.specs.Calls.{CallsTo, Gives, LeavesBy, dropped, mo
 ghost use Rattle.k_hcpa_store.specs.Parts.{IsWithin};
 ghost use Rattle.k_num.specs.declared.place.Place.{Place};
 ghost use Rattle.k_hcpa_store.specs.Kept.{configuration_of, window};
-ghost use Rattle.k_hcpa_store.specs.Leads.{Calls, IsNext, Leaves, MayReturn, may_leave};
+ghost use Rattle.k_hcpa_store.specs.Leads.{Calls, CallsSurely, IsNext, IsWithinLimits, Leaves, MayReturn, NotOver, may_leave};
 ghost use Rattle.k_hcpa_store.specs.Slots.{CanKeep};
 ghost use Rattle.k_hcpa_store.specs.Sound.{IsSound};
 
@@ -36,7 +36,8 @@ impl<'a> State<'a> {
     pub fn call(&mut self, instr: &Instr) -> Result<Calling, Stop>
         requires sound { IsSound self.old }
         requires next { IsNext self.old instr.now }
-        ensures { ((func : ℕ) (args : List Arg) (to : Option ℕ) (f : CodeFunc) → instr.now.act ≡ act.Call func args to → slice_get self.old.code.funcs func ≡ Some f → Calls self.old instr.now f result self.new) × IsSound self.new }
+        ensures calls { ((func : ℕ) (args : List Arg) (to : Option ℕ) (f : CodeFunc) → instr.now.act ≡ act.Call func args to → slice_get self.old.code.funcs func ≡ Some f → Calls self.old instr.now f result self.new) × IsSound self.new }
+        ensures limits { IsWithinLimits self.old instr.now.act → NotOver result }
     {
         match &instr.act {
             Do::Call { func, args, to } => match self.function(*func) {
@@ -47,7 +48,36 @@ impl<'a> State<'a> {
         }
     }
 
-    /// The same of a function, once there is room for its registers and for its caller.
+    /// The same where that is sure: no limit is passed, an operation is left, all operands are set, and memory is found. Else nothing is changed.
+    pub fn call_surely(&mut self, instr: &Instr) -> bool
+        requires sound { IsSound self.old }
+        requires next { IsNext self.old instr.now }
+        ensures { ((func : ℕ) (args : List Arg) (to : Option ℕ) (f : CodeFunc) → instr.now.act ≡ act.Call func args to → slice_get self.old.code.funcs func ≡ Some f → CallsSurely self.old instr.now f result self.new) × IsSound self.new }
+    {
+        if !self.is_within_limits(&instr.act) {
+            return false;
+        }
+        match self.call(instr) {
+            Ok(Calling::Entered) => true,
+            Ok(Calling::Overflowed(_end)) => false,
+            Err(_stop) => false,
+        }
+    }
+
+    /// Whether a call more, of the function that is called, would pass no limit.
+    fn is_within_limits(&self, what: &Do) -> bool
+        ensures { result ≡ true → IsWithinLimits self.now what.now }
+    {
+        match what {
+            Do::Call { func, .. } => match self.function(*func) {
+                Some(f) => !overflows(self.world.calls(), self.world.size(), f.size),
+                None => false,
+            },
+            _ => false,
+        }
+    }
+
+    /// The call of a function, once there is room for its registers and for its caller.
     fn call_function(
         &mut self,
         place: Place,

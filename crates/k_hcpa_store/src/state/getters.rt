@@ -36,6 +36,14 @@ impl<'a> State<'a> {
         &code.instrs.as_slice()[self.pc]
     }
 
+    /// How many operations are left.
+    #[inline(always)]
+    pub fn left(&self) -> u64
+        ensures { result ≡ self.now.world.left }
+    {
+        self.world.left()
+    }
+
     /// The number of the next instruction.
     #[inline(always)]
     pub fn pc(&self) -> usize

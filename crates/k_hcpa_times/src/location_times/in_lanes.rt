@@ -1,20 +1,25 @@
 //! The times of all locations over two shadows, while the control source's and the paths stand in lanes.
 use crate::each::are_small;
 use crate::lane_times::{
-    GREATEST, admit_lanes, enter_lane, load_with, operate_lanes, read_control, set_control,
-    set_paths,
+    GREATEST, admit_lanes, call_with, enter_lane, lane_count, load_with, may_enter, operate_lanes,
+    restore_control, save_control, set_control, set_paths,
 };
 use crate::laned::{From, Laned, Lanes};
 use crate::location_times::LocationTimes;
+use k_code::Arg;
 use k_num::NoMemory;
 use k_shadow::{Shadow, Steps, TimeLanes, narrowed};
 use std::sync::ledger::Ledger;
 
 impl<R: Shadow, P: Shadow> Laned for LocationTimes<R, P> {
     ghost use Rattle.std.specs.Prelude.{length};
-    ghost use Rattle.k_hcpa_times.specs.Lanes.{AreLanes};
+    ghost use Rattle.k_hcpa_times.specs.Lanes.{AreLanes, MayCall, MayEnter};
 
     ghost laned = { λ t l. AreLanes (length t.paths) (R.content t.registers).entries t.reach t.admitted l };
+
+    ghost calls = { λ t. MayCall (R.room t.registers) t.reach };
+
+    ghost enters = { λ t l. MayEnter (length t.paths) (R.content t.registers).entries l.lanes };
 
     fn open<V: TimeLanes>(&mut self) -> Option<Lanes<V>> {
         if self.paths.len() > V::count()
@@ -129,6 +134,47 @@ impl<R: Shadow, P: Shadow> Laned for LocationTimes<R, P> {
     }
 
     #[inline]
+    fn admit_call<V: TimeLanes>(
+        &mut self,
+        lanes: &Lanes<V>,
+        to: u32,
+        params: u32,
+        latency: u32,
+        depth: u32,
+        opened: u64,
+    ) -> bool {
+        if self.reach + latency as u64 > GREATEST {
+            return false;
+        }
+        let levels = self.paths.len();
+        let entries = self.control.entries();
+        if !may_enter(levels, entries, lane_count(lanes), depth, opened) {
+            return false;
+        }
+        match self.registers.admit(to, params, GREATEST) {
+            Ok(()) => true,
+            Err(NoMemory) => false,
+        }
+    }
+
+    #[inline]
+    fn call_lanes<V: TimeLanes, L: Ledger>(
+        &mut self,
+        lanes: &mut Lanes<V>,
+        first: u32,
+        to: u32,
+        params: u32,
+        args: &[Arg],
+        latency: u32,
+        steps: &mut Steps<L>,
+    ) {
+        steps.tick_each(self.paths.as_slice());
+        let registers = &mut self.registers;
+        let _times = call_with(registers, lanes, first, to, params, args, latency, steps);
+        self.reach += latency as u64;
+    }
+
+    #[inline]
     fn enter_lanes<V: TimeLanes>(&mut self, lanes: &mut Lanes<V>, depth: u32, opened: u64) -> bool {
         if opened >= depth as u64 {
             return true;
@@ -153,8 +199,7 @@ impl<R: Shadow, P: Shadow> Laned for LocationTimes<R, P> {
         if let Err(NoMemory) = self.control.reserve() {
             return false;
         }
-        set_control(&mut self.control, lanes);
-        self.control.save();
+        save_control(&mut self.control, lanes);
         true
     }
 
@@ -165,18 +210,13 @@ impl<R: Shadow, P: Shadow> Laned for LocationTimes<R, P> {
 
     #[inline]
     fn back_lanes<V: TimeLanes>(&mut self, lanes: &mut Lanes<V>) {
-        self.control.back();
-        read_control(&self.control, lanes);
+        restore_control(&self.control, lanes);
+        self.control.keep();
     }
 
     #[inline]
     fn restore_lanes<V: TimeLanes>(&mut self, lanes: &mut Lanes<V>) -> bool {
-        if let Err(NoMemory) = self.control.reserve() {
-            return false;
-        }
-        self.control.back();
-        read_control(&self.control, lanes);
-        self.control.save();
+        restore_control(&self.control, lanes);
         true
     }
 }

@@ -12,7 +12,7 @@ invariant_of-self c =
     let P : List ℕ → Type 0 = λ ns. (k : ℕ) → k < length ns → slice_index new k ≡ row_time (row_at s.rows.items (s.count - 1)) (slice_index ns k) k in
     let each = subst P c.live.ensures.live c.copy_entry.ensures in
     let room_for : length live ≤ length new = omega (arith, c.self.invariant.0, c.copy_entry.auto.to) in
-    (c.self.invariant.0, c.self.invariant.1, c.self.invariant.2, omega (arith, c.self.invariant.3), λ on. copied_back (row_at s.rows.items (s.count - 1)) live new room_for each)
+    (c.self.invariant.0, c.self.invariant.1, c.self.invariant.2, omega (arith, c.self.invariant.3), λ on. copied_back (row_at s.rows.items (s.count - 1)) live new room_for each, omega (arith, c.copy_entry.auto.to))
 
 pub returns-clause-saved : goal.returns-clause-saved
 returns-clause-saved c =

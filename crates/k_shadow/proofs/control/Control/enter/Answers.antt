@@ -1,4 +1,5 @@
 use Rattle.std.proofs.Common.{◌≡◌, ◌+◌, ◌<◌, ◌≤◌, true, [], ◌∷◌, ◌++◌, length, take, set, ◌∙◌, ap, sym, arith, nat_lt, vec_len}
+use Rattle.std.proofs.lemmas.List.{length-set}
 use Rattle.k_shadow.specs.Rows.{row_at, stack_in, times_of}
 use Rattle.k_shadow.specs.Stack.{level_entered}
 use Rattle.k_shadow.proofs.Rows.{WereStamped-later, WereStamped-take, WereGiven-next}
@@ -16,7 +17,7 @@ invariant_of-self c =
     let kept : s.kept ≡ true → times_of (row_at s.rows.items s.count) (live ++ (s.versions.given + 1) ∷ []) ≡ take (length (live ++ (s.versions.given + 1) ∷ [])) (set s.current c.depth-depth.result 0) = λ on.
     kept-entered s.rows.items s.count s.current live s.versions.given front c.self.invariant.1 (c.self.invariant.4 on)
     ∙ ap (λ d. take (length (live ++ (s.versions.given + 1) ∷ [])) (set s.current d 0)) (sym c.depth-depth.ensures.count) in
-    rw c.enter.ensures.entered (one_level_more live (s.versions.given + 1) fewer, WereStamped-later _ _ _ (omega arith) c.self.invariant.1, WereGiven-next _ _ c.self.invariant.2, c.self.invariant.3, kept)
+    rw c.enter.ensures.entered (one_level_more live (s.versions.given + 1) fewer, WereStamped-later _ _ _ (omega arith) c.self.invariant.1, WereGiven-next _ _ c.self.invariant.2, c.self.invariant.3, kept, omega (arith, c.self.invariant.5, length-set s.current c.depth-depth.result 0))
 
 pub returns : goal.returns
 returns c =

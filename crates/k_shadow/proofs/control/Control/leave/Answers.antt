@@ -9,7 +9,7 @@ pub invariant_of-self : goal.invariant_of-self
 invariant_of-self c =
     let s = c.self.inside in
     let within : length s.versions.live ≤ length s.current = omega (arith, c.self.invariant.0) in
-    rw c.leave.ensures.left (one_level_fewer s.versions.live c.self.invariant.0, c.self.invariant.1, WereGiven-take _ _ _ c.self.invariant.2, c.self.invariant.3, λ on. kept-left s.rows.items s.count s.current s.versions.live within (c.self.invariant.4 on))
+    rw c.leave.ensures.left (one_level_fewer s.versions.live c.self.invariant.0, c.self.invariant.1, WereGiven-take _ _ _ c.self.invariant.2, c.self.invariant.3, λ on. kept-left s.rows.items s.count s.current s.versions.live within (c.self.invariant.4 on), c.self.invariant.5)
 
 pub returns : goal.returns
 returns c =
