@@ -8,3 +8,4 @@ pub mod Order
 pub mod Putting
 pub mod Telling
 pub mod Turning
+pub mod Uncarried

@@ -111,6 +111,11 @@ left made g = left_of made g.opened g
 abbrev pub is_carried : ℕ → Level → Bool
 is_carried number l = nat_le l.first number && nat_lt number l.turn
 
+-- one of these levels carries the operation of this number
+abbrev pub some_carries : ℕ → List Level → Bool
+some_carries number [] = false
+some_carries number (l ∷ levels) = is_carried number l || some_carries number levels
+
 -- an operation at this place depends on this one: each level that carries this has the pair
 abbrev pub depended : List Level → Origin → Place → List Found → List Found
 depended [] origin to found = found

@@ -4,7 +4,7 @@ ghost use Rattle.k_carry_pairs.specs.Carried.{AreSorted, is_loop_at, is_loop_kin
 ghost use Rattle.k_carry_pairs.specs.Gathered.{HaveNumbers, depended_all, entered, found_all, found_before, left as left_meant, loops_from, nothing};
 
 use crate::found::{Found, pairs_of};
-use crate::levels::{Level, Levels, depend};
+use crate::levels::{Level, Levels, depend, some_carries};
 use crate::{LoopPairs, Origin};
 use k_num::{NoMemory, Place, Seq, Stack};
 use k_optab::Region;
@@ -125,7 +125,9 @@ fn depend_all(
 {
     let mut rest = origins;
     while let Some((origin, later)) = rest.split_first() {
-        depend(levels, *origin, to, found)?;
+        if some_carries(levels, origin.number) {
+            depend(levels, *origin, to, found)?;
+        }
         rest = later;
     }
     Ok(())

@@ -2,7 +2,7 @@
 ghost use Rattle.std.specs.Prelude.{◌≡◌, ◌∷◌, [], reverse, OnOk};
 ghost use Rattle.k_num.specs.Top.{top};
 ghost use Rattle.k_carry_pairs.specs.Carried.{AreSorted};
-ghost use Rattle.k_carry_pairs.specs.Gathered.{depended, found_before, is_carried, is_turned, turned, with_turn, without_level};
+ghost use Rattle.k_carry_pairs.specs.Gathered.{depended, found_before, is_carried, is_turned, some_carries as some_carries_meant, turned, with_turn, without_level};
 
 use crate::found::{Found, put};
 use crate::{Origin, Pair};
@@ -24,6 +24,7 @@ pub struct Level {
 
 impl Level {
     /// Whether the operation lies in the instance, and in an earlier turn.
+    #[inline(always)]
     fn carries(&self, number: u64) -> bool
         ensures { result ≡ is_carried number self.now }
     {
@@ -119,6 +120,21 @@ impl Levels {
             }
         }
     }
+}
+
+/// Whether one of these levels carries the operation of this number: most carry none.
+#[inline(always)]
+pub fn some_carries(levels: &[Level], number: u64) -> bool
+    ensures { result ≡ some_carries_meant number levels.now }
+{
+    let mut rest = levels;
+    while let Some((level, later)) = rest.split_first() {
+        if level.carries(number) {
+            return true;
+        }
+        rest = later;
+    }
+    false
 }
 
 /// An operation at this place depends on another one: each of the levels that carries this has the pair.
