@@ -1,0 +1,4 @@
+pub mod Done
+pub mod Planned
+pub mod Recasting
+pub mod Shares

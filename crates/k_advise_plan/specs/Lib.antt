@@ -1,0 +1,4 @@
+pub mod Laws
+pub mod Plan
+pub mod Recast
+pub mod Saving

@@ -1,0 +1,3 @@
+//! One file for what is tested.
+mod nest;
+mod plans;
