@@ -1,0 +1,7 @@
+mod CallLaws
+mod CountLaws
+mod Examples
+mod GatherLaws
+mod ReplacingLaws
+mod Running
+mod Unique

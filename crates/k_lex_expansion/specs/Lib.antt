@@ -1,0 +1,11 @@
+pub mod Calls
+pub mod Expansion
+pub mod Gathering
+pub mod Laws
+pub mod Listing
+pub mod Names
+pub mod Pasting
+pub mod Replacing
+pub mod Stacks
+pub mod Texts
+pub mod Uses
