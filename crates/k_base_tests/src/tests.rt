@@ -1,3 +1,4 @@
 //! One file for what is tested.
 mod host;
 mod math;
+mod shapes;

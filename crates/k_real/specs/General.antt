@@ -1,4 +1,4 @@
--- For contracts between crates: nobody has to believe it.
+-- Believed with a public law.
 -- *Real texts* of so many digits (C17 7.21.6.1p8, `g`): as with `f` where the exponent is from -4 to below their number, else as with `e`, in both without the
 -- zeros that end a fraction.
 use Rattle.std.specs.Prelude.{ℕ, zero, suc, ◌+◌, ◌-◌, ◌/◌, ◌%◌, ◌^◌, max, List, [], ◌∷◌, ◌++◌, ◌==◌, nat_lt, nat_le, ◌&&◌, Bool, if◌then◌else◌, codes}

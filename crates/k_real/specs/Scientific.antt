@@ -1,4 +1,4 @@
--- For contracts between crates: nobody has to believe it.
+-- Believed with a public law.
 -- *Real texts* with an exponent (C17 7.21.6.1p8, `e`): the exact decimal text of a double, rounded to so many digits from the first that is not 0.
 use Rattle.std.specs.Prelude.{ℕ, suc, ◌+◌, ◌-◌, ◌*◌, ◌/◌, ◌%◌, ◌^◌, List, [], ◌∷◌, ◌++◌, ◌==◌, nat_lt, if◌then◌else◌, codes}
 use Rattle.std.specs.Float.{Float, nan, inf, fin, is_sign_negative}
