@@ -66,13 +66,13 @@ module _ (source : List ℕ) (depth : ℕ) (strict : Bool) (answer : Answer) (r 
 
 -- ANNOTATE
 pub annotate_is_told : AnnotateIsTold
-annotate_is_told words status old new file r depth strict keeps is program =
-    let j : Job = job.Annotate file r.steps depth None strict in
+annotate_is_told words status old new file latency r depth strict keeps is program =
+    let j : Job = job.Annotate file r.steps depth latency strict in
     let given : IsGiven (λ (answer : Answer). AnswersJob keeps.outside answer j) status old new = job_given words j status old new keeps is in
     let answered : IsAnnotated keeps.outside file depth strict given.answer r =
-    run_answered keeps.outside old file r (λ failure. given.answer ≡ refusal failure) (IsAnnotated keeps.outside file depth strict given.answer) keeps.fits program
+    run_answered (λ failure. given.answer ≡ refusal failure) keeps.outside old file latency r (IsAnnotated keeps.outside file depth strict given.answer) keeps.fits program
     given.is_answer in
-    let holds : keeps.outside.files file ≡ Some program.bytes = held_outside old.files.held keeps.outside.files file program.bytes keeps.fits.files program.held in
+    let holds : keeps.outside.files file ≡ Some program.bytes = held_outside old.files.held keeps.outside.files file program.bytes keeps.fits.files program.holds.held in
     let same : answered.0 ≡ program.bytes = same_Some answered.0 program.bytes (sym answered.1 ∙ holds) in
     let told : AnswersAnnotated program.bytes depth strict given.answer r (run_of r).end =
     subst (λ (s : List ℕ). AnswersAnnotated s depth strict given.answer r (run_of r).end) same answered.2 in

@@ -1,23 +1,22 @@
 -- What `check` tells.
-use Rattle.std.proofs.Common.{ℕ, ◌≡◌, subst, ◌∙◌, ap, List, [], Option, Some, None}
-use Rattle.k_edge.specs.SinkWords.{Grows}
+use Rattle.std.proofs.Common.{ℕ, ◌≡◌, subst, List, [], Option, Some, None}
 use Rattle.k_types_meaning.specs.declared.tree.unit.TUnit.{TUnit}
 use Rattle.k_words.specs.declared.job.Job.TheVariants as job
 use Rattle.k_top_answers.specs.declared.answer.Answer.{Answer}
 use Rattle.k_top_answers.specs.declared.failure.Failure.{Failure}
 use Rattle.k_top_answers.specs.Answers.{AnswersChecked, AnswersJob, checked, done, refusal}
 use Rattle.k_top_answers.specs.Checks.{told}
-use Rattle.k_top_answers.specs.Clauses.{IsGiven, Keeps, TellsEnd, World}
-use Rattle.k_top_answers.specs.Failures.{status_of}
+use Rattle.k_top_answers.specs.Clauses.{IsGiven, Keeps, World}
 use Rattle.k_top_answers.specs.Steps.{AnswersFound, file_limit}
-use Rattle.k_top_headline.specs.Headline.{WentWell}
-use Rattle.k_top_headline.specs.OtherCommands.{AcceptedIsTold, HoldsSource, RefusalIsTold, Tells}
+use Rattle.k_top_headline.specs.Headline.{HoldsFile, WentWell}
+use Rattle.k_top_headline.specs.OtherCommands.{AcceptedIsTold, RefusalIsTold}
 use Rattle.k_top_headline.proofs.Given.{job_given}
 use Rattle.k_top_headline.proofs.Ready.{found_answered, held_outside, source_answered, source_refused}
+use Rattle.k_top_headline.proofs.Runs.{tells_answer}
 
 -- the answer that was given is that to these bytes
 bytes_given : (words : List (List ℕ)) (status : ℕ) (old new : World) (file bytes : List ℕ) → Keeps words status old new → WentWell words (job.Check file) status old new
-    → HoldsSource old file bytes → IsGiven (λ (answer : Answer). AnswersChecked file answer bytes) status old new
+    → HoldsFile old file bytes → IsGiven (λ (answer : Answer). AnswersChecked file answer bytes) status old new
 bytes_given words status old new file bytes keeps is holds =
     let given : IsGiven (λ (answer : Answer). AnswersJob keeps.outside answer (job.Check file)) status old new = job_given words (job.Check file) status old new keeps is in
     let F : Failure → Type 0 = λ failure. given.answer ≡ refusal failure in
@@ -32,15 +31,6 @@ bytes_given words status old new file bytes keeps is holds =
       told = given.told;
       files = given.files;
     }
-
--- an answer that was given, and is known
-tells_answer : (answers : Answer → Type 0) (status : ℕ) (old new : World) (given : IsGiven answers status old new) (failure : Option Failure)
-    (more : Option (List ℕ)) → given.answer ≡ record { out = []; failure = failure; more = more; saved = None } → Tells failure more status old new
-tells_answer answers status old new given failure more is = record {
-  grows = subst (λ (a : Answer). Grows old.out.written a.out new.out.written) is given.grows;
-  status_is = given.status_is ∙ ap (λ (a : Answer). status_of a.failure) is;
-  told = subst (λ (a : Answer). TellsEnd a.failure a.more old.err new.err) is given.told;
-}
 
 -- A SOURCE IS ACCEPTED
 pub accepted_is_told : AcceptedIsTold

@@ -1,5 +1,5 @@
 -- Where nothing failed outside, and memory sufficed, the whole answer was given, which is the answer to the job that the words ask for.
-use Rattle.std.proofs.Common.{ℕ, ◌≡◌, ◌≢◌, false, refl, subst, List, [], ◌∷◌, Option, Some, None, option_and_then, Result, Ok, Err, inl, inr}
+use Rattle.std.proofs.Common.{ℕ, ◌≡◌, ◌≢◌, false, refl, ap, sym, subst, List, [], ◌∷◌, Option, Some, None, option_and_then, Result, Ok, Err, inl, inr}
 use Rattle.std.proofs.lemmas.Bool.{true≢false}
 use Rattle.std.proofs.lemmas.Option.{none-some}
 use Rattle.k_words.proofs.OneAnswer.{answer_is_unique}
@@ -27,6 +27,16 @@ blames_nothing status old new well cause.load_fault rose blamed = absurd (well.l
 blames_nothing status old new well cause.read_fault rose blamed = absurd (well.reads rose.0)
 blames_nothing status old new well cause.put_fault rose blamed = absurd (well.puts rose.0)
 blames_nothing status old new well cause.save_fault rose blamed = absurd (well.saves rose.0)
+
+-- all counts of faults are as before
+pub faults_stay : (old new : World) → NothingFailed old new → (c : Cause) → RoseAlone c (faults_of old) (faults_of new) → faults_of new ≡ faults_of old
+faults_stay old new well cause.nothing rose = rose
+faults_stay old new well cause.miss rose = absurd (well.misses rose.0)
+faults_stay old new well cause.long rose = absurd (well.longs rose.0)
+faults_stay old new well cause.load_fault rose = absurd (well.loads rose.0)
+faults_stay old new well cause.read_fault rose = absurd (well.reads rose.0)
+faults_stay old new well cause.put_fault rose = absurd (well.puts rose.0)
+faults_stay old new well cause.save_fault rose = absurd (well.saves rose.0)
 
 -- so the whole answer was given
 given : (answers : Answer → Type 0) (status : ℕ) (old new : World) → is_blame status ≡ false → status ≢ 8 → IsAnswered answers status old new → IsGiven answers status old new
@@ -72,6 +82,15 @@ IsGood (Err fault) = ⊥
 not_refused : (j : Job) → Ok j ≡ Err usage.Memory → ⊥
 not_refused j is = subst IsGood is tt
 
+-- a job, or this one where there is none
+abbrev job_or : Job → Result Job Usage → Job
+job_or other (Ok j) = j
+job_or other (Err fault) = other
+
+-- words ask for one job
+pub one_job : (list : List (List ℕ)) (j k : Job) → words.IsAnswer list (Ok j) → words.IsAnswer list (Ok k) → j ≡ k
+one_job list j k one other = ap (job_or j) (answer_is_unique list (Ok j) (Ok k) one other (not_refused j) (not_refused k))
+
 by_words : (outside : Outside) (list : List (List ℕ)) (answer : Answer) (j : Job) → words.IsAnswer list (Ok j) → AnswersAsked list outside answer None → AnswersJob outside answer j
 by_words outside list answer j is (read, reads, holds) =
     let same : read ≡ Ok j = answer_is_unique list read (Ok j) reads is (not_memory outside answer read holds) (not_refused j) in
@@ -80,6 +99,11 @@ by_words outside list answer j is (read, reads, holds) =
 -- the answer to words that ask for a job is that to the job
 job_answered : (outside : Outside) (list : List (List ℕ)) (answer : Answer) (j : Job) → words.IsAnswer list (Ok j) → IsAnswer list outside answer → AnswersJob outside answer j
 job_answered outside list answer j is holds = by_words outside list answer j is (subst (λ (t : Option Asked). AnswersAsked list outside answer t) (asks_for_none list j is) holds)
+
+-- and an answer to that job is one to the words
+pub words_answered : (outside : Outside) (list : List (List ℕ)) (answer : Answer) (j : Job) → words.IsAnswer list (Ok j) → AnswersJob outside answer j → IsAnswer list outside answer
+words_answered outside list answer j is holds =
+    subst (λ (t : Option Asked). AnswersAsked list outside answer t) (sym (asks_for_none list j is)) (Ok j, is, holds)
 
 -- THE ANSWER to the job was given
 pub job_given : (words_are : List (List ℕ)) (j : Job) (status : ℕ) (old new : World) (keeps : Keeps words_are status old new) → WentWell words_are j status old new

@@ -1,6 +1,7 @@
 pub mod Annotated
 pub mod Checked
 pub mod Given
+pub mod Inputs
 pub mod OtherRuns
 pub mod Paged
 pub mod Replayed
@@ -8,3 +9,4 @@ pub mod Ready
 pub mod Runs
 pub mod Shown
 pub mod Sums
+pub mod Tables

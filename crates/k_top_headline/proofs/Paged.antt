@@ -54,13 +54,13 @@ module _ (file source : List ℕ) (depth : ℕ) (dict : Bool) (answer : Answer) 
 
 -- PAGE
 pub page_is_told : PageIsTold
-page_is_told words status old new file r depth dict keeps is program =
-    let j : Job = job.Page file r.steps depth None dict in
+page_is_told words status old new file latency r depth dict keeps is program =
+    let j : Job = job.Page file r.steps depth latency dict in
     let given : IsGiven (λ (answer : Answer). AnswersJob keeps.outside answer j) status old new = job_given words j status old new keeps is in
     let answered : IsPaged keeps.outside file depth dict given.answer r =
-    run_answered keeps.outside old file r (λ failure. given.answer ≡ refusal failure) (IsPaged keeps.outside file depth dict given.answer) keeps.fits program
+    run_answered (λ failure. given.answer ≡ refusal failure) keeps.outside old file latency r (IsPaged keeps.outside file depth dict given.answer) keeps.fits program
     given.is_answer in
-    let holds : keeps.outside.files file ≡ Some program.bytes = held_outside old.files.held keeps.outside.files file program.bytes keeps.fits.files program.held in
+    let holds : keeps.outside.files file ≡ Some program.bytes = held_outside old.files.held keeps.outside.files file program.bytes keeps.fits.files program.holds.held in
     let same : answered.0 ≡ program.bytes = same_Some answered.0 program.bytes (sym answered.1 ∙ holds) in
     let page : AnswersPage file program.bytes depth dict given.answer r (run_of r).end =
     subst (λ (s : List ℕ). AnswersPage file s depth dict given.answer r (run_of r).end) same answered.2 in

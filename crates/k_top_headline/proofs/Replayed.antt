@@ -29,11 +29,11 @@ module _ (workers seed : ℕ) (answer : Answer) (r : Running) where
   fails end.OutOfSteps is = ap ending_of is
 
 pub replay_is_told : ReplayIsTold
-replay_is_told words status old new file r depth workers seed keeps is program =
-    let j : Job = job.Replay file r.steps depth None workers seed in
+replay_is_told words status old new file latency r depth workers seed keeps is program =
+    let j : Job = job.Replay file r.steps depth latency workers seed in
     let given : IsGiven (λ (answer : Answer). AnswersJob keeps.outside answer j) status old new = job_given words j status old new keeps is in
     let found : AnswersReplayed workers seed given.answer r (run_of r).end =
-    run_answered keeps.outside old file r (λ failure. given.answer ≡ refusal failure)
+    run_answered (λ failure. given.answer ≡ refusal failure) keeps.outside old file latency r
     (λ (q : Running). AnswersReplayed workers seed given.answer q (run_of q).end) keeps.fits program given.is_answer in
     record {
       text = given.answer.out;

@@ -40,12 +40,11 @@ use Rattle.k_words.specs.declared.job.Job.TheVariants as job
 use Rattle.k_top_answers.specs.Answers.{made_running, ran_of}
 use Rattle.k_top_answers.specs.declared.failure.Failure.{Failure}
 use Rattle.k_top_answers.specs.Checks.{told}
-use Rattle.k_top_answers.specs.Clauses.{Keeps, TellsEnd, World}
-use Rattle.k_top_answers.specs.Failures.{status_of}
-use Rattle.k_top_answers.specs.Steps.{AnswersSource, Running, file_limit, profile_limit, run_of}
+use Rattle.k_top_answers.specs.Clauses.{Keeps, World}
+use Rattle.k_top_answers.specs.Steps.{AnswersSource, Running, profile_limit, run_of}
 use Rattle.k_top_answers.specs.Storage.{MayBeMarked, WritesStorage}
 use Rattle.k_top_answers.specs.Texts.{IsSummary}
-use Rattle.k_top_headline.specs.Headline.{HoldsProgram, IsAccepted, TellsFile, TellsOfRun, WentWell}
+use Rattle.k_top_headline.specs.Headline.{HoldsFile, HoldsProgram, IsAccepted, Tells, TellsFile, TellsOfRun, WentWell}
 
 -- GRAPH, the conclusions
 pub record GraphTells (r : Running) (depth status : ℕ) (old new : World) : Type 0 where
@@ -58,10 +57,10 @@ pub record GraphTells (r : Running) (depth status : ℕ) (old new : World) : Typ
   -- is what is told
   pub tells : TellsOfRun r text status old new
 
--- GRAPH. The words ask for the graph of a file, and name no table of latencies; and the file is an accepted program, with its input
+-- GRAPH. The words ask for the graph of a file, which is an accepted program, with its latencies and its input
 abbrev pub GraphIsTold : Type 0
-GraphIsTold = (words : List (List ℕ)) (status : ℕ) (old new : World) (file : List ℕ) (r : Running) (depth : ℕ)
-    → Keeps words status old new → WentWell words (job.Graph file r.steps depth None) status old new → HoldsProgram old file r
+GraphIsTold = (words : List (List ℕ)) (status : ℕ) (old new : World) (file : List ℕ) (latency : Option (List ℕ)) (r : Running) (depth : ℕ)
+    → Keeps words status old new → WentWell words (job.Graph file r.steps depth latency) status old new → HoldsProgram old file latency r
     → GraphTells r depth status old new
 
 -- what is written of the loops of a run, by how it ended: where main returned, each loop with a tracked instance, with the pairs of places between
@@ -81,11 +80,11 @@ pub record CarriedTells (r : Running) (depth : ℕ) (storage : Bool) (status : �
   -- is what is told
   pub tells : TellsOfRun r text status old new
 
--- CARRIED. The words ask what the loops of a file carry, with what their turns share or without, and name no table of latencies; and the file is an accepted
--- program, with its input
+-- CARRIED. The words ask what the loops of a file carry, with what their turns share or without; and the file is an accepted program, with its
+-- latencies and its input
 abbrev pub CarriedIsTold : Type 0
-CarriedIsTold = (words : List (List ℕ)) (status : ℕ) (old new : World) (file : List ℕ) (r : Running) (depth : ℕ) (storage : Bool)
-    → Keeps words status old new → WentWell words (job.Carried file r.steps depth None storage) status old new → HoldsProgram old file r
+CarriedIsTold = (words : List (List ℕ)) (status : ℕ) (old new : World) (file : List ℕ) (latency : Option (List ℕ)) (r : Running) (depth : ℕ)
+    (storage : Bool) → Keeps words status old new → WentWell words (job.Carried file r.steps depth latency storage) status old new → HoldsProgram old file latency r
     → CarriedTells r depth storage status old new
 
 -- the page, by which limit the dictionary passes, if it passes one: there the page says so. Else it is that of a tree: the page shows its rows, its contexts,
@@ -117,11 +116,10 @@ pub record PageTells (file source : List ℕ) (r : Running) (depth : ℕ) (dict 
   -- is what is told
   pub tells : TellsOfRun r text status old new
 
--- PAGE. The words ask for the page of a file, and name no table of latencies; and the file is an accepted program, with its input. Its bytes are the source
--- on the page
+-- PAGE. The words ask for the page of a file, which is an accepted program, with its latencies and its input. Its bytes are the source on the page
 abbrev pub PageIsTold : Type 0
-PageIsTold = (words : List (List ℕ)) (status : ℕ) (old new : World) (file : List ℕ) (r : Running) (depth : ℕ) (dict : Bool)
-    → Keeps words status old new → WentWell words (job.Page file r.steps depth None dict) status old new → (program : HoldsProgram old file r)
+PageIsTold = (words : List (List ℕ)) (status : ℕ) (old new : World) (file : List ℕ) (latency : Option (List ℕ)) (r : Running) (depth : ℕ)
+    (dict : Bool) → Keeps words status old new → WentWell words (job.Page file r.steps depth latency dict) status old new → (program : HoldsProgram old file latency r)
     → PageTells file program.bytes r depth dict status old new
 
 -- the annotated source, by which limit the dictionary passes, if it passes one: there the source stands as it is. Else it is that of a tree: it tells its rows,
@@ -159,11 +157,10 @@ pub record AnnotateTells (source : List ℕ) (r : Running) (depth : ℕ) (strict
   -- is what is told
   pub tells : TellsOfRun r text status old new
 
--- ANNOTATE. The words ask for the annotated source of a file, and name no table of latencies; and the file is an accepted program, with its input. Its bytes
--- are the source
+-- ANNOTATE. The words ask for the annotated source of a file, which is an accepted program, with its latencies and its input. Its bytes are the source
 abbrev pub AnnotateIsTold : Type 0
-AnnotateIsTold = (words : List (List ℕ)) (status : ℕ) (old new : World) (file : List ℕ) (r : Running) (depth : ℕ) (strict : Bool)
-    → Keeps words status old new → WentWell words (job.Annotate file r.steps depth None strict) status old new → (program : HoldsProgram old file r)
+AnnotateIsTold = (words : List (List ℕ)) (status : ℕ) (old new : World) (file : List ℕ) (latency : Option (List ℕ)) (r : Running) (depth : ℕ)
+    (strict : Bool) → Keeps words status old new → WentWell words (job.Annotate file r.steps depth latency strict) status old new → (program : HoldsProgram old file latency r)
     → AnnotateTells program.bytes r depth strict status old new
 
 -- the files tell that one of this name is a saved profile of either format, of at most 536,870,912 bytes
@@ -215,29 +212,17 @@ ShowIsTold = (words : List (List ℕ)) (status : ℕ) (old new : World) (name : 
     → Keeps words status old new → WentWell words (job.Show name form) status old new → HoldsProfile old name file
     → ShowTells file form status old new
 
--- the files tell that one of this name has these bytes, which are no more than a source may have
-pub record HoldsSource (old : World) (file bytes : List ℕ) : Type 0 where
-  pub held : TellsFile old.files.held file bytes
-  pub few : length bytes ≤ file_limit
-
--- what a call tells that writes nothing, and ends so: out has grown by nothing, the status is that of the end, and err has grown by its line, and behind that by
--- what more is told
-pub record Tells (failure : Option Failure) (more : Option (List ℕ)) (status : ℕ) (old new : World) : Type 0 where
-  pub grows : Grows old.out.written [] new.out.written
-  pub status_is : status ≡ status_of failure
-  pub told : TellsEnd failure more old.err new.err
-
 -- CHECK of a source that is accepted: the words ask to check a file, and it is one; nothing is written on out or err, and the status is 0
 abbrev pub AcceptedIsTold : Type 0
 AcceptedIsTold = (words : List (List ℕ)) (status : ℕ) (old new : World) (file bytes : List ℕ) (typed : TUnit)
-    → Keeps words status old new → WentWell words (job.Check file) status old new → HoldsSource old file bytes → IsAccepted bytes typed
+    → Keeps words status old new → WentWell words (job.Check file) status old new → HoldsFile old file bytes → IsAccepted bytes typed
     → Tells None None status old new
 
 -- CHECK of a source that is refused: the words ask to check a file, and its first fault is this one; nothing is written on out, the status is that of the refusal,
 -- and err has grown by its line and by what is told of that fault
 abbrev pub RefusalIsTold : Type 0
 RefusalIsTold = (words : List (List ℕ)) (status : ℕ) (old new : World) (file bytes : List ℕ) (failure : Failure)
-    → Keeps words status old new → WentWell words (job.Check file) status old new → HoldsSource old file bytes
+    → Keeps words status old new → WentWell words (job.Check file) status old new → HoldsFile old file bytes
     → AnswersSource (λ first. first ≡ failure) (λ typed. ⊥) bytes
     → Tells (Some failure) (Some (told file bytes failure)) status old new
 
@@ -247,16 +232,22 @@ Sums number loops r text (Returned exit) = IsSummary number loops (length (run_o
 Sums number loops r text (Trapped trap place) = text ≡ []
 Sums number loops r text OutOfSteps = text ≡ []
 
--- DEMO, the conclusions
-pub record DemoTells (number loops : ℕ) (r : Running) (status : ℕ) (old new : World) : Type 0 where
-  -- the summary of the run: of its output, and of the rows and the plan of its tree
-  pub text : List ℕ
-  pub written : Sums number loops r text (run_of r).end
-  -- is what is told
-  pub tells : TellsOfRun r text status old new
+-- each program of at most 2,000 loops that is made from a number is accepted
+abbrev pub MadeProgramsAreAccepted : Type 0
+MadeProgramsAreAccepted = (number loops : ℕ) → loops ≤ 2000 → (typed : TUnit) × IsAccepted (program number loops) typed
 
--- DEMO. The words ask for a program of so many loops that is made from a number, and that program is accepted
+-- DEMO, the conclusions
+pub record DemoTells (number loops status : ℕ) (old new : World) : Type 0 where
+  -- the program that is made is accepted, and this is its typed tree
+  pub typed : TUnit
+  pub accepted : IsAccepted (program number loops) typed
+  -- the summary of its run: of its output, and of the rows and the plan of its tree
+  pub text : List ℕ
+  pub written : Sums number loops (made_running typed) text (run_of (made_running typed)).end
+  -- is what is told
+  pub tells : TellsOfRun (made_running typed) text status old new
+
+-- DEMO. The words ask for a program of so many loops that is made from a number
 abbrev pub DemoIsTold : Type 0
-DemoIsTold = (words : List (List ℕ)) (status : ℕ) (old new : World) (number loops : ℕ) (typed : TUnit)
-    → Keeps words status old new → WentWell words (job.Demo number loops) status old new → IsAccepted (program number loops) typed
-    → DemoTells number loops (made_running typed) status old new
+DemoIsTold = (words : List (List ℕ)) (status : ℕ) (old new : World) (number loops : ℕ)
+    → Keeps words status old new → WentWell words (job.Demo number loops) status old new → DemoTells number loops status old new

@@ -1,6 +1,6 @@
 -- Believed with a public law.
 -- What `kremlin replay` writes, and with which status it ends, where nothing goes wrong outside and memory suffices.
-use Rattle.std.specs.Prelude.{ℕ, ◌≡◌, List, [], None}
+use Rattle.std.specs.Prelude.{ℕ, ◌≡◌, List, [], Option}
 use Rattle.k_ending.specs.declared.ending.End.{End}
 use Rattle.k_ending.specs.declared.ending.End.TheVariants.{Returned, Trapped, OutOfSteps}
 use Rattle.k_replay_laws.specs.Texts.{IsReplayText}
@@ -24,8 +24,8 @@ pub record ReplayTells (r : Running) (workers seed status : ℕ) (old new : Worl
   -- is what is told
   pub tells : TellsOfRun r text status old new
 
--- REPLAY. The words ask for the replay of a file by so many workers, and name no table of latencies; and the file is an accepted program, with its input
+-- REPLAY. The words ask for the replay of a file by so many workers; and the file is an accepted program, with its latencies and its input
 abbrev pub ReplayIsTold : Type 0
-ReplayIsTold = (words : List (List ℕ)) (status : ℕ) (old new : World) (file : List ℕ) (r : Running) (depth workers seed : ℕ)
-    → Keeps words status old new → WentWell words (job.Replay file r.steps depth None workers seed) status old new → HoldsProgram old file r
+ReplayIsTold = (words : List (List ℕ)) (status : ℕ) (old new : World) (file : List ℕ) (latency : Option (List ℕ)) (r : Running)
+    (depth workers seed : ℕ) → Keeps words status old new → WentWell words (job.Replay file r.steps depth latency workers seed) status old new → HoldsProgram old file latency r
     → ReplayTells r workers seed status old new

@@ -1,10 +1,11 @@
 //! What each command writes: each function's contract is a law, and its body does nothing.
 ghost use Rattle.k_top_headline.specs.Headline.{RunIsTold};
-ghost use Rattle.k_top_headline.specs.OtherCommands.{AcceptedIsTold, AnnotateIsTold, CarriedIsTold, DemoIsTold, GraphIsTold, PageIsTold, RefusalIsTold, ShowIsTold};
+ghost use Rattle.k_top_headline.specs.OtherCommands.{AcceptedIsTold, AnnotateIsTold, CarriedIsTold, DemoIsTold, GraphIsTold, MadeProgramsAreAccepted, PageIsTold, RefusalIsTold, ShowIsTold};
 ghost use Rattle.k_top_headline.specs.Replay.{ReplayIsTold};
 ghost use Rattle.k_top_headline.specs.Sums.{MergeIsTold, SumIsTold};
 
-/// `run` of an accepted source writes the program's output and, where main returned, the report of the tree of that run.
+/// `run` of an accepted source writes the program's output and, where main returned, the report of the tree of that run, to which its dictionary expands; it saves
+/// the profile of the run where a file is named, and reads the input to its end where the program calls `getchar`. A table of latencies that is wrong is refused.
 pub fn run_is_told()
     ensures { RunIsTold }
 {}
@@ -52,6 +53,11 @@ pub fn annotate_is_told()
 pub fn check_is_told()
     ensures accepted { AcceptedIsTold }
     ensures refused { RefusalIsTold }
+{}
+
+/// Each program of at most 2,000 loops that is made from a number is accepted.
+pub fn made_programs_are_accepted()
+    ensures { MadeProgramsAreAccepted }
 {}
 
 /// `demo` writes the summary of the run of the program that it makes.

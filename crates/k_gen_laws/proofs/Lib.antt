@@ -1,0 +1,9 @@
+pub mod Faultless
+pub mod Including
+pub mod Judged
+pub mod Lines
+pub mod Made
+pub mod Parsed
+pub mod Reading
+pub mod Scanning
+pub mod Trees
