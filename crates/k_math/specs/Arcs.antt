@@ -44,6 +44,7 @@ atan_of x = if is_nan x || is_tame_number x then x else signed_of (lt x float_ze
 unfoldable pub asin_pair : Float → Pair
 asin_pair a = atan_pair_of (quotient_of (single a) (root_of (product_of (exact_sum_of ONE (neg a)) (exact_sum_of ONE a))))
 
+-- asin a of a size a of at most 1
 unfoldable pub asin_of_size : Float → Float
 asin_of_size a = if eq a ONE then HALF_PI.high else (asin_pair a).high
 
@@ -81,6 +82,7 @@ atan2_by left y x q =
 abbrev pub atan2_far : Bool → Float → Float
 atan2_far left a = if float_is_infinite a then (if left then THREE_QUARTERS_PI else QUARTER_PI) else (if left then PI.high else float_zero)
 
+-- the angle of a point by the sizes of y and x, where neither is 0 or the NaN
 unfoldable pub atan2_of_sizes : Bool → Float → Float → Float
 atan2_of_sizes left a b =
     if float_is_infinite b then atan2_far left a else

@@ -6,8 +6,10 @@ use Rattle.k_math.specs.declared.tables.TheConstants.{FACTORIALS}
 use Rattle.k_math.specs.Pairs.{negated_of, product_of}
 use Rattle.k_math.specs.Series.{alternate_of}
 
+-- the sine: a times a sum in -a^2 with 1/3!, 1/5!, ..
 unfoldable pub sine_of : Pair → Pair
 sine_of a = product_of (alternate_of (negated_of (product_of a a)) (drop 1 FACTORIALS)) a
 
+-- the cosine: a sum in -a^2 with 1, 1/2!, 1/4!, ..
 unfoldable pub cosine_of : Pair → Pair
 cosine_of a = alternate_of (negated_of (product_of a a)) FACTORIALS

@@ -26,6 +26,7 @@ reduced_by k a = less_multiple (less_multiple (less_multiple a k LN_2_FIRST) k L
 unfoldable pub exponential_by : Float → Pair → Scaled
 exponential_by k a = record { value = series_of (reduced_by k a) (drop 2 FACTORIALS); power = float_to_signed w32 k }
 
+-- e^a = value * 2^power, where k is found from a
 unfoldable pub exponential_of : Pair → Scaled
 exponential_of a = exponential_by (near (a.high *ᶠ LOG2_E.high)) a
 
@@ -35,12 +36,13 @@ exp_rounded a =
     if lt EXP_UP_TO a.high then inf false else
     (if lt a.high EXP_FROM then float_zero else (let e = exponential_of a in rounded_of e.value e.power))
 
--- `exp` and `exp2` of a double
+-- `exp` of a double: beyond these limits infinite, or 0
 unfoldable pub exp_of : Float → Float
 exp_of x =
     if is_nan x then x else
     (if lt EXP_UP_TO x then inf false else (if lt x EXP_FROM then float_zero else exp_rounded (single x)))
 
+-- `exp2` of a double: beyond these limits infinite, or 0
 unfoldable pub exp2_of : Float → Float
 exp2_of x =
     if is_nan x then x else

@@ -30,7 +30,7 @@ use Rattle.k_math.specs.Roots.{cbrt_of, hypot_of}
 abbrev pub argument : Precision → ℕ → Float
 argument p a = rounded p (real_of a)
 
--- an elementary function is that of doubles, and in Single rounded once more
+-- the elementary functions of one double (C17 7.12.4 to 7.12.8); in Single they are rounded once more
 unfoldable pub of_double : ElementaryOne → Float → Float
 of_double Exp x = exp_of x
 of_double Exp2 x = exp2_of x
@@ -48,14 +48,17 @@ of_double Sinh x = sinh_of x
 of_double Cosh x = cosh_of x
 of_double Tanh x = tanh_of x
 
+-- an elementary function of one code in a precision, as a code
 abbrev pub elementary_of : ElementaryOne → Precision → ℕ → ℕ
 elementary_of f p a = code_of (rounded p (of_double f (argument p a)))
 
+-- the elementary functions of two doubles (C17 7.12.7.4, 7.12.4.4, 7.12.7.3)
 unfoldable pub of_doubles : ElementaryPair → Float → Float → Float
 of_doubles Pow x y = pow_of x y
 of_doubles Atan2 y x = atan2_of y x
 of_doubles Hypot x y = hypot_of x y
 
+-- one of these of two codes in a precision, as a code
 abbrev pub elementary_pair_of : ElementaryPair → Precision → ℕ → ℕ → ℕ
 elementary_pair_of f p a b = code_of (rounded p (of_doubles f (argument p a) (argument p b)))
 
@@ -71,6 +74,7 @@ size_value p a = code_of (float_with_sign false (argument p a))
 abbrev pub excess : Precision → Float → Float → Float
 excess p x y = if is_nan x || is_nan y then nan else (if lt y x then sub (format p) x y else float_zero)
 
+-- `fdim` of two codes in a precision, as a code (C17 7.12.12.1)
 abbrev pub excess_value : Precision → ℕ → ℕ → ℕ
 excess_value p a b = code_of (excess p (argument p a) (argument p b))
 
@@ -82,6 +86,7 @@ whole_near Trunc x = trunc binary64 x
 whole_near Round x = float_round binary64 x
 whole_near Rint x = round_ties_even binary64 x
 
+-- one of `floor ceil trunc round rint` of a code, as a code (C17 7.12.9)
 abbrev pub whole_value : WholeBy → Precision → ℕ → ℕ
 whole_value w p a = code_of (whole_near w (argument p a))
 
@@ -89,10 +94,11 @@ whole_value w p a = code_of (whole_near w (argument p a))
 abbrev pub long_value : WholeBy → Precision → ℕ → Option ℤ
 long_value w p a = whole_of I64 (whole_value w p a)
 
--- the lesser and the greater one; the other one beside the NaN, and -0.0 below 0.0
+-- `fmin` of two reals: the other one beside the NaN, and -0.0 below 0.0 (C17 7.12.12.3)
 unfoldable pub lesser : Float → Float → Float
 lesser x y = if is_nan x then y else (if is_nan y then x else (if lt x y || (eq x y && is_sign_negative x) then x else y))
 
+-- `fmax` of two reals (C17 7.12.12.2)
 unfoldable pub greater : Float → Float → Float
 greater x y = if is_nan x then y else (if is_nan y then x else (if lt y x || (eq x y && is_sign_negative y) then x else y))
 
@@ -103,6 +109,7 @@ chosen Greatest x y = greater x y
 chosen WithSign x y = float_with_sign (is_sign_negative y) x
 chosen Remainder x y = rem binary64 x y
 
+-- one of `fmin fmax copysign fmod` of two codes, as a code
 abbrev pub exact_pair_value : ExactPair → Precision → ℕ → ℕ → ℕ
 exact_pair_value f p a b = code_of (chosen f (argument p a) (argument p b))
 
@@ -113,5 +120,6 @@ is_of IsInf x = float_is_infinite x
 is_of IsFinite x = float_is_finite x
 is_of SignBit x = is_sign_negative x
 
+-- one of `isnan isinf isfinite signbit` of a code, as the int 1 or 0 (C17 7.12.3)
 abbrev pub test_value : RealTest → ℕ → ℕ
 test_value s a = number (is_of s (real_of a))

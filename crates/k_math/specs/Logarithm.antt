@@ -29,6 +29,7 @@ with_multiple k p = sum_of (sum_of (single (k *ᶠ LN_2_FIRST)) (single (k *ᶠ 
 unfoldable pub log_by : Float → ℤ → Pair
 log_by m e = with_multiple (of_int binary64 e) (log_of_fraction m)
 
+-- ln of a number in parts, its fraction taken from the root of 1/2 up to that of 2
 unfoldable pub log_from : Parts → Pair
 log_from p = if lt p.fraction ROOT_HALF then log_by (p.fraction *ᶠ TWO) (p.exponent -ℤ pos 1) else log_by p.fraction p.exponent
 
@@ -36,6 +37,7 @@ log_from p = if lt p.fraction ROOT_HALF then log_by (p.fraction *ᶠ TWO) (p.exp
 unfoldable pub log_of_positive : Float → Pair
 log_of_positive x = log_from (parts_of x)
 
+-- x is above 0 and no infinity
 abbrev pub is_positive_finite : Float → Bool
 is_positive_finite x = lt float_zero x && lt x (inf false)
 
@@ -43,15 +45,18 @@ is_positive_finite x = lt float_zero x && lt x (inf false)
 unfoldable pub log_at_edge : Float → Float
 log_at_edge x = if eq x float_zero then neg (inf false) else (if eq x (inf false) then x else nan)
 
--- `log`, `log2` and `log10` of a double
+-- `log` of a double
 unfoldable pub log_of : Float → Float
 log_of x = if is_positive_finite x then (log_of_positive x).high else log_at_edge x
 
+-- the logarithm to a base whose 1 / ln is given: of a positive finite x, and else as `log` has it
 unfoldable pub log_to : Pair → Float → Float
 log_to base x = if is_positive_finite x then (product_of (log_of_positive x) base).high else log_at_edge x
 
+-- `log2` of a double
 abbrev pub log2_of : Float → Float
 log2_of = log_to LOG2_E
 
+-- `log10` of a double
 abbrev pub log10_of : Float → Float
 log10_of = log_to LOG10_E

@@ -7,6 +7,7 @@ use Rattle.k_math.specs.declared.pair.Pair.{Pair}
 use Rattle.k_math.specs.declared.pair.TheConstants.{SPLITTER, TWO}
 use Rattle.k_math.specs.Doubles.{◌+ᶠ◌, ◌-ᶠ◌, ◌*ᶠ◌, ◌/ᶠ◌}
 
+-- high + low
 abbrev pub pair : Float → Float → Pair
 pair h l = record { high = h; low = l }
 
@@ -30,6 +31,7 @@ halves_of a = let t = SPLITTER *ᶠ a in let h = t -ᶠ (t -ᶠ a) in pair h (a 
 unfoldable pub lost_by : Float → Pair → Pair → Float
 lost_by p a b = ((a.high *ᶠ b.high -ᶠ p) +ᶠ a.high *ᶠ b.low +ᶠ a.low *ᶠ b.high) +ᶠ a.low *ᶠ b.low
 
+-- a product, and what its rounding left out
 unfoldable pub exact_product_of : Float → Float → Pair
 exact_product_of a b = let p = a *ᶠ b in pair p (lost_by p (halves_of a) (halves_of b))
 
@@ -37,13 +39,15 @@ exact_product_of a b = let p = a *ᶠ b in pair p (lost_by p (halves_of a) (halv
 unfoldable pub joined_sums : Pair → Pair → Pair
 joined_sums s t = let v = ordered_sum_of s.high (s.low +ᶠ t.high) in ordered_sum_of v.high (t.low +ᶠ v.low)
 
--- x + y, -x, x * y
+-- x + y
 unfoldable pub sum_of : Pair → Pair → Pair
 sum_of x y = joined_sums (exact_sum_of x.high y.high) (exact_sum_of x.low y.low)
 
+-- -x
 unfoldable pub negated_of : Pair → Pair
 negated_of x = pair (neg x.high) (neg x.low)
 
+-- x * y, but for the product of the lows
 unfoldable pub product_of : Pair → Pair → Pair
 product_of x y = let p = exact_product_of x.high y.high in ordered_sum_of p.high (p.low +ᶠ (x.high *ᶠ y.low +ᶠ x.low *ᶠ y.high))
 
@@ -64,5 +68,6 @@ quotient_of x y =
 unfoldable pub root_from : Pair → Float → Pair
 root_from x s = ordered_sum_of s ((sum_of x (negated_of (exact_product_of s s))).high /ᶠ (TWO *ᶠ s))
 
+-- the root of a pair, 0 of 0
 unfoldable pub root_of : Pair → Pair
 root_of x = if eq x.high float_zero then single float_zero else root_from x (sqrt binary64 x.high)

@@ -23,6 +23,7 @@ squared_once s =
       left = s.left / 2;
     }
 
+-- so many of these steps
 unfoldable pub squared : ℕ → Squaring → Squaring
 squared zero s = s
 squared (suc k) s = squared_once (squared k s)
@@ -45,6 +46,7 @@ goes_by_squaring y t l = ((is_whole_number y && le (size y) WHOLE_UP_TO) && lt (
 unfoldable pub by_exponential : Float → Float → Pair → Float
 by_exponential y t l = if lt (size t) NEAR_ONE then ONE +ᶠ t else exp_rounded (product_of l (single y))
 
+-- a^y of a power that a double can have, by squaring where y is a small whole number, else by the exponential
 unfoldable pub pow_within : Float → Float → Float → Pair → Float
 pow_within a y t l = if goes_by_squaring y t l then by_squaring a y else by_exponential y t l
 
@@ -52,6 +54,7 @@ pow_within a y t l = if goes_by_squaring y t l then by_squaring a y else by_expo
 unfoldable pub pow_by : Float → Float → Float → Pair → Float
 pow_by a y t l = if lt POW_UP_TO t then inf false else (if lt t POW_FROM then float_zero else pow_within a y t l)
 
+-- a^y of a positive finite a
 unfoldable pub pow_of_positive : Float → Float → Float
 pow_of_positive a y = let l = log_of_positive a in pow_by a y (y *ᶠ l.high) l
 
@@ -73,10 +76,11 @@ pow_of_size a y =
 abbrev pub has_no_power : Float → Float → Bool
 has_no_power x y = ((lt x float_zero && not (is_whole_number y)) && not (float_is_infinite x))
 
--- x^y with the sign of x where y is odd
+-- r, or -r
 abbrev pub signed_of : Bool → Float → Float
 signed_of negative r = if negative then neg r else r
 
+-- x^y of a finite y, neither being the NaN: negative where x is and y is odd; a negative number has powers to whole numbers alone
 unfoldable pub pow_of_number : Float → Float → Float
 pow_of_number x y =
     if has_no_power x y then nan else signed_of (is_sign_negative x && is_odd_number y) (pow_of_size (size x) y)

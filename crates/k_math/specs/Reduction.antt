@@ -24,11 +24,12 @@ window low high s = (high * 2 ^ 64 + low) / 2 ^ s % 2 ^ 64
 unfoldable pub ratio_at : ℕ → ℕ
 ratio_at at = window (get_or TWO_OVER_PI (at / 64) 0) (get_or TWO_OVER_PI (at / 64 + 1) 0) (at % 64)
 
--- what goes over to limb i of m times these bits from place c on, and limb i
+-- what goes over to limb i of m times these bits from place c on
 unfoldable pub carried : ℕ → ℕ → ℕ → ℕ
 carried m c zero = 0
 carried m c (suc i) = (ratio_at (c + 64 * i) * m + carried m c i) / 2 ^ 64
 
+-- limb i of that product
 unfoldable pub limb : ℕ → ℕ → ℕ → ℕ
 limb m c i = (ratio_at (c + 64 * i) * m + carried m c i) % 2 ^ 64
 
@@ -36,10 +37,11 @@ limb m c i = (ratio_at (c + 64 * i) * m + carried m c i) % 2 ^ 64
 unfoldable pub product_at : ℕ → ℕ → ℕ → ℕ
 product_at m c at = window (limb m c (at / 64)) (limb m c (at / 64 + 1)) (at % 64)
 
--- of an angle m 2^(n - 53): the bits of 2/pi below this place are not needed, and the lowest bit that is taken of the product
+-- of an angle m 2^(n - 53): the bits of 2/pi below this place are not needed
 abbrev pub needed_from : ℕ → ℕ
 needed_from n = 1011 - n
 
+-- the lowest bit of the product that is taken
 abbrev pub taken_from : ℕ → ℕ
 taken_from n = 1077 - needed_from n - n
 
@@ -57,6 +59,7 @@ bits_by m c b = record {
 unfoldable pub is_half : Bits → Bool
 is_half z = nat_le (2 ^ 63) z.first
 
+-- the next quarter turn, and what is missing up to it
 unfoldable pub from_above : Bits → Bits
 from_above z = record {
   quarter = (z.quarter % 4 + 1) % 4;
@@ -82,6 +85,7 @@ pieces_of a b skipped =
     ordered_sum_of (scaled_of (of_int binary64 (pos (a / 2 ^ 11))) (neg_ℤ (pos (53 + skipped))))
     (scaled_of (of_int binary64 (pos (a % 2 ^ 11 * 2 ^ 42 + b / 2 ^ 22))) (neg_ℤ (pos (106 + skipped))))
 
+-- the fraction from its first bit that is set, before which i zeros stand in the first limb, as a pair of doubles
 unfoldable pub fraction_by : ℕ → Leading → Pair
 fraction_by i l = pieces_of (window l.second l.first (64 - i)) (window l.third l.second (64 - i)) (l.skipped + i)
 
@@ -89,6 +93,7 @@ fraction_by i l = pieces_of (window l.second l.first (64 - i)) (window l.third l
 unfoldable pub angle_of : Leading → Pair
 angle_of l = product_of (fraction_by (leading_zeros w64 l.first) l) HALF_PI
 
+-- the nearest quarter turn, and the angle from it, which is negative where it was counted down
 unfoldable pub turn_by : Bits → Turn
 turn_by z =
     if is_half z then (let t = from_above z in record { quarter = t.quarter; rest = negated_of (angle_of (leading_of t)) })

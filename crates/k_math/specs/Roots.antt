@@ -33,6 +33,7 @@ hypot_by e a b = rounded_of (hypotenuse (scaled_of a (neg_ℤ e)) (scaled_of b (
 unfoldable pub hypot_ordered : Float → Float → Float
 hypot_ordered a b = if eq b float_zero then a else hypot_by (parts_of a).exponent a b
 
+-- the root of the sum of the squares of two finite sizes, in any order
 unfoldable pub hypot_of_sizes : Float → Float → Float
 hypot_of_sizes a b = if lt a b then hypot_ordered b a else hypot_ordered a b
 

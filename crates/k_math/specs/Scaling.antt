@@ -11,10 +11,11 @@ use Rattle.k_math.specs.declared.scaling.Parts.{Parts}
 use Rattle.k_math.specs.Doubles.{◌+ᶠ◌, ◌-ᶠ◌, ◌*ᶠ◌}
 use Rattle.k_math.specs.Pairs.{pair, exact_sum_of}
 
--- 2^k and 2^-k: the field is k above or below 1023
+-- 2^k: the field is k above 1023
 unfoldable pub power_up : ℕ → Float
 power_up k = real_of ((1023 + k) * 2 ^ 52)
 
+-- 2^-k
 unfoldable pub power_down : ℕ → Float
 power_down k = real_of ((1023 - k) * 2 ^ 52)
 
@@ -27,10 +28,11 @@ repeated (suc n) by x = repeated n by x *ᶠ by
 abbrev pub thousands : ℕ → ℕ
 thousands k = (k - 1) / 1000
 
--- x * 2^k and x * 2^-k, by steps of 2^1000
+-- x * 2^k, by steps of 2^1000
 unfoldable pub raised_of : Float → ℕ → Float
 raised_of x k = repeated (thousands k) (power_up 1000) x *ᶠ power_up (k - 1000 * thousands k)
 
+-- x * 2^-k
 unfoldable pub lowered_of : Float → ℕ → Float
 lowered_of x k = repeated (thousands k) (power_down 1000) x *ᶠ power_down (k - 1000 * thousands k)
 
@@ -39,6 +41,7 @@ unfoldable pub scaled_of : Float → ℤ → Float
 scaled_of x (pos k) = raised_of x k
 scaled_of x (negsuc k) = lowered_of x (suc k)
 
+-- both numbers of a pair times 2^k
 unfoldable pub pair_scaled_of : Pair → ℤ → Pair
 pair_scaled_of x k = pair (scaled_of x.high k) (scaled_of x.low k)
 

@@ -20,11 +20,12 @@ second_from z p [] = p
 second_from z p (c ∷ []) = p
 second_from z p (c ∷ d ∷ cs) = second_from z (with_next z p d) cs
 
--- the sum with all these coefficients, and with the first, the third and so on
+-- the sum with all these coefficients
 unfoldable pub series_of : Pair → List Pair → Pair
 series_of z [] = single float_zero
 series_of z (c ∷ cs) = series_from z c cs
 
+-- the sum with the first coefficient, the third and so on
 unfoldable pub alternate_of : Pair → List Pair → Pair
 alternate_of z [] = single float_zero
 alternate_of z (c ∷ cs) = second_from z c cs

@@ -11,10 +11,11 @@ abbrev pub format : Precision → Format
 format Single = binary32
 format Double = binary64
 
--- the real of a code, and the code of a real: its bits as a double, where those of the NaN are 0x7ff8000000000000
+-- the real of a code: a code is its bits as a double, where those of the NaN are 0x7ff8000000000000
 abbrev pub real_of : ℕ → Float
 real_of code = from_bits binary64 code
 
+-- the code of a real
 abbrev pub code_of : Float → ℕ
 code_of x = to_bits binary64 x
 

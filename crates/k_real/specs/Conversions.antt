@@ -9,10 +9,11 @@ use Rattle.k_num.specs.Kind.{is_held}
 use Rattle.k_real.specs.declared.precision.Precision.{Precision}
 use Rattle.k_real.specs.Codes.{format, real_of, code_of, rounded}
 
--- a whole number to a precision, and a real to a precision, rounded once
+-- a whole number to a precision, rounded once
 abbrev pub of_whole : Precision → ℤ → ℕ
 of_whole p v = code_of (of_int (format p) v)
 
+-- a code to a precision, rounded once (C17 6.3.1.5)
 abbrev pub of_real : Precision → ℕ → ℕ
 of_real p a = code_of (rounded p (real_of a))
 

@@ -9,11 +9,12 @@ use Rattle.k_shaped.specs.declared.shape.Conversion.{Conversion}
 use Rattle.k_shaped.specs.Accepted.{is_accepted}
 use Rattle.k_shaped.specs.Spelling.{is_flag, has, value, spelling}
 
--- the bytes up to the first that fails a test, and those from it on
+-- the bytes up to the first that fails a test
 abbrev pub front : (ℕ → Bool) → List ℕ → List ℕ
 front p [] = []
 front p (b ∷ bs) = if p b then b ∷ front p bs else []
 
+-- the bytes from the first on that fails a test
 abbrev pub behind : (ℕ → Bool) → List ℕ → List ℕ
 behind p [] = []
 behind p (b ∷ bs) = if p b then behind p bs else b ∷ bs
@@ -26,9 +27,11 @@ number text = min 4096 (value 0 (front is_ascii_digit text))
 unfoldable pub flagged : ℕ → List ℕ → Bool
 flagged f text = has f (front is_flag text)
 
+-- what stands behind the flags at the front
 unfoldable pub behind_flags : List ℕ → List ℕ
 behind_flags text = behind is_flag text
 
+-- what stands behind the decimal digits at the front
 unfoldable pub behind_digits : List ℕ → List ℕ
 behind_digits text = behind is_ascii_digit text
 
@@ -37,6 +40,7 @@ unfoldable pub precision : List ℕ → Option ℕ
 precision [] = None
 precision (b ∷ text) = if b == 46 then Some (number text) else None
 
+-- what stands behind the precision at the front, if there is one: `.` and digits
 unfoldable pub behind_precision : List ℕ → List ℕ
 behind_precision [] = []
 behind_precision (b ∷ text) = if b == 46 then behind_digits text else b ∷ text

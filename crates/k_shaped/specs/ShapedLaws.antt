@@ -24,15 +24,17 @@ plain c p =
 abbrev pub NumbersAreWide : Type 0
 NumbersAreWide = (s : Shape) (a : ℤ) → s.width ≤ length (text s a)
 
+-- the text of a string has as many bytes as the width says, or more
 abbrev pub StringsAreWide : Type 0
 StringsAreWide = (s : Shape) (bytes : List ℕ) → s.width ≤ length (string_text s bytes)
 
--- without flags, width and precision whole numbers are in decimal with their sign, or in hexadecimal modulo 2^64, bytes are modulo 256, and a string is its bytes
+-- without flags, width and precision whole numbers are in decimal with their sign, or in hexadecimal modulo 2^64, and bytes are modulo 256
 abbrev pub PlainNumbers : Type 0
 PlainNumbers =
     (a : ℤ) → (text (plain 100 None) a ≡ signed_decimal a) × (text (plain 105 None) a ≡ signed_decimal a) × (text (plain 117 None) a ≡ signed_decimal a)
     × (text (plain 120 None) a ≡ digits 16 false (remainder U64 a)) × (text (plain 99 None) a ≡ remainder U8 a ∷ [])
 
+-- without flags, width and precision a string is its bytes before the first 0
 abbrev pub PlainStrings : Type 0
 PlainStrings = (bytes : List ℕ) → string_text (plain 115 None) bytes ≡ before_zero bytes
 
