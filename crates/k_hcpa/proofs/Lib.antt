@@ -9,6 +9,8 @@ pub mod Listed
 pub mod Moving
 pub mod Now
 pub mod Pieces
+pub mod Saved
 pub mod Steps
+pub mod Stopped
 pub mod Telling
 pub mod Underway

@@ -12,5 +12,6 @@ pub mod Returning
 pub mod Rooms
 pub mod Running
 pub mod Silence
+pub mod Stopping
 pub mod Surely
 pub mod Turns
