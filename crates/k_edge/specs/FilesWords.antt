@@ -63,12 +63,12 @@ KeepsOthers None name new = new ≡ None
 KeepsOthers (Some held) name new =
     (held' : List ℕ → Option (List ℕ)) × (new ≡ Some held') × ((other : List ℕ) → other ≢ name → held' other ≡ held other)
 
--- what a save of bytes under a name answers, and what it leaves: the request is noted
+-- what a save of bytes under a name answers, and what it leaves: the request is noted, and no content changes where it failed
 abbrev pub Saves : Result ⊤ SaveFault → List ℕ → List ℕ → FilesState → FilesState → Type 0
 Saves (Ok done) name bytes old new =
     KeepsOthers old.held name new.held × Has new.held name (Some bytes) × (new.counts ≡ old.counts)
     × (new.requests ≡ old.requests ++ Save name ∷ [])
 Saves (Err save.Failed) name bytes old new =
-    KeepsOthers old.held name new.held × Rose old.counts.save_faults new.counts.save_faults
-    × (new.counts ≡ record old.counts { save_faults = new.counts.save_faults }) × (new.requests ≡ old.requests ++ Save name ∷ [])
+    Rose old.counts.save_faults new.counts.save_faults
+    × (new ≡ record old { counts = record old.counts { save_faults = new.counts.save_faults }; requests = old.requests ++ Save name ∷ [] })
 Saves (Err save.Memory) name bytes old new = IsShort (Save name) old new

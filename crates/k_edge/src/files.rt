@@ -39,7 +39,7 @@ impl Error for LoadFault {}
 /// Why a save was refused.
 #[derive(Clone, Copy, Debug, PartialEq, Eq, Hash)]
 pub enum SaveFault {
-    /// The outside failed. What the name now holds isn't told.
+    /// The outside failed, and no content changed.
     Failed,
     /// No memory was found, and nothing changed.
     Memory,
@@ -69,7 +69,7 @@ pub trait Files {
     fn load(&mut self, alloc: Global, name: &str, limit: u64) -> Result<Vec<u8>, LoadFault>
         ensures { Loads result name.now limit (seen self.old) (seen self.new) };
 
-    /// Makes the bytes the content of a name.
+    /// Makes the bytes the content of a name. Where that fails, the name keeps the content that it had.
     fn save(&mut self, alloc: Global, name: &str, bytes: &[u8]) -> Result<(), SaveFault>
         ensures { Saves result name.now bytes.now (seen self.old) (seen self.new) };
 }

@@ -3,10 +3,11 @@ ghost use Rattle.std.specs.Prelude.{◌≡◌, ◌≤◌, [], None, IfOk, vec_le
 ghost use Rattle.k_edge.specs.HostWords.{host_files};
 
 use crate::count::risen;
+use crate::host::saving::save_file;
 use crate::request::{note_load, note_save};
 use crate::{Files, LoadFault, Request, SaveFault};
 use std::alloc::Global;
-use std::io::{self, ErrorKind, Read, Write};
+use std::io::{self, ErrorKind, Read};
 use std::{fs, rt};
 
 /// The files of the host, opened by the runtime. Where no memory is found to note what is asked, nothing is opened.
@@ -72,20 +73,6 @@ fn load_fault(error: &io::Error) -> LoadFault {
     }
 }
 
-/// Writes a file of the host. Opening it cuts it to nothing, so that no error after that leaves it as it was, and
-/// each is a fault.
-fn write_file<R: rt::Files>(runtime: &R, name: &str, bytes: &[u8]) -> Result<(), SaveFault> {
-    let mut file = match fs::create(runtime, name) {
-        Ok(file) => file,
-        Err(error) if error.kind() == ErrorKind::OutOfMemory => return Err(SaveFault::Memory),
-        Err(_) => return Err(SaveFault::Failed),
-    };
-    match file.write_all(bytes) {
-        Ok(()) => Ok(()),
-        Err(_) => Err(SaveFault::Failed),
-    }
-}
-
 impl<R: rt::Files> Files for HostFiles<R> {
     ghost seen = { host_files };
 
@@ -103,14 +90,17 @@ impl<R: rt::Files> Files for HostFiles<R> {
         loaded
     }
 
-    fn save(&mut self, _alloc: Global, name: &str, bytes: &[u8]) -> Result<(), SaveFault> {
+    fn save(&mut self, alloc: Global, name: &str, bytes: &[u8]) -> Result<(), SaveFault> {
         if note_save(&mut self.requests, name).is_err() {
             return Err(SaveFault::Memory);
         }
-        let saved = write_file(&self.runtime, name, bytes);
-        if saved == Err(SaveFault::Failed) {
-            self.save_faults = risen(self.save_faults);
+        match save_file(&self.runtime, alloc, name, bytes) {
+            Ok(()) => Ok(()),
+            Err(error) if error.kind() == ErrorKind::OutOfMemory => Err(SaveFault::Memory),
+            Err(_) => {
+                self.save_faults = risen(self.save_faults);
+                Err(SaveFault::Failed)
+            }
         }
-        saved
     }
 }
