@@ -145,15 +145,9 @@ PutsPart read_fault answers old new = new.written ≡ old.written
 PutsPart put_fault answers old new = (answer : Answer) → answers answer → GrowsInPart old.written answer.out new.written
 PutsPart save_fault answers old new = (answer : Answer) → answers answer → Grows old.written answer.out new.written
 
--- every file but the one that is to be saved is as before
-abbrev pub KeepsAllBut : Option SavedFile → FilesState → FilesState → Type 0
-KeepsAllBut None old new = new.held ≡ old.held
-KeepsAllBut (Some file) old new = KeepsOthers old.held file.name new.held
-
--- FILES. No file changes but on status 0, and where a save failed, which may have changed its own file alone
-abbrev pub KeepsFiles : Cause → ℕ → (Answer → Type 0) → FilesState → FilesState → Type 0
-KeepsFiles save_fault status answers old new = (answer : Answer) → answers answer → KeepsAllBut answer.saved old new
-KeepsFiles cause status answers old new = (status ≡ 0) ⊎ (new.held ≡ old.held)
+-- FILES. No file changes but on status 0: where a save failed, its file is as it was
+abbrev pub KeepsFiles : ℕ → FilesState → FilesState → Type 0
+KeepsFiles status old new = (status ≡ 0) ⊎ (new.held ≡ old.held)
 
 -- how far the requests went: as far as those of the answer, unless no memory was found; to a file that is missing or too long, or to a load that
 -- failed; through the loads where the input was not read or the output not put; and through the save where that failed
@@ -212,7 +206,7 @@ pub record Keeps (words : List (List ℕ)) (status : ℕ) (old new : World) : Ty
   pub asked : WasAskedFor cause words (IsAnswer words outside)
   pub answered : IsAnswered (IsAnswer words outside) status old new
   pub part : PutsPart cause (IsAnswer words outside) old.out new.out
-  pub files : KeepsFiles cause status (IsAnswer words outside) old.files new.files
+  pub files : KeepsFiles status old.files new.files
   pub requests : AsksFiles words cause status (IsAnswer words outside) old.files new.files
   pub input : ReadsInput words outside status old.input new.input
   pub told : TellsFault status old.err new.err
