@@ -18,7 +18,7 @@ use Rattle.k_top_answers.specs.declared.answer.SavedFile.{SavedFile}
 use Rattle.k_top_answers.specs.declared.failure.Failure.{Failure}
 use Rattle.k_top_answers.specs.declared.failure.Failure.TheVariants as why
 use Rattle.k_top_answers.specs.Answers.{CallsForInput, IsAnswer}
-use Rattle.k_top_answers.specs.Clauses.{AsksFiles, Cause, HoldsAfter, IsGiven, GoesFar, Keeps, KeepsAllBut, MayGive, ReadsInput, TellsEnd, TellsFault, World, faults_of, is_blame, nothing, put_fault, save_fault}
+use Rattle.k_top_answers.specs.Clauses.{AsksFiles, Cause, HoldsAfter, IsGiven, GoesFar, Keeps, MayGive, ReadsInput, TellsEnd, TellsFault, World, faults_of, is_blame, nothing, put_fault, save_fault}
 use Rattle.k_top_answers.specs.Failures.{failure_line, failure_of_put, failure_of_save, failure_status, status_of}
 use Rattle.k_top_answers.specs.Requests.{AreMade, AreToLoad, IsFront, saves_of}
 use Rattle.k_top_lemmas.specs.declared.ending.Ending.{Ending}
@@ -310,17 +310,16 @@ module _ (words : List (List ℕ)) (old new : World) (view : View) (is_view : Is
   -- THE SAVE FAILED
   save_failed : (status : ℕ) (file : SavedFile) → answer.saved ≡ Some file → Grows old.out.written answer.out new.out.written → new.out.faults ≡ old.out.faults
       → Saves (Err saving.Failed) file.name file.bytes (after all old.files) new.files → Tells (Some why.WriteFault) None status old.err new.err → Keeps words status old new
-  save_failed status file saved grows puts (others, rose, counts, requests) tells = record {
+  save_failed status file saved grows puts (rose, same) tells = record {
     outside = outside_of old view;
     cause = save_fault;
     fits = fits old view;
-    blames = record { rose = (rose, saved_alone _ counts puts); blamed = by_line tells };
+    blames = record { rose = (rose, saved_alone _ (ap (λ (f : FilesState). f.counts) same) puts); blamed = by_line tells };
     asked = λ other is. subst (λ (a : Answer). IsSome a.saved) (unique other is) (subst IsSome (sym saved) refl);
     answered = seven_or_eight tells;
     part = λ other is. subst (λ (a : Answer). Grows old.out.written a.out new.out.written) (unique other is) grows;
-    files = λ other is. subst (λ (a : Answer). KeepsAllBut a.saved old.files new.files) (unique other is)
-        (subst (λ s. KeepsAllBut s old.files new.files) (sym saved) others);
-    requests = asks_all save_fault status whole_is (with_save file saved requests);
+    files = inr (ap (λ (f : FilesState). f.held) same);
+    requests = asks_all save_fault status whole_is (with_save file saved (ap (λ (f : FilesState). f.requests) same));
     input = input_done words old new view is_view status (not_nine tells) input;
     told = told_fault tells;
   }
