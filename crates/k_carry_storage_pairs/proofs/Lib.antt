@@ -1,3 +1,4 @@
+pub mod Accessing
 pub mod Alike
 pub mod Answer
 pub mod Deeper

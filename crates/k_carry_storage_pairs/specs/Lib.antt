@@ -1,3 +1,4 @@
+pub mod Accesses
 pub mod Deep
 pub mod Firsts
 pub mod Kept
