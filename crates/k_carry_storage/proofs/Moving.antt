@@ -1,5 +1,5 @@
 -- Where a run stands behind one instruction more, and what is told where it has ended.
-use Rattle.std.proofs.Common.{ℕ, suc, ◌≡◌, ◌+◌, ◌≤◌, nat_lt, Bool, true, false, List, [], ◌∷◌, ◌++◌, length, slice_get, Option, Some, None, Result, Ok, Err, arith, refl, sym, subst, ap, ◌∙◌}
+use Rattle.std.proofs.Common.{ℕ, suc, ◌≡◌, ◌+◌, ◌≤◌, nat_lt, Bool, true, false, List, [], ◌∷◌, ◌++◌, length, map, slice_get, Option, Some, None, Result, Ok, Err, arith, refl, sym, subst, ap, ◌∙◌}
 use Rattle.std.specs.Prelude.{if◌then◌else◌, replicate, IfOk}
 use Rattle.std.proofs.lemmas.List.{append_assoc, append-nil}
 use Rattle.std.proofs.lemmas.Result.{IfOk-weaker}
@@ -13,11 +13,14 @@ use Rattle.k_ending.specs.declared.ending.End.{End}
 use Rattle.k_mem.specs.declared.pointer.Pointer.{Pointer}
 use Rattle.k_world.specs.declared.answer.Stop.TheVariants as stop
 use Rattle.k_world.specs.Operands.{sources}
+use Rattle.k_world.specs.Worlds.{World}
 use Rattle.k_code.specs.declared.code.Code.{Code}
 use Rattle.k_code.specs.declared.code.CodeFunc.{CodeFunc}
 use Rattle.k_code.specs.declared.instruction.Instr.{Instr}
 use Rattle.k_code.specs.Runs.{run_of, world_of}
 use Rattle.k_code.specs.Steps.{Configuration, Run, Going, Over, reads_of, step}
+use Rattle.k_code.specs.Telling.{telling_of, untold, untold_run}
+use Rattle.k_code.proofs.Telling.{telling_changes_nothing}
 use Rattle.k_hcpa_meaning.specs.Behind.{behind_all, world_behind}
 use Rattle.k_hcpa_store.specs.Kept.{Kept as StoreKept, configuration_of}
 use Rattle.k_hcpa_store.specs.Leads.{IsNext, Starts}
@@ -35,33 +38,25 @@ use Rattle.k_carry.proofs.Noticing.{happened_made, made_then}
 use Rattle.k_carry.proofs.Stepping.{dropped_left, made_is, nearer, next_run, open_happened}
 use Rattle.k_carry_storage_pairs.specs.declared.access.Access.{Access}
 use Rattle.k_carry_storage_pairs.specs.declared.pairs.LoopStorage.{LoopStorage}
+use Rattle.k_carry_storage_pairs.specs.Accesses.{access_of}
 use Rattle.k_carry_storage_pairs.specs.Deep.{AreDeep}
 use Rattle.k_carry_storage_pairs.specs.Kept.{Keeps, Kept, Knows, both_entered, none_shared}
 use Rattle.k_carry_storage_pairs.specs.Storage.{AreShared, access}
 use Rattle.k_carry_storage_pairs.proofs.Keeping.{keeps_nothing, storage_is_shared}
 use Rattle.k_carry_storage.specs.declared.table.Table.{Table}
 use Rattle.k_carry_storage.specs.declared.told.StorageTold.{StorageTold}
-use Rattle.k_carry_storage.specs.Accesses.{access_at, access_by, accesses_of, next_access}
+use Rattle.k_carry_storage.specs.Accesses.{access_by, accesses_of}
 use Rattle.k_carry_storage.specs.Answer.{TellsAllOf}
 use Rattle.k_carry_storage.specs.Noting.{IsNotedAll, IsNotedMade, all_left, entered_if}
 use Rattle.k_carry_storage.specs.Running.{IsKept, IsOver, IsToldOf, Stepped}
 use Rattle.k_carry_storage.specs.Tables.{kept_at}
 use Rattle.k_carry_storage.proofs.Knowing.{Stays, all_left_stays, entered_stays, operation_stays}
+use Rattle.k_carry_storage.proofs.Telling.{access_at, accesses_next, accesses_none, next_access}
 
 -- the access of the operation that an instruction made, if it made one
 abbrev told : Option Made → Option Access → List (Option Access)
 told None made = []
 told (Some m) made = made ∷ []
-
--- the accesses of one step more
-pub accesses_next : (code : Code) (input : List ℕ) (budget n : ℕ)
-    → accesses_of code input budget (suc n) ≡ accesses_of code input budget n ++ next_access code (run_of code input budget n)
-unfolding accesses_of
-accesses_next code input budget n = refl
-
-accesses_none : (code : Code) (input : List ℕ) (budget : ℕ) → accesses_of code input budget 0 ≡ []
-unfolding accesses_of
-accesses_none code input budget = refl
 
 -- whether an operation was made shows at how many were
 told_is : (made : ℕ) (operation : Option Made) (acc : Option Access)
@@ -195,24 +190,40 @@ module _ (s : Setting) (events : List Event) (k : StoreKept) (set : IsSetting s)
               keeps = all.keeps;
             }
 
+-- a run in which nothing is told has ended: so has that which tells
+told_over : (end : End) (w : World) (r : Run) → untold_run r ≡ Over end w
+    → (r ≡ Over end (world_of r)) × ((world_of r).events ≡ w.events) × ((world_of r).output ≡ w.output)
+told_over end w (Going c) is = absurd (cc is)
+told_over end w (Over e v) is =
+    let ends : e ≡ end = cc is in
+    let same : untold v ≡ w = cc is in
+    (ap (λ (f : End). Over f v) ends, ap (λ (x : World). x.events) same, ap (λ (x : World). x.output) same)
+
 -- what is told where a run has ended
 tells : (s : Setting) (g : Kept) (end : End) (t : StorageTold) → IsOver s g end → IsToldOf g end t → TellsAllOf s.code s.input s.budget s.depth t
-tells s g end t is told = record {
-  pairs = record {
-    events = is.world.events;
-    output = is.world.output;
-    outcome = record {
-      count = is.count;
-      world = is.world;
-      is = is.run ∙ ap (λ (e : End). Over e is.world) (sym told.ends);
-      events_are = refl;
-      output_is = refl;
-    };
-    shared = subst (λ (loops : List LoopStorage). AreShared s.code.regions s.depth is.world.events (accesses_of s.code s.input s.budget is.count) loops) (sym told.loops)
-        (storage_is_shared s.code.regions s.depth is.world.events (accesses_of s.code s.input s.budget is.count) g is.keeps);
-  };
-  deep = subst (λ (deep : List Bool). AreDeep s.depth is.world.events deep) (sym told.deep) (let keeps = is.keeps in keeps.deep);
-}
+unfolding accesses_of
+tells s g end t is told =
+    let r : Run = telling_of s.code s.input s.budget is.count in
+    let over = told_over end is.world r (sym (telling_changes_nothing s.code s.input s.budget is.count) ∙ is.run) in
+    record {
+      pairs = record {
+        deeds = (world_of r).deeds;
+        events = is.world.events;
+        output = is.world.output;
+        outcome = record {
+          count = is.count;
+          world = world_of r;
+          is = over.0 ∙ ap (λ (e : End). Over e (world_of r)) (sym told.ends);
+          deeds_are = refl;
+          events_are = over.1;
+          output_is = over.2;
+        };
+        shared =
+            subst (λ (loops : List LoopStorage). AreShared s.code.regions s.depth is.world.events (map access_of (world_of r).deeds) loops) (sym told.loops)
+            (storage_is_shared s.code.regions s.depth is.world.events (map access_of (world_of r).deeds) g is.keeps);
+      };
+      deep = subst (λ (deep : List Bool). AreDeep s.depth is.world.events deep) (sym told.deep) (let keeps = is.keeps in keeps.deep);
+    }
 
 pub all_told : (s : Setting) (g : Kept) (end : End) (r : Result StorageTold NoMemory) → IsOver s g end → IfOk r (λ t. IsToldOf g end t)
     → IfOk r (λ t. TellsAllOf s.code s.input s.budget s.depth t)

@@ -4,7 +4,8 @@ ghost use Rattle.k_world.specs.Acts.{in_one, pointer_of as pointer_meant};
 ghost use Rattle.k_world.specs.Operands.{value_in};
 ghost use Rattle.k_code.specs.Steps.{reads_of};
 ghost use Rattle.k_hcpa_store.specs.Kept.{configuration_of};
-ghost use Rattle.k_carry_storage.specs.Accesses.{access_by, accessed as accessed_meant, element_in as element_meant, way_of as way_meant};
+ghost use Rattle.k_carry_storage_pairs.specs.Accesses.{accessed as accessed_meant, element_in as element_meant};
+ghost use Rattle.k_carry_storage.specs.Accesses.{access_by, way_at};
 
 use k_carry_storage_pairs::Access;
 use k_code::{Do, Instr};
@@ -14,9 +15,9 @@ use k_num::NoMemory;
 use k_world::{Held, Read, Value};
 
 /// Whether the operation of an instruction that accesses an element stores to it.
-#[tactic(auto, unfolding(crate::specs::Accesses::way_of))]
+#[tactic(auto, unfolding(k_carry_storage_pairs::specs::Accesses::way_of, k_code::specs::Steps::operation_of))]
 fn way_of(act: &Do) -> Option<bool>
-    ensures { result ≡ way_meant act.now }
+    ensures { result ≡ way_at act.now }
 {
     match act {
         Do::Load { .. } => Some(false),

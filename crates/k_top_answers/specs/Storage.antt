@@ -1,29 +1,27 @@
 -- Believed with the theorem on the top call, where storage is asked for.
 -- The storage pairs of a run, and what of them is asked for.
-use Rattle.std.specs.Prelude.{ℕ, ◌≡◌, Bool, true, false, List, [], Option}
+use Rattle.std.specs.Prelude.{ℕ, ◌≡◌, Bool, true, false, List, [], map, Option}
 use Rattle.k_marks_meaning.specs.Marking.{marks_of}
+use Rattle.k_evaluation.specs.Deeds.{deeds}
 use Rattle.k_regions.specs.Regions.{regions_of}
-use Rattle.k_code.specs.declared.code.Code.{Code}
-use Rattle.k_lower_code.specs.Programs.{flattened}
 use Rattle.k_carry_pairs.specs.declared.pairs.LoopPairs.{LoopPairs}
+use Rattle.k_carry_storage_pairs.specs.Accesses.{access_of}
 use Rattle.k_carry_storage_pairs.specs.Deep.{AreDeep}
 use Rattle.k_carry_storage_pairs.specs.Storage.{AreShared}
 use Rattle.k_carry_storage_pairs.specs.declared.access.Access.{Access}
 use Rattle.k_carry_storage_pairs.specs.declared.pairs.LoopStorage.{LoopStorage}
-use Rattle.k_carry_storage.specs.Accesses.{HasAccesses}
 use Rattle.k_carry_storage_text.specs.Lines.{storage_text}
 use Rattle.k_pragma_profile.specs.Strict.{strictly_markable}
 use Rattle.k_top_answers.specs.Steps.{Running, run_of}
 
--- the flat code of a program that is run
-abbrev pub code_of : Running → Code
-code_of r = flattened (record { unit = r.typed; marks = marks_of r.typed; latencies = r.latencies })
+-- THE ACCESSES of a run: for each of its operations, by its number, the load or the store of an element that it makes, if it makes one. Its events name no
+-- element, so this is of what its operations do.
+unfoldable pub accesses_of : Running → List (Option Access)
+accesses_of r = map access_of (deeds (record { unit = r.typed; marks = marks_of r.typed; latencies = r.latencies }) r.input r.steps)
 
--- THE STORAGE PAIRS of a run. Its events name no element, so the accesses are those of the program's flat code, whose events, output and end are the run's.
-pub record HasStorage (r : Running) (depth : ℕ) (shared : List LoopStorage) : Type 0 where
-  pub accesses : List (Option Access)
-  pub have : HasAccesses (code_of r) r.input r.steps accesses
-  pub are_shared : AreShared (regions_of r.typed) depth (run_of r).events accesses shared
+-- THE STORAGE PAIRS of a run
+abbrev pub HasStorage : Running → ℕ → List LoopStorage → Type 0
+HasStorage r depth shared = AreShared (regions_of r.typed) depth (run_of r).events (accesses_of r) shared
 
 -- what is written of them behind all else: nothing where it is not asked for
 abbrev pub WritesStorage : Bool → Running → ℕ → List ℕ → Type 0

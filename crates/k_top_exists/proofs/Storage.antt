@@ -1,37 +1,18 @@
--- The run of an accepted program has storage pairs.
+-- Each run has storage pairs.
 use Rattle.std.proofs.Common.{ℕ, Bool, true, false, List, [], refl}
-use Rattle.k_code.specs.Runs.{HasOutcome}
 use Rattle.k_regions.specs.Regions.{regions_of}
-use Rattle.k_lower_sound.specs.Laws.{IsLowered}
-use Rattle.k_lower_sound.proofs.Programs.{programs_are_lowered}
 use Rattle.k_carry_pairs.specs.declared.pairs.LoopPairs.{LoopPairs}
 use Rattle.k_carry_storage_pairs.specs.declared.pairs.LoopStorage.{LoopStorage}
 use Rattle.k_carry_storage_pairs.proofs.Deeper.{some_deep}
 use Rattle.k_carry_storage_pairs.proofs.Existing.{some_answer}
-use Rattle.k_carry_storage.specs.Accesses.{accesses_of}
 use Rattle.k_carry_storage_text.specs.Lines.{storage_text}
 use Rattle.k_pragma_profile.specs.Strict.{strictly_markable}
 use Rattle.k_top_answers.specs.Steps.{Running, run_of}
-use Rattle.k_top_answers.specs.Storage.{HasStorage, MayBeMarked, WritesStorage, code_of}
-use Rattle.k_top_lemmas.proofs.RunLemmas.{IsSound, program_of}
+use Rattle.k_top_answers.specs.Storage.{HasStorage, MayBeMarked, WritesStorage, accesses_of}
 
-module _ (r : Running) (sound : IsSound r) where
-  -- its flat code runs as it does
-  outcome : HasOutcome (code_of r) r.input r.steps (run_of r).events (run_of r).output (run_of r).end
-  unfolding run_of
-  outcome = (let lowered : IsLowered (program_of r) = programs_are_lowered sound.unit (program_of r) sound.accepted refl in lowered.runs r.input r.steps)
-
+module _ (r : Running) where
   pub storage_there : (depth : ℕ) → (shared : List LoopStorage) × HasStorage r depth shared
-  storage_there depth =
-      let accesses = accesses_of (code_of r) r.input r.steps outcome.count in
-      let found = some_answer (regions_of r.typed) depth (run_of r).events accesses in (
-        found.0,
-        record {
-          accesses = accesses;
-          have = record { count = outcome.count; end = (run_of r).end; world = outcome.world; ends = outcome.is; are = refl };
-          are_shared = found.1;
-        },
-      )
+  storage_there depth = some_answer (regions_of r.typed) depth (run_of r).events (accesses_of r)
 
   -- so what is asked for of them can be written, and the loops be found that may be marked
   pub storage_written : (depth : ℕ) (storage : Bool) → (shared : List ℕ) × WritesStorage storage r depth shared

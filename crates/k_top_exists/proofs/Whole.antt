@@ -119,7 +119,7 @@ carried_told depth storage r exit (loops, are_carried) (shared, writes) = (
 
 carried_answers : (depth : ℕ) (storage : Bool) (r : Running) → IsSound r → (how : End) → Answered (λ a. AnswersCarried depth storage a r how)
 carried_answers depth storage r sound (end.Returned exit) =
-    carried_told depth storage r exit (carried_exist (regions_of r.typed) depth (run_of r).events) (storage_written r sound depth storage)
+    carried_told depth storage r exit (carried_exist (regions_of r.typed) depth (run_of r).events) (storage_written r depth storage)
 carried_answers depth storage r sound (end.Trapped trap place) = (ended [] r.steps (end.Trapped trap place), refl)
 carried_answers depth storage r sound end.OutOfSteps = (ended [] r.steps end.OutOfSteps, refl)
 
@@ -165,7 +165,7 @@ annotated_told : (source : List ℕ) → HasTree source → (depth : ℕ) (stric
     → Answered (λ a. AnswersAnnotated source depth strict a r (end.Returned exit))
 annotated_told source has depth strict r sound some tracked exit is (loops, are_carried) =
     let tree = tree_of r depth sound in
-    let found : (found : List LoopPairs) × MayBeMarked strict r depth loops found = marked_found r sound depth strict loops in
+    let found : (found : List LoopPairs) × MayBeMarked strict r depth loops found = marked_found r depth strict loops in
     let told : (text : List ℕ) × IsRunAnnotation source r.typed (marks_of r.typed) (ran_of r exit depth) found.0 text =
     run_annotations_exist rows_exist contexts_exist plans_exist source (written_of has.0) (record { tree = has.0; read = has.1; is = refl }) r.typed (marks_of r.typed) found.0 (ran_of r exit depth) tree.0
     (run_whole r sound exit depth is (run_gives_int r sound exit is) some tracked) tree.1 (run_few r depth tree.0 sound tree.1) in

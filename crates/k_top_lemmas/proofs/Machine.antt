@@ -1,5 +1,5 @@
 -- What running the lowered code of an accepted program comes to, in terms of the program's run.
-use Rattle.std.proofs.Common.{ℕ, ℤ, ◌≡◌, Bool, ap, refl, sym, subst, ◌∙◌, List, [], ◌++◌, length, Option, Result, Ok, Err, FitsSigned, w32, to_z, of_z}
+use Rattle.std.proofs.Common.{ℕ, ℤ, ◌≡◌, Bool, ap, sym, subst, ◌∙◌, List, [], ◌++◌, length, map, Option, Result, Ok, Err, FitsSigned, w32, to_z, of_z}
 use Rattle.std.proofs.lemmas.Int.{to_z-of_z}
 use Rattle.k_edge.specs.SinkWords.{SinkState, GrowsInPart}
 use Rattle.k_edge.specs.declared.sink.PutFault.TheVariants as putting
@@ -12,6 +12,7 @@ use Rattle.k_ending.specs.declared.ending.End.{End}
 use Rattle.k_ending.specs.declared.ending.End.TheVariants.{OutOfSteps, Returned, Trapped}
 use Rattle.k_marks_meaning.specs.Marking.{marks_of}
 use Rattle.k_marks_meaning.specs.declared.Marks.{Marks}
+use Rattle.k_evaluation.specs.Deeds.{deeds}
 use Rattle.k_evaluation.specs.Runs.{run}
 use Rattle.k_evaluation.specs.States as evaluation
 use Rattle.k_code.specs.declared.code.Code.{Code}
@@ -22,12 +23,14 @@ use Rattle.k_carry_pairs.specs.Carried.{AreCarried}
 use Rattle.k_carry_pairs.specs.declared.pairs.CarriedPairs.{CarriedPairs}
 use Rattle.k_carry_pairs.specs.declared.pairs.LoopPairs.{LoopPairs}
 use Rattle.k_carry_text.specs.Lines.{carried_text}
+use Rattle.k_carry_storage_pairs.specs.Accesses.{access_of}
 use Rattle.k_carry_storage_pairs.specs.Deep.{AreDeep}
 use Rattle.k_carry_storage_pairs.specs.Storage.{AreShared}
 use Rattle.k_carry_storage_pairs.specs.declared.pairs.StoragePairs.{StoragePairs}
 use Rattle.k_carry_storage.specs.declared.told.StorageTold.{StorageTold}
-use Rattle.k_carry_storage.specs.Accesses.{HasAccesses, accesses_of}
 use Rattle.k_carry_storage.specs.Answer as storage
+use Rattle.k_carry_storage.proofs.OneRun.{untold_outcome}
+use Rattle.k_carry_storage_laws.proofs.Programs.{storage_of_programs}
 use Rattle.k_lower_code.specs.Programs.{flattened}
 use Rattle.k_hcpa.specs.Profiles.{HoldsLast, IsCut, IsProfile, IsSummary, RunsHeld}
 use Rattle.k_hcpa.specs.declared.profile.Profile.{Profile}
@@ -46,7 +49,7 @@ use Rattle.k_top_lemmas.specs.declared.running.Ready.{Ready}
 use Rattle.k_top_answers.specs.declared.answer.Answer.{Answer}
 use Rattle.k_top_answers.specs.Answers.{AnswersCarried, ToldCarried, done, ended, ran_of}
 use Rattle.k_top_answers.specs.Steps.{Running, run_of}
-use Rattle.k_top_answers.specs.Storage.{HasStorage, code_of}
+use Rattle.k_top_answers.specs.Storage.{HasStorage, accesses_of}
 use Rattle.k_top_lemmas.specs.Parts.{IsFit, IsProfileOfRun, RunsProgram, TellsOfLoops, WritesLoops, dict_of, program_of, put_result, running_of}
 use Rattle.k_top_lemmas.proofs.Growing.{grows_no_part}
 use Rattle.k_top_lemmas.proofs.RunLemmas.{run_few, run_gives_int, run_whole, sound}
@@ -64,10 +67,6 @@ abbrev pub RunsAs : Program → Code → Type 0
 RunsAs p code = (input : List ℕ) (budget : ℕ)
     → HasOutcome code input budget (run (program_of p) input budget).events (run (program_of p) input budget).output (run (program_of p) input budget).end
 
-flat_regions : (program : evaluation.Program) → (flattened program).regions ≡ regions_of program.unit
-unfolding flattened
-flat_regions program = refl
-
 module _ (ready : Ready) (depth : ℕ) (fit : IsFit ready depth) (code : Code) where
   -- the code runs as the program, with the marks of its source
   outcome : RunsAs ready.program code → HasOutcome code ready.input ready.steps (run_of (running_of ready)).events (run_of (running_of ready)).output (run_of (running_of ready)).end
@@ -76,6 +75,18 @@ module _ (ready : Ready) (depth : ℕ) (fit : IsFit ready depth) (code : Code) w
       let with_marks : Marks → evaluation.Program = λ marks. record { unit = ready.program.typed; marks = marks; latencies = ready.program.latencies } in
       subst (λ (marks : Marks). HasOutcome code ready.input ready.steps (run (with_marks marks) ready.input ready.steps).events
       (run (with_marks marks) ready.input ready.steps).output (run (with_marks marks) ready.input ready.steps).end) fit.program.marks (runs ready.input ready.steps)
+
+  -- what is told of the storage of the code's run is told of the program's
+  pub storage_told : code ≡ flattened (program_of ready.program) → (s : StoragePairs) → storage.TellsOf code ready.input ready.steps depth s
+      → HasStorage (running_of ready) depth s.loops
+  unfolding run_of accesses_of
+  storage_told same s is =
+      let with_marks : Marks → evaluation.Program = λ marks. record { unit = ready.program.typed; marks = marks; latencies = ready.program.latencies } in
+      let flat : storage.TellsOf (flattened (program_of ready.program)) ready.input ready.steps depth s =
+      subst (λ (c : Code). storage.TellsOf c ready.input ready.steps depth s) same is in
+      subst (λ (marks : Marks). AreShared (regions_of ready.program.typed) depth (run (with_marks marks) ready.input ready.steps).events
+      (map access_of (deeds (with_marks marks) ready.input ready.steps)) s.loops) fit.program.marks
+      (storage_of_programs fit.program.unit (program_of ready.program) fit.program.accepted fit.program.marks ready.input ready.steps depth s flat).1
 
   module _ (runs : RunsAs ready.program code) where
     profile_of : (put : List ℕ) (p : Profile) → IsProfile code ready.input ready.steps depth put p → HoldsLast put p.rest → IsProfileOfRun (running_of ready) depth put p
@@ -119,35 +130,13 @@ module _ (ready : Ready) (depth : ℕ) (fit : IsFit ready depth) (code : Code) w
               (subst (λ (es : List Event). AreCarried code.regions depth es c.loops) same.0 is.carried);
         }
 
-    -- what is told of the storage of the code's run is told of the program's
-    pub storage_told : code ≡ flattened (program_of ready.program) → (s : StoragePairs) → storage.TellsOf code ready.input ready.steps depth s
-        → HasStorage (running_of ready) depth s.loops
-    storage_told same s is =
-        let events = (one_outcome code ready.input ready.steps is.events (run_of (running_of ready)).events is.output (run_of (running_of ready)).output
-        s.end (run_of (running_of ready)).end is.outcome (outcome runs)).0 in
-        let flat : code ≡ code_of (running_of ready) =
-        same ∙ ap (λ (marks : Marks). flattened (record { unit = ready.program.typed; marks = marks; latencies = ready.program.latencies })) fit.program.marks in
-        let regions : code.regions ≡ regions_of ready.program.typed = ap (λ (c : Code). c.regions) same ∙ flat_regions (program_of ready.program) in
-        record {
-          accesses = accesses_of code ready.input ready.steps is.outcome.count;
-          have = subst (λ (c : Code). HasAccesses c ready.input ready.steps (accesses_of code ready.input ready.steps is.outcome.count)) flat (record {
-            count = is.outcome.count;
-            end = s.end;
-            world = is.outcome.world;
-            ends = is.outcome.is;
-            are = refl;
-          });
-          are_shared =
-              subst (λ (rs : List Region). AreShared rs depth (run_of (running_of ready)).events (accesses_of code ready.input ready.steps is.outcome.count) s.loops) regions
-              (subst (λ (es : List Event). AreShared code.regions depth es (accesses_of code ready.input ready.steps is.outcome.count) s.loops) events is.shared);
-        }
-
-    -- and so is which regions had an instance that is not tracked
+    -- and so is which of its regions had an instance that is not tracked
     pub deep_told : (t : StorageTold) → storage.TellsAllOf code ready.input ready.steps depth t → AreDeep depth (run_of (running_of ready)).events t.deep
     deep_told t is =
         let pairs = is.pairs in
         let events = (one_outcome code ready.input ready.steps pairs.events (run_of (running_of ready)).events pairs.output (run_of (running_of ready)).output
-        t.pairs.end (run_of (running_of ready)).end pairs.outcome (outcome runs)).0 in
+        t.pairs.end (run_of (running_of ready)).end
+        (untold_outcome code ready.input ready.steps pairs.deeds pairs.events pairs.output t.pairs.end pairs.outcome) (outcome runs)).0 in
         subst (λ (es : List Event). AreDeep depth es t.deep) events is.deep
 
 -- no memory was found before the run

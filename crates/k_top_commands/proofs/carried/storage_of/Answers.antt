@@ -13,8 +13,7 @@ returns-clause-storage c =
     let ready = c.args.ready.now in
     IfOk-weaker c.storage_told.result _ _
     (λ told all.
-    storage_told ready c.args.depth c.requires c.in_ok-code.code
-    (where_fit ready c.args.depth c.requires (RunsAs ready.program c.in_ok-code.code) c.in_ok-code.ensures.runs) c.in_ok-code.ensures.text told.pairs
+    storage_told ready c.args.depth c.requires c.in_ok-code.code c.in_ok-code.ensures.text told.pairs
     (let so = subst (λ (input : List ℕ). TellsAllOf c.in_ok-code.code input ready.steps c.args.depth told) c.as_slice.ensures all in so.pairs))
     c.storage_told.ensures
 
