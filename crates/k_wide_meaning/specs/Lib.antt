@@ -1,0 +1,9 @@
+pub mod Occurrences
+pub mod Signs
+pub mod Steps
+pub mod Reductions
+pub mod Contents
+pub mod Calls
+pub mod Loops
+pub mod Marking
+pub mod Laws
