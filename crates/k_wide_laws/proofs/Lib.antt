@@ -1,0 +1,9 @@
+pub mod Kept
+pub mod Forms
+pub mod Actions
+pub mod Members
+pub mod Statements
+pub mod Like
+pub mod Counted
+pub mod Found
+pub mod Stated
