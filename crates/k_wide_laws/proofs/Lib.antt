@@ -7,3 +7,4 @@ pub mod Like
 pub mod Counted
 pub mod Found
 pub mod Stated
+pub mod Examples
