@@ -10,7 +10,7 @@ mod failure;
 pub mod laws;
 pub mod listing;
 mod macros;
-mod names;
+pub mod names;
 mod pasting;
 pub mod replacing;
 pub mod shared;

@@ -43,7 +43,7 @@ pub fn used<'a>(macros: &'a [Macro], token: &Listed) -> Option<&'a Macro>
 }
 
 /// How much is made with so many more, if that is within the limit.
-fn counted(limit: usize, made: usize, more: usize) -> Option<usize>
+pub fn counted(limit: usize, made: usize, more: usize) -> Option<usize>
     ensures within { IfSome result (λ all. (all ≡ made + more) × (all ≤ limit)) }
     ensures beyond { IfNone result (limit < made + more) }
 {
