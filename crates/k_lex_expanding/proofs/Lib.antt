@@ -1,0 +1,5 @@
+mod ArgumentLaws
+mod FirstLaws
+mod MachineLaws
+mod MacroLaws
+mod StepLaws

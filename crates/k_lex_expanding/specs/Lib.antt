@@ -1,0 +1,4 @@
+pub mod Arguments
+pub mod First
+pub mod Macros
+pub mod Machine
