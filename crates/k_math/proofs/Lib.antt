@@ -1,4 +1,6 @@
 pub mod ReductionLaws
+pub mod RemainderLaws
 pub mod ScaledLaws
 pub mod SeriesLaws
 pub mod SignLaws
+pub mod UnitLaws

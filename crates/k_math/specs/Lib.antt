@@ -8,6 +8,7 @@ pub mod Logarithm
 pub mod Pairs
 pub mod Powers
 pub mod Reduction
+pub mod Remainder
 pub mod Roots
 pub mod Scaling
 pub mod Series

@@ -14,6 +14,7 @@ mod logarithm;
 mod pair;
 mod powers;
 mod reduction;
+mod remainder;
 mod roots;
 mod scaling;
 mod series;

@@ -11,6 +11,7 @@ use crate::exponential::{exp, exp2};
 use crate::hyperbolic::{cosh, sinh, tanh};
 use crate::logarithm::{log, log2, log10};
 use crate::powers::pow;
+use crate::remainder::remainder;
 use crate::roots::{cbrt, hypot};
 use crate::trigonometric::{cos, sin, tan};
 use k_num::Kind;
@@ -259,7 +260,7 @@ fn choose(what: ExactPair, x: f64, y: f64) -> f64
         ExactPair::Least => least(x, y),
         ExactPair::Greatest => greatest(x, y),
         ExactPair::WithSign => with_sign(is_negative(y), x),
-        ExactPair::Remainder => x % y,
+        ExactPair::Remainder => remainder(x, y),
     }
 }
 

@@ -7,7 +7,7 @@ use crate::pair::{ONE, Pair, exact_sum};
 use k_real::{code_of, real_of_code};
 
 /// The weight of the lowest bit of the exponent's field in a code.
-const FIELD: u64 = 0x10_0000_0000_0000;
+pub(crate) const FIELD: u64 = 0x10_0000_0000_0000;
 
 /// A positive number as `fraction * 2^exponent`, the fraction from 1/2 to below 1.
 #[derive(Clone, Copy)]
