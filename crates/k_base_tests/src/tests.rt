@@ -1,4 +1,5 @@
 //! One file for what is tested.
 mod host;
 mod math;
+mod reals;
 mod shapes;

@@ -33,7 +33,7 @@ narrowed_fits nan = nan-fits binary32
 narrowed_fits (inf s) = inf-fits binary32 s
 narrowed_fits (fin s m e) = round-fits binary32 s (m * up e) (down e)
 
-rounded_fits : (p : Precision) (a : ℕ) → T (fits (format p) (rounded p (real_of a)))
+pub rounded_fits : (p : Precision) (a : ℕ) → T (fits (format p) (rounded p (real_of a)))
 rounded_fits Single a = narrowed_fits (real_of a)
 rounded_fits Double a = of_bits-fits binary64 a
 

@@ -1,6 +1,7 @@
 pub mod CodeLaws
 pub mod DigitLaws
 pub mod GeneralLaws
+pub mod PrecisionLaws
 pub mod RoundingLaws
 pub mod ScientificLaws
 pub mod SizeLaws

@@ -245,7 +245,7 @@ fn elementary_functions(rt: HostRuntime) -> Result<(), Fail> {
 }
 
 /// `fmin`, `fmax`, `copysign` and `fmod` of two numbers.
-static EXACT: [(ExactPair, f64, f64, f64); 10] = [
+static EXACT: [(ExactPair, f64, f64, f64); 15] = [
     (ExactPair::Least, f64::NAN, 1.0, 1.0),
     (ExactPair::Least, 0.0, -0.0, -0.0),
     (ExactPair::Least, -2.0, 3.0, -2.0),
@@ -256,6 +256,11 @@ static EXACT: [(ExactPair, f64, f64, f64); 10] = [
     (ExactPair::Remainder, -7.0, 3.0, -1.0),
     (ExactPair::Remainder, 5.0, f64::INFINITY, 5.0),
     (ExactPair::Remainder, -6.0, 3.0, -0.0),
+    (ExactPair::Remainder, 1e300, 7.0, 1.0),
+    (ExactPair::Remainder, 5.5, -2.25, 1.0),
+    (ExactPair::Remainder, 4.9e-324, 1e300, 4.9e-324),
+    (ExactPair::Remainder, f64::INFINITY, 3.0, f64::NAN),
+    (ExactPair::Remainder, 1.0, 0.0, f64::NAN),
 ];
 
 /// Whole numbers by a number, and whether they are given as a `long` too.
