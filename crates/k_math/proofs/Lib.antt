@@ -1,3 +1,4 @@
+pub mod ExactLaws
 pub mod ReductionLaws
 pub mod RemainderLaws
 pub mod ScaledLaws

@@ -36,7 +36,7 @@ times_mod a b c B C =
     let parts : a * c ≡ b * c * q + r * c = ap (λ w. w * c) (sym (div-add-mod' a b)) ∙ add-mul (q * b) r c ∙ ap (λ w. w + r * c) (mul_assoc q b c ∙ mul_comm q (b * c)) in
     ap (λ w. w % (b * c)) parts ∙ mul-add-mod_self_left (b * c) q (r * c) ∙ mod-eq_of_lt (mul-lt-mul_of_pos_right (mod-lt a B) C)
 
-small_significand : (a : ℕ) → significand a < 2 ^ 53
+pub small_significand : (a : ℕ) → significand a < 2 ^ 53
 small_significand a = go (field a == 0)
   where
     go : (b : Bool) → (if b then a % 2 ^ 52 else 2 ^ 52 + a % 2 ^ 52) < 2 ^ 53
@@ -64,7 +64,7 @@ power_parts e d h =
     let is : d ≡ (e + 1) + (d - e - 1) = omega arith in
     ap (λ w. 2 ^ w) is ∙ pow-add 2 (e + 1) (d - e - 1) ∙ ap (λ w. w * 2 ^ (d - e - 1)) (pow-add 2 e 1)
 
-of_smaller : (a b : ℕ) → exponent a < exponent b → significand a * 2 ^ exponent a ≡ units a % units b
+pub of_smaller : (a b : ℕ) → exponent a < exponent b → significand a * 2 ^ exponent a ≡ units a % units b
 of_smaller a b h =
     let e = exponent a in
     let d = exponent b in
@@ -72,7 +72,7 @@ of_smaller a b h =
     less (significand a) (significand b) (2 ^ e) (2 ^ (d - e - 1)) (small_significand a) (normal_significand b (omega (arith, h))) (pow_pos e) (pow_pos (d - e - 1)) in
     sym (mod-eq_of_lt (subst (λ w. significand a * 2 ^ e < significand b * w) (sym (power_parts e d h)) below))
 
-of_greater : (a b : ℕ) → exponent b ≤ exponent a → 0 < significand b → significand a * 2 ^ (exponent a - exponent b) % significand b * 2 ^ exponent b ≡ units a % units b
+pub of_greater : (a b : ℕ) → exponent b ≤ exponent a → 0 < significand b → significand a * 2 ^ (exponent a - exponent b) % significand b * 2 ^ exponent b ≡ units a % units b
 of_greater a b h some =
     let e = exponent a in
     let d = exponent b in
@@ -164,7 +164,7 @@ left_by X p Y q a b u P YP Q U is js =
 some_of : (n : ℕ) → eqb n 0 ≡ false → 0 < n
 some_of n h = omega (arith, eqb-false n 0 h)
 
-by_units : (f : Format) (x y : Float) (a b u : ℕ) → 0 < u → num x * u ≡ a * den x → num y * u ≡ b * den y → float_is_finite x ≡ true → float_is_finite y ≡ true → eq y float_zero ≡ false
+pub by_units : (f : Format) (x y : Float) (a b u : ℕ) → 0 < u → num x * u ≡ a * den x → num y * u ≡ b * den y → float_is_finite x ≡ true → float_is_finite y ≡ true → eq y float_zero ≡ false
     → rem f x y ≡ (if is_sign_negative x then neg (round f false (a % b) u) else round f false (a % b) u)
 unfolding rem float_is_finite is_sign_negative
 by_units f nan y a b u U is js h k z = absurd (true≢false (sym h))
@@ -180,12 +180,12 @@ by_units f (fin s m e) (fin t n g) a b u U is js h k z =
     ∙ signed_round f s (a % b) u
 
 -- by codes
-size_of : (x : Float) (a : ℕ) → T (fits binary64 x) → a ≡ to_bits binary64 x → float_is_finite x ≡ true → num x * 2 ^ unit_places ≡ units a * den x
+pub size_of : (x : Float) (a : ℕ) → T (fits binary64 x) → a ≡ to_bits binary64 x → float_is_finite x ≡ true → num x * 2 ^ unit_places ≡ units a * den x
 size_of x a f is h =
     let back : of_bits binary64 a ≡ x = ap (of_bits binary64) is ∙ of_bits-to_bits binary64 x f in
     subst (λ z. num z * 2 ^ unit_places ≡ units a * den z) back (size_is a (finite_field a (ap float_is_finite back ∙ h)))
 
-some_units : (x : Float) (a u : ℕ) → 0 < u → num x * u ≡ a * den x → float_is_finite x ≡ true → eq x float_zero ≡ false → 0 < a
+pub some_units : (x : Float) (a u : ℕ) → 0 < u → num x * u ≡ a * den x → float_is_finite x ≡ true → eq x float_zero ≡ false → 0 < a
 unfolding float_is_finite
 some_units nan a u U is h z = absurd (true≢false (sym h))
 some_units (inf s) a u U is h z = absurd (true≢false (sym h))

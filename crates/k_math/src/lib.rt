@@ -9,6 +9,7 @@ mod circle;
 mod doubles;
 mod exponential;
 mod hyperbolic;
+pub mod laws;
 mod library;
 mod logarithm;
 mod pair;
