@@ -1,0 +1,5 @@
+pub mod HexadecimalLaws
+pub mod PatternLaws
+pub mod PowerLaws
+pub mod SizedLaws
+pub mod StepLaws
