@@ -1,0 +1,5 @@
+pub mod Figures
+pub mod Laws
+pub mod Standings
+pub mod Told
+pub mod Verdicts
