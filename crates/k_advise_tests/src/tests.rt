@@ -1,3 +1,4 @@
 //! One file for what is tested.
 mod nest;
 mod plans;
+mod words;
