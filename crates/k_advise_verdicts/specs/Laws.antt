@@ -46,6 +46,7 @@ pub record IsFree (f : LoopFacts) (s : Standing) (carried : List Pair) (shared :
   pub carries_none : carried ≡ []
   pub shares_none : shared ≡ []
 
+-- each loop whose verdict is that is one
 abbrev pub ParallelIsFree : Type 0
 ParallelIsFree = (start : ℕ) (row : Row) (f : LoopFacts) (s : Standing) (carried : List Pair) (shared : List Shared) (uneven : Bool)
     → verdict_of start row f s carried shared ≡ verdict.Parallel uneven → IsFree f s carried shared

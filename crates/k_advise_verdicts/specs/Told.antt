@@ -39,10 +39,11 @@ number_of_storage l = l.region
 abbrev pub by_number : {X : Type 0} → (X → ℕ) → X → X → Bool
 by_number number a b = nat_lt (number a) (number b)
 
--- so do what is known of loops, and rows
+-- what is known of one loop stands before that of another
 abbrev pub facts_before : LoopFacts → LoopFacts → Bool
 facts_before a b = nat_lt a.region b.region
 
+-- one row stands before another
 abbrev pub row_before : Row → Row → Bool
 row_before a b = nat_lt a.region b.region
 

@@ -1,6 +1,5 @@
 //! What to do with each loop of a run, in one word with its reason, where a plan for a team of threads picks loops; and
-//! numbers that a table tells of loops.
-//! No command uses it yet.
+//! numbers that a table tells of loops. No command uses it yet.
 #![tactic(auto)]
 
 mod facts;

@@ -143,8 +143,7 @@ fn add_verdict(
 }
 
 /// The verdicts on the loops that have a row, in order of region, where a start of the team has this price. Of each
-/// loop of the source there is what
-/// is known of it, and of each region where it stands in the plan.
+/// loop of the source there is what is known of it, and of each region where it stands in the plan.
 pub fn verdicts(
     alloc: Global,
     start: u64,
