@@ -1,0 +1,5 @@
+pub mod Directives
+pub mod Laws
+pub mod Lines
+pub mod Reading
+pub mod Text
