@@ -1,1 +1,4 @@
+pub mod Examples
+pub mod Plain
 pub mod Unique
+pub mod Unread

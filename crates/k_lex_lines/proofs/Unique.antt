@@ -1,7 +1,6 @@
 -- Lines have one reading.
-use Rattle.std.proofs.Common.{◌≡◌, ℕ, Bool, true, false, List, [], ◌∷◌, ◌++◌, Option, Some, None, Result, Ok, Err, ap, sym, subst, ◌∙◌, refl}
+use Rattle.std.proofs.Common.{◌≡◌, ℕ, Bool, List, [], ◌∷◌, ◌++◌, Option, Some, None, Result, Ok, Err, ap, sym, subst, ◌∙◌, refl}
 use Rattle.std.specs.Prelude.{is_none, map}
-use Rattle.std.proofs.lemmas.Option.{same_Some}
 use Rattle.k_num.specs.declared.place.Place.{Place}
 use Rattle.k_tree.specs.Spelling.{Spelled}
 use Rattle.k_tree.specs.declared.tokens.Token.{Token}
@@ -14,9 +13,9 @@ use Rattle.k_lex_expansion.specs.declared.macros.Macro.{Macro}
 use Rattle.k_lex_expansion.specs.declared.failure.Failure.{Failure}
 use Rattle.k_lex_expansion.specs.Expansion.{Done, Expands}
 use Rattle.k_lex_expansion.specs.Laws.{ExpansionsAreOne}
-use Rattle.k_lex_lines.specs.Lines.{Placed, Fault, Line, fault_at, bad_condition, text_of, behind_text, cut_by}
+use Rattle.k_lex_lines.specs.Lines.{Placed, Fault, Line, text_of, behind_text, cut_by}
 use Rattle.k_lex_lines.specs.Text.{Judge, Count, TextRead, Used, used, use_of, before, in_text, Text, Follows}
-use Rattle.k_lex_lines.specs.Directives.{Rules, Decision, decision, of_directive, IsDecision, Decided, Evaluates, DecidesFound, Decides, found, is_defined}
+use Rattle.k_lex_lines.specs.Directives.{Rules, Decision, decision, Decided, DecidesFound, Decides, found, is_defined}
 use Rattle.k_lex_lines.specs.Reading.{State, Turn, stops, goes, reads, decides, turn, Answer, in_front, at_end, Behind, after_text, after_condition, Reads, ReadsOn}
 
 -- ---- conditions

@@ -17,8 +17,8 @@ use Rattle.k_lex_expansion.specs.declared.macros.Chain.{Chain}
 use Rattle.k_lex_expansion.specs.declared.macros.Operand.{Operand}
 use Rattle.k_lex_expansion.specs.declared.macros.Operand.TheVariants as o
 use Rattle.k_lex_expansion.specs.Expansion.{named}
-use Rattle.k_lex_lines.specs.Lines.{Placed, Fault, Wrong, fault_at, lexical, macro_arguments, bad_paste, bad_condition, stray_else, open_if, error_line}
-use Rattle.k_lex_lines.specs.Text.{Limits, Sizes, Count, TextRead, Text, in_condition, kind_of}
+use Rattle.k_lex_lines.specs.Lines.{Placed, Fault, Wrong, fault_at, macro_arguments, bad_condition}
+use Rattle.k_lex_lines.specs.Text.{Limits, TextRead, Text, in_condition, kind_of}
 
 -- a header: its name with its brackets, and its macros
 pub record Header : Type 0 where
@@ -105,11 +105,17 @@ part spelling = record { spaced = false; first = o.Token spelling; more = [] }
 
 -- `assert`, which asks nothing where NDEBUG is a macro (7.2p1)
 abbrev pub asserting : Bool → Macro
-asserting true = record { name = codes "assert"; parameters = Some (codes "e" ∷ []);
-    body = map part (codes "(" ∷ codes "(" ∷ codes "void" ∷ codes ")" ∷ codes "0" ∷ codes ")" ∷ []) }
-asserting false = record { name = codes "assert"; parameters = Some (codes "e" ∷ []);
-    body = map part (codes "(" ∷ codes "(" ∷ []) ++ (record { spaced = false; first = o.Parameter 0; more = [] }
-        ∷ map part (codes ")" ∷ codes "?" ∷ codes "(" ∷ codes "void" ∷ codes ")" ∷ codes "0" ∷ codes ":" ∷ codes "__assert_fail" ∷ codes "(" ∷ codes ")" ∷ codes ")" ∷ [])) }
+asserting true = record {
+  name = codes "assert";
+  parameters = Some (codes "e" ∷ []);
+  body = map part (codes "(" ∷ codes "(" ∷ codes "void" ∷ codes ")" ∷ codes "0" ∷ codes ")" ∷ []);
+}
+asserting false = record {
+  name = codes "assert";
+  parameters = Some (codes "e" ∷ []);
+  body = map part (codes "(" ∷ codes "(" ∷ []) ++ (record { spaced = false; first = o.Parameter 0; more = [] }
+      ∷ map part (codes ")" ∷ codes "?" ∷ codes "(" ∷ codes "void" ∷ codes ")" ∷ codes "0" ∷ codes ":" ∷ codes "__assert_fail" ∷ codes "(" ∷ codes ")" ∷ codes ")" ∷ []));
+}
 
 -- `<assert.h>` defines its macro anew
 abbrev pub asserted : List Macro → List Macro
@@ -121,10 +127,12 @@ pub data Included : Type 0 where
   another_macro : Included
   with_macros : List Macro → Included
 
+-- the macros with those of a header, or another macro of a name
 abbrev pub included_of : Option (List Macro) → Included
 included_of None = another_macro
 included_of (Some macros) = with_macros macros
 
+-- the macros of this header are defined, if there is one
 abbrev pub by_header : List Macro → Option Header → Included
 by_header macros None = no_header
 by_header macros (Some h) = included_of (all_defined macros h.macros)
@@ -194,6 +202,7 @@ pub record IsDecision (rules : Rules) (hash : Place) (us : List Token) (made : �
   pub decided : IsDecided rules.names (map (λ (u : Token). u.what) us) holds
   pub is : d ≡ decision hash made holds
 
+-- what text gives is decided, or its fault is that of the condition
 abbrev pub Decided : Rules → Place → TextRead → Decision → Type 0
 Decided rules hash (Err e) d = d ≡ Err (of_directive hash e.what e.place)
 Decided rules hash (Ok (us, count)) d = IsDecision rules hash us count.made d
@@ -204,6 +213,7 @@ pub record Evaluates (rules : Rules) (macros : List Macro) (hash : Place) (made 
   pub text : Text macros rules.limits.made (in_condition hash) None (record { made = made; sizes = record { tokens = 0; bytes = 0 } }) ts read
   pub decided : Decided rules hash read d
 
+-- the tokens in which each `defined` is replaced are decided; where one has another form there is no condition
 abbrev pub DecidesFound : Rules → List Macro → Place → ℕ → Option (List Placed) → Decision → Type 0
 DecidesFound rules macros hash made None d = d ≡ Err (fault_at bad_condition hash)
 DecidesFound rules macros hash made (Some ts) d = Evaluates rules macros hash made ts d

@@ -1,6 +1,6 @@
 -- Believed with a public law.
 -- Text in which macros are replaced (C17 6.10.3): each use is the list of its name alone, with the text behind it as its source.
-use Rattle.std.specs.Prelude.{◌≡◌, ℕ, ◌+◌, ◌-◌, Bool, ◌&&◌, List, [], ◌∷◌, ◌++◌, Option, Some, None, Result, Ok, Err, if◌then◌else◌, nat_le, length, map, drop, is_none}
+use Rattle.std.specs.Prelude.{ℕ, ◌+◌, ◌-◌, Bool, ◌&&◌, List, [], ◌∷◌, ◌++◌, Option, Some, None, Result, Ok, Err, if◌then◌else◌, nat_le, length, map, drop, is_none}
 use Rattle.k_num.specs.declared.place.Place.{Place}
 use Rattle.k_tree.specs.declared.tokens.Token.{Token}
 use Rattle.k_tree.specs.declared.tokens.TokenKind.{TokenKind}
@@ -79,11 +79,12 @@ Judge = Place → List Listed → Sizes → Judged
 abbrev pub in_text : Limits → Judge
 in_text limits place ts sizes = within limits place (sized ts sizes) (tokens_of place ts)
 
--- in the condition of the directive with this `#`: its tokens, which no limit counts; what is no token makes none
+-- these tokens of a condition, or BadCondition at the `#`
 abbrev pub for_condition : Place → Sizes → Result (List Token) Fault → Judged
 for_condition hash sizes (Ok us) = Ok (us, sizes)
 for_condition hash sizes (Err e) = Err (fault_at bad_condition hash)
 
+-- in the condition of the directive with this `#`: its tokens, which no limit counts; with what is no token there is no condition
 abbrev pub in_condition : Place → Judge
 in_condition hash place ts sizes = for_condition hash sizes (tokens_of place ts)
 

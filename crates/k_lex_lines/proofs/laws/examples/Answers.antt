@@ -1,0 +1,11 @@
+use Rattle.k_lex_lines.proofs.Examples.{alternatives_give, second_else_is_stray, open_if_is_at_if}
+use Rattle.k_lex_lines.proofs.laws.examples.Goals as goal
+
+pub returns-clause-alternatives : goal.returns-clause-alternatives
+returns-clause-alternatives c = alternatives_give c.plain_lists_stay.ensures
+
+pub returns-clause-stray : goal.returns-clause-stray
+returns-clause-stray c = second_else_is_stray
+
+pub returns-clause-open : goal.returns-clause-open
+returns-clause-open c = open_if_is_at_if
