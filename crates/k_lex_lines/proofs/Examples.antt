@@ -1,16 +1,22 @@
 -- Worked examples.
-use Rattle.std.proofs.Common.{Bool, true, false, [], ◌∷◌, Some, None, Ok, refl}
+use Rattle.std.proofs.Common.{Bool, true, false, [], ◌∷◌, Some, None, Ok, refl, ◌≡◌, Err, sym, subst}
 use Rattle.std.specs.Prelude.{codes}
 use Rattle.k_tree.specs.declared.tokens.TokenKind.TheVariants as t
 use Rattle.k_lex_pieces.specs.declared.fault.Refusal.TheVariants as r
 use Rattle.k_lex_pieces.specs.Pieces.{piece_by}
 use Rattle.k_lex_groups.specs.Steps.{Opens}
 use Rattle.k_lex_expansion.specs.Laws.{PlainListsStay}
-use Rattle.k_lex_lines.specs.Lines.{fault_at, lexical, stray_else}
-use Rattle.k_lex_lines.specs.Text.{Sizes}
+use Rattle.k_lex_lines.specs.Lines.{fault_at, lexical, stray_else, Placed, error_line}
+use Rattle.k_lex_lines.specs.Text.{Sizes, Count, used, use_of, in_condition, Text, Follows}
 use Rattle.k_lex_lines.specs.Reading.{State, start, opening, knowing, Reads, ReadsOn}
-use Rattle.k_lex_lines.specs.Laws.{plain_rules, at, word_at, AreOwn, AlternativesGive, SecondElseIsStray, OpenIfIsAtIf}
-use Rattle.k_lex_lines.proofs.Plain.{Stays, text_stays}
+use Rattle.k_lex_lines.specs.Laws.{plain_rules, at, word_at, AreOwn, AlternativesGive, SecondElseIsStray, OpenIfIsAtIf, empty_macro, FoundNameHolds}
+use Rattle.k_lex_lines.proofs.Plain.{Stays, text_stays, one_unused}
+use Rattle.k_tree.specs.declared.tokens.Token.{Token}
+use Rattle.k_num.specs.declared.numbers.Kind.TheVariants.{I32}
+use Rattle.k_lex_conditions.specs.Trees.{operand, Ranked}
+use Rattle.k_lex_conditions.specs.Conditions.{Condition}
+use Rattle.k_lex_expansion.specs.Listing.{unhidden}
+use Rattle.k_lex_lines.specs.Directives.{Evaluates}
 
 abbrev none_read : Sizes
 none_read = record { tokens = 0; bytes = 0 }
@@ -57,3 +63,40 @@ open_if_is_at_if =
     let known : State = knowing (record { name = codes "A"; parameters = None; body = [] } ∷ []) start in
     let inside : State = opening (record { place = at 2; waits = false; reads = true; ends = false } ∷ []) known in
     Reads.moves start known _ _ _ refl (Reads.moves known inside _ _ _ refl (Reads.over inside))
+
+-- 1 in the place of `defined(A)`
+abbrev one_at : Placed
+one_at = word_at 2 (codes "1")
+
+-- the number 1 is a condition that holds
+one_holds : Condition [] (t.Number I32 1 ∷ []) true
+one_holds = record { tree = operand (t.Number I32 1); ranked = Ranked.single 2 (t.Number I32 1) refl; spelled = refl; valued = refl }
+
+-- its token is the number 1
+one_is_number : used (in_condition (at 2)) None one_at [] none_read (Ok (record { tokens = unhidden one_at.token ∷ []; source = record { tokens = []; ends = true }; made = 0 }))
+    ≡ Ok (record { what = t.Number I32 1; place = at 2 } ∷ [], record { made = 0; sizes = none_read }, [])
+unfolding piece_by
+one_is_number = refl
+
+one_decided : PlainListsStay → Evaluates plain_rules (empty_macro ∷ []) (at 2) 0 (one_at ∷ []) (Ok (true, 0))
+one_decided plain =
+    let here : Count = record { made = 0; sizes = none_read } in
+    let number : Token = record { what = t.Number I32 1; place = at 2 } in
+    record {
+      read = Ok (number ∷ [], here);
+      text = Text.use_first here one_at [] (Ok (record { tokens = unhidden one_at.token ∷ []; source = record { tokens = []; ends = true }; made = 0 })) (Ok (number ∷ [], here))
+          (plain (empty_macro ∷ []) 2097152 (use_of 0 one_at [] true) (one_unused (empty_macro ∷ []) (unhidden one_at.token) refl))
+          (subst (λ x. Follows (empty_macro ∷ []) 2097152 (in_condition (at 2)) None x (Ok (number ∷ [], here))) (sym one_is_number)
+          (Follows.on (number ∷ []) here [] (Ok ([], here)) (Text.over here)));
+      decided = record { holds = Some true; decided = one_holds; is = refl };
+    }
+
+pub found_name_holds : PlainListsStay → FoundNameHolds
+found_name_holds plain =
+    let known : State = knowing (empty_macro ∷ []) start in
+    let taken : Opens = record { place = at 2; waits = false; reads = true; ends = false } ∷ [] in
+    let passed : Opens = record { place = at 2; waits = true; reads = false; ends = false } ∷ [] in
+    let inside : State = opening taken known in
+    Reads.moves start known _ _ _ refl
+    (Reads.tests known _ _ (at 2) _ taken passed (Ok (true, 0)) (Err (fault_at error_line (at 3))) refl (one_decided plain)
+    (ReadsOn.on [] inside _ (Err (fault_at error_line (at 3))) (Reads.refuses inside _ _ (fault_at error_line (at 3)) refl)))

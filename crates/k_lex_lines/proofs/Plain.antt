@@ -37,7 +37,7 @@ own_judged limits t sizes what is fit =
     ∙ ap (if_room limits t sizes what) fit
 
 -- a list of one token that uses no macro
-one_unused : (macros : List Macro) (t : Listed) → used macros t ≡ None → All (λ x. used macros x ≡ None) (t ∷ [])
+pub one_unused : (macros : List Macro) (t : Listed) → used macros t ≡ None → All (λ x. used macros x ≡ None) (t ∷ [])
 one_unused macros t e zero d lt = e
 one_unused macros t e (suc k) d lt = absurd (omega (arith, lt))
 

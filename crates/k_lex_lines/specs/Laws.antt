@@ -10,7 +10,7 @@ use Rattle.k_lex_groups.specs.Steps.{Opens, is_read}
 use Rattle.k_lex_expansion.specs.declared.macros.Macro.{Macro}
 use Rattle.k_lex_expansion.specs.Listing.{unhidden}
 use Rattle.k_lex_expansion.specs.Expansion.{named}
-use Rattle.k_lex_lines.specs.Lines.{Placed, fault_at, lexical, stray_else, open_if, asks_name, starts, elif, final, endif, define, error, Line, text, broken, branch, directive, text_of, behind_text}
+use Rattle.k_lex_lines.specs.Lines.{Placed, fault_at, lexical, stray_else, open_if, error_line, asks_condition, asks_name, starts, elif, final, endif, define, error, Line, text, broken, branch, directive, text_of, behind_text}
 use Rattle.k_lex_lines.specs.Text.{Limits, Sizes, kind_of, sized, fits}
 use Rattle.k_lex_lines.specs.Directives.{Rules}
 use Rattle.k_lex_lines.specs.Reading.{State, start, opening, Answer, Reads}
@@ -85,3 +85,17 @@ open_section = directive (at 1) None (define (at 1) (record { name = codes "A"; 
 -- the fault is at the `#ifdef`
 abbrev pub OpenIfIsAtIf : Type 0
 OpenIfIsAtIf = Reads plain_rules start open_section (Err (fault_at open_if (at 2)))
+
+-- a macro A without tokens
+abbrev pub empty_macro : Macro
+empty_macro = record { name = codes "A"; parameters = None; body = [] }
+
+-- `#define A`, `#if defined(A)`, `#error`
+abbrev pub found_name : List Line
+found_name = directive (at 1) None (define (at 1) empty_macro)
+    ∷ branch (at 2) None (starts (asks_condition (word_at 2 (codes "defined") ∷ word_at 2 (codes "(") ∷ word_at 2 (codes "A") ∷ word_at 2 (codes ")") ∷ [])))
+    ∷ directive (at 3) None error ∷ []
+
+-- the condition holds, so that `#error` is read
+abbrev pub FoundNameHolds : Type 0
+FoundNameHolds = Reads plain_rules start found_name (Err (fault_at error_line (at 3)))
