@@ -6,15 +6,17 @@ use Rattle.k_lex_pieces.specs.declared.fault.Refusal.TheVariants as r
 use Rattle.k_lex_pieces.specs.Pieces.{piece_by}
 use Rattle.k_lex_groups.specs.Steps.{Opens}
 use Rattle.k_lex_expansion.specs.Laws.{PlainListsStay}
-use Rattle.k_lex_lines.specs.Lines.{fault_at, lexical, stray_else, Placed, error_line}
+use Rattle.k_lex_lines.specs.Lines.{fault_at, lexical, stray_else, Placed, Fault, error_line}
 use Rattle.k_lex_lines.specs.Text.{Sizes, Count, used, use_of, in_condition, Text, Follows}
 use Rattle.k_lex_lines.specs.Reading.{State, start, opening, knowing, Reads, ReadsOn}
-use Rattle.k_lex_lines.specs.Laws.{plain_rules, at, word_at, AreOwn, AlternativesGive, SecondElseIsStray, OpenIfIsAtIf, empty_macro, FoundNameHolds}
+use Rattle.k_lex_lines.specs.Laws.{plain_rules, at, word_at, AreOwn, AlternativesGive, SecondElseIsStray, OpenIfIsAtIf, empty_macro, FoundNameHolds, macro_of_one, CutUseIsRefused}
 use Rattle.k_lex_lines.proofs.Plain.{Stays, text_stays, one_unused}
 use Rattle.k_tree.specs.declared.tokens.Token.{Token}
 use Rattle.k_num.specs.declared.numbers.Kind.TheVariants.{I32}
 use Rattle.k_lex_conditions.specs.Trees.{operand, Ranked}
 use Rattle.k_lex_conditions.specs.Conditions.{Condition}
+use Rattle.k_lex_expansion.specs.declared.failure.Failure.TheVariants as failure
+use Rattle.k_lex_expansion.specs.Expansion.{next, Expands, Continues}
 use Rattle.k_lex_expansion.specs.Listing.{unhidden}
 use Rattle.k_lex_lines.specs.Directives.{Evaluates}
 
@@ -31,7 +33,7 @@ if_open waits on ends = record { place = at 1; waits = waits; reads = on; ends =
 -- the name x is its own token
 x_is_own : AreOwn [] plain_rules.limits none_read (word_at 4 (codes "x") ∷ []) (record { what = t.Name (codes "x"); place = at 4 } ∷ [])
 unfolding piece_by
-x_is_own = AreOwn.token none_read (word_at 4 (codes "x")) [] (t.Name (codes "x")) [] refl refl refl (AreOwn.nothing one_read)
+x_is_own = AreOwn.token none_read (word_at 4 (codes "x")) [] (t.Name (codes "x")) [] refl refl refl (AreOwn.no_token one_read)
 
 pub alternatives_give : PlainListsStay → AlternativesGive
 alternatives_give plain =
@@ -100,3 +102,17 @@ found_name_holds plain =
     Reads.moves start known _ _ _ refl
     (Reads.tests known _ _ (at 2) _ taken passed (Ok (true, 0)) (Err (fault_at error_line (at 3))) refl (one_decided plain)
     (ReadsOn.on [] inside _ (Err (fault_at error_line (at 3))) (Reads.refuses inside _ _ (fault_at error_line (at 3)) refl)))
+
+-- the name before the end of its text
+cut_off : Expands (macro_of_one ∷ []) 2097152 (use_of 0 (word_at 2 (codes "F")) [] false) (Err failure.Cut)
+unfolding next
+cut_off = Expands.goes (use_of 0 (word_at 2 (codes "F")) [] false) (Err failure.Cut) (Err failure.Cut) refl (Continues.failed failure.Cut)
+
+pub cut_use_is_refused : CutUseIsRefused
+cut_use_is_refused =
+    let known : State = knowing (macro_of_one ∷ []) start in
+    let fault : Fault = fault_at (lexical r.BadDirective) (at 3) in
+    Reads.moves start known _ _ _ refl
+    (Reads.replaces known _ _ (word_at 2 (codes "F") ∷ []) (Err fault) (Err fault) refl
+    (Text.use_first known.count (word_at 2 (codes "F")) [] (Err failure.Cut) (Err fault) cut_off (Follows.failed fault))
+    (ReadsOn.failed fault _))

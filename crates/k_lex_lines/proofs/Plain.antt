@@ -56,7 +56,7 @@ used_own limits made t ts sizes what is fit =
     ∙ ap (leaving made ts) (own_judged limits t sizes what is fit)
 
 pub text_stays : PlainListsStay → (macros : List Macro) (limits : Limits) (cut : Option Fault) (made : ℕ) {sizes : Sizes} {ts : List Placed} {us : List Token} → AreOwn macros limits sizes ts us → Stays macros limits cut made sizes ts us
-text_stays plain macros limits cut made (AreOwn.nothing sizes) = record { count = record { made = made; sizes = sizes }; text = Text.over (record { made = made; sizes = sizes }) }
+text_stays plain macros limits cut made (AreOwn.no_token sizes) = record { count = record { made = made; sizes = sizes }; text = Text.over (record { made = made; sizes = sizes }) }
 text_stays plain macros limits cut made (AreOwn.token sizes t ts what us unnamed is fit more) =
     let w : Work = use_of made t ts (is_none cut) in
     let rest : Stays macros limits cut made (sized (unhidden t.token ∷ []) sizes) ts us = text_stays plain macros limits cut made more in
@@ -86,7 +86,7 @@ pub stays : PlainListsStay → (rules : Rules) (s : State) (lines : List Line) (
 stays plain rules s [] us e x own = nothing_own own
   where
     nothing_own : {vs : List Token} → AreOwn s.macros rules.limits s.count.sizes [] vs → Reads rules s [] (Ok vs)
-    nothing_own (AreOwn.nothing sizes) = ends_so rules s e
+    nothing_own (AreOwn.no_token sizes) = ends_so rules s e
 stays plain rules s (text ts ∷ lines) us e x own =
     let found : Stays s.macros rules.limits None s.count.made s.count.sizes (ts ++ text_of lines) us = text_stays plain s.macros rules.limits None s.count.made own in
     let new : State = record { macros = s.macros; opens = s.opens; count = found.count } in

@@ -1,6 +1,6 @@
 -- Believed with a public law.
 -- What holds of the reading of lines.
-use Rattle.std.specs.Prelude.{◌≡◌, ℕ, codes, Bool, true, false, List, [], ◌∷◌, ◌++◌, None, Ok, Err}
+use Rattle.std.specs.Prelude.{◌≡◌, ℕ, codes, Bool, true, false, List, [], ◌∷◌, ◌++◌, None, Some, Ok, Err}
 use Rattle.k_num.specs.declared.place.Place.{Place}
 use Rattle.k_tree.specs.declared.tokens.Token.{Token}
 use Rattle.k_tree.specs.declared.tokens.TokenKind.{TokenKind}
@@ -8,9 +8,10 @@ use Rattle.k_tree.specs.declared.tokens.TokenKind.TheVariants as t
 use Rattle.k_lex_pieces.specs.declared.fault.Refusal.TheVariants as r
 use Rattle.k_lex_groups.specs.Steps.{Opens, is_read}
 use Rattle.k_lex_expansion.specs.declared.macros.Macro.{Macro}
+use Rattle.k_lex_expansion.specs.declared.macros.Operand.TheVariants as o
 use Rattle.k_lex_expansion.specs.Listing.{unhidden}
 use Rattle.k_lex_expansion.specs.Expansion.{named}
-use Rattle.k_lex_lines.specs.Lines.{Placed, fault_at, lexical, stray_else, open_if, error_line, asks_condition, asks_name, starts, elif, final, endif, define, error, Line, text, broken, branch, directive, text_of, behind_text}
+use Rattle.k_lex_lines.specs.Lines.{Placed, fault_at, lexical, stray_else, open_if, error_line, asks_condition, asks_name, starts, elif, final, endif, define, error, nothing, Line, text, broken, branch, directive, text_of, behind_text}
 use Rattle.k_lex_lines.specs.Text.{Limits, Sizes, kind_of, sized, fits}
 use Rattle.k_lex_lines.specs.Directives.{Rules}
 use Rattle.k_lex_lines.specs.Reading.{State, start, opening, Answer, Reads}
@@ -35,7 +36,7 @@ OneGroupIsRead = (rules : Rules) (s : State) (place : Place) (on : Bool) (opens 
 
 -- the text is these tokens, each spelled by its own, where no macro is named in it, and so many may be there
 pub data AreOwn (macros : List Macro) (limits : Limits) : Sizes → List Placed → List Token → Type 0 where
-  nothing : (sizes : Sizes) → AreOwn macros limits sizes [] []
+  no_token : (sizes : Sizes) → AreOwn macros limits sizes [] []
   token : (sizes : Sizes) (t : Placed) (ts : List Placed) (what : TokenKind) (us : List Token) → named macros t.token.spelling ≡ None
       → kind_of t.place t.token.spelling ≡ Ok what → fits limits (sized (unhidden t.token ∷ []) sizes) ≡ true
       → AreOwn macros limits (sized (unhidden t.token ∷ []) sizes) ts us → AreOwn macros limits sizes (t ∷ ts) (record { what = what; place = t.place } ∷ us)
@@ -99,3 +100,15 @@ found_name = directive (at 1) None (define (at 1) empty_macro)
 -- the condition holds, so that `#error` is read
 abbrev pub FoundNameHolds : Type 0
 FoundNameHolds = Reads plain_rules start found_name (Err (fault_at error_line (at 3)))
+
+-- `#define F(a) a`
+abbrev pub macro_of_one : Macro
+macro_of_one = record { name = codes "F"; parameters = Some (codes "a" ∷ []); body = record { spaced = false; first = o.Parameter 0; more = [] } ∷ [] }
+
+-- that, `F`, and `#` in the next line
+abbrev pub cut_use : List Line
+cut_use = directive (at 1) None (define (at 1) macro_of_one) ∷ text (word_at 2 (codes "F") ∷ []) ∷ directive (at 3) None nothing ∷ []
+
+-- the use goes on in the next line, and a directive is a fault there, at its `#`
+abbrev pub CutUseIsRefused : Type 0
+CutUseIsRefused = Reads plain_rules start cut_use (Err (fault_at (lexical r.BadDirective) (at 3)))
