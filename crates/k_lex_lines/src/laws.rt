@@ -1,6 +1,7 @@
 //! What holds of the reading of lines: each function's contract is a law, and its body does nothing but recall others.
 ghost use Rattle.k_lex_lines.specs.Laws.{ReadingsAreOne, UnreadGroupsGiveNothing, OneGroupIsRead, PlainTextStays};
-ghost use Rattle.k_lex_lines.specs.Laws.{AlternativesGive, SecondElseIsStray, OpenIfIsAtIf, FoundNameHolds, CutUseIsRefused};
+ghost use Rattle.k_lex_lines.specs.Laws.{AlternativesGive, SecondElseIsStray, OpenIfIsAtIf, FoundNameHolds};
+ghost use Rattle.k_lex_lines.specs.Laws.{CutUseIsRefused};
 
 use k_lex_expansion::laws::{expansions_are_one, plain_lists_stay};
 
