@@ -84,6 +84,7 @@ abbrev pub second_sort_of : LoopSort → WideLoop → List Step
 second_sort_of sort.For l = []
 second_sort_of _ l = if l.jumps.continues then [] else listed (option_step l.last)
 
+-- the steps of the second sort in a loop
 abbrev pub second_sort : WideLoop → List Step
 second_sort l = second_sort_of l.sort l
 
@@ -92,6 +93,7 @@ abbrev pub third_sort_of : LoopSort → WideLoop → List Step
 third_sort_of sort.Do l = []
 third_sort_of _ l = listed (option_test_step l.test)
 
+-- the steps of the third sort in a loop
 abbrev pub third_sort : WideLoop → List Step
 third_sort l = third_sort_of l.sort l
 
