@@ -1,4 +1,4 @@
--- Believed with a public law.
+-- For contracts between crates: nobody has to believe it.
 -- Values of hexadecimal floating constants without their suffix (C17 6.4.4.2): the exact number, rounded once to its precision.
 use Rattle.std.specs.Prelude.{◌≡◌, ◌<◌, ◌≤◌, ℕ, suc, ◌+◌, ◌-◌, ◌*◌, ◌^◌, ◌==◌, ◌&&◌, ◌||◌, nat_lt, min, Bool, true, false, if◌then◌else◌, List, [], ◌∷◌, Option, Some, None}
 use Rattle.std.specs.Char.{is_ascii_digit, is_ascii_hexdigit}
