@@ -64,10 +64,11 @@ acos_of x =
     if is_nan x || lt ONE (size x) then nan else
     (if eq x ONE then float_zero else (if eq x MINUS_ONE then PI.high else (acos_pair x).high))
 
--- the angle of a point with y above 0 and a quotient m 2^e of the sizes; left says that x is negative
+-- an angle from the positive side of x, or, where left says that x is negative, that angle taken from pi
 unfoldable pub turned : Bool → Pair → Pair
 turned left t = if left then sum_of PI (negated_of t) else t
 
+-- the angle of a point with y above 0 whose sizes have these parts, by the quotient of their fractions, scaled by the difference of their exponents
 unfoldable pub atan2_near : Bool → Parts → Parts → Float
 atan2_near left y x =
     (turned left (atan_pair_of (pair_scaled_of (quotient_of (single y.fraction) (single x.fraction)) (y.exponent -ℤ x.exponent)))).high
