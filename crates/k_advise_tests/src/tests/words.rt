@@ -2,7 +2,7 @@
 
 use k_advise_verdicts::{
     Condition, Failing, FirstPairs, FirstShared, InCommon, LoopFacts, Named, Standing, Turns,
-    Verdict, is_uneven, share, tenths, verdict_of,
+    Verdict, is_uneven, share, tenths, verdict_of, verdicts,
 };
 use k_carry_pairs::Pair;
 use k_carry_storage_pairs::{Shared, Sharing};
@@ -59,16 +59,20 @@ const NOT_PICKED: Standing = Standing {
     saves: true,
 };
 
-/// The verdict on a loop with a self-parallelism of 3/2, where a start costs 5.
-fn verdict(facts: &LoopFacts, standing: &Standing, carried: &[Pair], shared: &[Shared]) -> Verdict {
-    let row = Row {
+/// The row of a loop with a self-parallelism of 3/2.
+fn row() -> Row {
+    Row {
         region: 1,
         instances: 1,
         work: 12,
         path: 8,
         sp: Frac::ratio(3, 2),
-    };
-    verdict_of(5, &row, facts, standing, carried, shared)
+    }
+}
+
+/// The verdict on such a loop, where a start costs 5.
+fn verdict(facts: &LoopFacts, standing: &Standing, carried: &[Pair], shared: &[Shared]) -> Verdict {
+    verdict_of(5, &row(), facts, standing, carried, shared)
 }
 
 #[test]
@@ -146,5 +150,16 @@ fn words_of_what_stands_in_the_way(rt: HostRuntime) -> Result<(), Fail> {
     };
     let uncounted = verdict(&not_counted, &NOT_PICKED, &[], &[]);
     assert!(rt; uncounted == Verdict::Uncounted(failing));
+    Ok(())
+}
+
+#[test]
+fn verdicts_where_memory_is_there(rt: HostRuntime) -> Result<(), Fail> {
+    let standings = [NOT_PICKED, PICKED];
+    let found = verdicts(rt.alloc(), 5, &[row()], &[FREE], &standings, &[], &[])?;
+    assert_eq!(rt; found.len(), 1);
+    for told in found.as_slice().iter() {
+        assert!(rt; told.verdict == Verdict::Parallel { uneven: true });
+    }
     Ok(())
 }
