@@ -10,5 +10,6 @@ mod validity;
 pub use balance::Balance;
 pub use code::{Code, CodeFunc, CodeObject};
 pub use instruction::{Arg, Do, Home, Instr};
+pub use k_ending::{End, Trap};
 pub use k_world::{Chunk, Out};
 pub use validity::valid;

@@ -5,8 +5,8 @@ use Rattle.std.specs.Prelude.{ℕ, Bool, if◌then◌else◌, List, ◌++◌, co
 use Rattle.std.specs.List.{join_by}
 use Rattle.std.specs.Fmt.{decimal}
 use Rattle.k_optab.specs.declared.region.Region.{Region}
-use Rattle.k_dict.specs.declared.entry.Entry.{Entry}
-use Rattle.k_dict.specs.declared.entry.Run.{Run}
+use Rattle.k_dict_entries.specs.declared.entry.Entry.{Entry}
+use Rattle.k_dict_entries.specs.declared.entry.Run.{Run}
 use Rattle.k_plan.specs.declared.advice.Pick.{Pick}
 use Rattle.k_selfpar.specs.declared.context.Context.{Context}
 use Rattle.k_selfpar.specs.declared.row.Row.{Row}

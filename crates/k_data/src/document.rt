@@ -4,7 +4,7 @@ ghost use Rattle.std.specs.Option.{option_copied};
 ghost use Rattle.k_data.specs.Document as spec;
 
 use crate::records::{push_contexts, push_entries, push_picks, push_regions, push_rows};
-use k_dict::Dict;
+use k_dict_entries::Dict;
 use k_num::{NoMemory, Seq};
 use k_optab::Region;
 use k_plan::Advice;

@@ -4,7 +4,7 @@ ghost use Rattle.std.specs.List.{join_by};
 ghost use Rattle.k_data.specs.Records as spec;
 ghost use Rattle.k_text.specs.Texts.{kind_text};
 
-use k_dict::{Entry, Run};
+use k_dict_entries::{Entry, Run};
 use k_num::NoMemory;
 use k_optab::{Region, RegionKind};
 use k_plan::Pick;

@@ -8,13 +8,13 @@ use Rattle.std.proofs.lemmas.Nat.Gcd.{IsGcd-from_mod, IsGcd-from_zero}
 use Rattle.std.proofs.lemmas.Option.{slice_get-get_or, slice_get_within}
 use Rattle.k_optab.specs.Meaning.{serial_of}
 use Rattle.k_optab.specs.declared.region.Region.{Region}
-use Rattle.k_dict.specs.Entries.{AreRuns, laid, tree_at, trees_of, tree_of}
-use Rattle.k_dict.specs.Tallies.{total as count_all}
-use Rattle.k_dict.specs.Trees.{Forest, Label, Tree, alone, bare, grown, size}
-use Rattle.k_dict.specs.declared.entry.Entry.{Entry}
-use Rattle.k_dict.specs.declared.entry.Run.{Run}
-use Rattle.k_dict.proofs.EntryTrees.{tree_is}
-use Rattle.k_dict.proofs.Lists.{same_tree}
+use Rattle.k_dict_entries.specs.Entries.{AreRuns, laid, tree_at, trees_of, tree_of}
+use Rattle.k_dict_entries.specs.Tallies.{total as count_all}
+use Rattle.k_dict_entries.specs.Trees.{Forest, Label, Tree, alone, bare, grown, size}
+use Rattle.k_dict_entries.specs.declared.entry.Entry.{Entry}
+use Rattle.k_dict_entries.specs.declared.entry.Run.{Run}
+use Rattle.k_dict_entries.proofs.EntryTrees.{tree_is}
+use Rattle.k_dict_entries.proofs.Lists.{same_tree}
 use Rattle.k_dict_saved.specs.Profile.{IsSaved}
 use Rattle.k_dict_saved.specs.declared.saved.Saved.{Saved}
 use Rattle.k_selfpar.specs.Contexts.{AreContexts, AreUnder, IsContext, chosen, count_in, group, has_turns, inner_forest, none, others, root_work, with_beside}

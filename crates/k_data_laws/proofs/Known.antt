@@ -11,8 +11,8 @@ use Rattle.json.proofs.Printed.Utf8.{IsUtf8-are_ascii}
 use Rattle.k_optab.specs.declared.region.Region.{Region}
 use Rattle.k_optab.specs.declared.region.RegionKind.{RegionKind}
 use Rattle.k_optab.specs.declared.region.RegionKind.TheVariants.{Func, Loop, Body}
-use Rattle.k_dict.specs.declared.entry.Entry.{Entry}
-use Rattle.k_dict.specs.declared.entry.Run.{Run}
+use Rattle.k_dict_entries.specs.declared.entry.Entry.{Entry}
+use Rattle.k_dict_entries.specs.declared.entry.Run.{Run}
 use Rattle.k_dict_saved.specs.Lines.{IsRegion}
 use Rattle.k_plan.specs.declared.advice.Advice.{Advice}
 use Rattle.k_plan.specs.declared.advice.Pick.{Pick}

@@ -1,8 +1,8 @@
 -- What is used of a profile: each number is one of 64 bits, the exit one of 32 with its sign, and each region names a function and a place of C.
 use Rattle.std.proofs.Common.{ℕ, ℤ, ◌^◌, ◌<◌, List, All, Option, IfSome, FitsSigned, w32, length}
 use Rattle.k_optab.specs.declared.region.Region.{Region}
-use Rattle.k_dict.specs.declared.entry.Entry.{Entry}
-use Rattle.k_dict.specs.declared.entry.Run.{Run}
+use Rattle.k_dict_entries.specs.declared.entry.Entry.{Entry}
+use Rattle.k_dict_entries.specs.declared.entry.Run.{Run}
 use Rattle.k_dict_saved.specs.Lines.{IsRegion}
 use Rattle.k_plan.specs.declared.advice.Advice.{Advice}
 use Rattle.k_plan.specs.declared.advice.Pick.{Pick}

@@ -4,14 +4,14 @@ use Rattle.std.proofs.lemmas.Option.{none-some}
 use Rattle.k_optab.specs.declared.node.Node.{Node}
 use Rattle.k_optab.specs.declared.region.Region.{Region}
 use Rattle.k_optab.specs.Tree.{IsTree}
-use Rattle.k_dict.specs.Dictionary.{IsDictionary}
-use Rattle.k_dict.specs.Dictionary as dictionary
-use Rattle.k_dict.specs.Entries.{expansion}
-use Rattle.k_dict.specs.Laws.{AreAlike}
-use Rattle.k_dict.specs.Trees.{Label, node_at}
-use Rattle.k_dict.specs.declared.entry.Entry.{Entry}
-use Rattle.k_dict.proofs.EntryTrees.{tree_is}
-use Rattle.k_dict.proofs.Unique.{alike_turned, dictionary_expands, dictionary_is_unique}
+use Rattle.k_dict_entries.specs.Dictionary.{IsDictionary}
+use Rattle.k_dict_entries.specs.Dictionary as dictionary
+use Rattle.k_dict_entries.specs.Entries.{expansion}
+use Rattle.k_dict_entries.specs.Laws.{AreAlike}
+use Rattle.k_dict_entries.specs.Trees.{Label, node_at}
+use Rattle.k_dict_entries.specs.declared.entry.Entry.{Entry}
+use Rattle.k_dict_entries.proofs.EntryTrees.{tree_is}
+use Rattle.k_dict_entries.proofs.Unique.{alike_turned, dictionary_expands, dictionary_is_unique}
 use Rattle.k_dict_saved.specs.Profile.{IsSaved}
 use Rattle.k_dict_saved.specs.declared.saved.Saved.{Saved}
 use Rattle.k_selfpar.specs.Contexts.{AreContexts}

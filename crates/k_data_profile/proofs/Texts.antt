@@ -1,6 +1,6 @@
 -- What the texts of a profile are made of, and that there is one of each.
 use Rattle.std.proofs.Common.{◌≡◌, ℕ, ℤ, Bool, List, [], Option, Some, None, sym, ◌∙◌, subst}
-use Rattle.k_dict.specs.declared.entry.Entry.{Entry}
+use Rattle.k_dict_entries.specs.declared.entry.Entry.{Entry}
 use Rattle.k_dict_saved.specs.declared.saved.Saved.{Saved}
 use Rattle.k_selfpar.specs.Contexts.{AreContexts}
 use Rattle.k_selfpar.specs.Rows.{AreRows}

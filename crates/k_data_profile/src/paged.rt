@@ -10,7 +10,7 @@ ghost use Rattle.k_report_profile.specs.Summed.{IsSummed};
 ghost use Rattle.k_data_profile.specs.Pages.{IsPage, IsRunPage, path_of, work_of};
 
 use crate::shown::listed;
-use k_dict::Dict;
+use k_dict_entries::Dict;
 use k_dict_saved::Saved;
 use k_num::{NoMemory, Seq};
 use k_optab::Region;

@@ -8,7 +8,7 @@ ghost use Rattle.k_report_profile.specs.Report.{HasManyContexts, asked, nodes_of
 ghost use Rattle.k_data_profile.specs.Shown.{IsDocument, IsTable};
 
 use k_data::{profile_json, rows_csv};
-use k_dict::Dict;
+use k_dict_entries::Dict;
 use k_dict_saved::Saved;
 use k_num::{NoMemory, Seq};
 use k_plan::{ContextFault, ContextList, contexts, plan, standard_limits};

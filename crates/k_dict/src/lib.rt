@@ -1,19 +1,5 @@
-//! The dictionary of summaries: one entry for each shape of a tree of region instances, with its children as runs of earlier
-//! entries.
+//! The dictionary of summaries and its saved file: the names of both crates below it, under the one name by which others know them.
 #![tactic(auto)]
 
-mod dict;
-mod entry;
-mod expansion;
-mod gathering;
-pub mod laws;
-mod table;
-mod tally;
-
-pub use dict::{Dict, DictFault, Which};
-pub use entry::{Entry, Run};
-pub use expansion::{ExpandFault, expand};
-pub use gathering::gather;
-pub use k_optab::Node;
-pub use table::EntryTable;
-pub use tally::Tally;
+pub use k_dict_entries::{Dict, DictFault, Entry, ExpandFault, Node, Run, Which, expand, gather};
+pub use k_dict_saved::{Old, Saved, SavedFault, migrate, read, read_old, write};

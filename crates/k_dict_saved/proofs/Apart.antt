@@ -2,12 +2,12 @@
 use Rattle.std.proofs.Common.{◌≡◌, ℕ, zero, suc, ◌<◌, ◌≤◌, max, Bool, true, false, List, [], ◌∷◌, length, get_or, Some, slice_get, refl, sym, ap, ◌∙◌, subst, arith}
 use Rattle.std.proofs.lemmas.Bool.{false≢true}
 use Rattle.std.proofs.lemmas.Option.{slice_get-get_or}
-use Rattle.k_dict.specs.Trees.{Forest, Tree, bare, grown}
-use Rattle.k_dict.specs.Entries.{AreApart, NameBelow, copies, label_of, laid, no_tree, tree_at, tree_of, trees_of}
-use Rattle.k_dict.specs.declared.entry.Entry.{Entry}
-use Rattle.k_dict.specs.declared.entry.Run.{Run}
-use Rattle.k_dict.proofs.Coding.{entry_at}
-use Rattle.k_dict.proofs.EntryTrees.{tree_named}
+use Rattle.k_dict_entries.specs.Trees.{Forest, Tree, bare, grown}
+use Rattle.k_dict_entries.specs.Entries.{AreApart, NameBelow, copies, label_of, laid, no_tree, tree_at, tree_of, trees_of}
+use Rattle.k_dict_entries.specs.declared.entry.Entry.{Entry}
+use Rattle.k_dict_entries.specs.declared.entry.Run.{Run}
+use Rattle.k_dict_entries.proofs.Coding.{entry_at}
+use Rattle.k_dict_entries.proofs.EntryTrees.{tree_named}
 use Rattle.k_dict_saved.specs.Formats.{AreMaximal, Differs, HaveRuns}
 use Rattle.k_dict_saved.specs.declared.format.Format.TheVariants.{One}
 

@@ -4,26 +4,26 @@ use Rattle.std.specs.List.{flat_map}
 use Rattle.std.proofs.lemmas.List.{map-append}
 use Rattle.std.proofs.lemmas.Option.{none-some, same_Some, slice_get_within}
 use Rattle.k_optab.specs.declared.region.Region.{Region}
-use Rattle.k_dict.specs.Entries.{AreDistinct, all_runs, laid, no_tree, tree_of, trees_of}
+use Rattle.k_dict_entries.specs.Entries.{AreDistinct, all_runs, laid, no_tree, tree_of, trees_of}
 use Rattle.k_dict_saved.specs.Extents.{extent_of, extents_of}
-use Rattle.k_dict.specs.Interning.{HasNumber}
+use Rattle.k_dict_entries.specs.Interning.{HasNumber}
 use Rattle.k_dict_saved.specs.Formats.{AreRunsOf, HaveRuns}
 use Rattle.k_dict_saved.specs.Lines.{Follows, GoesWrong, InEntries, IsNextEntry, Leads, MayEnd, Stage, arrived}
 use Rattle.k_dict_saved.specs.Reading.{Adds, AllEntries, HaveRules, IsWithinRules, NextEntry}
 use Rattle.k_dict_saved.specs.FileText.{entry_line}
 use Rattle.k_dict_saved.specs.Syntax.{Gives, entry_at}
-use Rattle.k_dict.specs.Trees.{Tree, alone, size}
-use Rattle.k_dict.specs.declared.entry.Entry.{Entry}
-use Rattle.k_dict.specs.declared.entry.Run.{Run}
+use Rattle.k_dict_entries.specs.Trees.{Tree, alone, size}
+use Rattle.k_dict_entries.specs.declared.entry.Entry.{Entry}
+use Rattle.k_dict_entries.specs.declared.entry.Run.{Run}
 use Rattle.k_dict_saved.specs.declared.format.Format.{Format}
 use Rattle.k_dict_saved.specs.declared.reading.extents.Extent.{Extent}
 use Rattle.k_dict_saved.specs.declared.reading.stop.Stop.{Stop}
 use Rattle.k_dict_saved.specs.declared.reading.stop.Stop.TheVariants as stops
-use Rattle.k_dict.proofs.EntryTrees.{trees-push}
+use Rattle.k_dict_entries.proofs.EntryTrees.{trees-push}
 use Rattle.k_dict_saved.proofs.Keeping.{HaveRuns-push, below_of, few_of, no_rules, rules_more}
 use Rattle.k_dict_saved.proofs.Leading.{leads_on, wrong_behind, wrong_here}
-use Rattle.k_dict.proofs.Places.{is_there, place_of_push}
-use Rattle.k_dict.proofs.Pushes.{all_runs-push}
+use Rattle.k_dict_entries.proofs.Places.{is_there, place_of_push}
+use Rattle.k_dict_entries.proofs.Pushes.{all_runs-push}
 use Rattle.k_dict_saved.proofs.RegionSteps.{flat_map-push}
 use Rattle.k_dict_saved.proofs.Spelled.{AreSmall, entry_again, entry_takes}
 use Rattle.k_dict_saved.proofs.RunSums.{size-copies}

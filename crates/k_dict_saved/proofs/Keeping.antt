@@ -3,18 +3,18 @@ use Rattle.std.proofs.Common.{◌≡◌, ℕ, ◌+◌, ◌*◌, ◌<◌, ◌≤�
 use Rattle.std.proofs.lemmas.List.{get_or_append_left, get_or_at}
 use Rattle.std.proofs.lemmas.Bool.{cases_lt}
 use Rattle.std.proofs.lemmas.Option.{none-some, slice_get_within}
-use Rattle.k_dict.specs.Entries.{AreRuns, NameBelow, no_tree, tree_at, tree_of, trees_of}
+use Rattle.k_dict_entries.specs.Entries.{AreRuns, NameBelow, no_tree, tree_at, tree_of, trees_of}
 use Rattle.k_dict_saved.specs.Formats.{AreRunsOf, HaveRuns}
 use Rattle.k_dict_saved.specs.Lines.{IsNextEntry}
 use Rattle.k_dict_saved.specs.Reading.{HaveRules}
-use Rattle.k_dict.specs.Rules.{HasBoundedNumbers, HavePathsUpTo, child_paths, child_works, entry_of, no_entry}
-use Rattle.k_dict.specs.Trees.{Tree, alone, height, size}
-use Rattle.k_dict.specs.declared.entry.Entry.{Entry}
-use Rattle.k_dict.specs.declared.entry.Run.{Run}
+use Rattle.k_dict_entries.specs.Rules.{HasBoundedNumbers, HavePathsUpTo, child_paths, child_works, entry_of, no_entry}
+use Rattle.k_dict_entries.specs.Trees.{Tree, alone, height, size}
+use Rattle.k_dict_entries.specs.declared.entry.Entry.{Entry}
+use Rattle.k_dict_entries.specs.declared.entry.Run.{Run}
 use Rattle.k_dict_saved.specs.declared.format.Format.{Format}
 use Rattle.k_dict_saved.specs.declared.format.Format.TheVariants.{One, Two}
-use Rattle.k_dict.proofs.EntryTrees.{below_bound, length-trees, trees-push}
-use Rattle.k_dict.proofs.Places.{place_of_push}
+use Rattle.k_dict_entries.proofs.EntryTrees.{below_bound, length-trees, trees-push}
+use Rattle.k_dict_entries.proofs.Places.{place_of_push}
 
 -- runs that rise are no more than their bound
 pub few_bound : (low high : ℕ) (runs : List Run) → low ≤ high → AreRuns low high runs → low + length runs ≤ high

@@ -10,27 +10,27 @@ use Rattle.std.proofs.lemmas.Option.{same_Some, slice_get-get_or}
 use Rattle.k_optab.specs.declared.region.Region.{Region}
 use Rattle.k_dict_saved.specs.Reading.{exit_at, first_at, head_lines}
 use Rattle.k_dict_saved.specs.Syntax.{named_at}
-use Rattle.k_dict.specs.Entries.{all_runs, no_tree, tree_at, tree_of, trees_of}
+use Rattle.k_dict_entries.specs.Entries.{all_runs, no_tree, tree_at, tree_of, trees_of}
 use Rattle.k_dict_saved.specs.Lines.{Counted, Exited, Follows, InEntries, InRegions, IsClosed, IsFirstWrong, IsNextEntry, IsRegion, IsWhole, Leads, MayEnd, Named, Opened, Stage, arrived, last_of, onward}
 use Rattle.k_dict_saved.specs.Formats.{IsAccepted, first_line}
 use Rattle.k_dict_saved.specs.Files.{AreFileEntries, ArePaired, IsFile}
-use Rattle.k_dict.specs.Rules.{NameRegions}
+use Rattle.k_dict_entries.specs.Rules.{NameRegions}
 use Rattle.k_text.specs.Texts.{named_line}
 use Rattle.k_dict_saved.specs.FileText.{entry_line, file_text, region_line}
-use Rattle.k_dict.specs.Trees.{Tree, alone, height, size}
-use Rattle.k_dict.specs.declared.entry.Entry.{Entry}
+use Rattle.k_dict_entries.specs.Trees.{Tree, alone, height, size}
+use Rattle.k_dict_entries.specs.declared.entry.Entry.{Entry}
 use Rattle.k_dict_saved.specs.declared.file.File.{File}
 use Rattle.k_dict_saved.specs.declared.format.Accepts.{Accepts}
 use Rattle.k_dict_saved.specs.declared.format.Accepts.TheVariants.{Both}
 use Rattle.k_dict_saved.specs.declared.format.Format.{Format}
 use Rattle.k_dict_saved.specs.declared.format.Format.TheVariants.{One}
-use Rattle.k_dict.proofs.EntryTrees.{length-trees, trees-kept}
+use Rattle.k_dict_entries.proofs.EntryTrees.{length-trees, trees-kept}
 use Rattle.k_dict_saved.proofs.Files.{IsSmall, no_wrong, one_line}
 use Rattle.k_dict_saved.proofs.HeadSteps.{exit_again, first_again, head_leads, head_parts}
 use Rattle.k_dict_saved.proofs.Keeping.{added_tree, below_of, numbers_down}
 use Rattle.k_dict_saved.proofs.Leading.{leads_through}
-use Rattle.k_dict.proofs.Places.{place_behind, place_kept}
-use Rattle.k_dict.proofs.Pushes.{all_runs-push}
+use Rattle.k_dict_entries.proofs.Places.{place_behind, place_kept}
+use Rattle.k_dict_entries.proofs.Pushes.{all_runs-push}
 use Rattle.k_dict_saved.proofs.RegionSteps.{last_push}
 use Rattle.k_dict_saved.proofs.Spelled.{named_again}
 use Rattle.k_dict_saved.proofs.Whole.{count_line}

@@ -2,12 +2,12 @@
 use Rattle.std.proofs.Common.{◌≡◌, ℕ, zero, suc, ◌+◌, ◌<◌, ◌≤◌, ◌⊎◌, inl, inr, Bool, true, false, ◌&&◌, List, [], ◌∷◌, length, get_or, set, Some, slice_get, refl, sym, ap, ◌∙◌, subst, arith, replicate}
 use Rattle.std.proofs.lemmas.Bool.{and_parts, and_from, cases_order, false≢true}
 use Rattle.std.proofs.lemmas.List.{get_or-replicate, get_or-set_other, get_or-set_same, length-replicate, length-set}
-use Rattle.k_dict.specs.Entries.{AreRuns, NameBelow, NameEarlier}
+use Rattle.k_dict_entries.specs.Entries.{AreRuns, NameBelow, NameEarlier}
 use Rattle.k_dict_saved.specs.Formats.{AreNamed, IsNamedBy, Names}
 use Rattle.k_dict_saved.specs.Reading.{AllNameBelow, are_marked, marked, marked_all}
-use Rattle.k_dict.specs.declared.entry.Entry.{Entry}
-use Rattle.k_dict.specs.declared.entry.Run.{Run}
-use Rattle.k_dict.proofs.EntryTrees.{below_bound}
+use Rattle.k_dict_entries.specs.declared.entry.Entry.{Entry}
+use Rattle.k_dict_entries.specs.declared.entry.Run.{Run}
+use Rattle.k_dict_entries.proofs.EntryTrees.{below_bound}
 
 -- marking keeps the number of marks
 pub length-marked : (marks : List Bool) (runs : List Run) → length (marked marks runs) ≡ length marks

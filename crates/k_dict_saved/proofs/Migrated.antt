@@ -4,20 +4,20 @@ use Rattle.std.specs.Prelude.{ℤ, FitsSigned}
 use Rattle.std.specs.Int.{w32}
 use Rattle.std.proofs.lemmas.Option.{get_or_from_slice_get, none-some, same_Some, slice_get-get_or, slice_get_within}
 use Rattle.k_optab.specs.declared.region.Region.{Region}
-use Rattle.k_dict.specs.Dictionary.{Firsts, ended, again, anew, IsDictionaryOf}
-use Rattle.k_dict.specs.Entries.{AreInterned, AreRuns, NameBelow, label_of, laid, no_tree, tree_at, tree_of, trees_of}
-use Rattle.k_dict.specs.Gathering.{number_of}
-use Rattle.k_dict.specs.Rules.{HasBoundedNumbers, HaveBoundedNumbers, HaveFewInstances, HaveFewLevels, NameRegions, child_paths, child_works, entry_of, no_entry}
-use Rattle.k_dict.specs.Tallies.{total}
-use Rattle.k_dict.specs.Trees.{SameShape, Tree, alone, height, post_order, size}
-use Rattle.k_dict.specs.declared.entry.Entry.{Entry}
-use Rattle.k_dict.specs.declared.entry.Run.{Run}
-use Rattle.k_dict.proofs.Again.{covered, from_list}
-use Rattle.k_dict.proofs.Coding.{AreProper, code, code_alike, entry_at, number_below, number_in}
-use Rattle.k_dict.proofs.EntryTrees.{below_bound, length-trees, tree_is, tree_named}
-use Rattle.k_dict.proofs.Forests.{Alike-sym, SameShape-further, SameShape-sym}
-use Rattle.k_dict.proofs.Unique.{first_case, none_more, root_is}
-use Rattle.k_dict.proofs.Walking.{EachWith-at, EachWith-back, Firsts-further, tree_there}
+use Rattle.k_dict_entries.specs.Dictionary.{Firsts, ended, again, anew, IsDictionaryOf}
+use Rattle.k_dict_entries.specs.Entries.{AreInterned, AreRuns, NameBelow, label_of, laid, no_tree, tree_at, tree_of, trees_of}
+use Rattle.k_dict_entries.specs.Gathering.{number_of}
+use Rattle.k_dict_entries.specs.Rules.{HasBoundedNumbers, HaveBoundedNumbers, HaveFewInstances, HaveFewLevels, NameRegions, child_paths, child_works, entry_of, no_entry}
+use Rattle.k_dict_entries.specs.Tallies.{total}
+use Rattle.k_dict_entries.specs.Trees.{SameShape, Tree, alone, height, post_order, size}
+use Rattle.k_dict_entries.specs.declared.entry.Entry.{Entry}
+use Rattle.k_dict_entries.specs.declared.entry.Run.{Run}
+use Rattle.k_dict_entries.proofs.Again.{covered, from_list}
+use Rattle.k_dict_entries.proofs.Coding.{AreProper, code, code_alike, entry_at, number_below, number_in}
+use Rattle.k_dict_entries.proofs.EntryTrees.{below_bound, length-trees, tree_is, tree_named}
+use Rattle.k_dict_entries.proofs.Forests.{Alike-sym, SameShape-further, SameShape-sym}
+use Rattle.k_dict_entries.proofs.Unique.{first_case, none_more, root_is}
+use Rattle.k_dict_entries.proofs.Walking.{EachWith-at, EachWith-back, Firsts-further, tree_there}
 use Rattle.k_dict_saved.specs.Formats.{AreNamed, HaveRuns, IsNamedBy, IsPostOrder, Names}
 use Rattle.k_dict_saved.specs.Lines.{EndsInMain}
 use Rattle.k_dict_saved.specs.Migration.{AreOfShapes, HaveFewChildren}

@@ -4,25 +4,25 @@ use Rattle.std.proofs.lemmas.List.{get_or_append_left, get_or_at}
 use Rattle.std.proofs.lemmas.List.Sums.{sum_by-append, sum_by-cons}
 use Rattle.std.proofs.lemmas.Bool.{cases_lt, cases_order}
 use Rattle.std.proofs.lemmas.Option.{none-some}
-use Rattle.k_dict.specs.Trees.{Forest, Label, Tree, alone}
-use Rattle.k_dict.specs.Entries.{AreDistinct, AreInterned, NameBelow, all_runs, copies, label_of, laid, no_tree, tree_at, tree_of, trees_of}
-use Rattle.k_dict.specs.Gathering.{number_of, with_entry}
-use Rattle.k_dict.specs.Interning.{CanIntern, HasNumber, Interns}
-use Rattle.k_dict.specs.Tallies.{count_of, counted, total}
-use Rattle.k_dict.specs.declared.dict.DictFault.{DictFault}
-use Rattle.k_dict.specs.declared.dict.DictFault.TheVariants.{Full}
-use Rattle.k_dict.specs.declared.dict.Which.{Which}
-use Rattle.k_dict.specs.declared.dict.Which.TheVariants.{Entries, AllRuns}
-use Rattle.k_dict.specs.declared.entry.Entry.{Entry}
-use Rattle.k_dict.specs.declared.entry.Run.{Run}
-use Rattle.k_dict.proofs.Coding.{Knows, Knows-kept, code, code-copies, code-kept, entry_at, number_in, times-counted}
-use Rattle.k_dict.proofs.Counting.{counted-at, counted-before, counted-behind}
-use Rattle.k_dict.proofs.EntryTrees.{length-trees, trees-push}
-use Rattle.k_dict.proofs.Numbers.{IsIn, number_kept}
-use Rattle.k_dict.proofs.Places.{place_behind}
-use Rattle.k_dict.proofs.Pushes.{all_runs-push}
-use Rattle.k_dict.proofs.Sound.{count_of-total, number_is, total-counted}
-use Rattle.k_dict.proofs.Walking.{AreEntriesOf, can_add, closing, has_added, none_seen}
+use Rattle.k_dict_entries.specs.Trees.{Forest, Label, Tree, alone}
+use Rattle.k_dict_entries.specs.Entries.{AreDistinct, AreInterned, NameBelow, all_runs, copies, label_of, laid, no_tree, tree_at, tree_of, trees_of}
+use Rattle.k_dict_entries.specs.Gathering.{number_of, with_entry}
+use Rattle.k_dict_entries.specs.Interning.{CanIntern, HasNumber, Interns}
+use Rattle.k_dict_entries.specs.Tallies.{count_of, counted, total}
+use Rattle.k_dict_entries.specs.declared.dict.DictFault.{DictFault}
+use Rattle.k_dict_entries.specs.declared.dict.DictFault.TheVariants.{Full}
+use Rattle.k_dict_entries.specs.declared.dict.Which.{Which}
+use Rattle.k_dict_entries.specs.declared.dict.Which.TheVariants.{Entries, AllRuns}
+use Rattle.k_dict_entries.specs.declared.entry.Entry.{Entry}
+use Rattle.k_dict_entries.specs.declared.entry.Run.{Run}
+use Rattle.k_dict_entries.proofs.Coding.{Knows, Knows-kept, code, code-copies, code-kept, entry_at, number_in, times-counted}
+use Rattle.k_dict_entries.proofs.Counting.{counted-at, counted-before, counted-behind}
+use Rattle.k_dict_entries.proofs.EntryTrees.{length-trees, trees-push}
+use Rattle.k_dict_entries.proofs.Numbers.{IsIn, number_kept}
+use Rattle.k_dict_entries.proofs.Places.{place_behind}
+use Rattle.k_dict_entries.proofs.Pushes.{all_runs-push}
+use Rattle.k_dict_entries.proofs.Sound.{count_of-total, number_is, total-counted}
+use Rattle.k_dict_entries.proofs.Walking.{AreEntriesOf, can_add, closing, has_added, none_seen}
 use Rattle.k_dict_saved.specs.Formats.{HaveRuns}
 use Rattle.k_dict_saved.specs.Migration.{AreOfShapes, renumbered, renumbered_entry}
 use Rattle.k_dict_saved.specs.declared.format.Format.TheVariants.{One}

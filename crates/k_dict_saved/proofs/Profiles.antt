@@ -1,11 +1,11 @@
 -- Profiles and their files: what is read of a file is its profile, and what is made of one of format 1.
 use Rattle.std.proofs.Common.{◌≡◌, ℕ, ◌+◌, inl, inr, length, Result, Ok, Err, refl, sym, ap, ◌∙◌, subst, arith}
-use Rattle.k_dict.specs.Dictionary.{IsDictionaryOf}
-use Rattle.k_dict.specs.Entries.{NameEarlier, expansion, tree_at}
-use Rattle.k_dict.specs.Laws.{AreAlike}
-use Rattle.k_dict.proofs.Forests.{SameShape-sym}
-use Rattle.k_dict.proofs.Pushes.{interned}
-use Rattle.k_dict.proofs.Unique.{one_dictionary, root_is}
+use Rattle.k_dict_entries.specs.Dictionary.{IsDictionaryOf}
+use Rattle.k_dict_entries.specs.Entries.{NameEarlier, expansion, tree_at}
+use Rattle.k_dict_entries.specs.Laws.{AreAlike}
+use Rattle.k_dict_entries.proofs.Forests.{SameShape-sym}
+use Rattle.k_dict_entries.proofs.Pushes.{interned}
+use Rattle.k_dict_entries.proofs.Unique.{one_dictionary, root_is}
 use Rattle.k_dict_saved.specs.FileText.{file_text}
 use Rattle.k_dict_saved.specs.Files.{IsFile}
 use Rattle.k_dict_saved.specs.Formats.{HaveRuns, IsAccepted}

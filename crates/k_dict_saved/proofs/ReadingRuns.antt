@@ -3,7 +3,7 @@ use Rattle.std.proofs.Common.{◌≡◌, ℕ, zero, suc, ◌-◌, ◌+◌, ◌�
 use Rattle.std.specs.Prelude.{codes}
 use Rattle.k_scan.specs.Pieces.{word_at}
 use Rattle.k_dict_saved.specs.Syntax.{◌>>=◌, ended, run_at, runs_at}
-use Rattle.k_dict.specs.declared.entry.Run.{Run}
+use Rattle.k_dict_entries.specs.declared.entry.Run.{Run}
 
 -- what was read before, and what is still read
 abbrev pub with_front : List Run → Option (List Run × List ℕ) → Option (List Run × List ℕ)

@@ -14,7 +14,7 @@ use Rattle.k_dict_saved.specs.declared.format.Format.{Format}
 use Rattle.k_dict_saved.specs.declared.reading.stop.Stop.{Stop}
 use Rattle.k_dict_saved.specs.declared.reading.stop.Stop.TheVariants as stops
 use Rattle.k_dict_saved.proofs.Leading.{leads_on, wrong_behind, wrong_here}
-use Rattle.k_dict.proofs.Places.{place_of_push}
+use Rattle.k_dict_entries.proofs.Places.{place_of_push}
 use Rattle.k_dict_saved.proofs.Spelled.{region_again}
 
 -- a text for a list and one more

@@ -3,16 +3,16 @@ use Rattle.std.proofs.Common.{◌≡◌, ℕ, zero, suc, ◌+◌, ◌-◌, ◌*�
 use Rattle.std.proofs.Math.Nat.{suc-mul}
 use Rattle.std.proofs.lemmas.Bool.{and_parts, and_from, leb-true, ltb-true, le-leb, lt-ltb}
 use Rattle.std.proofs.lemmas.List.{get_or-map}
-use Rattle.k_dict.specs.Entries.{NameBelow, copies, laid, no_tree, tree_of, trees_of}
+use Rattle.k_dict_entries.specs.Entries.{NameBelow, copies, laid, no_tree, tree_of, trees_of}
 use Rattle.k_dict_saved.specs.Extents.{capped, child_instances, child_levels, extent_at, extent_of, extent_over, extents_of, is_within, no_extent, no_sums, sums_from, with_run}
 use Rattle.k_dict_saved.specs.Reading.{IsWithinRules}
-use Rattle.k_dict.specs.Rules.{HavePathsUpTo, child_paths, child_works, entry_of}
-use Rattle.k_dict.specs.Trees.{Forest, Tree, alone, height, size}
-use Rattle.k_dict.specs.declared.entry.Entry.{Entry}
-use Rattle.k_dict.specs.declared.entry.Run.{Run}
+use Rattle.k_dict_entries.specs.Rules.{HavePathsUpTo, child_paths, child_works, entry_of}
+use Rattle.k_dict_entries.specs.Trees.{Forest, Tree, alone, height, size}
+use Rattle.k_dict_entries.specs.declared.entry.Entry.{Entry}
+use Rattle.k_dict_entries.specs.declared.entry.Run.{Run}
 use Rattle.k_dict_saved.specs.declared.reading.extents.Extent.{Extent}
 use Rattle.k_dict_saved.specs.declared.reading.extents.Sums.{Sums}
-use Rattle.k_dict.proofs.EntryTrees.{length-trees}
+use Rattle.k_dict_entries.proofs.EntryTrees.{length-trees}
 
 -- ---- the extent of children
 

@@ -2,13 +2,13 @@
 use Rattle.std.proofs.Common.{◌≡◌, ℕ, zero, suc, ◌+◌, ◌*◌, ◌<◌, ◌≤◌, max, ◌⊎◌, inl, inr, List, [], ◌∷◌, ◌++◌, get_or, Some, slice_get, refl, sym, ap, ◌∙◌, subst, arith}
 use Rattle.std.proofs.Math.Nat.{suc-mul}
 use Rattle.std.proofs.lemmas.Option.{none-some, same_Some}
-use Rattle.k_dict.specs.Trees.{Alike, Forest, Label, SameShape, Tree, alone, bare, both, exchanged, further, grown, height, neither, post_order, size}
-use Rattle.k_dict.specs.Entries.{NameBelow, copies, label_of, laid, no_tree, tree_at, trees_of}
-use Rattle.k_dict.specs.Rules.{HavePathsUpTo, child_paths, child_works, entry_of}
-use Rattle.k_dict.specs.declared.entry.Entry.{Entry}
-use Rattle.k_dict.specs.declared.entry.Run.{Run}
-use Rattle.k_dict.proofs.Forests.{Alike-height, Alike-size, SameShape-further, SameShape-refl}
-use Rattle.k_dict.proofs.Places.{place_kept}
+use Rattle.k_dict_entries.specs.Trees.{Alike, Forest, Label, SameShape, Tree, alone, bare, both, exchanged, further, grown, height, neither, post_order, size}
+use Rattle.k_dict_entries.specs.Entries.{NameBelow, copies, label_of, laid, no_tree, tree_at, trees_of}
+use Rattle.k_dict_entries.specs.Rules.{HavePathsUpTo, child_paths, child_works, entry_of}
+use Rattle.k_dict_entries.specs.declared.entry.Entry.{Entry}
+use Rattle.k_dict_entries.specs.declared.entry.Run.{Run}
+use Rattle.k_dict_entries.proofs.Forests.{Alike-height, Alike-size, SameShape-further, SameShape-refl}
+use Rattle.k_dict_entries.proofs.Places.{place_kept}
 use Rattle.k_dict_saved.specs.Formats.{Names}
 
 -- ---- levels and instances

@@ -15,13 +15,13 @@ use Rattle.k_scan.specs.Numbers.{NoDigit, is_digit, number_at}
 use Rattle.k_scan.specs.Pieces.{word_at}
 use Rattle.k_scan.proofs.Digits.{number_again, number_takes}
 use Rattle.k_scan.proofs.Front.{name_again, name_takes, word_again, word_takes}
-use Rattle.k_dict.specs.Entries.{NameBelow}
+use Rattle.k_dict_entries.specs.Entries.{NameBelow}
 use Rattle.k_dict_saved.specs.Lines.{IsRegion}
 use Rattle.k_text.specs.Texts.{kind_text, named_line, run_text}
 use Rattle.k_dict_saved.specs.FileText.{entry_line, region_line}
 use Rattle.k_dict_saved.specs.Syntax.{◌>>=◌, ended, entry_at, first_kind, found_if, kind_at, named_at, number_then, numbers_at, part_at, place_at, region_at, region_of, run_at, runs_at}
-use Rattle.k_dict.specs.declared.entry.Entry.{Entry}
-use Rattle.k_dict.specs.declared.entry.Run.{Run}
+use Rattle.k_dict_entries.specs.declared.entry.Entry.{Entry}
+use Rattle.k_dict_entries.specs.declared.entry.Run.{Run}
 
 -- the value of a step that found something
 pub bind_some : {A B : Type 0} (o : Option A) (f : A → Option B) (y : B) → (o >>= f) ≡ Some y → (x : A) × (o ≡ Some x) × (f x ≡ Some y)

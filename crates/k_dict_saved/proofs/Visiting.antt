@@ -5,16 +5,16 @@ use Rattle.std.proofs.Math.Seq.{take-length}
 use Rattle.std.proofs.lemmas.Bool.{cases_lt, false≢true}
 use Rattle.std.proofs.lemmas.List.{length-take-le, take-take, take_at}
 use Rattle.std.proofs.lemmas.Option.{none-some, same_Some, slice_get-get_or, slice_get_within}
-use Rattle.k_dict.specs.Dictionary.{Firsts, ended, again, anew}
-use Rattle.k_dict.specs.Trees.{Forest, Tree, alone, post_order}
-use Rattle.k_dict.specs.Entries.{AreApart, NameBelow, copies, laid, no_tree, tree_at, tree_of, trees_of}
-use Rattle.k_dict.specs.declared.entry.Entry.{Entry}
-use Rattle.k_dict.specs.declared.entry.Run.{Run}
-use Rattle.k_dict.proofs.Coding.{entry_at}
-use Rattle.k_dict.proofs.EntryTrees.{length-trees, tree_named}
-use Rattle.k_dict.proofs.Places.{place_behind, place_in_take, place_kept}
-use Rattle.k_dict.proofs.Unique.{Firsts-unique, first_case, none_more}
-use Rattle.k_dict.proofs.Walking.{Firsts-further, tree_there}
+use Rattle.k_dict_entries.specs.Dictionary.{Firsts, ended, again, anew}
+use Rattle.k_dict_entries.specs.Trees.{Forest, Tree, alone, post_order}
+use Rattle.k_dict_entries.specs.Entries.{AreApart, NameBelow, copies, laid, no_tree, tree_at, tree_of, trees_of}
+use Rattle.k_dict_entries.specs.declared.entry.Entry.{Entry}
+use Rattle.k_dict_entries.specs.declared.entry.Run.{Run}
+use Rattle.k_dict_entries.proofs.Coding.{entry_at}
+use Rattle.k_dict_entries.proofs.EntryTrees.{length-trees, tree_named}
+use Rattle.k_dict_entries.proofs.Places.{place_behind, place_in_take, place_kept}
+use Rattle.k_dict_entries.proofs.Unique.{Firsts-unique, first_case, none_more}
+use Rattle.k_dict_entries.proofs.Walking.{Firsts-further, tree_there}
 use Rattle.k_dict_saved.specs.Formats.{HaveRuns, IsPostOrder}
 use Rattle.k_dict_saved.specs.Order.{LeadsTo, Visits}
 use Rattle.k_dict_saved.specs.declared.format.Format.TheVariants.{One}

@@ -14,7 +14,7 @@ use Rattle.k_dict_saved.specs.Files.{IsFile}
 use Rattle.k_dict_saved.specs.Reading.{AllEntries, AllRegions, Ends, Finishes, FoundCount, HasHead, ReadsLines, head_lines, ReadsAll, first_at}
 use Rattle.k_text.specs.Texts.{named_line}
 use Rattle.k_dict_saved.specs.FileText.{entry_line, file_text, region_line}
-use Rattle.k_dict.specs.declared.entry.Entry.{Entry}
+use Rattle.k_dict_entries.specs.declared.entry.Entry.{Entry}
 use Rattle.k_dict_saved.specs.declared.reading.stop.Halt.{Halt}
 use Rattle.k_dict_saved.specs.declared.reading.stop.Halt.TheVariants as halts
 use Rattle.k_dict_saved.specs.declared.file.File.{File}

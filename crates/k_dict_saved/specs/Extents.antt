@@ -1,11 +1,11 @@
 -- For contracts between crates: nobody has to believe it.
 -- How large the trees of entries are.
 use Rattle.std.specs.Prelude.{ℕ, ◌+◌, ◌-◌, ◌*◌, max, min, Bool, ◌&&◌, nat_le, nat_lt, List, [], ◌∷◌, map, slice_index_or}
-use Rattle.k_dict.specs.Entries.{trees_of}
-use Rattle.k_dict.specs.Trees.{Tree, alone, height, size}
-use Rattle.k_dict.specs.declared.entry.Entry.{Entry}
-use Rattle.k_dict.specs.declared.entry.Run.{Run}
-use Rattle.k_dict.specs.Rules.{entry_of}
+use Rattle.k_dict_entries.specs.Entries.{trees_of}
+use Rattle.k_dict_entries.specs.Trees.{Tree, alone, height, size}
+use Rattle.k_dict_entries.specs.declared.entry.Entry.{Entry}
+use Rattle.k_dict_entries.specs.declared.entry.Run.{Run}
+use Rattle.k_dict_entries.specs.Rules.{entry_of}
 use Rattle.k_dict_saved.specs.declared.reading.extents.Extent.{Extent}
 use Rattle.k_dict_saved.specs.declared.reading.extents.Sums.{Sums}
 

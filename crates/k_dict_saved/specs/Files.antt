@@ -3,9 +3,9 @@
 use Rattle.std.specs.Prelude.{ℕ, ◌≤◌, ◌≡◌, List, [], ◌∷◌, length, Option, Some, None, slice_get, FitsSigned, Result, Ok, Err}
 use Rattle.std.specs.Int.{w32}
 use Rattle.k_optab.specs.declared.region.Region.{Region}
-use Rattle.k_dict.specs.Entries.{AreDistinct}
-use Rattle.k_dict.specs.Rules.{HaveBoundedNumbers, HaveFewInstances, HaveFewLevels, NameRegions}
-use Rattle.k_dict.specs.declared.entry.Entry.{Entry}
+use Rattle.k_dict_entries.specs.Entries.{AreDistinct}
+use Rattle.k_dict_entries.specs.Rules.{HaveBoundedNumbers, HaveFewInstances, HaveFewLevels, NameRegions}
+use Rattle.k_dict_entries.specs.declared.entry.Entry.{Entry}
 use Rattle.k_dict_saved.specs.FileText.{file_text}
 use Rattle.k_dict_saved.specs.Formats.{HaveRuns, IsAccepted, NoneIsLeft}
 use Rattle.k_dict_saved.specs.Lines.{EndsInMain, IsClosed, IsFirstWrong, IsRegion, MayStand}

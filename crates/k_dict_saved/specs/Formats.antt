@@ -1,11 +1,11 @@
 -- Believed with the theorem on the top call.
 -- The formats of a saved file, and where their rules differ.
 use Rattle.std.specs.Prelude.{ℕ, ◌+◌, ◌<◌, ◌≤◌, ◌≡◌, ◌≢◌, ◌⊎◌, List, [], ◌∷◌, length, slice_get, Some, codes}
-use Rattle.k_dict.specs.Dictionary.{Firsts}
-use Rattle.k_dict.specs.Entries.{AreRuns, NameBelow, tree_at, trees_of}
-use Rattle.k_dict.specs.Trees.{alone, post_order}
-use Rattle.k_dict.specs.declared.entry.Entry.{Entry}
-use Rattle.k_dict.specs.declared.entry.Run.{Run}
+use Rattle.k_dict_entries.specs.Dictionary.{Firsts}
+use Rattle.k_dict_entries.specs.Entries.{AreRuns, NameBelow, tree_at, trees_of}
+use Rattle.k_dict_entries.specs.Trees.{alone, post_order}
+use Rattle.k_dict_entries.specs.declared.entry.Entry.{Entry}
+use Rattle.k_dict_entries.specs.declared.entry.Run.{Run}
 use Rattle.k_dict_saved.specs.declared.format.Accepts.{Accepts}
 use Rattle.k_dict_saved.specs.declared.format.Accepts.TheVariants.{OneAlone, Both}
 use Rattle.k_dict_saved.specs.declared.format.Format.{Format}

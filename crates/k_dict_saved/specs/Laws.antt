@@ -1,8 +1,8 @@
 -- Believed with a public law.
 -- What holds of the files of saved profiles: the statements of the laws.
 use Rattle.std.specs.Prelude.{ℕ, ◌+◌, ◌≡◌, length, Result, Ok, Err}
-use Rattle.k_dict.specs.Entries.{expansion}
-use Rattle.k_dict.specs.Laws.{AreAlike}
+use Rattle.k_dict_entries.specs.Entries.{expansion}
+use Rattle.k_dict_entries.specs.Laws.{AreAlike}
 use Rattle.k_dict_saved.specs.declared.fault.SavedFault.{SavedFault}
 use Rattle.k_dict_saved.specs.declared.fault.SavedFault.TheVariants.{NotSaved, Memory}
 use Rattle.k_dict_saved.specs.Profile.{IsMigrated, IsOld, IsSaved, Reads, ReadsOld}

@@ -7,13 +7,13 @@ use Rattle.k_optab.specs.declared.region.Region.{Region}
 use Rattle.k_optab.specs.declared.region.RegionKind.{RegionKind}
 use Rattle.k_optab.specs.declared.region.RegionKind.TheVariants.{Func, Loop, Body}
 use Rattle.k_scan.specs.Names.{is_name}
-use Rattle.k_dict.specs.Entries.{all_runs, tree_of, trees_of}
-use Rattle.k_dict.specs.Rules.{HasBoundedNumbers, entry_of}
+use Rattle.k_dict_entries.specs.Entries.{all_runs, tree_of, trees_of}
+use Rattle.k_dict_entries.specs.Rules.{HasBoundedNumbers, entry_of}
 use Rattle.k_dict_saved.specs.Formats.{AreRunsOf, IsAccepted, NoneIsLeft, first_line}
 use Rattle.k_text.specs.Texts.{named_line}
 use Rattle.k_dict_saved.specs.FileText.{entry_line, region_line}
-use Rattle.k_dict.specs.Trees.{alone, height, size}
-use Rattle.k_dict.specs.declared.entry.Entry.{Entry}
+use Rattle.k_dict_entries.specs.Trees.{alone, height, size}
+use Rattle.k_dict_entries.specs.declared.entry.Entry.{Entry}
 use Rattle.k_dict_saved.specs.declared.format.Accepts.{Accepts}
 use Rattle.k_dict_saved.specs.declared.format.Format.{Format}
 

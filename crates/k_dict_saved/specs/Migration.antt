@@ -2,12 +2,12 @@
 -- The entries of format 1 as those of a dictionary.
 use Rattle.std.specs.Prelude.{ℕ, ◌^◌, ◌<◌, ◌≡◌, List, [], ◌∷◌, Some, slice_get, slice_index_or}
 use Rattle.k_optab.specs.Tree.{EachWith}
-use Rattle.k_dict.specs.Dictionary.{Firsts}
-use Rattle.k_dict.specs.Entries.{NameEarlier, trees_of}
-use Rattle.k_dict.specs.Tallies.{counted, total}
-use Rattle.k_dict.specs.Trees.{SameShape, Tree}
-use Rattle.k_dict.specs.declared.entry.Entry.{Entry}
-use Rattle.k_dict.specs.declared.entry.Run.{Run}
+use Rattle.k_dict_entries.specs.Dictionary.{Firsts}
+use Rattle.k_dict_entries.specs.Entries.{NameEarlier, trees_of}
+use Rattle.k_dict_entries.specs.Tallies.{counted, total}
+use Rattle.k_dict_entries.specs.Trees.{SameShape, Tree}
+use Rattle.k_dict_entries.specs.declared.entry.Entry.{Entry}
+use Rattle.k_dict_entries.specs.declared.entry.Run.{Run}
 
 -- runs so far, with those of these children, where each entry has that number
 abbrev pub renumbered : List ℕ → List Run → List Run → List Run

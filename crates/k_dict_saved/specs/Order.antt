@@ -1,10 +1,10 @@
 -- For contracts between crates: nobody has to believe it.
 -- Visiting the instances of an entry in post-order.
 use Rattle.std.specs.Prelude.{ℕ, ◌+◌, ◌≤◌, ◌≡◌, max, List, length, take, Option, Some, None}
-use Rattle.k_dict.specs.Dictionary.{Firsts}
-use Rattle.k_dict.specs.Entries.{tree_at, trees_of}
-use Rattle.k_dict.specs.Trees.{Tree, alone, post_order}
-use Rattle.k_dict.specs.declared.entry.Entry.{Entry}
+use Rattle.k_dict_entries.specs.Dictionary.{Firsts}
+use Rattle.k_dict_entries.specs.Entries.{tree_at, trees_of}
+use Rattle.k_dict_entries.specs.Trees.{Tree, alone, post_order}
+use Rattle.k_dict_entries.specs.declared.entry.Entry.{Entry}
 
 -- where the trees of so many entries have occurred, these trees let those of so many occur, of those that are equal the first
 abbrev pub LeadsTo : List Tree → ℕ → List Tree → ℕ → Type 0

@@ -2,9 +2,9 @@
 -- The rules of a saved profile.
 use Rattle.std.specs.Prelude.{ℕ, ◌+◌, ◌≤◌, ◌≡◌, ◌⊎◌, List, length, FitsSigned, Result, Ok, Err}
 use Rattle.std.specs.Int.{w32}
-use Rattle.k_dict.specs.Dictionary.{IsDictionaryOf}
-use Rattle.k_dict.specs.Entries.{tree_at}
-use Rattle.k_dict.specs.Rules.{AreProfile, NameRegions}
+use Rattle.k_dict_entries.specs.Dictionary.{IsDictionaryOf}
+use Rattle.k_dict_entries.specs.Entries.{tree_at}
+use Rattle.k_dict_entries.specs.Rules.{AreProfile, NameRegions}
 use Rattle.k_dict_saved.specs.Files.{AreRegions, IsFile}
 use Rattle.k_dict_saved.specs.Formats.{AreNamed}
 use Rattle.k_dict_saved.specs.Lines.{EndsInMain, IsFirstWrong}

@@ -5,7 +5,7 @@ use Rattle.std.specs.Int.{w32}
 use Rattle.std.specs.Fmt.{decimal, signed_decimal}
 use Rattle.std.specs.List.{flat_map}
 use Rattle.k_optab.specs.declared.region.Region.{Region}
-use Rattle.k_dict.specs.Entries.{AreDistinct, NameBelow, all_runs, tree_of, trees_of}
+use Rattle.k_dict_entries.specs.Entries.{AreDistinct, NameBelow, all_runs, tree_of, trees_of}
 use Rattle.k_dict_saved.specs.Extents.{extent_of}
 use Rattle.k_dict_saved.specs.Formats.{HaveRuns, IsAccepted, NoneIsLeft, first_line}
 use Rattle.k_scan.specs.Numbers.{signed_at}
@@ -15,10 +15,10 @@ use Rattle.k_dict_saved.specs.Files.{IsFile}
 use Rattle.k_text.specs.Texts.{named_line}
 use Rattle.k_dict_saved.specs.FileText.{entry_line, file_text, region_line}
 use Rattle.k_dict_saved.specs.Syntax.{◌>>=◌}
-use Rattle.k_dict.specs.Rules.{HasBoundedNumbers, HaveBoundedNumbers, HaveFewInstances, HaveFewLevels, NameRegions}
-use Rattle.k_dict.specs.Trees.{alone, height, size}
-use Rattle.k_dict.specs.declared.entry.Entry.{Entry}
-use Rattle.k_dict.specs.declared.entry.Run.{Run}
+use Rattle.k_dict_entries.specs.Rules.{HasBoundedNumbers, HaveBoundedNumbers, HaveFewInstances, HaveFewLevels, NameRegions}
+use Rattle.k_dict_entries.specs.Trees.{alone, height, size}
+use Rattle.k_dict_entries.specs.declared.entry.Entry.{Entry}
+use Rattle.k_dict_entries.specs.declared.entry.Run.{Run}
 use Rattle.k_dict_saved.specs.declared.reading.extents.Extent.{Extent}
 use Rattle.k_dict_saved.specs.declared.reading.stop.Halt.{Halt}
 use Rattle.k_dict_saved.specs.declared.reading.stop.Halt.TheVariants as halts

@@ -8,8 +8,8 @@ use Rattle.k_optab.specs.declared.region.RegionKind.TheVariants.{Func, Loop, Bod
 use Rattle.k_scan.specs.Names.{name_at}
 use Rattle.k_scan.specs.Numbers.{number_at}
 use Rattle.k_scan.specs.Pieces.{word_at}
-use Rattle.k_dict.specs.declared.entry.Entry.{Entry}
-use Rattle.k_dict.specs.declared.entry.Run.{Run}
+use Rattle.k_dict_entries.specs.declared.entry.Entry.{Entry}
+use Rattle.k_dict_entries.specs.declared.entry.Run.{Run}
 use Rattle.k_dict_saved.specs.declared.reading.stop.Stop.{Stop}
 use Rattle.k_dict_saved.specs.declared.reading.stop.Stop.TheVariants as stops
 

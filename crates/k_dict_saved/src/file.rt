@@ -1,7 +1,7 @@
 //! What the bytes of a file tell, in either format.
 
 use crate::format::Format;
-use k_dict::EntryTable;
+use k_dict_entries::EntryTable;
 use k_num::Seq;
 use k_optab::Region;
 

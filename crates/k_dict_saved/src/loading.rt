@@ -1,6 +1,6 @@
 //! Profiles from the bytes of a file.
 ghost use Rattle.std.specs.Prelude.{◌≡◌, IfOk};
-ghost use Rattle.k_dict.specs.Entries.{NameEarlier};
+ghost use Rattle.k_dict_entries.specs.Entries.{NameEarlier};
 ghost use Rattle.k_dict_saved.specs.Files.{IsFile};
 ghost use Rattle.k_dict_saved.specs.Profile.{IsSaved, Reads, ReadsOld, Spells};
 ghost use Rattle.k_dict_saved.specs.SavedText.{file_of_old, file_of_saved};
@@ -10,7 +10,7 @@ ghost use Rattle.k_dict_saved.specs.declared.format.Format.TheVariants.{One, Two
 use crate::migration::migrate;
 use crate::saved::{Old, Saved};
 use crate::{Accepts, File, Format, SavedFault, read_file};
-use k_dict::Dict;
+use k_dict_entries::Dict;
 use k_num::NoMemory;
 use std::alloc::Global;
 

@@ -1,7 +1,7 @@
 //! A profile of format 1 as one of format 2. Entries that differ in the order of their children alone become one.
 ghost use Rattle.std.specs.Prelude.{◌≡◌, ◌^◌, ◌<◌, [], length, slice_index_or, IfOk};
-ghost use Rattle.k_dict.specs.Entries.{AreDistinct, AreInterned, NameBelow, trees_of};
-ghost use Rattle.k_dict.specs.Tallies.{total};
+ghost use Rattle.k_dict_entries.specs.Entries.{AreDistinct, AreInterned, NameBelow, trees_of};
+ghost use Rattle.k_dict_entries.specs.Tallies.{total};
 ghost use Rattle.k_dict_saved.specs.Formats.{HaveRuns};
 ghost use Rattle.k_dict_saved.specs.Migration.{AreOfShapes, HaveFewChildren};
 ghost use Rattle.k_dict_saved.specs.Migration as spec;
@@ -9,7 +9,7 @@ ghost use Rattle.k_dict_saved.specs.Profile.{IsMigrated, IsOld, IsSaved};
 ghost use Rattle.k_dict_saved.specs.declared.format.Format.TheVariants.{One};
 
 use crate::saved::{Old, Saved};
-use k_dict::{Dict, DictFault, Entry, Run, Tally};
+use k_dict_entries::{Dict, DictFault, Entry, Run, Tally};
 use k_num::{NoMemory, Seq, Text};
 use k_optab::Region;
 use std::alloc::Global;

@@ -1,6 +1,6 @@
 //! The file of a saved profile, read line by line. A file is refused at its first wrong line.
 ghost use Rattle.std.specs.Prelude.{◌≡◌, ◌≤◌, IsTrue, ◌↔◌, IfOk, option_map, codes};
-ghost use Rattle.k_dict.specs.Entries.{AreDistinct};
+ghost use Rattle.k_dict_entries.specs.Entries.{AreDistinct};
 ghost use Rattle.k_dict_saved.specs.Files.{ReadsFile};
 ghost use Rattle.k_dict_saved.specs.Formats.{HaveRuns, NoneIsLeft};
 ghost use Rattle.k_dict_saved.specs.Lines.{EndsInMain};
@@ -24,7 +24,7 @@ pub use ending::{is_main, mark, mark_all};
 use entry_lines::entries;
 pub use entry_lines::{are_rising, next_entry};
 pub use extents::{Extent, Sums, sums_of};
-use k_dict::Entry;
+use k_dict_entries::Entry;
 use k_num::NoMemory;
 use k_optab::Region;
 use k_scan::{signed, word};

@@ -1,6 +1,6 @@
 //! Profiles as they are saved.
 
-use k_dict::{Dict, Entry};
+use k_dict_entries::{Dict, Entry};
 use k_num::Seq;
 use k_optab::Region;
 

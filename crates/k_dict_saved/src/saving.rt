@@ -4,7 +4,7 @@ ghost use Rattle.k_dict_saved.specs.FileText.{entries_text, entry_line, numbers_
 ghost use Rattle.k_dict_saved.specs.SavedText.{saved_text};
 
 use crate::saved::Saved;
-use k_dict::Entry;
+use k_dict_entries::Entry;
 use k_num::NoMemory;
 use k_optab::Region;
 use k_text::{push, push_head, push_line, push_named, push_number, push_region, push_runs};

@@ -7,7 +7,7 @@ use Rattle.k_ending.specs.declared.ending.End.TheVariants.{Returned}
 use Rattle.k_world.specs.Worlds.{World}
 use Rattle.k_code.specs.Runs.{start}
 use Rattle.k_code.specs.Steps.{Over}
-use Rattle.k_dict.specs.declared.entry.Entry.{Entry}
+use Rattle.k_dict_entries.specs.declared.entry.Entry.{Entry}
 use Rattle.k_hcpa_meaning.specs.Summing.{Summing, nothing_entered}
 use Rattle.k_hcpa_standing.specs.Standing.{IsSetting, Setting}
 use Rattle.k_hcpa_store.specs.Kept.{configuration_of}

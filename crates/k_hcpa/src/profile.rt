@@ -1,6 +1,6 @@
 //! What the run of flat code comes to.
 
-use k_dict::Dict;
+use k_dict_entries::Dict;
 use k_ending::End;
 use k_num::Seq;
 

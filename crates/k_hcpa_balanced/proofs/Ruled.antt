@@ -17,10 +17,10 @@ use Rattle.k_optab.proofs.Intervals.{work_at_most_total}
 use Rattle.k_optab.proofs.Opening.{balanced_leave_nothing_open}
 use Rattle.k_optab.proofs.Trees.{trees_have_bounded_paths}
 use Rattle.k_code.specs.declared.code.Code.{Code}
-use Rattle.k_dict.specs.Dictionary.{IsDictionary, refusal}
-use Rattle.k_dict.specs.Entries.{AreInterned}
-use Rattle.k_dict.specs.Trees.{Forest, alone, bare, grown, height, nodes_of, size}
-use Rattle.k_dict.specs.declared.entry.Entry.{Entry}
+use Rattle.k_dict_entries.specs.Dictionary.{IsDictionary, refusal}
+use Rattle.k_dict_entries.specs.Entries.{AreInterned}
+use Rattle.k_dict_entries.specs.Trees.{Forest, alone, bare, grown, height, nodes_of, size}
+use Rattle.k_dict_entries.specs.declared.entry.Entry.{Entry}
 use Rattle.k_report_profile.proofs.Children.{HaveBounds, tree_has_bounds}
 use Rattle.k_report_profile.proofs.Grown.{AreWithin}
 use Rattle.k_report_profile.proofs.Rules.{are_profile, name_regions}

@@ -15,9 +15,9 @@ use Rattle.k_code.specs.declared.code.Code.{Code}
 use Rattle.k_code.specs.declared.code.CodeFunc.{CodeFunc}
 use Rattle.k_code.specs.Runs.{EndsAfter}
 use Rattle.k_code.specs.Valid.{IsValid}
-use Rattle.k_dict.specs.Dictionary.{IsDictionary, refusal}
-use Rattle.k_dict.specs.Rules.{AreProfile, NameRegions}
-use Rattle.k_dict.specs.declared.entry.Entry.{Entry}
+use Rattle.k_dict_entries.specs.Dictionary.{IsDictionary, refusal}
+use Rattle.k_dict_entries.specs.Rules.{AreProfile, NameRegions}
+use Rattle.k_dict_entries.specs.declared.entry.Entry.{Entry}
 
 -- The events are one instance of main's region, with all others within it, each of which was left; all are of regions of the program. Each operation
 -- names earlier ones, all together take at most 2^44, and at most 2^59 instances are tracked.

@@ -9,11 +9,11 @@ use Rattle.k_optab.specs.Graph.{work}
 use Rattle.k_optab.specs.Instances.{tracked}
 use Rattle.k_optab.specs.Open.{Open, open_after}
 use Rattle.k_optab.specs.Tree.{EachWith, IsNodeOf}
-use Rattle.k_dict.specs.Dictionary.{Firsts}
-use Rattle.k_dict.specs.Entries.{AreApart, AreRuns, NameEarlier, laid, trees_of}
-use Rattle.k_dict.specs.Trees.{Forest, bare, alone, Tree, SameShape, Alike, nodes_of, post_order}
-use Rattle.k_dict.specs.declared.entry.Entry.{Entry}
-use Rattle.k_dict.specs.declared.entry.Run.{Run}
+use Rattle.k_dict_entries.specs.Dictionary.{Firsts}
+use Rattle.k_dict_entries.specs.Entries.{AreApart, AreRuns, NameEarlier, laid, trees_of}
+use Rattle.k_dict_entries.specs.Trees.{Forest, bare, alone, Tree, SameShape, Alike, nodes_of, post_order}
+use Rattle.k_dict_entries.specs.declared.entry.Entry.{Entry}
+use Rattle.k_dict_entries.specs.declared.entry.Run.{Run}
 use Rattle.k_hcpa_meaning.specs.Summing.{Opened, Summing, is_over}
 
 -- closed instances that were entered since this open one are those of a forest, whose outermost ones have this depth

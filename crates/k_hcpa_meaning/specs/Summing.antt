@@ -1,11 +1,11 @@
 -- Believed with a public law.
 -- The summaries that a machine keeps, and what each event does to them.
 use Rattle.std.specs.Prelude.{ℕ, zero, suc, ◌+◌, ◌-◌, nat_lt, nat_le, ◌||◌, Bool, if◌then◌else◌, List, [], ◌∷◌, ◌++◌, length, Option, Some, None}
-use Rattle.k_dict.specs.Entries.{all_runs}
-use Rattle.k_dict.specs.Gathering.{number_of, with_entry}
-use Rattle.k_dict.specs.Tallies.{counted}
-use Rattle.k_dict.specs.declared.entry.Entry.{Entry}
-use Rattle.k_dict.specs.declared.entry.Run.{Run}
+use Rattle.k_dict_entries.specs.Entries.{all_runs}
+use Rattle.k_dict_entries.specs.Gathering.{number_of, with_entry}
+use Rattle.k_dict_entries.specs.Tallies.{counted}
+use Rattle.k_dict_entries.specs.declared.entry.Entry.{Entry}
+use Rattle.k_dict_entries.specs.declared.entry.Run.{Run}
 
 -- an open tracked instance: its region, the work of all operations before it, and its closed children, as runs by rising entry
 pub record Opened : Type 0 where

@@ -2,13 +2,13 @@
 use Rattle.std.proofs.Common.{◌≡◌, ℕ, ◌-◌, get_or, set, length-set, drop, ◌+◌, ◌<◌, ◌≤◌, ◌^◌, List, [], ◌∷◌, ◌++◌, length, reverse, take, Option, Some, None, sym, ap, subst, ◌∙◌, arith}
 use Rattle.std.proofs.lemmas.List.{length-reverse, length-drop, take-append-drop, take-take, take_all, take_more, take_more_set, reverse-append}
 use Rattle.std.proofs.lemmas.Option.{slice_get_within}
-use Rattle.k_dict.specs.Entries.{AreRuns}
-use Rattle.k_dict.specs.Interning.{HasNumber, CanIntern}
-use Rattle.k_dict.specs.Tallies.{count_of, counted, total}
-use Rattle.k_dict.specs.declared.entry.Entry.{Entry}
-use Rattle.k_dict.specs.declared.entry.Run.{Run}
-use Rattle.k_dict.proofs.Counting.{AreRuns-counted}
-use Rattle.k_dict.proofs.Sound.{count_of-total}
+use Rattle.k_dict_entries.specs.Entries.{AreRuns}
+use Rattle.k_dict_entries.specs.Interning.{HasNumber, CanIntern}
+use Rattle.k_dict_entries.specs.Tallies.{count_of, counted, total}
+use Rattle.k_dict_entries.specs.declared.entry.Entry.{Entry}
+use Rattle.k_dict_entries.specs.declared.entry.Run.{Run}
+use Rattle.k_dict_entries.proofs.Counting.{AreRuns-counted}
+use Rattle.k_dict_entries.proofs.Sound.{count_of-total}
 use Rattle.k_hcpa_meaning.specs.Summing.{Opened, summary_of, with_child}
 use Rattle.k_hcpa_summaries.proofs.Steps.{none_kept}
 use Rattle.k_hcpa_summaries.specs.Closing.{closed_each, with_last, AreFew, AreOpen, GoesOn, IsBelow}

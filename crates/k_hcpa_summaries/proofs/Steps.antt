@@ -2,17 +2,17 @@
 use Rattle.std.proofs.Common.{◌≡◌, ℕ, ◌+◌, ◌<◌, List, [], ◌∷◌, ◌++◌, Bool, true, false, ◌||◌, length, Option, Some, None, Err, refl, sym, ap, subst, ◌∙◌, arith, length-append, nat_lt}
 use Rattle.std.specs.Prelude.{if◌then◌else◌}
 use Rattle.std.proofs.lemmas.Bool.{lt-ltb, le-ltb}
-use Rattle.k_dict.specs.Entries.{AreInterned, all_runs}
-use Rattle.k_dict.specs.Gathering.{number_of, with_entry}
-use Rattle.k_dict.specs.Interning.{HasNumber, Interns}
-use Rattle.k_dict.specs.declared.entry.Entry.{Entry}
-use Rattle.k_dict.specs.declared.dict.DictFault.{DictFault}
-use Rattle.k_dict.specs.declared.dict.DictFault.TheVariants.{Full, Memory}
-use Rattle.k_dict.specs.declared.dict.Which.{Which}
-use Rattle.k_dict.specs.declared.dict.Which.TheVariants.{Entries, AllRuns}
-use Rattle.k_dict.proofs.Numbers.{not_contained, with_absent}
-use Rattle.k_dict.proofs.Pushes.{all_runs-push}
-use Rattle.k_dict.proofs.Sound.{number_is}
+use Rattle.k_dict_entries.specs.Entries.{AreInterned, all_runs}
+use Rattle.k_dict_entries.specs.Gathering.{number_of, with_entry}
+use Rattle.k_dict_entries.specs.Interning.{HasNumber, Interns}
+use Rattle.k_dict_entries.specs.declared.entry.Entry.{Entry}
+use Rattle.k_dict_entries.specs.declared.dict.DictFault.{DictFault}
+use Rattle.k_dict_entries.specs.declared.dict.DictFault.TheVariants.{Full, Memory}
+use Rattle.k_dict_entries.specs.declared.dict.Which.{Which}
+use Rattle.k_dict_entries.specs.declared.dict.Which.TheVariants.{Entries, AllRuns}
+use Rattle.k_dict_entries.proofs.Numbers.{not_contained, with_absent}
+use Rattle.k_dict_entries.proofs.Pushes.{all_runs-push}
+use Rattle.k_dict_entries.proofs.Sound.{number_is}
 use Rattle.k_hcpa_meaning.specs.Summing.{Opened, is_over, within_limits, counted_if_kept, with_child, summary_of}
 use Rattle.k_hcpa_summaries.specs.Closing.{Part, closed_once, closed_each, with_last, pending, Closes}
 

@@ -1,10 +1,10 @@
 -- What holds of all summaries, behind levels that are closed.
 use Rattle.std.proofs.Common.{◌≡◌, ℕ, ◌+◌, ◌≤◌, List, [], ◌∷◌, Bool, true, false, length, Option, Some, None, sym, ap, subst, arith}
 use Rattle.std.specs.Prelude.{if◌then◌else◌}
-use Rattle.k_dict.specs.Gathering.{number_of, with_entry}
-use Rattle.k_dict.specs.declared.entry.Entry.{Entry}
-use Rattle.k_dict.proofs.Counting.{AreRuns-counted}
-use Rattle.k_dict.proofs.Sound.{longer, total-counted}
+use Rattle.k_dict_entries.specs.Gathering.{number_of, with_entry}
+use Rattle.k_dict_entries.specs.declared.entry.Entry.{Entry}
+use Rattle.k_dict_entries.proofs.Counting.{AreRuns-counted}
+use Rattle.k_dict_entries.proofs.Sound.{longer, total-counted}
 use Rattle.k_hcpa_meaning.specs.Summing.{Opened, Summing, is_over, within_limits, counted_if_kept, with_child, summary_of}
 use Rattle.k_hcpa_summaries.specs.Closing.{Part, closed_once, closed_each, AreOpen, AreOpenIn}
 use Rattle.k_hcpa_summaries.specs.Whole.{IsWhole, HaveRuns, AreNamed, weight}

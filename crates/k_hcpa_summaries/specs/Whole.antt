@@ -1,9 +1,9 @@
 -- For contracts between crates: nobody has to believe it.
 -- What holds of all summaries.
 use Rattle.std.specs.Prelude.{ℕ, ◌+◌, ◌≤◌, List, [], ◌∷◌, length, reverse, Option, Some, None}
-use Rattle.k_dict.specs.Entries.{AreRuns}
-use Rattle.k_dict.specs.Tallies.{total}
-use Rattle.k_dict.specs.declared.entry.Entry.{Entry}
+use Rattle.k_dict_entries.specs.Entries.{AreRuns}
+use Rattle.k_dict_entries.specs.Tallies.{total}
+use Rattle.k_dict_entries.specs.declared.entry.Entry.{Entry}
 use Rattle.k_hcpa_meaning.specs.Summing.{Opened, Summing}
 
 -- the summaries that are kept so, with the levels outermost first

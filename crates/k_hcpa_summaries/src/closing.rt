@@ -1,12 +1,12 @@
 //! Levels that are closed.
 ghost use Rattle.std.specs.Prelude.{◌≡◌, ◌+◌, ◌<◌, ◌≤◌, [], ◌∷◌, ◌++◌, length, reverse, take, vec_len, vec_capacity, IfOk, OnOk, OnErr};
-ghost use Rattle.k_dict.specs.Entries.{AreInterned};
-ghost use Rattle.k_dict.specs.Interning.{Interns};
+ghost use Rattle.k_dict_entries.specs.Entries.{AreInterned};
+ghost use Rattle.k_dict_entries.specs.Interning.{Interns};
 ghost use Rattle.k_hcpa_meaning.specs.Summing.{summary_of};
 ghost use Rattle.k_hcpa_summaries.specs.Closing.{AreFew, AreOpen, AreOpenIn, Closes, ClosesTo, closed_each, GoesOn, IsBelow, pending, with_last};
 
 use crate::level::Level;
-use k_dict::{Dict, DictFault};
+use k_dict_entries::{Dict, DictFault};
 use k_num::NoMemory;
 use std::alloc::Global;
 

@@ -1,9 +1,9 @@
 //! An open instance that has a level.
 ghost use Rattle.std.specs.Prelude.{◌≡◌, ℕ, ◌+◌, ◌-◌, ◌^◌, ◌<◌, [], ◌++◌, OnOk, OnErr, IfOk};
-ghost use Rattle.k_dict.specs.Tallies.{count_of, counted};
+ghost use Rattle.k_dict_entries.specs.Tallies.{count_of, counted};
 ghost use Rattle.k_hcpa_meaning.specs.Summing.{summary_of};
 
-use k_dict::{Entry, Run, Tally};
+use k_dict_entries::{Entry, Run, Tally};
 use k_num::{NoMemory, Seq};
 use std::alloc::Global;
 use std::marker::Model;

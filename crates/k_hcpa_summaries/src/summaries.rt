@@ -5,7 +5,7 @@ ghost use Rattle.k_hcpa_summaries.specs.Outermost.{before_at};
 
 use crate::closing::close_levels;
 use crate::level::Level;
-use k_dict::Dict;
+use k_dict_entries::Dict;
 use k_num::NoMemory;
 use std::alloc::Global;
 use std::marker::Model;

@@ -7,8 +7,8 @@ use Rattle.k_optab.specs.Events.{Operation}
 use Rattle.k_optab.specs.Open.{Open}
 use Rattle.k_optab.specs.Tree.{EachWith, IsNodeOf}
 use Rattle.k_optab.proofs.History.{longer_keeps_heaviest, longer_keeps_work}
-use Rattle.k_dict.specs.Trees.{Label, Forest, bare, grown, node_at, nodes_of}
-use Rattle.k_dict.proofs.Forests.{beside}
+use Rattle.k_dict_entries.specs.Trees.{Label, Forest, bare, grown, node_at, nodes_of}
+use Rattle.k_dict_entries.proofs.Forests.{beside}
 use Rattle.k_hcpa_meaning.specs.Summed.{AreClosedIn}
 use Rattle.k_hcpa_summed.proofs.Each.{Each, each_of, all_of, each_front, each_back, each_both, each_map, with_both, with_each}
 

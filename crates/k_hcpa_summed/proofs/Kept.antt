@@ -2,20 +2,20 @@
 use Rattle.std.proofs.Common.{◌≡◌, ℕ, ◌+◌, ◌<◌, ◌⊎◌, inl, inr, Bool, true, false, cond, nat_lt, ◌||◌, List, [], ◌∷◌, ◌++◌, length, Some, None, slice_get, refl, sym, ap, ◌∙◌, subst, arith, append_assoc, length-append}
 use Rattle.std.proofs.lemmas.Bool.{lt-ltb, ltb-true}
 use Rattle.std.proofs.lemmas.List.Sums.{sum_by-append}
-use Rattle.k_dict.specs.Entries.{AreRuns, all_runs, label_of, laid, trees_of, tree_at}
-use Rattle.k_dict.specs.Gathering.{number_of, with_entry}
-use Rattle.k_dict.specs.Tallies.{counted}
-use Rattle.k_dict.specs.Trees.{Label, Forest, bare, grown, Tree, Alike, further, post_order}
-use Rattle.k_dict.specs.declared.entry.Entry.{Entry}
-use Rattle.k_dict.specs.declared.entry.Run.{Run}
-use Rattle.k_dict.proofs.Coding.{Knows, Knows-kept, code, code_alike, code-kept, code-of_laid, beside-bare, entry_at, laid_counted, tree_alike}
-use Rattle.k_dict.proofs.Counting.{AreRuns-counted}
-use Rattle.k_dict.proofs.EntryTrees.{below_bound, laid-prefix, length-trees, trees-kept}
-use Rattle.k_dict.proofs.Forests.{beside, beside_front, grown_alike, Alike-same, Alike-sym, SameShape-sym}
-use Rattle.k_dict.proofs.Numbers.{number_found}
-use Rattle.k_dict.proofs.Sound.{AreRuns-wider, longer}
-use Rattle.k_dict.proofs.Walking.{closing, has_added}
-use Rattle.k_dict.proofs.Walking.{AreEntriesOf as AreSeen}
+use Rattle.k_dict_entries.specs.Entries.{AreRuns, all_runs, label_of, laid, trees_of, tree_at}
+use Rattle.k_dict_entries.specs.Gathering.{number_of, with_entry}
+use Rattle.k_dict_entries.specs.Tallies.{counted}
+use Rattle.k_dict_entries.specs.Trees.{Label, Forest, bare, grown, Tree, Alike, further, post_order}
+use Rattle.k_dict_entries.specs.declared.entry.Entry.{Entry}
+use Rattle.k_dict_entries.specs.declared.entry.Run.{Run}
+use Rattle.k_dict_entries.proofs.Coding.{Knows, Knows-kept, code, code_alike, code-kept, code-of_laid, beside-bare, entry_at, laid_counted, tree_alike}
+use Rattle.k_dict_entries.proofs.Counting.{AreRuns-counted}
+use Rattle.k_dict_entries.proofs.EntryTrees.{below_bound, laid-prefix, length-trees, trees-kept}
+use Rattle.k_dict_entries.proofs.Forests.{beside, beside_front, grown_alike, Alike-same, Alike-sym, SameShape-sym}
+use Rattle.k_dict_entries.proofs.Numbers.{number_found}
+use Rattle.k_dict_entries.proofs.Sound.{AreRuns-wider, longer}
+use Rattle.k_dict_entries.proofs.Walking.{closing, has_added}
+use Rattle.k_dict_entries.proofs.Walking.{AreEntriesOf as AreSeen}
 use Rattle.k_hcpa_meaning.specs.Summed.{AreEntriesOf, AreKept, AreRunsOf, HaveChildren, trees_in}
 use Rattle.k_hcpa_meaning.specs.Summing.{Opened, counted_if_kept, is_over, summary_of, with_child, within_limits}
 use Rattle.k_hcpa_summed.proofs.Closed.{with_tree}

@@ -1,12 +1,12 @@
 -- What was seen is known: each tree of the forests has its entry.
 use Rattle.std.proofs.Common.{◌≡◌, ℕ, List, [], ◌∷◌, ◌++◌, length, Some, slice_get, sym, ◌∙◌, subst, append_assoc, append-nil}
-use Rattle.k_dict.specs.Dictionary.{Firsts, ended, again, anew}
-use Rattle.k_dict.specs.Trees.{Forest, bare, grown, Tree, SameShape, post_order}
-use Rattle.k_dict.specs.declared.entry.Entry.{Entry}
-use Rattle.k_dict.proofs.Coding.{Knows}
-use Rattle.k_dict.proofs.Forests.{SameShape-refl}
-use Rattle.k_dict.proofs.Places.{place_kept, place_behind}
-use Rattle.k_dict.proofs.Walking.{AreEntriesOf, entry_there}
+use Rattle.k_dict_entries.specs.Dictionary.{Firsts, ended, again, anew}
+use Rattle.k_dict_entries.specs.Trees.{Forest, bare, grown, Tree, SameShape, post_order}
+use Rattle.k_dict_entries.specs.declared.entry.Entry.{Entry}
+use Rattle.k_dict_entries.proofs.Coding.{Knows}
+use Rattle.k_dict_entries.proofs.Forests.{SameShape-refl}
+use Rattle.k_dict_entries.proofs.Places.{place_kept, place_behind}
+use Rattle.k_dict_entries.proofs.Walking.{AreEntriesOf, entry_there}
 use Rattle.k_hcpa_summed.proofs.Each.{Each, each_front, each_back}
 
 -- the first trees go on

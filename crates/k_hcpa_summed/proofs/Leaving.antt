@@ -18,13 +18,13 @@ use Rattle.k_optab.proofs.Crossing.{instances_are_left_later}
 use Rattle.k_optab.proofs.Intervals.{work_split}
 use Rattle.k_optab.proofs.Leaving.{exits_close_the_last, open_instances_began, open_instances_nest}
 use Rattle.k_optab.proofs.Opening.{open_depths}
-use Rattle.k_dict.specs.Dictionary.{IsDictionary}
-use Rattle.k_dict.specs.Entries.{label_of}
-use Rattle.k_dict.specs.Gathering.{number_of, with_entry}
-use Rattle.k_dict.specs.Trees.{Forest, bare, alone, grown, Label, Tree, node_at, list_of}
-use Rattle.k_dict.specs.declared.entry.Entry.{Entry}
-use Rattle.k_dict.proofs.Forests.{beside}
-use Rattle.k_dict.proofs.Places.{place_behind}
+use Rattle.k_dict_entries.specs.Dictionary.{IsDictionary}
+use Rattle.k_dict_entries.specs.Entries.{label_of}
+use Rattle.k_dict_entries.specs.Gathering.{number_of, with_entry}
+use Rattle.k_dict_entries.specs.Trees.{Forest, bare, alone, grown, Label, Tree, node_at, list_of}
+use Rattle.k_dict_entries.specs.declared.entry.Entry.{Entry}
+use Rattle.k_dict_entries.proofs.Forests.{beside}
+use Rattle.k_dict_entries.proofs.Places.{place_behind}
 use Rattle.k_hcpa_meaning.specs.Summed.{AreClosedIn, AreEntriesOf, AreKept, HasNoRoot, HasRoot, IsLevelOf, IsSummed, open_below}
 use Rattle.k_hcpa_meaning.specs.Summing.{Opened, Summing, counted_if_kept, innermost_closed, level_closed, last_path, paths_outside, region_left, regions_left, summary_of, within_limits}
 use Rattle.k_hcpa_meaning.specs.Timed.{ArePaths}

@@ -11,7 +11,7 @@ use Rattle.k_optab.specs.Graph.{Heaviest}
 use Rattle.k_optab.specs.Open.{Open, open_after}
 use Rattle.k_optab.specs.OpenLaws.{IsAround}
 use Rattle.k_optab.proofs.Leaving.{open_instances_began}
-use Rattle.k_dict.proofs.Places.{place_kept, place_behind}
+use Rattle.k_dict_entries.proofs.Places.{place_kept, place_behind}
 use Rattle.k_hcpa_meaning.specs.Summed.{open_below}
 use Rattle.k_hcpa_meaning.specs.Summing.{last_path, paths_outside}
 use Rattle.k_hcpa_meaning.specs.Timed.{ArePaths}

@@ -17,11 +17,11 @@ use Rattle.k_optab.proofs.History.{longer_keeps_work}
 use Rattle.k_optab.proofs.Intervals.{total_latency-append}
 use Rattle.k_optab.proofs.Opening.{enters_open, operations_keep}
 use Rattle.k_optab.proofs.Trees.{operations-append}
-use Rattle.k_dict.specs.Dictionary.{Firsts}
-use Rattle.k_dict.specs.Trees.{Forest, bare, alone, Tree, neither, SameShape}
-use Rattle.k_dict.specs.declared.entry.Entry.{Entry}
-use Rattle.k_dict.specs.declared.entry.Run.{Run}
-use Rattle.k_dict.proofs.Walking.{none_seen}
+use Rattle.k_dict_entries.specs.Dictionary.{Firsts}
+use Rattle.k_dict_entries.specs.Trees.{Forest, bare, alone, Tree, neither, SameShape}
+use Rattle.k_dict_entries.specs.declared.entry.Entry.{Entry}
+use Rattle.k_dict_entries.specs.declared.entry.Run.{Run}
+use Rattle.k_dict_entries.proofs.Walking.{none_seen}
 use Rattle.k_hcpa_meaning.specs.Summed.{AreClosedIn, AreEntriesOf, AreKept, AreRunsOf, HasNoRoot, HasRoot, IsLevelOf, IsSummed, open_below, trees_in}
 use Rattle.k_hcpa_meaning.specs.Summing.{Opened, Summing, region_entered}
 use Rattle.k_hcpa_summed.specs.Laws.{EntriesAreSummed, NothingIsSummed, OperationsAreSummed}

@@ -9,8 +9,8 @@ use Rattle.k_optab.specs.declared.event.Src.{Src}
 use Rattle.k_optab.specs.declared.node.Node.{Node}
 use Rattle.k_optab.specs.Open.{open_after}
 use Rattle.k_optab.specs.Tree.{IsTree}
-use Rattle.k_dict.specs.Dictionary.{IsDictionary}
-use Rattle.k_dict.specs.declared.entry.Entry.{Entry}
+use Rattle.k_dict_entries.specs.Dictionary.{IsDictionary}
+use Rattle.k_dict_entries.specs.declared.entry.Entry.{Entry}
 use Rattle.k_hcpa_meaning.specs.Summed.{IsSummed}
 use Rattle.k_hcpa_meaning.specs.Summing.{Summing, is_over, nothing_entered, operation_made, region_entered, regions_left}
 use Rattle.k_hcpa_meaning.specs.Timed.{ArePaths}

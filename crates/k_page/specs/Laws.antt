@@ -2,7 +2,7 @@
 -- What holds of pages: the statements of the laws.
 use Rattle.std.specs.Prelude.{ℕ, ℤ, ◌≡◌, List, ◌++◌, Option}
 use Rattle.k_optab.specs.declared.region.Region.{Region}
-use Rattle.k_dict.specs.declared.entry.Entry.{Entry}
+use Rattle.k_dict_entries.specs.declared.entry.Entry.{Entry}
 use Rattle.k_plan.specs.declared.advice.Advice.{Advice}
 use Rattle.k_selfpar.specs.declared.context.Context.{Context}
 use Rattle.k_selfpar.specs.declared.row.Row.{Row}

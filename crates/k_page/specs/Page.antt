@@ -2,7 +2,7 @@
 -- A profile as one page of HTML.
 use Rattle.std.specs.Prelude.{ℕ, ℤ, List, [], ◌++◌, Option, Some, None, codes}
 use Rattle.k_optab.specs.declared.region.Region.{Region}
-use Rattle.k_dict.specs.declared.entry.Entry.{Entry}
+use Rattle.k_dict_entries.specs.declared.entry.Entry.{Entry}
 use Rattle.k_plan.specs.declared.advice.Advice.{Advice}
 use Rattle.k_plan.specs.declared.advice.Pick.{Pick}
 use Rattle.k_selfpar.specs.declared.context.Context.{Context}

@@ -9,7 +9,7 @@ use crate::cells::{
 };
 use crate::markup::{Tag, finish, push_element, start};
 use crate::prose::{Prose, push_prose};
-use k_dict::{Dict, Entry};
+use k_dict_entries::{Dict, Entry};
 use k_num::NoMemory;
 use k_optab::Region;
 use k_plan::{Advice, Pick};

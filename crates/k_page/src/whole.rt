@@ -10,7 +10,7 @@ use crate::picture::{push_legend, push_picture};
 use crate::prose::{Prose, push_closing, push_opening, push_prose, words};
 use crate::source::push_source;
 use crate::tiles::tiles_of;
-use k_dict::Dict;
+use k_dict_entries::Dict;
 use k_num::{NoMemory, Seq};
 use k_optab::Region;
 use k_plan::{Advice, Pick};

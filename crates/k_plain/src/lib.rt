@@ -8,6 +8,6 @@ mod program;
 mod running;
 mod setting;
 
-pub use k_ending::Listing;
+pub use k_ending::{End, Listing, Trap};
 pub use program::plain;
 pub use running::listing_of_code;

@@ -6,8 +6,8 @@ use Rattle.k_optab.specs.Tree.{IsTree}
 use Rattle.k_lex.specs.Tokens.{tokens}
 use Rattle.k_types_meaning.specs.declared.tree.unit.TUnit.{TUnit}
 use Rattle.k_marks_meaning.specs.declared.Marks.{Marks}
-use Rattle.k_dict.specs.Laws.{AreAlike}
-use Rattle.k_dict.specs.declared.entry.Entry.{Entry}
+use Rattle.k_dict_entries.specs.Laws.{AreAlike}
+use Rattle.k_dict_entries.specs.declared.entry.Entry.{Entry}
 use Rattle.k_dict_saved.specs.declared.saved.Saved.{Saved}
 use Rattle.k_selfpar.specs.Contexts.{AreContexts}
 use Rattle.k_selfpar.specs.Rows.{AreRows}

@@ -8,7 +8,7 @@ ghost use Rattle.k_report_profile.specs.RunReport.{Ran};
 ghost use Rattle.k_report_profile.specs.Summed.{IsSummed};
 ghost use Rattle.k_pragma_profile.specs.Annotated.{ArePicked, IsAnnotationOf, IsRunAnnotation, picked_by, picked_of};
 
-use k_dict::Dict;
+use k_dict_entries::Dict;
 use k_dict_saved::Saved;
 use k_marks_meaning::Marks;
 use k_num::{NoMemory, Seq};

@@ -9,7 +9,6 @@ pub mod Listed
 pub mod Names
 pub mod Numbers
 pub mod Origins
-pub mod Paired
 pub mod Rows
 pub mod Seen
 pub mod Standing

@@ -1,6 +1,5 @@
 //! What holds of the regions of every source: each function's contract is a law, and its body does nothing.
 ghost use Rattle.k_regions.specs.Laws.{FunctionsHaveTheirNames, RegionsAreFew, RegionsComeOfTokens, RegionsHaveTheirNumbers, ReturnedRunsAreOfMain, ReturnedRunsGiveInts, RunsEnterFew, RunsEnterTheirRegions, ThereAreNoOthers};
-ghost use Rattle.k_regions.specs.Saving.{RegionsCanBeSaved};
 
 /// Each function, loop and body of a typed source is the region of its number, and there are no others. Functions have the names
 /// that the source gives them.
@@ -24,11 +23,6 @@ pub fn runs_enter_their_regions()
 /// Where main returned, a run is one instance of main, with all others within it.
 pub fn runs_are_of_main()
     ensures { ReturnedRunsAreOfMain }
-{}
-
-/// The regions of a source without faults are those of a profile that can be saved.
-pub fn regions_can_be_saved()
-    ensures { RegionsCanBeSaved }
 {}
 
 /// A run enters regions at most as often as its source has regions, for each operation that it may make and once more.

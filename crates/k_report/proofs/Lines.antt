@@ -3,7 +3,7 @@ use Rattle.std.proofs.Common.{◌≡◌, ℕ, ◌+◌, ◌<◌, ◌≤◌, List,
 use Rattle.std.proofs.lemmas.List.{drop_all, drop_more}
 use Rattle.std.proofs.lemmas.Option.{get_or_from_slice_get, slice_get_within}
 use Rattle.k_optab.specs.Events.{Operation}
-use Rattle.k_dict.specs.declared.entry.Entry.{Entry}
+use Rattle.k_dict_entries.specs.declared.entry.Entry.{Entry}
 use Rattle.k_graph.specs.declared.tree.Instance.{Instance}
 use Rattle.k_report.specs.DictLines.{entry_line, entry_lines}
 use Rattle.k_report.specs.Graph.{AreInstanceLines, IsHeaviestPath, instance_line}

@@ -3,7 +3,7 @@ ghost use Rattle.std.specs.Prelude.{◌≡◌, ◌++◌, OnOk};
 ghost use Rattle.std.specs.Option.{option_copied};
 ghost use Rattle.k_report.specs.DictLines.{dict_text, entry_line, entry_lines};
 
-use k_dict::{Dict, Entry};
+use k_dict_entries::{Dict, Entry};
 use k_num::NoMemory;
 use k_text::{push, push_line, push_named, push_number, push_runs};
 

@@ -10,7 +10,7 @@ use crate::dict_lines::push_dict;
 use crate::heading::{Heading, push_title};
 use crate::plan_lines::push_plan;
 use crate::regions::region_at;
-use k_dict::Dict;
+use k_dict_entries::Dict;
 use k_num::{NoMemory, Seq};
 use k_optab::Region;
 use k_plan::Advice;

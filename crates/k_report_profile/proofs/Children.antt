@@ -5,7 +5,7 @@ use Rattle.std.proofs.lemmas.Bool.{cond-true, cond-false, eq-eqb, ne_eqb, lt-ltb
 use Rattle.std.proofs.lemmas.List.Sums.{sum_by-cons, take_while-cons}
 use Rattle.k_optab.specs.declared.node.Node.{Node}
 use Rattle.k_optab.specs.Meaning.{HasBoundedPath, HaveBoundedPaths, children, paths, works}
-use Rattle.k_dict.specs.Trees.{Forest, Label, Tree, alone, bare, grown, list_of, node_at, nodes_of}
+use Rattle.k_dict_entries.specs.Trees.{Forest, Label, Tree, alone, bare, grown, list_of, node_at, nodes_of}
 use Rattle.k_dict_saved.proofs.Shapes.{TopsUpTo, tops}
 
 -- a list begins with no node of this depth or deeper

@@ -15,8 +15,8 @@ use Rattle.k_optab.specs.Tree.{EachWith, IsNodeOf}
 use Rattle.k_optab.proofs.Intervals.{work_at_most_total}
 use Rattle.k_optab.proofs.Matching.{balanced_to_exit}
 use Rattle.k_optab.proofs.Trees.{operations-append}
-use Rattle.k_dict.specs.Trees.{Forest, Tree, alone, bare, grown, height, list_of, node_at, nodes_of}
-use Rattle.k_dict.proofs.Lists.{label_at}
+use Rattle.k_dict_entries.specs.Trees.{Forest, Tree, alone, bare, grown, height, list_of, node_at, nodes_of}
+use Rattle.k_dict_entries.proofs.Lists.{label_at}
 
 -- each instance of a forest is of one of so many regions, and has at most so much work
 abbrev pub AreWithin : ℕ → ℕ → Forest → Type 0

@@ -6,12 +6,12 @@ use Rattle.std.proofs.lemmas.List.Elements.{All-append, All-cons, All-from_get_o
 use Rattle.std.proofs.lemmas.Option.{none-some, slice_get-get_or, slice_get_within}
 use Rattle.k_optab.specs.declared.region.Region.{Region}
 use Rattle.k_optab.specs.declared.region.RegionKind.{RegionKind}
-use Rattle.k_dict.specs.Trees.{Forest, Tree, alone, bare, grown, list_of, nodes_of}
-use Rattle.k_dict.specs.Entries.{AreRuns, NameEarlier, copies, laid, no_tree, tree_at, trees_of}
-use Rattle.k_dict.specs.Rules.{NameRegions, entry_of, no_entry}
-use Rattle.k_dict.specs.declared.entry.Entry.{Entry}
-use Rattle.k_dict.specs.declared.entry.Run.{Run}
-use Rattle.k_dict.proofs.EntryTrees.{tree_is}
+use Rattle.k_dict_entries.specs.Trees.{Forest, Tree, alone, bare, grown, list_of, nodes_of}
+use Rattle.k_dict_entries.specs.Entries.{AreRuns, NameEarlier, copies, laid, no_tree, tree_at, trees_of}
+use Rattle.k_dict_entries.specs.Rules.{NameRegions, entry_of, no_entry}
+use Rattle.k_dict_entries.specs.declared.entry.Entry.{Entry}
+use Rattle.k_dict_entries.specs.declared.entry.Run.{Run}
+use Rattle.k_dict_entries.proofs.EntryTrees.{tree_is}
 use Rattle.k_selfpar.specs.Contexts.{AreUnder, group, none}
 use Rattle.k_selfpar.specs.Rows.{AreRows, IsRow, of_region}
 use Rattle.k_selfpar.specs.Sums.{one, sum_of, within}

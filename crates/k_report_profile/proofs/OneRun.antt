@@ -7,8 +7,8 @@ use Rattle.k_optab.specs.Events.{Operation, operations}
 use Rattle.k_optab.specs.Instances.{tracked}
 use Rattle.k_optab.specs.Tree.{EachWith, IsNodeOf, IsTree}
 use Rattle.k_optab.proofs.Heaviest.{heaviest_unique}
-use Rattle.k_dict.specs.Dictionary.{IsDictionary, refusal}
-use Rattle.k_dict.proofs.Unique.{dictionary_is_unique}
+use Rattle.k_dict_entries.specs.Dictionary.{IsDictionary, refusal}
+use Rattle.k_dict_entries.proofs.Unique.{dictionary_is_unique}
 use Rattle.k_dict_saved.specs.declared.saved.Saved.{Saved}
 use Rattle.k_report_profile.specs.Laws.{RunReportIsUnique}
 use Rattle.k_report_profile.specs.Report.{IsReport, IsReportOf, asked}

@@ -11,15 +11,15 @@ use Rattle.k_optab.specs.Instances.{Balanced, instance, nothing, tracked}
 use Rattle.k_optab.specs.Meaning.{HaveBoundedPaths}
 use Rattle.k_optab.specs.Tree.{EachWith, IsNodeOf, IsTree}
 use Rattle.k_optab.proofs.Trees.{trees_have_bounded_paths}
-use Rattle.k_dict.specs.Dictionary.{IsDictionary, IsDictionaryOf, refusal}
-use Rattle.k_dict.specs.Entries.{AreInterned, expansion, label_of}
-use Rattle.k_dict.specs.Laws.{AreAlike}
-use Rattle.k_dict.specs.Rules.{NameRegions, entry_of}
-use Rattle.k_dict.specs.Trees.{Forest, GoDeeper, IsInOrder, Tree, alone, bare, grown, height, list_of, nodes_of, size}
-use Rattle.k_dict.specs.declared.dict.Which.{Which}
-use Rattle.k_dict.specs.declared.entry.Entry.{Entry}
-use Rattle.k_dict.proofs.Lists.{same_tree}
-use Rattle.k_dict.proofs.Unique.{alike_turned, dictionary_expands, root_is}
+use Rattle.k_dict_entries.specs.Dictionary.{IsDictionary, IsDictionaryOf, refusal}
+use Rattle.k_dict_entries.specs.Entries.{AreInterned, expansion, label_of}
+use Rattle.k_dict_entries.specs.Laws.{AreAlike}
+use Rattle.k_dict_entries.specs.Rules.{NameRegions, entry_of}
+use Rattle.k_dict_entries.specs.Trees.{Forest, GoDeeper, IsInOrder, Tree, alone, bare, grown, height, list_of, nodes_of, size}
+use Rattle.k_dict_entries.specs.declared.dict.Which.{Which}
+use Rattle.k_dict_entries.specs.declared.entry.Entry.{Entry}
+use Rattle.k_dict_entries.proofs.Lists.{same_tree}
+use Rattle.k_dict_entries.proofs.Unique.{alike_turned, dictionary_expands, root_is}
 use Rattle.k_dict_saved.specs.Files.{AreRegions}
 use Rattle.k_dict_saved.specs.Lines.{EndsInMain}
 use Rattle.k_dict_saved.specs.Profile.{IsSaved}

@@ -1,10 +1,10 @@
 -- What a report is made of, and that there is one.
 use Rattle.std.proofs.Common.{◌≡◌, ℕ, ℤ, ◌+◌, ◌-◌, ◌<◌, ◌≤◌, Bool, List, length, Option, Some, None, refl, sym, ap, ◌∙◌, subst, arith}
 use Rattle.std.specs.Prelude.{All}
-use Rattle.k_dict.specs.Trees.{Tree, alone}
-use Rattle.k_dict.specs.Entries.{expansion, tree_at}
-use Rattle.k_dict.specs.declared.entry.Entry.{Entry}
-use Rattle.k_dict.proofs.Lists.{same_tree}
+use Rattle.k_dict_entries.specs.Trees.{Tree, alone}
+use Rattle.k_dict_entries.specs.Entries.{expansion, tree_at}
+use Rattle.k_dict_entries.specs.declared.entry.Entry.{Entry}
+use Rattle.k_dict_entries.proofs.Lists.{same_tree}
 use Rattle.k_dict_saved.specs.Profile.{IsSaved}
 use Rattle.k_dict_saved.specs.declared.saved.Saved.{Saved}
 use Rattle.k_selfpar.specs.Contexts.{AreContexts, AreUnder}

@@ -1,16 +1,16 @@
 -- The dictionary of a tree keeps the rules of a profile, where the tree's instances have bounds.
 use Rattle.std.proofs.Common.{◌≡◌, ℕ, zero, suc, ◌+◌, ◌-◌, ◌<◌, ◌≤◌, ◌⊎◌, inl, inr, max, List, [], ◌∷◌, ◌++◌, length, Some, slice_get, refl, sym, ap, ◌∙◌, subst, arith}
 use Rattle.std.proofs.lemmas.Option.{none-some, same_Some, slice_get_within}
-use Rattle.k_dict.specs.Dictionary.{IsDictionaryOf}
-use Rattle.k_dict.specs.Entries.{AreInterned, NameBelow, label_of, laid, tree_at, tree_of, trees_of}
-use Rattle.k_dict.specs.Rules.{AreProfile, HasBoundedNumbers, HaveFewInstances, HaveFewLevels, NameRegions, child_paths, child_works, entry_of}
-use Rattle.k_dict.specs.Trees.{Forest, SameShape, Tree, alone, bare, grown, height, post_order, size}
-use Rattle.k_dict.specs.declared.entry.Entry.{Entry}
-use Rattle.k_dict.proofs.Again.{from_list}
-use Rattle.k_dict.proofs.EntryTrees.{below_bound, tree_is}
-use Rattle.k_dict.proofs.Forests.{Alike-sym, SameShape-sym}
-use Rattle.k_dict.proofs.Unique.{root_is}
-use Rattle.k_dict.proofs.Walking.{EachWith-back, tree_there}
+use Rattle.k_dict_entries.specs.Dictionary.{IsDictionaryOf}
+use Rattle.k_dict_entries.specs.Entries.{AreInterned, NameBelow, label_of, laid, tree_at, tree_of, trees_of}
+use Rattle.k_dict_entries.specs.Rules.{AreProfile, HasBoundedNumbers, HaveFewInstances, HaveFewLevels, NameRegions, child_paths, child_works, entry_of}
+use Rattle.k_dict_entries.specs.Trees.{Forest, SameShape, Tree, alone, bare, grown, height, post_order, size}
+use Rattle.k_dict_entries.specs.declared.entry.Entry.{Entry}
+use Rattle.k_dict_entries.proofs.Again.{from_list}
+use Rattle.k_dict_entries.proofs.EntryTrees.{below_bound, tree_is}
+use Rattle.k_dict_entries.proofs.Forests.{Alike-sym, SameShape-sym}
+use Rattle.k_dict_entries.proofs.Unique.{root_is}
+use Rattle.k_dict_entries.proofs.Walking.{EachWith-back, tree_there}
 use Rattle.k_dict_saved.proofs.Apart.{wider}
 use Rattle.k_dict_saved.proofs.Shapes.{TopsUpTo, height_of_shape, laid_up_to, paths_laid, size_of_shape, tops, tops_alike, up_to_alike, works_laid}
 use Rattle.k_selfpar.proofs.Profile.{label_is}

@@ -3,16 +3,16 @@ use Rattle.std.proofs.Common.{◌≡◌, ℕ, ◌+◌, ◌<◌, ◌≤◌, Bool,
 use Rattle.std.proofs.lemmas.Bool.{leb-false, ltb-false}
 use Rattle.std.proofs.lemmas.List.Sums.{sum_by-cons}
 use Rattle.std.proofs.lemmas.Option.{none-some}
-use Rattle.k_dict.specs.Dictionary.{IsDictionaryOf, refusal}
-use Rattle.k_dict.specs.Entries.{AreInterned, all_runs}
-use Rattle.k_dict.specs.Trees.{Tree, alone}
-use Rattle.k_dict.specs.declared.dict.Which.{Which}
-use Rattle.k_dict.specs.declared.dict.Which.TheVariants.{Entries, AllRuns}
-use Rattle.k_dict.specs.declared.entry.Entry.{Entry}
-use Rattle.k_dict.proofs.Coding.{AreProper}
-use Rattle.k_dict.proofs.Refusals.{refusal-behind}
-use Rattle.k_dict.proofs.Unique.{one_dictionary}
-use Rattle.k_dict.proofs.Walking.{none_seen, walk, walk_is, walks_well}
+use Rattle.k_dict_entries.specs.Dictionary.{IsDictionaryOf, refusal}
+use Rattle.k_dict_entries.specs.Entries.{AreInterned, all_runs}
+use Rattle.k_dict_entries.specs.Trees.{Tree, alone}
+use Rattle.k_dict_entries.specs.declared.dict.Which.{Which}
+use Rattle.k_dict_entries.specs.declared.dict.Which.TheVariants.{Entries, AllRuns}
+use Rattle.k_dict_entries.specs.declared.entry.Entry.{Entry}
+use Rattle.k_dict_entries.proofs.Coding.{AreProper}
+use Rattle.k_dict_entries.proofs.Refusals.{refusal-behind}
+use Rattle.k_dict_entries.proofs.Unique.{one_dictionary}
+use Rattle.k_dict_entries.proofs.Walking.{none_seen, walk, walk_is, walks_well}
 
 -- entries that are few, with few runs, pass no limit
 pub none_passed : (entries : List Entry) → AreInterned entries → refusal 0 0 entries ≡ None

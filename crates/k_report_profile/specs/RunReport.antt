@@ -8,9 +8,9 @@ use Rattle.k_optab.specs.declared.region.Region.{Region}
 use Rattle.k_optab.specs.Entered.{EnterBelow, IsOfMain}
 use Rattle.k_optab.specs.Events.{SourcesAreEarlier, operations, total_latency}
 use Rattle.k_optab.specs.Tree.{IsTree}
-use Rattle.k_dict.specs.Dictionary.{IsDictionary, refusal}
-use Rattle.k_dict.specs.declared.dict.Which.{Which}
-use Rattle.k_dict.specs.declared.entry.Entry.{Entry}
+use Rattle.k_dict_entries.specs.Dictionary.{IsDictionary, refusal}
+use Rattle.k_dict_entries.specs.declared.dict.Which.{Which}
+use Rattle.k_dict_entries.specs.declared.entry.Entry.{Entry}
 use Rattle.k_dict_saved.specs.Files.{AreRegions}
 use Rattle.k_report.specs.Report.{large_text}
 use Rattle.k_dict_saved.specs.declared.saved.Saved.{Saved}

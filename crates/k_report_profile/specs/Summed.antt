@@ -4,8 +4,8 @@ use Rattle.std.specs.Prelude.{ℕ, ℤ, ◌≡◌, ◌≤◌, List, length, Opti
 use Rattle.k_optab.specs.declared.node.Node.{Node}
 use Rattle.k_optab.specs.declared.region.Region.{Region}
 use Rattle.k_optab.specs.Tree.{IsTree}
-use Rattle.k_dict.specs.Dictionary.{IsDictionary, refusal}
-use Rattle.k_dict.specs.declared.entry.Entry.{Entry}
+use Rattle.k_dict_entries.specs.Dictionary.{IsDictionary, refusal}
+use Rattle.k_dict_entries.specs.declared.entry.Entry.{Entry}
 use Rattle.k_report_profile.specs.RunReport.{IsLarge, IsWhole, Ran, ops_of}
 
 -- what is told of these instances: their dictionary, or nothing where it is over its limits

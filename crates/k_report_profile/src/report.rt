@@ -6,7 +6,7 @@ ghost use Rattle.k_selfpar.specs.Contexts.{AreContexts};
 ghost use Rattle.k_selfpar.specs.Rows.{AreRows};
 ghost use Rattle.k_report_profile.specs.Report.{HasManyContexts, IsReport, asked, nodes_of_profile};
 
-use k_dict::Dict;
+use k_dict_entries::Dict;
 use k_dict_saved::Saved;
 use k_num::{NoMemory, Seq};
 use k_plan::{ContextFault, ContextList, contexts, plan, standard_limits};

@@ -11,7 +11,7 @@ ghost use Rattle.k_report_profile.specs.RunReport.{IsRunReport, IsWhole, Ran};
 ghost use Rattle.k_report_profile.specs.Summed.{IsSummed};
 
 use crate::report::report_of;
-use k_dict::{Dict, DictFault, gather};
+use k_dict_entries::{Dict, DictFault, gather};
 use k_dict_saved::Saved;
 use k_graph::{Instance, instances};
 use k_num::{NoMemory, Seq};

@@ -1,11 +1,11 @@
 -- What items come to, one after the other.
 use Rattle.std.proofs.Common.{◌≡◌, ℕ, ◌+◌, ◌-◌, ◌*◌, ◌^◌, ◌<◌, ◌≤◌, List, [], ◌∷◌, Some, slice_get, sym, ap, ◌∙◌, subst, arith}
 use Rattle.std.proofs.lemmas.List.Elements.{All-head, All-tail}
-use Rattle.k_dict.specs.Trees.{Label, Forest, Tree}
-use Rattle.k_dict.specs.Entries.{AreRuns, NameEarlier, label_of, laid, tree_at, tree_of, trees_of}
-use Rattle.k_dict.specs.declared.entry.Entry.{Entry}
-use Rattle.k_dict.specs.declared.entry.Run.{Run}
-use Rattle.k_dict.proofs.EntryTrees.{tree_is}
+use Rattle.k_dict_entries.specs.Trees.{Label, Forest, Tree}
+use Rattle.k_dict_entries.specs.Entries.{AreRuns, NameEarlier, label_of, laid, tree_at, tree_of, trees_of}
+use Rattle.k_dict_entries.specs.declared.entry.Entry.{Entry}
+use Rattle.k_dict_entries.specs.declared.entry.Run.{Run}
+use Rattle.k_dict_entries.proofs.EntryTrees.{tree_is}
 use Rattle.k_selfpar.specs.Counts.{weighed}
 use Rattle.k_selfpar.specs.Items.{AreItems, IsItem, sums_with, total, totals}
 use Rattle.k_selfpar.specs.Sums.{AreSmall, HasChildren, inner_paths, inner_works, one, own_of, path, path_at, region_at, serial_in, work, work_at}

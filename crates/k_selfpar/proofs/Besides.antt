@@ -1,7 +1,7 @@
 -- Forests side by side, the instances of one region, and children; what the order of siblings leaves as it is.
 use Rattle.std.proofs.Common.{◌≡◌, ℕ, ◌+◌, ◌-◌, ◌<◌, ◌≤◌, Bool, true, false, ◌==◌, max, refl, sym, ap, ◌∙◌, subst, arith, if◌then◌else◌}
-use Rattle.k_dict.specs.Trees.{Alike, Forest, Label, bare, both, exchanged, further, grown, height, neither, size}
-use Rattle.k_dict.proofs.Forests.{Alike-refl, Alike-sym, beside, beside_left, beside_right, beside_front}
+use Rattle.k_dict_entries.specs.Trees.{Alike, Forest, Label, bare, both, exchanged, further, grown, height, neither, size}
+use Rattle.k_dict_entries.proofs.Forests.{Alike-refl, Alike-sym, beside, beside_left, beside_right, beside_front}
 use Rattle.k_selfpar.specs.Contexts.{NoneBelow, inner_forest, chosen, others, with_beside}
 use Rattle.k_selfpar.specs.Sums.{one, outer, outer_paths, outer_works, path, serial_in, work}
 

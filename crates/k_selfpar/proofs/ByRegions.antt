@@ -3,8 +3,8 @@ use Rattle.std.proofs.Common.{◌≡◌, ℕ, ◌+◌, ◌<◌, ◌⊎◌, inl, 
 use Rattle.std.proofs.lemmas.Bool.{cases_eq, eq-eqb, ne_eqb}
 use Rattle.k_optab.specs.declared.region.Region.{Region}
 use Rattle.k_optab.specs.Tree.{EachWith}
-use Rattle.k_dict.specs.Trees.{Forest, Tree, alone, bare, grown}
-use Rattle.k_dict.proofs.Lists.{same_tree}
+use Rattle.k_dict_entries.specs.Trees.{Forest, Tree, alone, bare, grown}
+use Rattle.k_dict_entries.proofs.Lists.{same_tree}
 use Rattle.k_selfpar.specs.Contexts.{AreUnder, IsContext, inner_forest, chosen, group, none, others}
 use Rattle.k_selfpar.specs.Laws.{AreApart, AreByRegions, ContextsAreByRegions, IsAmong, at_regions, last_of}
 use Rattle.k_selfpar.specs.Sums.{one, outer}

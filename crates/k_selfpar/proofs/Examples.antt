@@ -1,10 +1,10 @@
 -- Worked examples of the definitions, with numbers that were found by hand.
 use Rattle.std.proofs.Common.{◌≡◌, ℕ, List, [], ◌∷◌, length, refl}
 use Rattle.k_optab.specs.Meaning.{paths, serial_of, works}
-use Rattle.k_dict.specs.Trees.{Forest, alone}
-use Rattle.k_dict.specs.Entries.{expansion, tree_at}
-use Rattle.k_dict.specs.declared.entry.Entry.{Entry}
-use Rattle.k_dict.specs.declared.entry.Run.{Run}
+use Rattle.k_dict_entries.specs.Trees.{Forest, alone}
+use Rattle.k_dict_entries.specs.Entries.{expansion, tree_at}
+use Rattle.k_dict_entries.specs.declared.entry.Entry.{Entry}
+use Rattle.k_dict_entries.specs.declared.entry.Run.{Run}
 use Rattle.k_selfpar.specs.Contexts.{inner_forest, chosen, count_in}
 use Rattle.k_selfpar.specs.Rows.{of_region}
 use Rattle.k_selfpar.specs.Sums.{one, outer, outer_paths, outer_works, serial_in}

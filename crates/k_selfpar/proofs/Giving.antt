@@ -1,10 +1,10 @@
 -- What a tree gives is what its entry gives of its own and what the trees of its runs give.
 use Rattle.std.proofs.Common.{◌≡◌, ℕ, zero, suc, ◌+◌, ◌*◌, List, [], ◌∷◌, slice_index_or, refl, ap, ◌∙◌, arith, suc-mul}
-use Rattle.k_dict.specs.Trees.{Label, Forest, Tree, alone}
-use Rattle.k_dict.specs.Entries.{NameEarlier, copies, laid, no_tree, tree_at, tree_of, trees_of}
-use Rattle.k_dict.specs.declared.entry.Entry.{Entry}
-use Rattle.k_dict.specs.declared.entry.Run.{Run}
-use Rattle.k_dict.proofs.EntryTrees.{tree_is}
+use Rattle.k_dict_entries.specs.Trees.{Label, Forest, Tree, alone}
+use Rattle.k_dict_entries.specs.Entries.{NameEarlier, copies, laid, no_tree, tree_at, tree_of, trees_of}
+use Rattle.k_dict_entries.specs.declared.entry.Entry.{Entry}
+use Rattle.k_dict_entries.specs.declared.entry.Run.{Run}
+use Rattle.k_dict_entries.proofs.EntryTrees.{tree_is}
 use Rattle.k_selfpar.specs.Counts.{Adds, weighed}
 use Rattle.k_selfpar.specs.Sums.{all_of, own_of, outer_paths, outer_works, sum_of}
 

@@ -6,15 +6,15 @@ use Rattle.std.proofs.Math.Nat.{mul-add}
 use Rattle.std.proofs.lemmas.List.Elements.{All-cons, All-head, All-nil, All-tail, All-weaker, filter-append}
 use Rattle.std.proofs.lemmas.List.Sorted.{All-permutation}
 use Rattle.k_optab.specs.declared.region.Region.{Region}
-use Rattle.k_dict.specs.Trees.{Alike, Forest, Tree, bare, further, grown, height, size}
-use Rattle.k_dict.specs.Entries.{AreRuns, NameEarlier, laid, tree_at, trees_of}
-use Rattle.k_dict.specs.Rules.{AreProfile, NameRegions}
-use Rattle.k_dict.specs.Tallies.{counted, count_of, total as count_all}
-use Rattle.k_dict.specs.declared.entry.Entry.{Entry}
-use Rattle.k_dict.specs.declared.entry.Run.{Run}
-use Rattle.k_dict.proofs.EntryTrees.{tree_is}
-use Rattle.k_dict.proofs.Forests.{Alike-refl, Alike-size}
-use Rattle.k_dict.proofs.Sound.{count_of-total, total-counted}
+use Rattle.k_dict_entries.specs.Trees.{Alike, Forest, Tree, bare, further, grown, height, size}
+use Rattle.k_dict_entries.specs.Entries.{AreRuns, NameEarlier, laid, tree_at, trees_of}
+use Rattle.k_dict_entries.specs.Rules.{AreProfile, NameRegions}
+use Rattle.k_dict_entries.specs.Tallies.{counted, count_of, total as count_all}
+use Rattle.k_dict_entries.specs.declared.entry.Entry.{Entry}
+use Rattle.k_dict_entries.specs.declared.entry.Run.{Run}
+use Rattle.k_dict_entries.proofs.EntryTrees.{tree_is}
+use Rattle.k_dict_entries.proofs.Forests.{Alike-refl, Alike-size}
+use Rattle.k_dict_entries.proofs.Sound.{count_of-total, total-counted}
 use Rattle.k_selfpar.specs.declared.context.Context.{Context}
 use Rattle.k_selfpar.specs.declared.context.ContextFault.{ContextFault}
 use Rattle.k_selfpar.specs.declared.context.ContextFault.TheVariants.{Wide, Memory}

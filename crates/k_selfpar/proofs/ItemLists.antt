@@ -6,8 +6,8 @@ use Rattle.std.proofs.lemmas.Bool.{cases_eq, cases_lt, cond-true, cond-false, eq
 use Rattle.std.proofs.lemmas.List.Elements.{All-cons, All-head, All-nil, All-tail, All-weaker}
 use Rattle.std.proofs.lemmas.List.Sorted.{All-permutation, sum_by-IsPermutation}
 use Rattle.std.proofs.lemmas.List.Sums.{sum_by-cons}
-use Rattle.k_dict.specs.Trees.{Label, Forest}
-use Rattle.k_dict.specs.declared.entry.Entry.{Entry}
+use Rattle.k_dict_entries.specs.Trees.{Label, Forest}
+use Rattle.k_dict_entries.specs.declared.entry.Entry.{Entry}
 use Rattle.k_selfpar.specs.declared.item.Item.{Item}
 use Rattle.k_selfpar.specs.Counts.{AreCounts, dot}
 use Rattle.k_selfpar.specs.Items.{AreItems, AreItemsOf, BeginsElsewhere, IsItem, Rise, item_of, items_in, occurring, total}

@@ -5,7 +5,7 @@ use Rattle.std.proofs.lemmas.Bool.{cond-true, cond-false, eq-eqb, ne_eqb, lt-ltb
 use Rattle.std.proofs.lemmas.List.Sums.{sum_by-cons, take_while-cons}
 use Rattle.k_optab.specs.declared.node.Node.{Node}
 use Rattle.k_optab.specs.Meaning.{children, paths, serial, serial_of, works}
-use Rattle.k_dict.specs.Trees.{Label, Forest, Tree, alone, bare, grown, list_of, node_at, nodes_of}
+use Rattle.k_dict_entries.specs.Trees.{Label, Forest, Tree, alone, bare, grown, list_of, node_at, nodes_of}
 use Rattle.k_selfpar.specs.Rows.{of_region}
 use Rattle.k_selfpar.specs.Sums.{one, outer_paths, outer_works, path, serial_in, sum_of, within, work}
 

@@ -3,10 +3,10 @@ use Rattle.std.proofs.Common.{◌≡◌, ℕ, zero, suc, ◌+◌, ◌^◌, ◌<�
 use Rattle.std.proofs.lemmas.Bool.{cases_eq, cond-true, cond-false, eq-eqb, ne_eqb}
 use Rattle.std.proofs.lemmas.Option.{none-some, same_Some, slice_get_within}
 use Rattle.k_optab.specs.declared.region.Region.{Region}
-use Rattle.k_dict.specs.Entries.{tree_at}
-use Rattle.k_dict.specs.Rules.{AreProfile}
-use Rattle.k_dict.specs.Trees.{Forest, Tree, alone, bare, grown}
-use Rattle.k_dict.specs.declared.entry.Entry.{Entry}
+use Rattle.k_dict_entries.specs.Entries.{tree_at}
+use Rattle.k_dict_entries.specs.Rules.{AreProfile}
+use Rattle.k_dict_entries.specs.Trees.{Forest, Tree, alone, bare, grown}
+use Rattle.k_dict_entries.specs.declared.entry.Entry.{Entry}
 use Rattle.k_selfpar.specs.Contexts.{AreUnder, inner_forest, chosen, count_in, group, none, others}
 use Rattle.k_selfpar.specs.Nested.{CanPlan, ParentsComeFirst, StandBehindParents, behind_root, works_under}
 use Rattle.k_selfpar.specs.Sums.{one, outer, outer_works}

@@ -2,12 +2,12 @@
 use Rattle.std.proofs.Common.{◌≡◌, ℕ, zero, suc, ◌+◌, ◌-◌, ◌*◌, ◌^◌, ◌<◌, ◌≤◌, max, List, [], ◌∷◌, length, get_or, Some, slice_get, refl, sym, ap, ◌∙◌, subst, arith}
 use Rattle.std.proofs.Math.Nat.{mul-add, mul-le-mul_left, mul-le-mul_right}
 use Rattle.std.proofs.lemmas.Option.{slice_get-get_or}
-use Rattle.k_dict.specs.Trees.{Label, Forest, Tree, alone, bare, grown, height, size}
-use Rattle.k_dict.specs.Entries.{AreRuns, NameEarlier, copies, label_of, laid, no_tree, tree_at, trees_of}
-use Rattle.k_dict.specs.Rules.{AreProfile, HaveBoundedNumbers, child_paths, child_works, entry_of, no_entry}
-use Rattle.k_dict.specs.declared.entry.Entry.{Entry}
-use Rattle.k_dict.specs.declared.entry.Run.{Run}
-use Rattle.k_dict.proofs.EntryTrees.{tree_is}
+use Rattle.k_dict_entries.specs.Trees.{Label, Forest, Tree, alone, bare, grown, height, size}
+use Rattle.k_dict_entries.specs.Entries.{AreRuns, NameEarlier, copies, label_of, laid, no_tree, tree_at, trees_of}
+use Rattle.k_dict_entries.specs.Rules.{AreProfile, HaveBoundedNumbers, child_paths, child_works, entry_of, no_entry}
+use Rattle.k_dict_entries.specs.declared.entry.Entry.{Entry}
+use Rattle.k_dict_entries.specs.declared.entry.Run.{Run}
+use Rattle.k_dict_entries.proofs.EntryTrees.{tree_is}
 use Rattle.k_selfpar.specs.Counts.{weighed}
 use Rattle.k_selfpar.specs.Sums.{HaveChildren, all_of, inner_paths, inner_works, one, outer_paths, outer_works, own_of, path, path_at, serial_in, sum_of, work, work_at}
 use Rattle.k_selfpar.proofs.Giving.{outer_paths-laid, outer_works-laid}

@@ -6,11 +6,11 @@ use Rattle.std.proofs.lemmas.Bool.{cases_eq}
 use Rattle.std.proofs.lemmas.List.Elements.{All-append, All-filter, All-nil, All-weaker, filter-append}
 use Rattle.std.proofs.lemmas.Option.{none-some, slice_get_within}
 use Rattle.k_optab.specs.Meaning.{paths, serial_of}
-use Rattle.k_dict.specs.Trees.{Label, Forest, alone, bare, grown}
-use Rattle.k_dict.specs.Entries.{NameEarlier, expansion, tree_at}
-use Rattle.k_dict.specs.Rules.{AreProfile}
-use Rattle.k_dict.specs.declared.entry.Entry.{Entry}
-use Rattle.k_dict.proofs.Places.{place_kept, place_of_push, place_behind}
+use Rattle.k_dict_entries.specs.Trees.{Label, Forest, alone, bare, grown}
+use Rattle.k_dict_entries.specs.Entries.{NameEarlier, expansion, tree_at}
+use Rattle.k_dict_entries.specs.Rules.{AreProfile}
+use Rattle.k_dict_entries.specs.declared.entry.Entry.{Entry}
+use Rattle.k_dict_entries.proofs.Places.{place_kept, place_of_push, place_behind}
 use Rattle.k_selfpar.specs.declared.item.Item.{Item}
 use Rattle.k_selfpar.specs.declared.row.Row.{Row}
 use Rattle.k_selfpar.specs.Items.{AreItems, AreItemsOf, AreRowsOf, BeginsElsewhere, IsItem, IsRowOf, Rise, items_in, total, totals}

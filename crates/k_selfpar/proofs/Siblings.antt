@@ -3,9 +3,9 @@ use Rattle.std.proofs.Common.{◌≡◌, ℕ, zero, suc, ◌+◌, ◌<◌, ◌�
 use Rattle.std.proofs.lemmas.Option.{none-some, same_Some}
 use Rattle.k_optab.specs.declared.node.Node.{Node}
 use Rattle.k_optab.specs.Meaning.{paths, serial_of, works}
-use Rattle.k_dict.specs.Trees.{Alike, Forest, Label, SameShape, Tree, alone, bare, both, exchanged, further, list_of, neither}
-use Rattle.k_dict.proofs.Forests.{grown_alike}
-use Rattle.k_dict.proofs.Lists.{same_tree}
+use Rattle.k_dict_entries.specs.Trees.{Alike, Forest, Label, SameShape, Tree, alone, bare, both, exchanged, further, list_of, neither}
+use Rattle.k_dict_entries.proofs.Forests.{grown_alike}
+use Rattle.k_dict_entries.proofs.Lists.{same_tree}
 use Rattle.k_selfpar.specs.Contexts.{AreUnder}
 use Rattle.k_selfpar.specs.Laws.{ContextsAreUnique, ContextsForgetOrder, RowsAreUnique, RowsForgetOrder}
 use Rattle.k_selfpar.specs.Ratio.{IsRatio}

@@ -8,16 +8,16 @@ use Rattle.std.proofs.lemmas.List.Edits.{swap_is}
 use Rattle.std.proofs.lemmas.List.Elements.{All-cons, All-head, All-nil, All-tail}
 use Rattle.std.proofs.lemmas.List.Sorted.{IsPermutation-keeps}
 use Rattle.std.proofs.lemmas.Option.{slice_get-get_or}
-use Rattle.k_dict.specs.Trees.{Alike, Forest, Label, Tree, alone, bare, both, further, grown, size}
-use Rattle.k_dict.specs.Entries.{AreRuns, NameEarlier, copies, laid, no_tree, tree_at, trees_of}
-use Rattle.k_dict.specs.Rules.{AreProfile, NameRegions, entry_of, no_entry}
-use Rattle.k_dict.specs.Tallies.{counted, total as count_all}
-use Rattle.k_dict.specs.declared.entry.Entry.{Entry}
-use Rattle.k_dict.specs.declared.entry.Run.{Run}
-use Rattle.k_dict.proofs.Coding.{laid_counted}
-use Rattle.k_dict.proofs.Counting.{AreRuns-counted}
-use Rattle.k_dict.proofs.EntryTrees.{tree_is}
-use Rattle.k_dict.proofs.Forests.{Alike-refl, Alike-same, SameShape-refl, copies_alike}
+use Rattle.k_dict_entries.specs.Trees.{Alike, Forest, Label, Tree, alone, bare, both, further, grown, size}
+use Rattle.k_dict_entries.specs.Entries.{AreRuns, NameEarlier, copies, laid, no_tree, tree_at, trees_of}
+use Rattle.k_dict_entries.specs.Rules.{AreProfile, NameRegions, entry_of, no_entry}
+use Rattle.k_dict_entries.specs.Tallies.{counted, total as count_all}
+use Rattle.k_dict_entries.specs.declared.entry.Entry.{Entry}
+use Rattle.k_dict_entries.specs.declared.entry.Run.{Run}
+use Rattle.k_dict_entries.proofs.Coding.{laid_counted}
+use Rattle.k_dict_entries.proofs.Counting.{AreRuns-counted}
+use Rattle.k_dict_entries.proofs.EntryTrees.{tree_is}
+use Rattle.k_dict_entries.proofs.Forests.{Alike-refl, Alike-same, SameShape-refl, copies_alike}
 use Rattle.k_selfpar.specs.declared.item.Item.{Item}
 use Rattle.k_selfpar.specs.Contexts.{NoneBelow, inner_forest, chosen, others, with_beside}
 use Rattle.k_selfpar.specs.Grouping.{item_for, standing, tallied}

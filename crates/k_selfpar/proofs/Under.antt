@@ -9,8 +9,8 @@ use Rattle.std.proofs.lemmas.Nat.Gcd.{IsGcd-from_mod, IsGcd-from_zero}
 use Rattle.std.proofs.lemmas.Option.{same_Some, slice_get-get_or}
 use Rattle.k_optab.specs.declared.region.Region.{Region}
 use Rattle.k_optab.specs.declared.region.RegionKind.TheVariants.{Func}
-use Rattle.k_dict.specs.Trees.{Alike, Forest, Label, bare, grown, size}
-use Rattle.k_dict.proofs.Forests.{Alike-size}
+use Rattle.k_dict_entries.specs.Trees.{Alike, Forest, Label, bare, grown, size}
+use Rattle.k_dict_entries.proofs.Forests.{Alike-size}
 use Rattle.k_selfpar.specs.Contexts.{AreUnder, ContextsAreAtLeastOne, IsContext, NoneBelow, inner_forest, chosen, count_in, group, has_turns, none, others, with_beside}
 use Rattle.k_selfpar.specs.Ratio.{IsRatio}
 use Rattle.k_selfpar.specs.Sums.{one, outer, outer_paths, outer_works, serial_in}

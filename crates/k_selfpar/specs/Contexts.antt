@@ -5,7 +5,7 @@ use Rattle.k_optab.specs.declared.node.Node.{Node}
 use Rattle.k_optab.specs.declared.region.Region.{Region}
 use Rattle.k_optab.specs.declared.region.RegionKind.{RegionKind}
 use Rattle.k_optab.specs.Regions.{is_body, is_loop}
-use Rattle.k_dict.specs.Trees.{Forest, Tree, alone, bare, grown, list_of}
+use Rattle.k_dict_entries.specs.Trees.{Forest, Tree, alone, bare, grown, list_of}
 use Rattle.k_selfpar.specs.Ratio.{IsRatio}
 use Rattle.k_selfpar.specs.Sums.{one, outer, outer_paths, outer_works, serial_in}
 use Rattle.k_selfpar.specs.declared.context.Context.{Context}

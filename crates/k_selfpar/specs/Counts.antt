@@ -1,8 +1,8 @@
 -- For contracts between crates: nobody has to believe it.
 -- How often each entry of a dictionary occurs in a tree, and what follows for sums over the tree.
 use Rattle.std.specs.Prelude.{ℕ, ◌+◌, ◌*◌, ◌^◌, ◌<◌, ◌≡◌, List, [], ◌∷◌, length, Some, slice_get, slice_index_or, slice_set}
-use Rattle.k_dict.specs.declared.entry.Entry.{Entry}
-use Rattle.k_dict.specs.declared.entry.Run.{Run}
+use Rattle.k_dict_entries.specs.declared.entry.Entry.{Entry}
+use Rattle.k_dict_entries.specs.declared.entry.Run.{Run}
 
 -- what children give together, where f tells what each entry gives
 abbrev pub weighed : (ℕ → ℕ) → List Run → ℕ

@@ -2,11 +2,11 @@
 -- What stands between the items of a dictionary and the contexts of the tree that it stands for.
 use Rattle.std.specs.Prelude.{ℕ, ◌+◌, ◌*◌, ◌^◌, ◌≡◌, ◌<◌, ◌≤◌, if◌then◌else◌, List, [], ◌∷◌, ◌++◌, length, Some, slice_get, option_map, Result, Ok, Err}
 use Rattle.k_optab.specs.declared.region.Region.{Region}
-use Rattle.k_dict.specs.Trees.{Alike, Forest, bare, size}
-use Rattle.k_dict.specs.Entries.{copies, tree_at}
-use Rattle.k_dict.specs.Tallies.{counted}
-use Rattle.k_dict.specs.declared.entry.Entry.{Entry}
-use Rattle.k_dict.specs.declared.entry.Run.{Run}
+use Rattle.k_dict_entries.specs.Trees.{Alike, Forest, bare, size}
+use Rattle.k_dict_entries.specs.Entries.{copies, tree_at}
+use Rattle.k_dict_entries.specs.Tallies.{counted}
+use Rattle.k_dict_entries.specs.declared.entry.Entry.{Entry}
+use Rattle.k_dict_entries.specs.declared.entry.Run.{Run}
 use Rattle.k_selfpar.specs.Contexts.{AreUnder, inner_forest, has_turns}
 use Rattle.k_selfpar.specs.Items.{AreItems, Rise, item_of}
 use Rattle.k_selfpar.specs.Ratio.{IsRatio}

@@ -1,7 +1,7 @@
 -- For contracts between crates: nobody has to believe it.
 -- Instances of one entry, counted together, and what they come to.
 use Rattle.std.specs.Prelude.{ℕ, ◌+◌, ◌*◌, ◌<◌, ◌≤◌, ◌≡◌, ◌==◌, nat_lt, if◌then◌else◌, List, [], ◌∷◌, length, filter, All, Some, slice_get}
-use Rattle.k_dict.specs.declared.entry.Entry.{Entry}
+use Rattle.k_dict_entries.specs.declared.entry.Entry.{Entry}
 use Rattle.k_selfpar.specs.declared.item.Item.{Item}
 use Rattle.k_selfpar.specs.declared.row.Row.{Row}
 use Rattle.k_selfpar.specs.declared.sums.Sums.{Sums}

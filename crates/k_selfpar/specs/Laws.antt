@@ -4,8 +4,8 @@ use Rattle.std.specs.Prelude.{ℕ, ◌<◌, ◌≡◌, ◌⊎◌, List, [], ◌�
 use Rattle.k_optab.specs.declared.node.Node.{Node}
 use Rattle.k_optab.specs.declared.region.Region.{Region}
 use Rattle.k_optab.specs.Tree.{EachWith}
-use Rattle.k_dict.specs.Laws.{AreAlike}
-use Rattle.k_dict.specs.Trees.{Forest, Tree, alone, list_of}
+use Rattle.k_dict_entries.specs.Laws.{AreAlike}
+use Rattle.k_dict_entries.specs.Trees.{Forest, Tree, alone, list_of}
 use Rattle.k_selfpar.specs.Contexts.{AreContexts, IsContext, inner_forest, chosen}
 use Rattle.k_selfpar.specs.Rows.{AreRows}
 use Rattle.k_selfpar.specs.Sums.{one, outer}

@@ -2,9 +2,9 @@
 -- Sums over the instances of a forest, and over the entries of a dictionary that they have.
 use Rattle.std.specs.Prelude.{ℕ, ◌+◌, ◌-◌, ◌^◌, ◌<◌, ◌≤◌, ◌==◌, if◌then◌else◌, List, length}
 use Rattle.k_selfpar.specs.declared.sums.Sums.{Sums}
-use Rattle.k_dict.specs.Trees.{Label, Forest, alone, bare, grown}
-use Rattle.k_dict.specs.Entries.{tree_at}
-use Rattle.k_dict.specs.declared.entry.Entry.{Entry}
+use Rattle.k_dict_entries.specs.Trees.{Label, Forest, alone, bare, grown}
+use Rattle.k_dict_entries.specs.Entries.{tree_at}
+use Rattle.k_dict_entries.specs.declared.entry.Entry.{Entry}
 
 -- what the instances of a forest give together, where `own` tells what one gives, by itself and those within it
 abbrev pub sum_of : (Label → Forest → ℕ) → Forest → ℕ

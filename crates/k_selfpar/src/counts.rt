@@ -1,10 +1,10 @@
 //! How often each entry of a dictionary occurs in the tree of one of them.
 ghost use Rattle.std.specs.Prelude.{◌≡◌, ◌+◌, ◌≤◌, ◌<◌, ◌^◌, length, replicate, IfOk};
-ghost use Rattle.k_dict.specs.Entries.{AreInterned};
+ghost use Rattle.k_dict_entries.specs.Entries.{AreInterned};
 ghost use Rattle.k_selfpar.specs.Counts.{AreCounts, CanCount, with_children};
 ghost use Rattle.k_selfpar.specs.Sums.{all_of, one};
 
-use k_dict::{Dict, Run};
+use k_dict_entries::{Dict, Run};
 use k_num::NoMemory;
 use std::alloc::Global;
 

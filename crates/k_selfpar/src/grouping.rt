@@ -1,9 +1,9 @@
 //! Contexts of the tree that a dictionary stands for: entries are multiplied by how often they occur in a context, and never
 //! expanded.
 ghost use Rattle.std.specs.Prelude.{◌≡◌, ◌≤◌, ◌<◌, ◌+◌, ◌*◌, ◌^◌, ◌==◌, ◌&&◌, if◌then◌else◌, map, length, slice_get, IfOk, OnOk};
-ghost use Rattle.k_dict.specs.Entries.{AreInterned, AreRuns, expansion};
-ghost use Rattle.k_dict.specs.Rules.{AreProfile, NameRegions};
-ghost use Rattle.k_dict.specs.Tallies.{total as count_all};
+ghost use Rattle.k_dict_entries.specs.Entries.{AreInterned, AreRuns, expansion};
+ghost use Rattle.k_dict_entries.specs.Rules.{AreProfile, NameRegions};
+ghost use Rattle.k_dict_entries.specs.Tallies.{total as count_all};
 ghost use Rattle.k_selfpar.specs.Contexts.{ContextsAreAtLeastOne, GivesContexts, has_turns};
 ghost use Rattle.k_selfpar.specs.Grouping.{AddsContexts, AreChildren, Fits, IsContextOf, item_for, tallied};
 ghost use Rattle.k_selfpar.specs.Items.{AreItems, Rise, items_in, total, totals};
@@ -14,7 +14,7 @@ use crate::Frac;
 use crate::context::{Context, ContextFault, ContextList};
 use crate::item::{Item, item_of, sort_by_region, split_region};
 use crate::sums::sums_of;
-use k_dict::{Dict, Run, Tally};
+use k_dict_entries::{Dict, Run, Tally};
 use k_num::{NoMemory, Seq};
 use k_optab::Region;
 use std::alloc::Global;

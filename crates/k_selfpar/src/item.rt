@@ -1,10 +1,10 @@
 //! Instances of one entry, counted together, in order of their region.
 ghost use Rattle.std.specs.Prelude.{◌≡◌, ◌≤◌, ◌<◌, ◌++◌, All, length, IfOk, OnOk};
 ghost use Rattle.std.specs.List.Sorted.{IsPermutation};
-ghost use Rattle.k_dict.specs.Entries.{AreInterned};
+ghost use Rattle.k_dict_entries.specs.Entries.{AreInterned};
 ghost use Rattle.k_selfpar.specs.Items.{BeginsElsewhere, Rise, item_of, occurring};
 
-use k_dict::{Dict, Run};
+use k_dict_entries::{Dict, Run};
 use k_num::NoMemory;
 use std::alloc::Global;
 

@@ -1,12 +1,12 @@
 //! What instances come to together.
 ghost use Rattle.std.specs.Prelude.{◌≡◌, ◌+◌, ◌-◌, ◌*◌, ◌≤◌, ◌<◌, ◌^◌, length};
-ghost use Rattle.k_dict.specs.Entries.{AreInterned, AreRuns};
+ghost use Rattle.k_dict_entries.specs.Entries.{AreInterned, AreRuns};
 ghost use Rattle.k_selfpar.specs.Counts.{weighed};
 ghost use Rattle.k_selfpar.specs.Items.{AreItems, sums_with, totals};
 ghost use Rattle.k_selfpar.specs.Sums.{AreSmall, HasChildren, HaveChildren, own_of, path_at, serial_in, work_at};
 
 use crate::item::Item;
-use k_dict::{Dict, Run};
+use k_dict_entries::{Dict, Run};
 
 /// What instances come to together.
 #[derive(Clone, Copy, Debug)]

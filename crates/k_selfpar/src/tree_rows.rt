@@ -1,7 +1,7 @@
 //! The rows of a tree that a dictionary stands for: entries are multiplied by how often they occur, and never expanded.
 ghost use Rattle.std.specs.Prelude.{◌≡◌, ◌≤◌, ◌<◌, ◌^◌, length, IfOk};
-ghost use Rattle.k_dict.specs.Entries.{AreInterned, expansion};
-ghost use Rattle.k_dict.specs.Rules.{AreProfile};
+ghost use Rattle.k_dict_entries.specs.Entries.{AreInterned, expansion};
+ghost use Rattle.k_dict_entries.specs.Rules.{AreProfile};
 ghost use Rattle.k_selfpar.specs.Items.{AreItems, AreItemsOf, AreRowsOf, IsRowOf, Rise, totals};
 ghost use Rattle.k_selfpar.specs.Rows.{AreAtLeastOne, AreRows};
 ghost use Rattle.k_selfpar.specs.Sums.{AreSmall, HaveChildren, all_of, one};
@@ -11,7 +11,7 @@ use crate::counts::count_instances;
 use crate::item::{Item, occurring_entries, sort_by_region, split_region};
 use crate::row::Row;
 use crate::sums::{Sums, sums_of};
-use k_dict::Dict;
+use k_dict_entries::Dict;
 use k_num::{NoMemory, Seq};
 use std::alloc::Global;
 

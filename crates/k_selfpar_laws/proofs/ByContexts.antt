@@ -6,8 +6,8 @@ use Rattle.std.proofs.lemmas.List.Sums.{sum_by-cons}
 use Rattle.k_optab.specs.declared.region.Region.{Region}
 use Rattle.k_optab.specs.Meaning.{serial_of}
 use Rattle.k_optab.specs.Tree.{EachWith}
-use Rattle.k_dict.specs.Trees.{Forest, Label, Tree, alone, bare, grown, list_of}
-use Rattle.k_dict.proofs.Lists.{same_tree}
+use Rattle.k_dict_entries.specs.Trees.{Forest, Label, Tree, alone, bare, grown, list_of}
+use Rattle.k_dict_entries.proofs.Lists.{same_tree}
 use Rattle.k_selfpar.specs.Contexts.{AreUnder, IsContext, NoneBelow, inner_forest, chosen, group, none, others, with_beside}
 use Rattle.k_selfpar.specs.Laws.{at_regions}
 use Rattle.k_selfpar.specs.Ratio.{IsRatio}

@@ -4,8 +4,8 @@ use Rattle.std.proofs.lemmas.Bool.{cases_eq, cases_lt, eq-eqb, ne_eqb}
 use Rattle.std.proofs.lemmas.Option.{none-some, same_Some}
 use Rattle.k_optab.specs.declared.region.Region.{Region}
 use Rattle.k_optab.specs.Tree.{EachWith}
-use Rattle.k_dict.specs.Trees.{Forest, Tree, alone, bare, grown}
-use Rattle.k_dict.proofs.Lists.{same_tree}
+use Rattle.k_dict_entries.specs.Trees.{Forest, Tree, alone, bare, grown}
+use Rattle.k_dict_entries.proofs.Lists.{same_tree}
 use Rattle.k_selfpar.specs.Contexts.{AreUnder, IsContext, NoneBelow, inner_forest, chosen, count_in, group, none, others}
 use Rattle.k_selfpar.specs.Laws.{at_regions}
 use Rattle.k_selfpar.specs.Sums.{one, outer}

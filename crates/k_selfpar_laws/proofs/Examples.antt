@@ -6,8 +6,8 @@ use Rattle.std.proofs.lemmas.Nat.Gcd.{IsGcd-from_mod, IsGcd-from_zero}
 use Rattle.std.proofs.lemmas.Option.{none-some, same_Some}
 use Rattle.k_optab.specs.declared.node.Node.{Node}
 use Rattle.k_optab.specs.declared.region.RegionKind.TheVariants.{Func, Loop, Body}
-use Rattle.k_dict.specs.Trees.{alone, bare, grown, list_of}
-use Rattle.k_dict.proofs.Walking.{walk_is}
+use Rattle.k_dict_entries.specs.Trees.{alone, bare, grown, list_of}
+use Rattle.k_dict_entries.proofs.Walking.{walk_is}
 use Rattle.k_selfpar.specs.Contexts.{AreUnder, group, none}
 use Rattle.k_selfpar.specs.Ratio.{IsRatio}
 use Rattle.k_selfpar.specs.Rows.{HasRow, IsRow, of_region}

@@ -3,8 +3,8 @@ use Rattle.std.proofs.Common.{◌≡◌, ℕ, zero, suc, ◌<◌, inl, inr, List
 use Rattle.std.proofs.lemmas.Option.{none-some, same_Some}
 use Rattle.k_optab.specs.declared.region.Region.{Region}
 use Rattle.k_optab.specs.Tree.{EachWith}
-use Rattle.k_dict.specs.Trees.{Forest}
-use Rattle.k_dict.proofs.Walking.{EachWith-at}
+use Rattle.k_dict_entries.specs.Trees.{Forest}
+use Rattle.k_dict_entries.proofs.Walking.{EachWith-at}
 use Rattle.k_selfpar.specs.Contexts.{IsContext}
 use Rattle.k_selfpar.specs.Sums.{one, outer, outer_paths, serial_in}
 use Rattle.k_selfpar.specs.declared.context.Context.{Context}

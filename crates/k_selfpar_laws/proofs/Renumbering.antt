@@ -2,22 +2,22 @@
 use Rattle.std.proofs.Common.{◌≡◌, ℕ, zero, suc, ◌+◌, ◌<◌, ◌≤◌, ◌⊎◌, inl, inr, Bool, true, false, ◌==◌, if◌then◌else◌, List, [], ◌∷◌, ◌++◌, length, get_or, Some, slice_get, refl, sym, ap, ◌∙◌, subst, arith}
 use Rattle.std.proofs.lemmas.Bool.{cases_eq, cases_lt, cases_order, eq-eqb, ne_eqb}
 use Rattle.std.proofs.lemmas.Option.{none-some, same_Some, slice_get_within, slice_get-get_or}
-use Rattle.k_dict.specs.Dictionary.{IsDictionaryOf}
-use Rattle.k_dict.specs.Entries.{AreRuns, NameBelow, NameEarlier, copies, laid, no_tree, tree_at, tree_of, trees_of}
-use Rattle.k_dict.specs.Gathering.{number_of}
-use Rattle.k_dict.specs.Rules.{no_entry}
-use Rattle.k_dict.specs.Tallies.{counted}
-use Rattle.k_dict.specs.Trees.{Forest, Label, SameShape, Tree, alone, bare, grown, post_order}
-use Rattle.k_dict.specs.declared.entry.Entry.{Entry}
-use Rattle.k_dict.specs.declared.entry.Run.{Run}
-use Rattle.k_dict.proofs.Again.{covered, from_list}
-use Rattle.k_dict.proofs.Coding.{AreProper, code, code-copies, code-entry, code_alike, entry_at, number_below, number_in, times-counted}
-use Rattle.k_dict.proofs.Counting.{counted-at, counted-before, counted-behind, counted-exchange}
-use Rattle.k_dict.proofs.EntryTrees.{below_bound, length-trees, tree_is}
-use Rattle.k_dict.proofs.Forests.{SameShape-further, SameShape-sym}
-use Rattle.k_dict.proofs.Lists.{same_tree}
-use Rattle.k_dict.proofs.Unique.{one_dictionary}
-use Rattle.k_dict.proofs.Walking.{EachWith-at, EachWith-back, none_seen, tree_there, walk, walk_is, walks_well}
+use Rattle.k_dict_entries.specs.Dictionary.{IsDictionaryOf}
+use Rattle.k_dict_entries.specs.Entries.{AreRuns, NameBelow, NameEarlier, copies, laid, no_tree, tree_at, tree_of, trees_of}
+use Rattle.k_dict_entries.specs.Gathering.{number_of}
+use Rattle.k_dict_entries.specs.Rules.{no_entry}
+use Rattle.k_dict_entries.specs.Tallies.{counted}
+use Rattle.k_dict_entries.specs.Trees.{Forest, Label, SameShape, Tree, alone, bare, grown, post_order}
+use Rattle.k_dict_entries.specs.declared.entry.Entry.{Entry}
+use Rattle.k_dict_entries.specs.declared.entry.Run.{Run}
+use Rattle.k_dict_entries.proofs.Again.{covered, from_list}
+use Rattle.k_dict_entries.proofs.Coding.{AreProper, code, code-copies, code-entry, code_alike, entry_at, number_below, number_in, times-counted}
+use Rattle.k_dict_entries.proofs.Counting.{counted-at, counted-before, counted-behind, counted-exchange}
+use Rattle.k_dict_entries.proofs.EntryTrees.{below_bound, length-trees, tree_is}
+use Rattle.k_dict_entries.proofs.Forests.{SameShape-further, SameShape-sym}
+use Rattle.k_dict_entries.proofs.Lists.{same_tree}
+use Rattle.k_dict_entries.proofs.Unique.{one_dictionary}
+use Rattle.k_dict_entries.proofs.Walking.{EachWith-at, EachWith-back, none_seen, tree_there, walk, walk_is, walks_well}
 use Rattle.k_dict_saved.specs.Formats.{IsNamedBy, Names}
 use Rattle.k_dict_saved.proofs.Shapes.{at_back, at_front}
 use Rattle.k_selfpar_laws.specs.Renumbered.{AreRenumbered, EntriesAreGatheredAgain, IsRenumbered, MeetRules, times_named}

@@ -5,10 +5,10 @@ use Rattle.std.specs.Prelude.{ℕ, List, [], ◌∷◌}
 use Rattle.k_optab.specs.declared.region.Region.{Region}
 use Rattle.k_optab.specs.declared.region.RegionKind.{RegionKind}
 use Rattle.k_optab.specs.declared.region.RegionKind.TheVariants.{Func, Loop, Body}
-use Rattle.k_dict.specs.Dictionary.{IsDictionary}
-use Rattle.k_dict.specs.Trees.{Forest, Label, Tree, bare, grown, list_of}
-use Rattle.k_dict.specs.declared.entry.Entry.{Entry}
-use Rattle.k_dict.specs.declared.entry.Run.{Run}
+use Rattle.k_dict_entries.specs.Dictionary.{IsDictionary}
+use Rattle.k_dict_entries.specs.Trees.{Forest, Label, Tree, bare, grown, list_of}
+use Rattle.k_dict_entries.specs.declared.entry.Entry.{Entry}
+use Rattle.k_dict_entries.specs.declared.entry.Run.{Run}
 use Rattle.k_selfpar.specs.Contexts.{AreContexts}
 use Rattle.k_selfpar.specs.Rows.{AreRows}
 use Rattle.k_selfpar.specs.declared.context.Context.{Context}

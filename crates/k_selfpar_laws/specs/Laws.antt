@@ -3,7 +3,7 @@
 use Rattle.std.specs.Prelude.{ℕ, ◌<◌, ◌≡◌, ◌⊎◌, ◌+◌, ◌==◌, if◌then◌else◌, List, [], ◌∷◌, ◌++◌, Some, slice_get, filter, sum_by}
 use Rattle.k_optab.specs.declared.region.Region.{Region}
 use Rattle.k_optab.specs.Tree.{EachWith}
-use Rattle.k_dict.specs.Trees.{Forest, Label, Tree, alone, bare, list_of}
+use Rattle.k_dict_entries.specs.Trees.{Forest, Label, Tree, alone, bare, list_of}
 use Rattle.k_selfpar.specs.Contexts.{AreContexts, IsContext}
 use Rattle.k_selfpar.specs.Laws.{at_regions}
 use Rattle.k_selfpar.specs.Ratio.{IsRatio}

@@ -1,10 +1,10 @@
 -- Believed with a public law.
 -- Entries of a dictionary with other numbers.
 use Rattle.std.specs.Prelude.{ℕ, ◌+◌, ◌<◌, ◌≡◌, ◌==◌, if◌then◌else◌, List, [], ◌∷◌, length, Some, slice_get}
-use Rattle.k_dict.specs.Dictionary.{IsDictionary}
-use Rattle.k_dict.specs.Entries.{AreApart, NameEarlier, expansion}
-use Rattle.k_dict.specs.declared.entry.Entry.{Entry}
-use Rattle.k_dict.specs.declared.entry.Run.{Run}
+use Rattle.k_dict_entries.specs.Dictionary.{IsDictionary}
+use Rattle.k_dict_entries.specs.Entries.{AreApart, NameEarlier, expansion}
+use Rattle.k_dict_entries.specs.declared.entry.Entry.{Entry}
+use Rattle.k_dict_entries.specs.declared.entry.Run.{Run}
 use Rattle.k_dict_saved.specs.Formats.{AreNamed}
 
 -- the entries of a saved profile: no two are equal, each names earlier ones, and each but the last, which is the root, is named

@@ -3,13 +3,13 @@ use Rattle.std.proofs.Common.{◌≡◌, ℕ, ◌+◌, ◌*◌, ◌^◌, ◌<◌
 use Rattle.std.specs.Prelude.{ℤ}
 use Rattle.std.proofs.lemmas.Option.{slice_get_within}
 use Rattle.std.proofs.lemmas.Bool.{cases_lt}
-use Rattle.k_dict.specs.Entries.{AreRuns, NameBelow, laid, no_tree, tree_at, tree_of, trees_of}
-use Rattle.k_dict.specs.Trees.{Tree, alone, size}
-use Rattle.k_dict.specs.Tallies.{total}
-use Rattle.k_dict.specs.declared.entry.Entry.{Entry}
-use Rattle.k_dict.specs.declared.entry.Run.{Run}
-use Rattle.k_dict.proofs.EntryTrees.{below_bound, tree_is}
-use Rattle.k_dict.proofs.Sound.{AreRuns-wider}
+use Rattle.k_dict_entries.specs.Entries.{AreRuns, NameBelow, laid, no_tree, tree_at, tree_of, trees_of}
+use Rattle.k_dict_entries.specs.Trees.{Tree, alone, size}
+use Rattle.k_dict_entries.specs.Tallies.{total}
+use Rattle.k_dict_entries.specs.declared.entry.Entry.{Entry}
+use Rattle.k_dict_entries.specs.declared.entry.Run.{Run}
+use Rattle.k_dict_entries.proofs.EntryTrees.{below_bound, tree_is}
+use Rattle.k_dict_entries.proofs.Sound.{AreRuns-wider}
 use Rattle.k_dict_saved.specs.Migration.{HaveFewChildren, renumbered}
 use Rattle.k_dict_saved.specs.Profile.{IsSaved}
 use Rattle.k_dict_saved.specs.declared.saved.Saved.{Saved}

@@ -2,22 +2,22 @@
 use Rattle.std.proofs.Common.{◌≡◌, ℕ, suc, ◌+◌, ◌^◌, ◌<◌, ◌⊎◌, inl, inr, List, [], ◌∷◌, ◌++◌, length, get_or, Result, Ok, Err, Some, slice_get, refl, sym, ap, ◌∙◌, subst, arith, append-nil, append_assoc, length-append}
 use Rattle.std.proofs.lemmas.List.{get_or_append_left, get_or_at}
 use Rattle.std.proofs.lemmas.Bool.{cases_lt}
-use Rattle.k_dict.specs.Dictionary.{refusal}
-use Rattle.k_dict.specs.Entries.{AreInterned, AreRuns, NameBelow, NameEarlier}
-use Rattle.k_dict.specs.Gathering.{number_of, with_entry}
-use Rattle.k_dict.specs.Interning.{CanIntern, Interns}
-use Rattle.k_dict.specs.Tallies.{count_of, counted, total}
-use Rattle.k_dict.specs.declared.dict.DictFault.{DictFault}
-use Rattle.k_dict.specs.declared.dict.DictFault.TheVariants.{Full, Memory}
-use Rattle.k_dict.specs.declared.dict.Which.TheVariants.{Entries, AllRuns}
-use Rattle.k_dict.specs.declared.entry.Entry.{Entry}
-use Rattle.k_dict.specs.declared.entry.Run.{Run}
-use Rattle.k_dict.proofs.Counting.{AreRuns-counted}
-use Rattle.k_dict.proofs.EntryTrees.{below_bound}
-use Rattle.k_dict.proofs.Numbers.{is_in_or_absent, with_absent, with_there}
-use Rattle.k_dict.proofs.Places.{place_behind, place_of_push}
-use Rattle.k_dict.proofs.Sound.{count_of-total, longer, number_is, refusal_goes_on, refused_entries, refused_runs, total-counted}
-use Rattle.k_dict.proofs.Walking.{has_added}
+use Rattle.k_dict_entries.specs.Dictionary.{refusal}
+use Rattle.k_dict_entries.specs.Entries.{AreInterned, AreRuns, NameBelow, NameEarlier}
+use Rattle.k_dict_entries.specs.Gathering.{number_of, with_entry}
+use Rattle.k_dict_entries.specs.Interning.{CanIntern, Interns}
+use Rattle.k_dict_entries.specs.Tallies.{count_of, counted, total}
+use Rattle.k_dict_entries.specs.declared.dict.DictFault.{DictFault}
+use Rattle.k_dict_entries.specs.declared.dict.DictFault.TheVariants.{Full, Memory}
+use Rattle.k_dict_entries.specs.declared.dict.Which.TheVariants.{Entries, AllRuns}
+use Rattle.k_dict_entries.specs.declared.entry.Entry.{Entry}
+use Rattle.k_dict_entries.specs.declared.entry.Run.{Run}
+use Rattle.k_dict_entries.proofs.Counting.{AreRuns-counted}
+use Rattle.k_dict_entries.proofs.EntryTrees.{below_bound}
+use Rattle.k_dict_entries.proofs.Numbers.{is_in_or_absent, with_absent, with_there}
+use Rattle.k_dict_entries.proofs.Places.{place_behind, place_of_push}
+use Rattle.k_dict_entries.proofs.Sound.{count_of-total, longer, number_is, refusal_goes_on, refused_entries, refused_runs, total-counted}
+use Rattle.k_dict_entries.proofs.Walking.{has_added}
 use Rattle.k_dict_saved.specs.Migration.{HaveFewChildren, renumbered, renumbered_entry}
 use Rattle.k_sum.specs.Joining.{AreKnown, GoesOn, Joined, JoinsAll, JoinsOne, counted_all, joined, with_all, with_one}
 

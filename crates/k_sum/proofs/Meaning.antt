@@ -4,20 +4,20 @@ use Rattle.std.proofs.lemmas.List.{get_or_append_left, get_or_at}
 use Rattle.std.proofs.lemmas.Bool.{cases_lt}
 use Rattle.std.proofs.lemmas.Option.{same_Some, slice_get_within}
 use Rattle.k_optab.specs.Tree.{EachWith}
-use Rattle.k_dict.specs.Dictionary.{Firsts, ended, anew}
-use Rattle.k_dict.specs.Entries.{AreRuns, NameBelow, NameEarlier, copies, label_of, laid, no_tree, tree_at, tree_of, trees_of}
-use Rattle.k_dict.specs.Gathering.{number_of, with_entry}
-use Rattle.k_dict.specs.Tallies.{counted}
-use Rattle.k_dict.specs.Trees.{Alike, Forest, Label, SameShape, Tree, alone, bare, both, further, grown}
-use Rattle.k_dict.specs.declared.entry.Entry.{Entry}
-use Rattle.k_dict.specs.declared.entry.Run.{Run}
-use Rattle.k_dict.proofs.Coding.{AreProper, Knows, Knows-kept, beside-bare, code, code-copies, code-kept, code-of_laid, code_alike, entry_at, laid_code, number_below, number_in, times-counted}
-use Rattle.k_dict.proofs.EntryTrees.{below_bound, laid-prefix, length-trees, trees-kept, trees-push}
-use Rattle.k_dict.proofs.Forests.{Alike-refl, Alike-same, Alike-sym, SameShape-refl, beside, beside_front, beside_left, beside_right}
-use Rattle.k_dict.proofs.Numbers.{IsIn, number_kept}
-use Rattle.k_dict.proofs.Places.{place_behind, place_kept}
-use Rattle.k_dict.proofs.Sound.{AreRuns-wider}
-use Rattle.k_dict.proofs.Walking.{AreEntriesOf, closing, has_added, tree_there}
+use Rattle.k_dict_entries.specs.Dictionary.{Firsts, ended, anew}
+use Rattle.k_dict_entries.specs.Entries.{AreRuns, NameBelow, NameEarlier, copies, label_of, laid, no_tree, tree_at, tree_of, trees_of}
+use Rattle.k_dict_entries.specs.Gathering.{number_of, with_entry}
+use Rattle.k_dict_entries.specs.Tallies.{counted}
+use Rattle.k_dict_entries.specs.Trees.{Alike, Forest, Label, SameShape, Tree, alone, bare, both, further, grown}
+use Rattle.k_dict_entries.specs.declared.entry.Entry.{Entry}
+use Rattle.k_dict_entries.specs.declared.entry.Run.{Run}
+use Rattle.k_dict_entries.proofs.Coding.{AreProper, Knows, Knows-kept, beside-bare, code, code-copies, code-kept, code-of_laid, code_alike, entry_at, laid_code, number_below, number_in, times-counted}
+use Rattle.k_dict_entries.proofs.EntryTrees.{below_bound, laid-prefix, length-trees, trees-kept, trees-push}
+use Rattle.k_dict_entries.proofs.Forests.{Alike-refl, Alike-same, Alike-sym, SameShape-refl, beside, beside_front, beside_left, beside_right}
+use Rattle.k_dict_entries.proofs.Numbers.{IsIn, number_kept}
+use Rattle.k_dict_entries.proofs.Places.{place_behind, place_kept}
+use Rattle.k_dict_entries.proofs.Sound.{AreRuns-wider}
+use Rattle.k_dict_entries.proofs.Walking.{AreEntriesOf, closing, has_added, tree_there}
 use Rattle.k_dict_saved.specs.Migration.{renumbered, renumbered_entry}
 use Rattle.k_dict_saved.proofs.Migrating.{code_renumbered}
 use Rattle.k_sum.specs.Joining.{Joined, counted_all, joined, with_all, with_one}

@@ -1,13 +1,13 @@
 -- Believed with a public law.
 -- The entries of two dictionaries together.
 use Rattle.std.specs.Prelude.{ℕ, ◌<◌, ◌≡◌, List, [], ◌∷◌, ◌++◌, length, slice_index_or, Some, Result, Ok, Err}
-use Rattle.k_dict.specs.Dictionary.{refusal}
-use Rattle.k_dict.specs.Gathering.{number_of, with_entry}
-use Rattle.k_dict.specs.Tallies.{counted}
-use Rattle.k_dict.specs.declared.dict.DictFault.{DictFault}
-use Rattle.k_dict.specs.declared.dict.DictFault.TheVariants.{Full, Memory}
-use Rattle.k_dict.specs.declared.entry.Entry.{Entry}
-use Rattle.k_dict.specs.declared.entry.Run.{Run}
+use Rattle.k_dict_entries.specs.Dictionary.{refusal}
+use Rattle.k_dict_entries.specs.Gathering.{number_of, with_entry}
+use Rattle.k_dict_entries.specs.Tallies.{counted}
+use Rattle.k_dict_entries.specs.declared.dict.DictFault.{DictFault}
+use Rattle.k_dict_entries.specs.declared.dict.DictFault.TheVariants.{Full, Memory}
+use Rattle.k_dict_entries.specs.declared.entry.Entry.{Entry}
+use Rattle.k_dict_entries.specs.declared.entry.Run.{Run}
 use Rattle.k_dict_saved.specs.Migration.{renumbered_entry}
 
 -- entries, and the numbers that those of another dictionary have among them so far

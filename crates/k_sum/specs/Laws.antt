@@ -1,8 +1,8 @@
 -- Believed with a public law.
 -- What holds of sums: the statements of the laws.
 use Rattle.std.specs.Prelude.{ℕ, ℤ, List, ◌+◌, if◌then◌else◌, [], ◌∷◌, ◌-◌, ◌≡◌, length}
-use Rattle.k_dict.specs.Entries.{AreApart, AreRuns, NameEarlier, laid, tree_at, trees_of}
-use Rattle.k_dict.specs.Trees.{Alike, Forest, alone, bare, grown}
+use Rattle.k_dict_entries.specs.Entries.{AreApart, AreRuns, NameEarlier, laid, tree_at, trees_of}
+use Rattle.k_dict_entries.specs.Trees.{Alike, Forest, alone, bare, grown}
 use Rattle.k_dict_saved.specs.Profile.{IsSaved}
 use Rattle.k_dict_saved.specs.declared.saved.Saved.{Saved}
 use Rattle.std.specs.Ordering.{int_eq}

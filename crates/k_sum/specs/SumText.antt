@@ -3,7 +3,7 @@
 use Rattle.std.specs.Prelude.{ℕ, List, ◌++◌, length, codes}
 use Rattle.std.specs.List.{flat_map}
 use Rattle.std.specs.Fmt.{decimal, signed_decimal}
-use Rattle.k_dict.specs.declared.entry.Run.{Run}
+use Rattle.k_dict_entries.specs.declared.entry.Run.{Run}
 use Rattle.k_text.specs.Texts.{named_line, run_text}
 use Rattle.k_dict_saved.specs.FileText.{entries_text, regions_text}
 use Rattle.k_sum.specs.declared.exits.Exit.{Exit}

@@ -1,14 +1,14 @@
 -- Believed with a public law.
 -- *Sum*: what many runs of one program come to together.
 use Rattle.std.specs.Prelude.{◌+◌, ◌-◌, ◌*◌, ◌^◌, ◌<◌, ◌≤◌, ◌≡◌, ◌≢◌, ◌⊎◌, List, [], ◌∷◌, length, Some, Result, Ok, Err}
-use Rattle.k_dict.specs.Dictionary.{refusal}
-use Rattle.k_dict.specs.Entries.{AreRuns}
-use Rattle.k_dict.specs.Rules.{entry_of}
-use Rattle.k_dict.specs.Tallies.{total}
-use Rattle.k_dict.specs.declared.dict.DictFault.{DictFault}
-use Rattle.k_dict.specs.declared.dict.DictFault.TheVariants.{Full, Memory}
-use Rattle.k_dict.specs.declared.entry.Entry.{Entry}
-use Rattle.k_dict.specs.declared.entry.Run.{Run}
+use Rattle.k_dict_entries.specs.Dictionary.{refusal}
+use Rattle.k_dict_entries.specs.Entries.{AreRuns}
+use Rattle.k_dict_entries.specs.Rules.{entry_of}
+use Rattle.k_dict_entries.specs.Tallies.{total}
+use Rattle.k_dict_entries.specs.declared.dict.DictFault.{DictFault}
+use Rattle.k_dict_entries.specs.declared.dict.DictFault.TheVariants.{Full, Memory}
+use Rattle.k_dict_entries.specs.declared.entry.Entry.{Entry}
+use Rattle.k_dict_entries.specs.declared.entry.Run.{Run}
 use Rattle.k_dict_saved.specs.Migration.{HaveFewChildren, renumbered}
 use Rattle.k_dict_saved.specs.declared.saved.Saved.{Saved}
 use Rattle.k_sum.specs.Exits.{with_exits}

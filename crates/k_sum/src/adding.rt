@@ -1,7 +1,7 @@
 //! Runs put together with others.
 ghost use Rattle.std.specs.Prelude.{◌≡◌, ◌+◌, ◌^◌, ◌<◌, [], length, IsTrue, ◌↔◌, IfOk, OnOk};
-ghost use Rattle.k_dict.specs.Entries.{AreInterned, NameBelow};
-ghost use Rattle.k_dict.specs.Tallies.{total};
+ghost use Rattle.k_dict_entries.specs.Entries.{AreInterned, NameBelow};
+ghost use Rattle.k_dict_entries.specs.Tallies.{total};
 ghost use Rattle.k_dict_saved.specs.Migration.{renumbered};
 ghost use Rattle.k_sum.specs.Joining.{counted_all};
 ghost use Rattle.k_sum.specs.Sums.{AddsTo, CanJoin, HasBounds, IsLarge, Joins};
@@ -11,7 +11,7 @@ ghost use Rattle.k_sum.specs.Exits as exits_spec;
 use crate::entries::{add_entries, count_all, count_renumbered};
 use crate::exits::{Exit, Exits};
 use crate::sum::{Sum, SumFault};
-use k_dict::{Dict, DictFault, Run, Tally};
+use k_dict_entries::{Dict, DictFault, Run, Tally};
 use k_num::{NoMemory, Seq};
 use k_optab::Region;
 use std::alloc::Global;

@@ -1,11 +1,11 @@
 //! The entries of one dictionary, added to those of another.
 ghost use Rattle.std.specs.Prelude.{◌≡◌, ◌+◌, ◌^◌, ◌<◌, [], length, slice_index_or, IfOk, OnOk};
-ghost use Rattle.k_dict.specs.Entries.{AreInterned, NameBelow, NameEarlier};
-ghost use Rattle.k_dict.specs.Tallies.{total};
+ghost use Rattle.k_dict_entries.specs.Entries.{AreInterned, NameBelow, NameEarlier};
+ghost use Rattle.k_dict_entries.specs.Tallies.{total};
 ghost use Rattle.k_dict_saved.specs.Migration.{HaveFewChildren, renumbered, renumbered_entry};
 ghost use Rattle.k_sum.specs.Joining.{AreKnown, JoinsAll, JoinsOne, counted_all};
 
-use k_dict::{Dict, DictFault, Entry, Run, Tally};
+use k_dict_entries::{Dict, DictFault, Entry, Run, Tally};
 use k_num::{NoMemory, Seq};
 use std::alloc::Global;
 

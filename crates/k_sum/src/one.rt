@@ -6,7 +6,7 @@ ghost use Rattle.k_sum.specs.Sums as spec;
 
 use crate::exits::Exit;
 use crate::sum::Sum;
-use k_dict::Run;
+use k_dict_entries::Run;
 use k_dict_saved::Saved;
 use k_num::{NoMemory, Seq};
 use std::alloc::Global;

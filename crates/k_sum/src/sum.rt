@@ -1,7 +1,7 @@
 //! What many runs of one program come to together.
 
 use crate::exits::Exit;
-use k_dict::{Dict, DictFault, Run};
+use k_dict_entries::{Dict, DictFault, Run};
 use k_num::Seq;
 use k_optab::Region;
 

@@ -5,7 +5,7 @@ ghost use Rattle.k_sum.specs.SumText.{exit_line, exits_text, roots_text, runs_te
 
 use crate::exits::Exit;
 use crate::sum::Sum;
-use k_dict::{Entry, Run};
+use k_dict_entries::{Entry, Run};
 use k_num::NoMemory;
 use k_optab::Region;
 use k_text::{push, push_line, push_named, push_number, push_region, push_runs};

@@ -3,15 +3,15 @@ use Rattle.std.proofs.Common.{◌≡◌, ℕ, zero, suc, ◌<◌, ◌≤◌, ◌
 use Rattle.std.proofs.lemmas.Bool.{cases_lt}
 use Rattle.std.proofs.lemmas.Option.{none-some, same_Some, slice_get_within}
 use Rattle.k_optab.specs.declared.region.Region.{Region}
-use Rattle.k_dict.specs.Entries.{AreInterned, NameBelow, NameEarlier, copies, laid, tree_at, tree_of, trees_of}
-use Rattle.k_dict.specs.Rules.{child_works, entry_of}
-use Rattle.k_dict.specs.Tallies.{total}
-use Rattle.k_dict.specs.Trees.{Alike, Forest, Label, SameShape, Tree, size}
-use Rattle.k_dict.specs.declared.entry.Entry.{Entry}
-use Rattle.k_dict.specs.declared.entry.Run.{Run}
-use Rattle.k_dict.proofs.Coding.{AreProper}
-use Rattle.k_dict.proofs.EntryTrees.{below_bound, tree_is}
-use Rattle.k_dict.proofs.Forests.{Alike-size, Alike-sym, SameShape-sym}
+use Rattle.k_dict_entries.specs.Entries.{AreInterned, NameBelow, NameEarlier, copies, laid, tree_at, tree_of, trees_of}
+use Rattle.k_dict_entries.specs.Rules.{child_works, entry_of}
+use Rattle.k_dict_entries.specs.Tallies.{total}
+use Rattle.k_dict_entries.specs.Trees.{Alike, Forest, Label, SameShape, Tree, size}
+use Rattle.k_dict_entries.specs.declared.entry.Entry.{Entry}
+use Rattle.k_dict_entries.specs.declared.entry.Run.{Run}
+use Rattle.k_dict_entries.proofs.Coding.{AreProper}
+use Rattle.k_dict_entries.proofs.EntryTrees.{below_bound, tree_is}
+use Rattle.k_dict_entries.proofs.Forests.{Alike-size, Alike-sym, SameShape-sym}
 use Rattle.k_dict_saved.specs.Files.{AreRegions}
 use Rattle.k_dict_saved.specs.Formats.{IsNamedBy, Names}
 use Rattle.k_dict_saved.proofs.Shapes.{tops_alike, works_laid}

@@ -1,12 +1,12 @@
 -- What holds of each tree of a forest, and of its outermost trees.
 use Rattle.std.proofs.Common.{◌≡◌, ℕ, zero, suc, ◌+◌, ◌<◌, ◌≤◌, inl, inr, List, [], ◌∷◌, length, get_or, Some, slice_get, refl, sym, subst, arith}
-use Rattle.k_dict.specs.Entries.{NameBelow, NameEarlier, copies, laid, no_tree, tree_at, tree_of, trees_of}
-use Rattle.k_dict.specs.Rules.{entry_of}
-use Rattle.k_dict.specs.Trees.{Alike, Forest, Label, SameShape, Tree, alone, bare, both, exchanged, further, grown, neither}
-use Rattle.k_dict.specs.declared.entry.Entry.{Entry}
-use Rattle.k_dict.specs.declared.entry.Run.{Run}
-use Rattle.k_dict.proofs.EntryTrees.{below_bound, tree_is}
-use Rattle.k_dict.proofs.Forests.{SameShape-sym}
+use Rattle.k_dict_entries.specs.Entries.{NameBelow, NameEarlier, copies, laid, no_tree, tree_at, tree_of, trees_of}
+use Rattle.k_dict_entries.specs.Rules.{entry_of}
+use Rattle.k_dict_entries.specs.Trees.{Alike, Forest, Label, SameShape, Tree, alone, bare, both, exchanged, further, grown, neither}
+use Rattle.k_dict_entries.specs.declared.entry.Entry.{Entry}
+use Rattle.k_dict_entries.specs.declared.entry.Run.{Run}
+use Rattle.k_dict_entries.proofs.EntryTrees.{below_bound, tree_is}
+use Rattle.k_dict_entries.proofs.Forests.{SameShape-sym}
 use Rattle.k_dict_saved.proofs.Shapes.{tops}
 use Rattle.k_sum.specs.Laws.{together}
 use Rattle.k_sum_order.specs.Laws.{Has}

@@ -5,14 +5,14 @@ use Rattle.std.specs.Int.{w32}
 use Rattle.std.proofs.lemmas.Option.{slice_get_within}
 use Rattle.k_optab.specs.declared.region.Region.{Region}
 use Rattle.k_optab.specs.declared.region.RegionKind.TheVariants.{Func}
-use Rattle.k_dict.specs.Entries.{NameBelow, NameEarlier, laid, tree_at, tree_of, trees_of}
-use Rattle.k_dict.specs.Rules.{entry_of}
-use Rattle.k_dict.specs.Trees.{Alike, Forest, Label, Tree}
-use Rattle.k_dict.specs.declared.dict.DictFault.TheVariants.{Full, Memory}
-use Rattle.k_dict.specs.declared.entry.Entry.{Entry}
-use Rattle.k_dict.specs.declared.entry.Run.{Run}
-use Rattle.k_dict.proofs.EntryTrees.{below_bound, tree_is}
-use Rattle.k_dict.proofs.Forests.{Alike-sym}
+use Rattle.k_dict_entries.specs.Entries.{NameBelow, NameEarlier, laid, tree_at, tree_of, trees_of}
+use Rattle.k_dict_entries.specs.Rules.{entry_of}
+use Rattle.k_dict_entries.specs.Trees.{Alike, Forest, Label, Tree}
+use Rattle.k_dict_entries.specs.declared.dict.DictFault.TheVariants.{Full, Memory}
+use Rattle.k_dict_entries.specs.declared.entry.Entry.{Entry}
+use Rattle.k_dict_entries.specs.declared.entry.Run.{Run}
+use Rattle.k_dict_entries.proofs.EntryTrees.{below_bound, tree_is}
+use Rattle.k_dict_entries.proofs.Forests.{Alike-sym}
 use Rattle.k_dict_saved.specs.Files.{AreRegions}
 use Rattle.k_dict_saved.specs.Formats.{IsNamedBy, Names}
 use Rattle.k_dict_saved.specs.Profile.{IsSaved}

@@ -1,11 +1,11 @@
 -- The rules of a profile, told of the trees of its entries: trees that differ in the order of siblings alone keep the same rules.
 use Rattle.std.proofs.Common.{◌≡◌, ℕ, ◌+◌, ◌-◌, ◌<◌, ◌≤◌, List, length, Some, slice_get, sym, ap, subst, arith}
 use Rattle.std.proofs.lemmas.Option.{slice_get_within}
-use Rattle.k_dict.specs.Entries.{NameBelow, NameEarlier, label_of, laid, tree_at, tree_of, trees_of}
-use Rattle.k_dict.specs.Rules.{HasBoundedNumbers, HaveBoundedNumbers, HaveFewInstances, HaveFewLevels, NameRegions, child_paths, child_works, entry_of}
-use Rattle.k_dict.specs.Trees.{SameShape, Tree, alone, height, size}
-use Rattle.k_dict.specs.declared.entry.Entry.{Entry}
-use Rattle.k_dict.proofs.EntryTrees.{below_bound, tree_is}
+use Rattle.k_dict_entries.specs.Entries.{NameBelow, NameEarlier, label_of, laid, tree_at, tree_of, trees_of}
+use Rattle.k_dict_entries.specs.Rules.{HasBoundedNumbers, HaveBoundedNumbers, HaveFewInstances, HaveFewLevels, NameRegions, child_paths, child_works, entry_of}
+use Rattle.k_dict_entries.specs.Trees.{SameShape, Tree, alone, height, size}
+use Rattle.k_dict_entries.specs.declared.entry.Entry.{Entry}
+use Rattle.k_dict_entries.proofs.EntryTrees.{below_bound, tree_is}
 use Rattle.k_dict_saved.proofs.Apart.{wider}
 use Rattle.k_dict_saved.proofs.Shapes.{TopsUpTo, height_of_shape, laid_up_to, paths_laid, size_of_shape, tops, tops_alike, up_to_alike, up_to_laid, works_laid}
 use Rattle.k_sum_order.proofs.OneOrder.{entry_there}

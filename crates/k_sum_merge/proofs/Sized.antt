@@ -2,12 +2,12 @@
 use Rattle.std.proofs.Common.{◌≡◌, ℕ, ◌+◌, ◌*◌, ◌<◌, ◌≤◌, ◌⊎◌, inl, inr, Bool, IsTrue, ◌↔◌, List, [], ◌∷◌, ◌++◌, length, get_or, Some, slice_get, refl, sym, ap, ◌∙◌, subst, length-append, arith}
 use Rattle.std.proofs.lemmas.Bool.{cases_lt}
 use Rattle.std.proofs.lemmas.List.{get_or_append_left, get_or_at}
-use Rattle.k_dict.specs.Entries.{NameBelow, NameEarlier, laid, tree_at, tree_of, trees_of}
-use Rattle.k_dict.specs.Rules.{entry_of}
-use Rattle.k_dict.specs.Trees.{Tree, alone, size}
-use Rattle.k_dict.specs.declared.entry.Entry.{Entry}
-use Rattle.k_dict.specs.declared.entry.Run.{Run}
-use Rattle.k_dict.proofs.EntryTrees.{below_bound, tree_is}
+use Rattle.k_dict_entries.specs.Entries.{NameBelow, NameEarlier, laid, tree_at, tree_of, trees_of}
+use Rattle.k_dict_entries.specs.Rules.{entry_of}
+use Rattle.k_dict_entries.specs.Trees.{Tree, alone, size}
+use Rattle.k_dict_entries.specs.declared.entry.Entry.{Entry}
+use Rattle.k_dict_entries.specs.declared.entry.Run.{Run}
+use Rattle.k_dict_entries.proofs.EntryTrees.{below_bound, tree_is}
 use Rattle.k_dict_saved.specs.Extents.{capped}
 use Rattle.k_dict_saved.proofs.RunSums.{size-copies}
 use Rattle.k_sum.specs.Laws.{forest_of}

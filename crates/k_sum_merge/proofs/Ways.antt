@@ -1,8 +1,8 @@
 -- Profiles of one program have one file, whether or not some of them were put together, saved and read again before.
 use Rattle.std.proofs.Common.{List, refl, sym, ap, ◌∙◌, subst}
 use Rattle.k_optab.specs.declared.region.Region.{Region}
-use Rattle.k_dict.specs.Trees.{further}
-use Rattle.k_dict.proofs.Forests.{Alike-refl, Alike-sym}
+use Rattle.k_dict_entries.specs.Trees.{further}
+use Rattle.k_dict_entries.proofs.Forests.{Alike-refl, Alike-sym}
 use Rattle.k_sum.specs.Laws.{ended_with, forest_of}
 use Rattle.k_sum.specs.Sums.{sum_of}
 use Rattle.k_sum.specs.declared.exits.Exit.{Exit}

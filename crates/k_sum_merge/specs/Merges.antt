@@ -1,7 +1,7 @@
 -- Believed with a public law.
 -- What comes of a sum that is put together of files and is to be saved.
 use Rattle.std.specs.Prelude.{◌<◌, ◌⊎◌, Result, Ok, Err}
-use Rattle.k_dict.specs.Trees.{size}
+use Rattle.k_dict_entries.specs.Trees.{size}
 use Rattle.k_sum.specs.Laws.{forest_of}
 use Rattle.k_sum.specs.declared.sum.Sum.{Sum}
 use Rattle.k_sum.specs.declared.sum.SumFault.{SumFault}

@@ -1,10 +1,10 @@
 -- For contracts between crates: nobody has to believe it.
 -- How many instances the trees of entries have.
 use Rattle.std.specs.Prelude.{ℕ, ◌+◌, ◌*◌, ◌<◌, ◌≡◌, List, [], ◌∷◌, length, slice_index_or}
-use Rattle.k_dict.specs.Entries.{tree_at}
-use Rattle.k_dict.specs.Trees.{alone, size}
-use Rattle.k_dict.specs.declared.entry.Entry.{Entry}
-use Rattle.k_dict.specs.declared.entry.Run.{Run}
+use Rattle.k_dict_entries.specs.Entries.{tree_at}
+use Rattle.k_dict_entries.specs.Trees.{alone, size}
+use Rattle.k_dict_entries.specs.declared.entry.Entry.{Entry}
+use Rattle.k_dict_entries.specs.declared.entry.Run.{Run}
 use Rattle.k_dict_saved.specs.Extents.{capped}
 
 -- how many instances children have together, where the trees of entries have so many

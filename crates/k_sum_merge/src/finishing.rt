@@ -5,7 +5,7 @@ ghost use Rattle.k_sum_saved.specs.Merged.{IsMerged};
 ghost use Rattle.k_sum_saved.specs.SumLines.{AreOfOneRegion};
 
 use crate::sizes::count_instances;
-use k_dict::DictFault;
+use k_dict_entries::DictFault;
 use k_num::NoMemory;
 use k_sum::{Sum, SumFault};
 use k_sum_order::in_order;

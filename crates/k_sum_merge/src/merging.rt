@@ -1,5 +1,5 @@
 //! Files, put together one after the other.
-ghost use Rattle.k_dict.specs.Entries.{AreInterned};
+ghost use Rattle.k_dict_entries.specs.Entries.{AreInterned};
 ghost use Rattle.k_sum.specs.Sums.{AddsTo};
 ghost use Rattle.k_sum_saved.specs.Merged.{IsMerged};
 

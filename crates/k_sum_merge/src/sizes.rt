@@ -1,11 +1,11 @@
 //! How many instances the runs of a sum have together.
 ghost use Rattle.std.specs.Prelude.{◌≡◌, ◌+◌, ◌*◌, length, IfOk};
-ghost use Rattle.k_dict.specs.Entries.{NameBelow, NameEarlier, laid, trees_of};
-ghost use Rattle.k_dict.specs.Trees.{size};
+ghost use Rattle.k_dict_entries.specs.Entries.{NameBelow, NameEarlier, laid, trees_of};
+ghost use Rattle.k_dict_entries.specs.Trees.{size};
 ghost use Rattle.k_dict_saved.specs.Extents.{capped};
 ghost use Rattle.k_sum_merge.specs.Sizes.{AreSizes, instances_in};
 
-use k_dict::{Entry, Run};
+use k_dict_entries::{Entry, Run};
 use k_num::NoMemory;
 use std::alloc::Global;
 

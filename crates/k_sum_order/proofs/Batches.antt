@@ -5,8 +5,8 @@ use Rattle.std.proofs.lemmas.List.Sorted.{All-permutation, Contains-permutation,
 use Rattle.std.specs.Cmp.Lexicographic.{slice_cmp}
 use Rattle.std.specs.List.Sorted.{IsPermutation}
 use Rattle.std.specs.Ordering.{is_lt, nat_cmp}
-use Rattle.k_dict.specs.Entries.{NameEarlier}
-use Rattle.k_dict.specs.declared.entry.Entry.{Entry}
+use Rattle.k_dict_entries.specs.Entries.{NameEarlier}
+use Rattle.k_dict_entries.specs.declared.entry.Entry.{Entry}
 use Rattle.k_sum_order.specs.Order.{ComesBefore, key_of}
 use Rattle.k_sum_order.specs.Placing.{AreLevels, AreOrderedTo, AreRanked, HaveRisingKeys, Ordering, OrdersLevel, entry_with}
 use Rattle.k_sum_order.specs.declared.batch.Ranked.{Ranked}

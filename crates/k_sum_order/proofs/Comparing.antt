@@ -7,10 +7,10 @@ use Rattle.std.specs.Cmp.Lexicographic.{slice_cmp}
 use Rattle.std.specs.Ordering.{MatchOrdering, is_lt, nat_cmp, ordering_reverse, ordering_then}
 use Rattle.std.specs.declared.cmp.Ordering.{Ordering}
 use Rattle.std.specs.declared.cmp.Ordering.TheVariants.{Less, Equal, Greater}
-use Rattle.k_dict.specs.Entries.{AreApart}
-use Rattle.k_dict.specs.declared.entry.Entry.{Entry}
-use Rattle.k_dict.specs.declared.entry.Run.{Run}
-use Rattle.k_dict.proofs.Places.{place_of_push}
+use Rattle.k_dict_entries.specs.Entries.{AreApart}
+use Rattle.k_dict_entries.specs.declared.entry.Entry.{Entry}
+use Rattle.k_dict_entries.specs.declared.entry.Run.{Run}
+use Rattle.k_dict_entries.proofs.Places.{place_of_push}
 use Rattle.k_sum_order.specs.Order.{AreInOrder, ComesBefore, behind, key_of, run_numbers}
 use Rattle.k_sum_order.specs.Placing.{AreLinked, GoesOn}
 

@@ -2,18 +2,18 @@
 use Rattle.std.proofs.Common.{◌≡◌, ℕ, zero, suc, ◌+◌, ◌-◌, ◌<◌, ◌≤◌, ◌⊎◌, inl, inr, List, [], ◌∷◌, ◌++◌, length, get_or, Some, slice_get, refl, sym, ap, ◌∙◌, subst, arith}
 use Rattle.std.proofs.lemmas.Bool.{cases_lt}
 use Rattle.std.proofs.lemmas.Option.{none-some, same_Some, slice_get_within}
-use Rattle.k_dict.specs.Entries.{NameBelow, NameEarlier, copies, laid, no_tree, tree_at, tree_of, trees_of}
-use Rattle.k_dict.specs.Laws.{HaveLikes}
-use Rattle.k_dict.specs.Rules.{entry_of}
-use Rattle.k_dict.specs.Trees.{Alike, Forest, SameShape, Tree, alone, bare, both, exchanged, further, grown, neither}
-use Rattle.k_dict.specs.declared.entry.Entry.{Entry}
-use Rattle.k_dict.specs.declared.entry.Run.{Run}
-use Rattle.k_dict.proofs.Again.{IsAt, from_list}
-use Rattle.k_dict.proofs.Coding.{AreProper, Knows, code, code_alike, entry_at, tree_alike}
-use Rattle.k_dict.proofs.EntryTrees.{below_bound, length-trees, tree_is}
-use Rattle.k_dict.proofs.Forests.{Alike-sym, SameShape-further, SameShape-refl, SameShape-sym}
-use Rattle.k_dict.proofs.Numbers.{IsIn}
-use Rattle.k_dict.proofs.Walking.{EachWith-back, tree_there}
+use Rattle.k_dict_entries.specs.Entries.{NameBelow, NameEarlier, copies, laid, no_tree, tree_at, tree_of, trees_of}
+use Rattle.k_dict_entries.specs.Laws.{HaveLikes}
+use Rattle.k_dict_entries.specs.Rules.{entry_of}
+use Rattle.k_dict_entries.specs.Trees.{Alike, Forest, SameShape, Tree, alone, bare, both, exchanged, further, grown, neither}
+use Rattle.k_dict_entries.specs.declared.entry.Entry.{Entry}
+use Rattle.k_dict_entries.specs.declared.entry.Run.{Run}
+use Rattle.k_dict_entries.proofs.Again.{IsAt, from_list}
+use Rattle.k_dict_entries.proofs.Coding.{AreProper, Knows, code, code_alike, entry_at, tree_alike}
+use Rattle.k_dict_entries.proofs.EntryTrees.{below_bound, length-trees, tree_is}
+use Rattle.k_dict_entries.proofs.Forests.{Alike-sym, SameShape-further, SameShape-refl, SameShape-sym}
+use Rattle.k_dict_entries.proofs.Numbers.{IsIn}
+use Rattle.k_dict_entries.proofs.Walking.{EachWith-back, tree_there}
 use Rattle.k_dict_saved.specs.Formats.{IsNamedBy, Names}
 use Rattle.k_sum.specs.Laws.{TellsOfRuns, forest_of, together}
 use Rattle.k_sum.specs.SumText.{sum_text}

@@ -1,9 +1,9 @@
 -- Profiles that are put together in another order or grouping have one file.
 use Rattle.std.proofs.Common.{◌≡◌, ℤ, List, [], refl, sym, ◌∙◌, subst, arith}
 use Rattle.k_optab.specs.declared.region.Region.{Region}
-use Rattle.k_dict.specs.Trees.{Alike, Forest}
-use Rattle.k_dict.specs.Trees as trees
-use Rattle.k_dict.proofs.Forests.{Alike-refl, Alike-sym, beside, beside_left, beside_right}
+use Rattle.k_dict_entries.specs.Trees.{Alike, Forest}
+use Rattle.k_dict_entries.specs.Trees as trees
+use Rattle.k_dict_entries.proofs.Forests.{Alike-refl, Alike-sym, beside, beside_left, beside_right}
 use Rattle.k_sum.specs.Exits.{with_exits}
 use Rattle.k_sum.specs.Laws.{TellsOfRuns, ended_with, forest_of, together}
 use Rattle.k_sum.specs.Sums as sums

@@ -1,10 +1,10 @@
 -- What runs name, and their numbers.
 use Rattle.std.proofs.Common.{◌≡◌, ℕ, ◌+◌, ◌<◌, ◌≤◌, inl, inr, max, List, [], ◌∷◌, get_or, refl, ap, ◌∙◌, subst, arith}
 use Rattle.std.proofs.lemmas.Bool.{cases_order}
-use Rattle.k_dict.specs.Entries.{AreRuns, NameBelow}
-use Rattle.k_dict.specs.Tallies.{counted}
-use Rattle.k_dict.specs.declared.entry.Run.{Run}
-use Rattle.k_dict.proofs.Counting.{AreRuns-counted, counted-at, counted-before, counted-behind}
+use Rattle.k_dict_entries.specs.Entries.{AreRuns, NameBelow}
+use Rattle.k_dict_entries.specs.Tallies.{counted}
+use Rattle.k_dict_entries.specs.declared.entry.Run.{Run}
+use Rattle.k_dict_entries.proofs.Counting.{AreRuns-counted, counted-at, counted-before, counted-behind}
 use Rattle.k_dict_saved.specs.Formats.{Names}
 use Rattle.k_dict_saved.specs.Migration.{renumbered}
 use Rattle.k_sum_order.specs.Order.{behind}

@@ -2,16 +2,16 @@
 use Rattle.std.proofs.Common.{◌≡◌, ℕ, zero, suc, ◌<◌, inl, inr, List, [], ◌∷◌, length, Option, Some, None, slice_get, refl, sym, ap, ◌∙◌, subst, arith}
 use Rattle.std.proofs.lemmas.Bool.{cases_lt, cases_order}
 use Rattle.std.proofs.lemmas.Option.{none-some, same_Some, slice_get-get_or, slice_get_within}
-use Rattle.k_dict.specs.Entries.{NameEarlier, label_of, laid, tree_at, tree_of, trees_of}
-use Rattle.k_dict.specs.Gathering.{number_of}
-use Rattle.k_dict.specs.Laws.{HaveLikes}
-use Rattle.k_dict.specs.Rules.{entry_of, no_entry}
-use Rattle.k_dict.specs.Trees.{SameShape, Tree}
-use Rattle.k_dict.specs.declared.entry.Entry.{Entry}
-use Rattle.k_dict.proofs.Coding.{AreProper, code, code-entry, code-laid, code_alike, entry_at, number_in}
-use Rattle.k_dict.proofs.EntryTrees.{tree_is}
-use Rattle.k_dict.proofs.Lists.{same_tree}
-use Rattle.k_dict.proofs.Numbers.{number_found}
+use Rattle.k_dict_entries.specs.Entries.{NameEarlier, label_of, laid, tree_at, tree_of, trees_of}
+use Rattle.k_dict_entries.specs.Gathering.{number_of}
+use Rattle.k_dict_entries.specs.Laws.{HaveLikes}
+use Rattle.k_dict_entries.specs.Rules.{entry_of, no_entry}
+use Rattle.k_dict_entries.specs.Trees.{SameShape, Tree}
+use Rattle.k_dict_entries.specs.declared.entry.Entry.{Entry}
+use Rattle.k_dict_entries.proofs.Coding.{AreProper, code, code-entry, code-laid, code_alike, entry_at, number_in}
+use Rattle.k_dict_entries.proofs.EntryTrees.{tree_is}
+use Rattle.k_dict_entries.proofs.Lists.{same_tree}
+use Rattle.k_dict_entries.proofs.Numbers.{number_found}
 use Rattle.k_sum_order.specs.Laws.{OrderIsOne}
 use Rattle.k_sum_order.specs.Order.{AreInOrder}
 use Rattle.k_sum_order.proofs.Comparing.{before_not, order_apart}

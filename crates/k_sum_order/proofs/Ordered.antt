@@ -1,16 +1,16 @@
 -- A sum in order tells of the same runs.
 use Rattle.std.proofs.Common.{◌≡◌, ℕ, zero, suc, ◌<◌, ◌≤◌, inl, inr, List, [], ◌∷◌, length, get_or, Some, slice_get, refl, sym, ap, ◌∙◌, subst, arith}
 use Rattle.std.proofs.lemmas.Option.{same_Some, slice_get_within}
-use Rattle.k_dict.specs.Entries.{AreRuns, NameBelow, NameEarlier, label_of, laid, tree_at, tree_of, trees_of}
-use Rattle.k_dict.specs.Gathering.{number_of}
-use Rattle.k_dict.specs.Rules.{entry_of}
-use Rattle.k_dict.specs.Trees.{Alike, Forest, SameShape, Tree, alone, bare, further}
-use Rattle.k_dict.specs.declared.entry.Entry.{Entry}
-use Rattle.k_dict.specs.declared.entry.Run.{Run}
-use Rattle.k_dict.proofs.Coding.{AreProper, Knows, beside-bare, code, entry_at, laid_code, number_in, tree_alike}
-use Rattle.k_dict.proofs.EntryTrees.{below_bound, tree_is}
-use Rattle.k_dict.proofs.Forests.{Alike-same, beside}
-use Rattle.k_dict.proofs.Numbers.{number_found}
+use Rattle.k_dict_entries.specs.Entries.{AreRuns, NameBelow, NameEarlier, label_of, laid, tree_at, tree_of, trees_of}
+use Rattle.k_dict_entries.specs.Gathering.{number_of}
+use Rattle.k_dict_entries.specs.Rules.{entry_of}
+use Rattle.k_dict_entries.specs.Trees.{Alike, Forest, SameShape, Tree, alone, bare, further}
+use Rattle.k_dict_entries.specs.declared.entry.Entry.{Entry}
+use Rattle.k_dict_entries.specs.declared.entry.Run.{Run}
+use Rattle.k_dict_entries.proofs.Coding.{AreProper, Knows, beside-bare, code, entry_at, laid_code, number_in, tree_alike}
+use Rattle.k_dict_entries.proofs.EntryTrees.{below_bound, tree_is}
+use Rattle.k_dict_entries.proofs.Forests.{Alike-same, beside}
+use Rattle.k_dict_entries.proofs.Numbers.{number_found}
 use Rattle.k_dict_saved.specs.Formats.{Names}
 use Rattle.k_dict_saved.specs.Migration.{renumbered, renumbered_entry}
 use Rattle.k_dict_saved.proofs.Migrating.{code_renumbered}

@@ -3,13 +3,13 @@ use Rattle.std.proofs.Common.{◌≡◌, ℕ, ◌+◌, ◌<◌, ◌≤◌, ◌�
 use Rattle.std.proofs.Math.ListN.{length-set}
 use Rattle.std.proofs.lemmas.Bool.{cases_lt, cases_order}
 use Rattle.std.proofs.lemmas.Option.{same_Some, slice_get_within}
-use Rattle.k_dict.specs.Entries.{NameEarlier}
-use Rattle.k_dict.specs.Gathering.{number_of, with_entry}
-use Rattle.k_dict.specs.Rules.{entry_of}
-use Rattle.k_dict.specs.declared.entry.Entry.{Entry}
-use Rattle.k_dict.proofs.Numbers.{is_in_or_absent, number_absent, number_found, with_absent, with_there}
-use Rattle.k_dict.proofs.Places.{place_kept, place_of_push}
-use Rattle.k_dict.proofs.Walking.{has_added}
+use Rattle.k_dict_entries.specs.Entries.{NameEarlier}
+use Rattle.k_dict_entries.specs.Gathering.{number_of, with_entry}
+use Rattle.k_dict_entries.specs.Rules.{entry_of}
+use Rattle.k_dict_entries.specs.declared.entry.Entry.{Entry}
+use Rattle.k_dict_entries.proofs.Numbers.{is_in_or_absent, number_absent, number_found, with_absent, with_there}
+use Rattle.k_dict_entries.proofs.Places.{place_kept, place_of_push}
+use Rattle.k_dict_entries.proofs.Walking.{has_added}
 use Rattle.k_dict_saved.specs.Migration.{renumbered, renumbered_entry}
 use Rattle.k_sum_order.specs.Order.{AreInOrder, AreOrdered, ComesBefore}
 use Rattle.k_sum_order.specs.Placing.{AreLevels, AreOrderedTo, Ordering, entry_with, placed, placed_all}

@@ -12,18 +12,18 @@ use Rattle.std.specs.List.Sorted.{IsSortedBy}
 use Rattle.std.specs.Ordering.{is_lt, nat_cmp, ordering_then}
 use Rattle.std.specs.declared.cmp.Ordering.{Ordering as Order}
 use Rattle.std.specs.declared.cmp.Ordering.TheVariants.{Less, Equal, Greater}
-use Rattle.k_dict.specs.Entries.{AreApart, AreDistinct, AreRuns, NameBelow, NameEarlier}
-use Rattle.k_dict.specs.Gathering.{number_of, with_entry}
-use Rattle.k_dict.specs.Interning.{HasNumber}
-use Rattle.k_dict.specs.Rules.{entry_of}
-use Rattle.k_dict.specs.Tallies.{total}
-use Rattle.k_dict.specs.declared.entry.Entry.{Entry}
-use Rattle.k_dict.specs.declared.entry.Run.{Run}
-use Rattle.k_dict.proofs.EntryTrees.{below_bound}
-use Rattle.k_dict.proofs.Numbers.{IsAbsent, not_contained, number_absent, number_found, with_absent, with_there}
-use Rattle.k_dict.proofs.Places.{place_behind}
-use Rattle.k_dict.proofs.Pushes.{none_interned}
-use Rattle.k_dict.proofs.Sound.{AreRuns-wider}
+use Rattle.k_dict_entries.specs.Entries.{AreApart, AreDistinct, AreRuns, NameBelow, NameEarlier}
+use Rattle.k_dict_entries.specs.Gathering.{number_of, with_entry}
+use Rattle.k_dict_entries.specs.Interning.{HasNumber}
+use Rattle.k_dict_entries.specs.Rules.{entry_of}
+use Rattle.k_dict_entries.specs.Tallies.{total}
+use Rattle.k_dict_entries.specs.declared.entry.Entry.{Entry}
+use Rattle.k_dict_entries.specs.declared.entry.Run.{Run}
+use Rattle.k_dict_entries.proofs.EntryTrees.{below_bound}
+use Rattle.k_dict_entries.proofs.Numbers.{IsAbsent, not_contained, number_absent, number_found, with_absent, with_there}
+use Rattle.k_dict_entries.proofs.Places.{place_behind}
+use Rattle.k_dict_entries.proofs.Pushes.{none_interned}
+use Rattle.k_dict_entries.proofs.Sound.{AreRuns-wider}
 use Rattle.k_dict_saved.specs.Migration.{HaveFewChildren, renumbered, renumbered_entry}
 use Rattle.k_sum.specs.Exits.{total as ends_total}
 use Rattle.k_sum.specs.Sums.{HasBounds}

@@ -2,10 +2,10 @@
 -- What the order of entries is for: the statements of the laws.
 use Rattle.std.specs.Prelude.{ℕ, ◌<◌, ◌≡◌, ◌⊎◌, List, length}
 use Rattle.k_optab.specs.declared.region.Region.{Region}
-use Rattle.k_dict.specs.Entries.{NameEarlier, tree_at}
-use Rattle.k_dict.specs.Laws.{HaveLikes}
-use Rattle.k_dict.specs.Trees.{Alike, Forest, SameShape, Tree, bare, grown}
-use Rattle.k_dict.specs.declared.entry.Entry.{Entry}
+use Rattle.k_dict_entries.specs.Entries.{NameEarlier, tree_at}
+use Rattle.k_dict_entries.specs.Laws.{HaveLikes}
+use Rattle.k_dict_entries.specs.Trees.{Alike, Forest, SameShape, Tree, bare, grown}
+use Rattle.k_dict_entries.specs.declared.entry.Entry.{Entry}
 use Rattle.k_dict_saved.specs.Profile.{IsSaved}
 use Rattle.k_dict_saved.specs.declared.saved.Saved.{Saved}
 use Rattle.k_sum.specs.Laws.{TellsOfRuns, forest_of}

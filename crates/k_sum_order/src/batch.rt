@@ -1,12 +1,12 @@
 //! The entries of one level, in the order of their numbers.
 ghost use Rattle.std.specs.Prelude.{◌≡◌, ◌≤◌, length, IfOk, OnOk};
 ghost use Rattle.std.specs.List.Sorted.{IsPermutation};
-ghost use Rattle.k_dict.specs.Entries.{NameEarlier};
+ghost use Rattle.k_dict_entries.specs.Entries.{NameEarlier};
 ghost use Rattle.k_dict_saved.specs.Migration.{HaveFewChildren};
 ghost use Rattle.k_sum_order.specs.Placing.{AreRanked, HaveRisingKeys};
 
 use crate::key::key;
-use k_dict::Entry;
+use k_dict_entries::Entry;
 use k_num::NoMemory;
 use std::alloc::Global;
 

@@ -6,7 +6,7 @@ ghost use Rattle.k_sum_order.specs.Order.{AreInOrder, key_of, run_numbers};
 ghost use Rattle.k_sum_order.specs.Placing as spec;
 
 use crate::key::behind;
-use k_dict::{Entry, Run};
+use k_dict_entries::{Entry, Run};
 use std::cmp::Ordering;
 
 /// Which of two runs comes first.

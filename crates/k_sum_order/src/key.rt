@@ -1,12 +1,12 @@
 //! The numbers by which entries are ordered.
 ghost use Rattle.std.specs.Prelude.{◌≡◌, ◌^◌, ◌<◌, ◌++◌, length, IfOk, OnOk};
-ghost use Rattle.k_dict.specs.Entries.{NameBelow};
-ghost use Rattle.k_dict.specs.Tallies.{total};
+ghost use Rattle.k_dict_entries.specs.Entries.{NameBelow};
+ghost use Rattle.k_dict_entries.specs.Tallies.{total};
 ghost use Rattle.k_dict_saved.specs.Migration.{renumbered_entry};
 ghost use Rattle.k_sum_order.specs.Order.{key_of, run_numbers};
 ghost use Rattle.k_sum_order.specs.Order as spec;
 
-use k_dict::{Entry, Run};
+use k_dict_entries::{Entry, Run};
 use k_num::NoMemory;
 use k_sum::renumber;
 use std::alloc::Global;

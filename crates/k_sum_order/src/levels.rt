@@ -1,10 +1,10 @@
 //! The levels of entries: an entry has the level behind those of the entries that it names.
 ghost use Rattle.std.specs.Prelude.{ℕ, ◌≡◌, ◌<◌, ◌≤◌, length, slice_index_or, IfOk};
-ghost use Rattle.k_dict.specs.Entries.{NameBelow, NameEarlier};
+ghost use Rattle.k_dict_entries.specs.Entries.{NameBelow, NameEarlier};
 ghost use Rattle.k_sum_order.specs.Placing.{AreLevels};
 ghost use Rattle.k_sum_order.specs.Placing as spec;
 
-use k_dict::{Entry, Run};
+use k_dict_entries::{Entry, Run};
 use k_num::NoMemory;
 use std::alloc::Global;
 

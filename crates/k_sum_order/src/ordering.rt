@@ -1,7 +1,7 @@
 //! The entries of a sum in order.
 ghost use Rattle.std.specs.Prelude.{ℕ, ◌≡◌, ◌^◌, ◌<◌, [], length, slice_index_or, IfOk, OnOk};
-ghost use Rattle.k_dict.specs.Entries.{AreDistinct, AreInterned, NameBelow};
-ghost use Rattle.k_dict.specs.Tallies.{total};
+ghost use Rattle.k_dict_entries.specs.Entries.{AreDistinct, AreInterned, NameBelow};
+ghost use Rattle.k_dict_entries.specs.Tallies.{total};
 ghost use Rattle.k_dict_saved.specs.Migration.{HaveFewChildren};
 ghost use Rattle.k_dict_saved.specs.Migration as spec;
 ghost use Rattle.k_sum.specs.Sums.{HasBounds};
@@ -10,7 +10,7 @@ ghost use Rattle.k_sum_order.specs.Placing.{AreLevels, HasParts};
 
 use crate::levels::levels_of;
 use crate::placing::order_level;
-use k_dict::{Dict, DictFault, Entry, EntryTable, Run, Tally};
+use k_dict_entries::{Dict, DictFault, Entry, EntryTable, Run, Tally};
 use k_num::{NoMemory, Seq};
 use k_sum::{Sum, count_renumbered};
 use std::alloc::Global;

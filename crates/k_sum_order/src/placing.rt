@@ -1,11 +1,11 @@
 //! Entries, added to those that are in order.
 ghost use Rattle.std.specs.Prelude.{◌≡◌, ◌<◌, ◌≤◌, All, length, map, OnOk};
-ghost use Rattle.k_dict.specs.Entries.{AreDistinct, NameEarlier};
+ghost use Rattle.k_dict_entries.specs.Entries.{AreDistinct, NameEarlier};
 ghost use Rattle.k_dict_saved.specs.Migration.{HaveFewChildren};
 ghost use Rattle.k_sum_order.specs.Placing.{AreLevels, OrdersLevel, placed, placed_all};
 
 use crate::batch::{Ranked, entries_of, sort};
-use k_dict::{DictFault, Entry, EntryTable};
+use k_dict_entries::{DictFault, Entry, EntryTable};
 use k_num::NoMemory;
 use k_sum::renumber;
 use std::alloc::Global;

@@ -1,7 +1,7 @@
 -- Lines that lead from stage to stage.
 use Rattle.std.proofs.Common.{◌≡◌, ℕ, ◌≤◌, inl, List, [], ◌∷◌, ◌++◌, length, refl, sym, ap, ◌∙◌, subst, append-nil, append_assoc, length-append, arith}
-use Rattle.k_dict.specs.declared.entry.Entry.{Entry}
-use Rattle.k_dict.proofs.Places.{place_kept}
+use Rattle.k_dict_entries.specs.declared.entry.Entry.{Entry}
+use Rattle.k_dict_entries.proofs.Places.{place_kept}
 use Rattle.k_dict_saved.specs.Lines as lists
 use Rattle.k_sum_order.specs.Order.{AreInOrder}
 use Rattle.k_sum_read.specs.Reading.{Reaches}

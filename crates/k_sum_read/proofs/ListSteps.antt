@@ -6,7 +6,7 @@ use Rattle.std.specs.Fmt.{decimal}
 use Rattle.std.proofs.lemmas.Bool.{false≢true}
 use Rattle.std.proofs.lemmas.Option.{none-some, same_Some}
 use Rattle.k_optab.specs.declared.region.Region.{Region}
-use Rattle.k_dict.specs.declared.entry.Entry.{Entry}
+use Rattle.k_dict_entries.specs.declared.entry.Entry.{Entry}
 use Rattle.k_dict_saved.specs.FileText.{entry_line, region_line}
 use Rattle.k_dict_saved.specs.Lines.{InEntries, InRegions, IsNextEntry, MayStand, IsRegion, last_of}
 use Rattle.k_dict_saved.specs.Lines as lists

@@ -7,13 +7,13 @@ use Rattle.std.proofs.lemmas.List.{get_or-replicate, length-replicate}
 use Rattle.std.proofs.lemmas.Option.{none-some, same_Some, slice_get-get_or}
 use Rattle.k_optab.specs.declared.region.Region.{Region}
 use Rattle.k_optab.specs.declared.region.RegionKind.TheVariants.{Func}
-use Rattle.k_dict.specs.Entries.{NameBelow, NameEarlier, laid, trees_of}
-use Rattle.k_dict.specs.Rules.{NameRegions, child_works, entry_of, no_entry}
-use Rattle.k_dict.specs.Tallies.{total}
-use Rattle.k_dict.specs.Trees.{size}
-use Rattle.k_dict.specs.declared.entry.Entry.{Entry}
-use Rattle.k_dict.specs.declared.entry.Run.{Run}
-use Rattle.k_dict.proofs.EntryTrees.{below_bound, length-trees}
+use Rattle.k_dict_entries.specs.Entries.{NameBelow, NameEarlier, laid, trees_of}
+use Rattle.k_dict_entries.specs.Rules.{NameRegions, child_works, entry_of, no_entry}
+use Rattle.k_dict_entries.specs.Tallies.{total}
+use Rattle.k_dict_entries.specs.Trees.{size}
+use Rattle.k_dict_entries.specs.declared.entry.Entry.{Entry}
+use Rattle.k_dict_entries.specs.declared.entry.Run.{Run}
+use Rattle.k_dict_entries.proofs.EntryTrees.{below_bound, length-trees}
 use Rattle.k_dict_saved.specs.Extents.{capped, child_instances, extents_of, no_sums, sums_from}
 use Rattle.k_dict_saved.specs.Reading.{marked, marked_all}
 use Rattle.k_dict_saved.specs.Syntax.{Gives, runs_at}

@@ -6,10 +6,10 @@ use Rattle.std.specs.Fmt.{decimal}
 use Rattle.std.proofs.lemmas.List.Concat.{flat_map-cons}
 use Rattle.std.proofs.lemmas.Option.{none-some}
 use Rattle.k_optab.specs.declared.region.Region.{Region}
-use Rattle.k_dict.specs.Rules.{AreProfile, child_works}
-use Rattle.k_dict.specs.declared.entry.Entry.{Entry}
-use Rattle.k_dict.specs.declared.entry.Run.{Run}
-use Rattle.k_dict.proofs.Pushes.{interned}
+use Rattle.k_dict_entries.specs.Rules.{AreProfile, child_works}
+use Rattle.k_dict_entries.specs.declared.entry.Entry.{Entry}
+use Rattle.k_dict_entries.specs.declared.entry.Run.{Run}
+use Rattle.k_dict_entries.proofs.Pushes.{interned}
 use Rattle.k_dict_saved.specs.FileText.{entry_line, region_line}
 use Rattle.k_dict_saved.specs.Files.{AreFileEntries}
 use Rattle.k_dict_saved.specs.Lines.{InEntries, InRegions}

@@ -3,11 +3,11 @@
 use Rattle.std.specs.Prelude.{ℕ, ℤ, ◌*◌, ◌≤◌, ◌<◌, ◌≡◌, ◌≢◌, ◌⊎◌, Bool, true, ◌&&◌, List, [], ◌∷◌, ◌++◌, length, int_lt, Option, Some, None, Result, Ok, Err, codes}
 use Rattle.std.specs.Fmt.{decimal}
 use Rattle.k_optab.specs.declared.region.Region.{Region}
-use Rattle.k_dict.specs.Entries.{AreRuns}
-use Rattle.k_dict.specs.Rules.{NameRegions, child_works}
-use Rattle.k_dict.specs.Tallies.{total}
-use Rattle.k_dict.specs.declared.entry.Entry.{Entry}
-use Rattle.k_dict.specs.declared.entry.Run.{Run}
+use Rattle.k_dict_entries.specs.Entries.{AreRuns}
+use Rattle.k_dict_entries.specs.Rules.{NameRegions, child_works}
+use Rattle.k_dict_entries.specs.Tallies.{total}
+use Rattle.k_dict_entries.specs.declared.entry.Entry.{Entry}
+use Rattle.k_dict_entries.specs.declared.entry.Run.{Run}
 use Rattle.k_dict_saved.specs.Extents.{capped, extents_of}
 use Rattle.k_dict_saved.specs.Files.{AreFileEntries, AreRegions}
 use Rattle.k_dict_saved.specs.Formats.{IsNamedBy, Names}

@@ -1,11 +1,11 @@
 //! The lines of the regions and of the entries.
 ghost use Rattle.std.specs.Prelude.{◌≡◌, ◌≤◌, ◌++◌, ◌∷◌, [], ◌↔◌, IsTrue, List, length};
-ghost use Rattle.k_dict.specs.declared.entry.Entry.{Entry as EntryValue};
+ghost use Rattle.k_dict_entries.specs.declared.entry.Entry.{Entry as EntryValue};
 ghost use Rattle.k_dict_saved.specs.Reading.{seen};
 ghost use Rattle.k_optab.specs.declared.region.Region.{Region as RegionValue};
 ghost use Rattle.k_sum_read.specs.Reading.{FoundListing, LastIsBehind, ListsEntries, ListsRegions};
 
-use k_dict::{Entry, EntryTable};
+use k_dict_entries::{Entry, EntryTable};
 use k_dict_saved::{Extent, Format, Halt, Stop, count_line, named, next_entry, next_region};
 use k_num::{NoMemory, Seq};
 use k_optab::Region;

@@ -1,6 +1,6 @@
 //! The file of a sum, read line by line.
 ghost use Rattle.std.specs.Prelude.{◌≡◌, IfOk};
-ghost use Rattle.k_dict.specs.Entries.{NameEarlier};
+ghost use Rattle.k_dict_entries.specs.Entries.{NameEarlier};
 ghost use Rattle.k_sum.specs.Sums.{HasBounds};
 ghost use Rattle.k_sum_read.specs.Reading.{AreCounts, Finishes, IsListing, ReadsAll, sum_of_parts};
 ghost use Rattle.k_sum_read.specs.SumFile.{ReadsSum};
@@ -8,7 +8,7 @@ ghost use Rattle.k_sum_read.specs.SumFile.{ReadsSum};
 use crate::head::{Counts, head};
 use crate::listing::{Listing, list_lines};
 use crate::roots::roots_line;
-use k_dict::{Dict, Run};
+use k_dict_entries::{Dict, Run};
 use k_dict_saved::{Halt, SavedFault, Stop, is_end};
 use k_num::Seq;
 use k_sum::Sum;

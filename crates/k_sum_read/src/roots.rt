@@ -1,14 +1,14 @@
 //! The line of the roots.
 ghost use Rattle.std.specs.Prelude.{◌≡◌, ◌<◌, ◌≤◌, ◌↔◌, IsTrue, IfOk, length};
-ghost use Rattle.k_dict.specs.Entries.{NameBelow, NameEarlier};
-ghost use Rattle.k_dict.specs.Rules.{NameRegions};
-ghost use Rattle.k_dict.specs.Tallies.{total as count_all};
+ghost use Rattle.k_dict_entries.specs.Entries.{NameBelow, NameEarlier};
+ghost use Rattle.k_dict_entries.specs.Rules.{NameRegions};
+ghost use Rattle.k_dict_entries.specs.Tallies.{total as count_all};
 ghost use Rattle.k_dict_saved.specs.Extents.{capped, extents_of, no_sums, sums_from};
 ghost use Rattle.k_dict_saved.specs.Reading.{AllNameBelow, marked, marked_all, seen};
 ghost use Rattle.k_sum_read.specs.Reading.{AreWithin, FoundRoots, NoneIsLeft, are_all};
 ghost use Rattle.k_sum_saved.specs.SumLines.{AreOfMain, AreRoots};
 
-use k_dict::{Entry, Run};
+use k_dict_entries::{Entry, Run};
 use k_dict_saved::{Extent, Stop, Sums, are_rising, is_main, mark, mark_all, runs, sums_of};
 use k_num::{NoMemory, Seq};
 use k_optab::Region;

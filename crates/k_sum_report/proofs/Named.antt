@@ -1,7 +1,7 @@
 -- The rows and the contexts of a sum name its regions.
 use Rattle.std.proofs.Common.{◌<◌, ◌≤◌, List, length}
 use Rattle.std.specs.Prelude.{All}
-use Rattle.k_dict.specs.Entries.{trees_of}
+use Rattle.k_dict_entries.specs.Entries.{trees_of}
 use Rattle.k_plan.specs.Plan.{CanPlan}
 use Rattle.k_selfpar.specs.Rows.{AreRows}
 use Rattle.k_selfpar.specs.declared.context.Context.{Context}

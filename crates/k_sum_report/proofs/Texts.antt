@@ -4,7 +4,7 @@ use Rattle.std.specs.Prelude.{All}
 use Rattle.std.proofs.lemmas.List.Elements.{All-nil}
 use Rattle.std.proofs.lemmas.Option.{none-some, same_Some}
 use Rattle.k_optab.specs.declared.region.Region.{Region}
-use Rattle.k_dict.specs.declared.entry.Entry.{Entry}
+use Rattle.k_dict_entries.specs.declared.entry.Entry.{Entry}
 use Rattle.k_plan.proofs.Exchange.{advice_is_unique}
 use Rattle.k_plan.specs.Plan.{CanPlan, IsAdvice, ParentsComeFirst}
 use Rattle.k_plan.specs.Saving.{standard_limits}

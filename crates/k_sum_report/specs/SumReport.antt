@@ -2,7 +2,7 @@
 -- *Report of a sum*: what `show` writes of it. Its instances are those of its runs, side by side.
 use Rattle.std.specs.Prelude.{ℕ, ◌≡◌, Bool, List, Option}
 use Rattle.k_optab.specs.declared.node.Node.{Node}
-use Rattle.k_dict.specs.Trees.{nodes_of}
+use Rattle.k_dict_entries.specs.Trees.{nodes_of}
 use Rattle.k_selfpar.specs.Contexts.{AreUnder}
 use Rattle.k_selfpar.specs.Rows.{AreRows}
 use Rattle.k_selfpar.specs.declared.context.Context.{Context}

@@ -6,7 +6,7 @@ ghost use Rattle.k_sum_saved.specs.SumRules.{IsSum};
 
 use crate::parts::parts_of;
 use k_data::{rows_csv, sum_json};
-use k_dict::Dict;
+use k_dict_entries::Dict;
 use k_num::NoMemory;
 use k_report::{Heading, report};
 use k_sum::Sum;

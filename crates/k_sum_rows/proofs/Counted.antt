@@ -6,11 +6,11 @@ use Rattle.std.proofs.lemmas.Bool.{cond-true, cond-false, lt-ltb, le-ltb}
 use Rattle.std.proofs.lemmas.List.{get_or_append_left, length-replicate}
 use Rattle.std.proofs.lemmas.List.Sorted.{All-permutation}
 use Rattle.std.proofs.lemmas.Option.{slice_get_within}
-use Rattle.k_dict.specs.Entries.{AreRuns, NameEarlier}
-use Rattle.k_dict.specs.Trees.{size}
-use Rattle.k_dict.specs.declared.entry.Entry.{Entry}
-use Rattle.k_dict.specs.declared.entry.Run.{Run}
-use Rattle.k_dict.proofs.Places.{place_behind, place_kept, place_of_push}
+use Rattle.k_dict_entries.specs.Entries.{AreRuns, NameEarlier}
+use Rattle.k_dict_entries.specs.Trees.{size}
+use Rattle.k_dict_entries.specs.declared.entry.Entry.{Entry}
+use Rattle.k_dict_entries.specs.declared.entry.Run.{Run}
+use Rattle.k_dict_entries.proofs.Places.{place_behind, place_kept, place_of_push}
 use Rattle.k_selfpar.specs.Counts.{Adds, CanCount, dot, weighed, with_children}
 use Rattle.k_selfpar.specs.Items.{AreItems, IsItem, Rise, occurring, total}
 use Rattle.k_selfpar.specs.Sums.{all_of, one}

@@ -1,9 +1,9 @@
 -- What the trees of runs give.
 use Rattle.std.proofs.Common.{◌≡◌, ℕ, zero, suc, ◌+◌, ◌*◌, ◌==◌, List, [], ◌∷◌, slice_index_or, refl, ap, ◌∙◌, arith, suc-mul, if◌then◌else◌}
-use Rattle.k_dict.specs.Entries.{copies, laid, no_tree, trees_of}
-use Rattle.k_dict.specs.Trees.{Alike, Forest, Label, Tree, alone, bare, both, exchanged, further, grown, neither}
-use Rattle.k_dict.specs.declared.entry.Entry.{Entry}
-use Rattle.k_dict.specs.declared.entry.Run.{Run}
+use Rattle.k_dict_entries.specs.Entries.{copies, laid, no_tree, trees_of}
+use Rattle.k_dict_entries.specs.Trees.{Alike, Forest, Label, Tree, alone, bare, both, exchanged, further, grown, neither}
+use Rattle.k_dict_entries.specs.declared.entry.Entry.{Entry}
+use Rattle.k_dict_entries.specs.declared.entry.Run.{Run}
 use Rattle.k_selfpar.specs.Counts.{weighed}
 use Rattle.k_selfpar.specs.Sums.{all_of, sum_of, within}
 use Rattle.k_sum.specs.Laws.{together}

@@ -5,11 +5,11 @@ use Rattle.std.proofs.lemmas.Bool.{cases_eq, eq-eqb, ne_eqb}
 use Rattle.std.proofs.lemmas.List.Elements.{All-filter}
 use Rattle.k_optab.specs.Meaning.{paths, serial_of, works}
 use Rattle.k_optab.specs.declared.region.Region.{Region}
-use Rattle.k_dict.specs.Entries.{AreRuns, NameEarlier, copies, tree_at, trees_of}
-use Rattle.k_dict.specs.Rules.{AreProfile, child_works, entry_of}
-use Rattle.k_dict.specs.Trees.{Alike, Forest, Label, Tree, alone, bare, grown, height, nodes_of, size}
-use Rattle.k_dict.specs.declared.entry.Entry.{Entry}
-use Rattle.k_dict.specs.declared.entry.Run.{Run}
+use Rattle.k_dict_entries.specs.Entries.{AreRuns, NameEarlier, copies, tree_at, trees_of}
+use Rattle.k_dict_entries.specs.Rules.{AreProfile, child_works, entry_of}
+use Rattle.k_dict_entries.specs.Trees.{Alike, Forest, Label, Tree, alone, bare, grown, height, nodes_of, size}
+use Rattle.k_dict_entries.specs.declared.entry.Entry.{Entry}
+use Rattle.k_dict_entries.specs.declared.entry.Run.{Run}
 use Rattle.k_selfpar.specs.Contexts.{AreUnder, ContextsAreAtLeastOne, chosen, count_in, others}
 use Rattle.k_selfpar.specs.Counts.{weighed}
 use Rattle.k_selfpar.specs.Grouping.{AddsContexts, Fits, item_for, standing}

@@ -3,8 +3,8 @@
 use Rattle.std.specs.Prelude.{ℕ, ◌+◌, ◌-◌, ◌≡◌, List, length}
 use Rattle.k_optab.specs.Meaning.{paths, serial_of, works}
 use Rattle.k_optab.specs.declared.region.Region.{Region}
-use Rattle.k_dict.specs.Entries.{expansion}
-use Rattle.k_dict.specs.Trees.{Alike, Forest, nodes_of}
+use Rattle.k_dict_entries.specs.Entries.{expansion}
+use Rattle.k_dict_entries.specs.Trees.{Alike, Forest, nodes_of}
 use Rattle.k_dict_saved.specs.Profile.{IsSaved}
 use Rattle.k_dict_saved.specs.declared.saved.Saved.{Saved}
 use Rattle.k_selfpar.specs.Contexts.{AreContexts, AreUnder}

@@ -2,12 +2,12 @@
 -- The trees of runs, side by side: a root stands for as many of them as there were runs with it.
 use Rattle.std.specs.Prelude.{ℕ, ◌<◌, ◌≤◌, ◌≡◌, List, length, Result, Ok, Err}
 use Rattle.k_optab.specs.declared.region.Region.{Region}
-use Rattle.k_dict.specs.Entries.{AreRuns, laid, trees_of}
-use Rattle.k_dict.specs.Rules.{child_works}
-use Rattle.k_dict.specs.Tallies.{total}
-use Rattle.k_dict.specs.Trees.{Forest, size}
-use Rattle.k_dict.specs.declared.entry.Entry.{Entry}
-use Rattle.k_dict.specs.declared.entry.Run.{Run}
+use Rattle.k_dict_entries.specs.Entries.{AreRuns, laid, trees_of}
+use Rattle.k_dict_entries.specs.Rules.{child_works}
+use Rattle.k_dict_entries.specs.Tallies.{total}
+use Rattle.k_dict_entries.specs.Trees.{Forest, size}
+use Rattle.k_dict_entries.specs.declared.entry.Entry.{Entry}
+use Rattle.k_dict_entries.specs.declared.entry.Run.{Run}
 use Rattle.k_selfpar.specs.Contexts.{AreUnder}
 use Rattle.k_selfpar.specs.Counts.{Adds, dot, weighed}
 use Rattle.k_selfpar.specs.Items.{AreItems, Rise}

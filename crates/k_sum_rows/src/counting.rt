@@ -1,10 +1,10 @@
 //! How often each entry of a dictionary occurs in the trees of runs.
 ghost use Rattle.std.specs.Prelude.{◌≡◌, ◌≤◌, length, replicate, IfOk};
-ghost use Rattle.k_dict.specs.Entries.{AreInterned, AreRuns};
-ghost use Rattle.k_dict.specs.Trees.{size};
+ghost use Rattle.k_dict_entries.specs.Entries.{AreInterned, AreRuns};
+ghost use Rattle.k_dict_entries.specs.Trees.{size};
 ghost use Rattle.k_sum_rows.specs.Runs.{AreRunCounts, run_trees};
 
-use k_dict::{Dict, Run};
+use k_dict_entries::{Dict, Run};
 use k_num::NoMemory;
 use k_selfpar::count_children;
 use std::alloc::Global;

@@ -1,6 +1,6 @@
 //! The contexts of a sum's runs.
 ghost use Rattle.std.specs.Prelude.{length, IfOk};
-ghost use Rattle.k_dict.specs.Rules.{AreProfile, NameRegions};
+ghost use Rattle.k_dict_entries.specs.Rules.{AreProfile, NameRegions};
 ghost use Rattle.k_selfpar.specs.Contexts.{ContextsAreAtLeastOne};
 ghost use Rattle.k_selfpar.specs.Nested.{CanPlan};
 ghost use Rattle.k_sum.specs.Laws.{forest_of};
@@ -8,7 +8,7 @@ ghost use Rattle.k_sum_rows.specs.Runs.{AreRunRoots, GivesRunContexts, run_trees
 ghost use Rattle.k_sum_saved.specs.SumLines.{AreOfOneRegion};
 ghost use Rattle.k_sum_saved.specs.SumRules.{IsSum};
 
-use k_dict::{Dict, Run};
+use k_dict_entries::{Dict, Run};
 use k_num::{NoMemory, Seq};
 use k_optab::Region;
 use k_selfpar::{ContextFault, ContextList, add_contexts, items_of};

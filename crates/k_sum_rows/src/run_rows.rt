@@ -1,15 +1,15 @@
 //! The rows of a sum's runs.
 ghost use Rattle.std.specs.Prelude.{◌≤◌, length, IfOk};
-ghost use Rattle.k_dict.specs.Entries.{AreInterned, AreRuns};
-ghost use Rattle.k_dict.specs.Rules.{AreProfile};
-ghost use Rattle.k_dict.specs.Trees.{nodes_of, size};
+ghost use Rattle.k_dict_entries.specs.Entries.{AreInterned, AreRuns};
+ghost use Rattle.k_dict_entries.specs.Rules.{AreProfile};
+ghost use Rattle.k_dict_entries.specs.Trees.{nodes_of, size};
 ghost use Rattle.k_selfpar.specs.Rows.{AreAtLeastOne, AreRows};
 ghost use Rattle.k_sum.specs.Laws.{forest_of};
 ghost use Rattle.k_sum_rows.specs.Runs.{AreItemsOfRuns, AreRunRoots, run_trees};
 ghost use Rattle.k_sum_saved.specs.SumRules.{IsSum};
 
 use crate::counting::count_instances;
-use k_dict::{Dict, Run};
+use k_dict_entries::{Dict, Run};
 use k_num::{NoMemory, Seq};
 use k_selfpar::{Item, Row, occurring_entries, rows_of, sort_by_region};
 use k_sum::Sum;

@@ -11,11 +11,11 @@ use Rattle.k_scan.specs.Pieces.{word_at}
 use Rattle.k_scan.proofs.BelowZero.{signed_again, signed_takes}
 use Rattle.k_scan.proofs.Digits.{number_again, number_takes}
 use Rattle.k_scan.proofs.Front.{word_again, word_takes}
-use Rattle.k_dict.specs.Entries.{AreRuns}
-use Rattle.k_dict.specs.Tallies.{total}
-use Rattle.k_dict.specs.declared.entry.Entry.{Entry}
-use Rattle.k_dict.specs.declared.entry.Run.{Run}
-use Rattle.k_dict.proofs.EntryTrees.{below_bound}
+use Rattle.k_dict_entries.specs.Entries.{AreRuns}
+use Rattle.k_dict_entries.specs.Tallies.{total}
+use Rattle.k_dict_entries.specs.declared.entry.Entry.{Entry}
+use Rattle.k_dict_entries.specs.declared.entry.Run.{Run}
+use Rattle.k_dict_entries.proofs.EntryTrees.{below_bound}
 use Rattle.k_text.specs.Texts.{named_line, run_text}
 use Rattle.k_dict_saved.specs.FileText.{entry_line, numbers_text}
 use Rattle.k_dict_saved.specs.Lines.{InEntries, InRegions}

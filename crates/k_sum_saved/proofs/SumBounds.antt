@@ -1,11 +1,11 @@
 -- The bounds of a sum that can be saved.
 use Rattle.std.proofs.Common.{◌≡◌, ℕ, ◌*◌, ◌≤◌, List, [], ◌∷◌, get_or, ap, arith}
 use Rattle.std.proofs.lemmas.Option.{slice_get_within}
-use Rattle.k_dict.specs.Entries.{laid, no_tree, tree_at, tree_of, trees_of}
-use Rattle.k_dict.specs.Tallies.{total}
-use Rattle.k_dict.specs.Trees.{Tree, alone, size}
-use Rattle.k_dict.specs.declared.entry.Run.{Run}
-use Rattle.k_dict.proofs.EntryTrees.{tree_is}
+use Rattle.k_dict_entries.specs.Entries.{laid, no_tree, tree_at, tree_of, trees_of}
+use Rattle.k_dict_entries.specs.Tallies.{total}
+use Rattle.k_dict_entries.specs.Trees.{Tree, alone, size}
+use Rattle.k_dict_entries.specs.declared.entry.Run.{Run}
+use Rattle.k_dict_entries.proofs.EntryTrees.{tree_is}
 use Rattle.k_dict_saved.specs.Migration.{HaveFewChildren}
 use Rattle.k_dict_saved.proofs.RunSums.{size-copies}
 use Rattle.k_sum.specs.declared.sum.Sum.{Sum}

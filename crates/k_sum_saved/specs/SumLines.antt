@@ -6,12 +6,12 @@ use Rattle.std.specs.Fmt.{decimal}
 use Rattle.k_optab.specs.declared.region.Region.{Region}
 use Rattle.k_optab.specs.declared.region.RegionKind.TheVariants.{Func}
 use Rattle.std.specs.Prelude.{Some, slice_get}
-use Rattle.k_dict.specs.Entries.{AreRuns, laid, trees_of}
-use Rattle.k_dict.specs.Rules.{child_works, entry_of}
-use Rattle.k_dict.specs.Tallies.{total}
-use Rattle.k_dict.specs.Trees.{size}
-use Rattle.k_dict.specs.declared.entry.Entry.{Entry}
-use Rattle.k_dict.specs.declared.entry.Run.{Run}
+use Rattle.k_dict_entries.specs.Entries.{AreRuns, laid, trees_of}
+use Rattle.k_dict_entries.specs.Rules.{child_works, entry_of}
+use Rattle.k_dict_entries.specs.Tallies.{total}
+use Rattle.k_dict_entries.specs.Trees.{size}
+use Rattle.k_dict_entries.specs.declared.entry.Entry.{Entry}
+use Rattle.k_dict_entries.specs.declared.entry.Run.{Run}
 use Rattle.k_text.specs.Texts.{named_line}
 use Rattle.k_dict_saved.specs.Formats.{IsNamedBy, Names}
 use Rattle.k_dict_saved.specs.Lines.{InEntries, InRegions}

@@ -1,7 +1,7 @@
 -- Believed with a public law.
 -- The rules of a sum that can be saved.
 use Rattle.std.specs.Prelude.{ℕ, ◌*◌, ◌≤◌, ◌≡◌, List, [], ◌∷◌, ◌++◌, length}
-use Rattle.k_dict.specs.Rules.{AreProfile, NameRegions, child_works}
+use Rattle.k_dict_entries.specs.Rules.{AreProfile, NameRegions, child_works}
 use Rattle.k_dict_saved.specs.Files.{AreRegions}
 use Rattle.k_sum.specs.Exits as ends
 use Rattle.k_sum.specs.declared.exits.Exit.{Exit}

@@ -1,9 +1,9 @@
 //! The regions of roots.
 ghost use Rattle.std.specs.Prelude.{◌↔◌, IsTrue, length};
-ghost use Rattle.k_dict.specs.Entries.{NameBelow};
+ghost use Rattle.k_dict_entries.specs.Entries.{NameBelow};
 ghost use Rattle.k_sum_saved.specs.SumLines.{AreOfOneRegion, AreOfRegion};
 
-use k_dict::{Entry, Run};
+use k_dict_entries::{Entry, Run};
 
 /// Whether roots are of a region.
 pub fn are_of_region(region: u32, entries: &[Entry], roots: &[Run]) -> bool

@@ -4,7 +4,7 @@ ghost use Rattle.std.specs.List.{flat_map};
 ghost use Rattle.k_text.specs.Texts.{run_text};
 
 use crate::numbers::push_named;
-use k_dict::Run;
+use k_dict_entries::Run;
 use k_num::NoMemory;
 
 /// A run behind a space.

@@ -23,8 +23,8 @@ use Rattle.k_edge.specs.declared.files.SaveFault.TheVariants as saving
 use Rattle.k_ending.specs.declared.ending.End.{End}
 use Rattle.k_ending.specs.declared.ending.End.TheVariants.{Returned, Trapped, OutOfSteps}
 use Rattle.k_ending.specs.Traps.{trap_name}
-use Rattle.k_dict.specs.declared.dict.DictFault.{DictFault}
-use Rattle.k_dict.specs.declared.dict.DictFault.TheVariants as entries
+use Rattle.k_dict_entries.specs.declared.dict.DictFault.{DictFault}
+use Rattle.k_dict_entries.specs.declared.dict.DictFault.TheVariants as entries
 use Rattle.k_sum.specs.declared.sum.SumFault.{SumFault}
 use Rattle.k_sum.specs.declared.sum.SumFault.TheVariants as adding
 use Rattle.k_words.specs.declared.usage.Usage.{Usage}

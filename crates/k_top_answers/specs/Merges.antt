@@ -2,8 +2,8 @@
 -- The steps of `merge`: files are loaded and read one after the other, and their runs are put together. They are words as those of *Steps*: a step has
 -- `failed`, what is so where it fails, and `next`, what is so of what it gives.
 use Rattle.std.specs.Prelude.{ℕ, zero, suc, ◌≡◌, ◌≢◌, ◌⊎◌, List, [], ◌∷◌, Some, None, Result, Ok, Err}
-use Rattle.k_dict.specs.Dictionary.{refusal}
-use Rattle.k_dict.specs.declared.dict.Which.{Which}
+use Rattle.k_dict_entries.specs.Dictionary.{refusal}
+use Rattle.k_dict_entries.specs.declared.dict.Which.{Which}
 use Rattle.k_dict_saved.specs.declared.fault.SavedFault.TheVariants.{NotSaved}
 use Rattle.k_sum.specs.SumText.{sum_text}
 use Rattle.k_sum.specs.Sums.{IsLarge, both}

@@ -2,7 +2,7 @@
 ghost use Rattle.std.specs.Prelude.{◌≡◌};
 ghost use Rattle.k_top_answers.specs.Failures.{failure_of_dict, failure_of_end, failure_of_finish, failure_of_load, failure_of_saved_in, failure_of_sum, failure_status};
 
-use k_dict::DictFault;
+use k_dict_entries::DictFault;
 use k_dict_saved::SavedFault;
 use k_edge::LoadFault;
 use k_ending::{End, Trap};

@@ -10,7 +10,7 @@ ghost use Rattle.k_top_lemmas.specs.Parts.{FindsMarkable, IsFit, IsFresh, IsProf
 
 use crate::carried::{loops_of, storage_of};
 use k_carry::CarriedPairs;
-use k_dict::Dict;
+use k_dict_entries::Dict;
 use k_ending::End;
 use k_hcpa::Profile;
 use k_num::{NoMemory, Seq};

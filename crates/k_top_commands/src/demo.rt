@@ -10,7 +10,7 @@ ghost use Rattle.k_top_answers.specs.Steps.{run_of};
 ghost use Rattle.k_top_answers.specs.Texts.{IsSummary};
 
 use crate::summary::{head, lines_if_there};
-use k_dict::Dict;
+use k_dict_entries::Dict;
 use k_ending::End;
 use k_gen::generate;
 use k_hcpa::Profile;

@@ -8,7 +8,7 @@ ghost use Rattle.k_top_answers.specs.Steps.{run_of};
 ghost use Rattle.k_top_lemmas.specs.Parts.{IsFit, IsFresh, IsProfileOfRun, running_of};
 
 use k_data_profile::run_page;
-use k_dict::Dict;
+use k_dict_entries::Dict;
 use k_ending::End;
 use k_hcpa::Profile;
 use k_num::{NoMemory, Seq};

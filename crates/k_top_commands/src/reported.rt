@@ -7,7 +7,7 @@ ghost use Rattle.k_top_lemmas.specs.Parts.{IsFit, IsFresh, IsProfileOfRun, runni
 ghost use Rattle.k_top_lemmas.specs.Streams.{IsSplit, StreamsRun, behind};
 ghost use Rattle.k_top_answers.specs.Steps.{run_of};
 
-use k_dict::Dict;
+use k_dict_entries::Dict;
 use k_dict_saved::{Saved, write};
 use k_edge::Sink;
 use k_ending::End;

@@ -9,11 +9,11 @@ use Rattle.std.proofs.lemmas.Slice.Eq.{slice_eq-Decides}
 use Rattle.k_optab.specs.declared.region.Region.{Region}
 use Rattle.k_optab.specs.declared.region.RegionKind.{RegionKind}
 use Rattle.k_optab.specs.declared.region.RegionKind.TheVariants.{Func, Loop, Body}
-use Rattle.k_dict.specs.Entries.{AreApart, AreDistinct, AreRuns, NameBelow, all_runs}
-use Rattle.k_dict.specs.Rules.{entry_of, no_entry}
-use Rattle.k_dict.specs.declared.entry.Entry.{Entry}
-use Rattle.k_dict.specs.declared.entry.Run.{Run}
-use Rattle.k_dict.proofs.Numbers.{is_in_or_absent, absent_is, not_contained}
+use Rattle.k_dict_entries.specs.Entries.{AreApart, AreDistinct, AreRuns, NameBelow, all_runs}
+use Rattle.k_dict_entries.specs.Rules.{entry_of, no_entry}
+use Rattle.k_dict_entries.specs.declared.entry.Entry.{Entry}
+use Rattle.k_dict_entries.specs.declared.entry.Run.{Run}
+use Rattle.k_dict_entries.proofs.Numbers.{is_in_or_absent, absent_is, not_contained}
 use Rattle.k_dict_saved.specs.Extents.{extents_of, is_within, no_sums, sums_from}
 use Rattle.k_dict_saved.specs.Formats.{AreMaximal, AreNamed, AreRunsOf, Differs, HaveRuns, IsPostOrder, NoneIsLeft}
 use Rattle.k_dict_saved.specs.Lines.{EndsInMain, IsClosed, IsNextEntry, MayStand, StandsBehind}

@@ -5,10 +5,10 @@ use Rattle.std.proofs.lemmas.Option.{none-some}
 use Rattle.std.proofs.lemmas.Slice.Eq.{slice_eq-Decides}
 use Rattle.std.specs.Cmp.Lexicographic.{pointwise}
 use Rattle.k_optab.specs.declared.region.Region.{Region}
-use Rattle.k_dict.specs.Dictionary.{refusal}
-use Rattle.k_dict.specs.Tallies.{total}
-use Rattle.k_dict.specs.Trees.{size}
-use Rattle.k_dict.specs.declared.dict.Which.{Which}
+use Rattle.k_dict_entries.specs.Dictionary.{refusal}
+use Rattle.k_dict_entries.specs.Tallies.{total}
+use Rattle.k_dict_entries.specs.Trees.{size}
+use Rattle.k_dict_entries.specs.declared.dict.Which.{Which}
 use Rattle.k_dict_saved.specs.declared.fault.SavedFault.TheVariants.{NotSaved}
 use Rattle.k_sum.proofs.Bounds.{bounds_both}
 use Rattle.k_sum.proofs.Programs.{region_decides, region_eq}

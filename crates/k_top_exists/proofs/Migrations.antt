@@ -1,14 +1,14 @@
 -- A profile of format 1 has one of format 2 that it becomes: its entries are interned one by one, and there is room for all of them.
 use Rattle.std.proofs.Common.{◌≡◌, ◌⊎◌, inl, inr, ℕ, ◌+◌, ◌<◌, ◌≤◌, List, [], ◌∷◌, ◌++◌, length, Contains, refl, arith}
 use Rattle.std.proofs.lemmas.Bool.{cases_lt}
-use Rattle.k_dict.specs.Entries.{AreDistinct, AreInterned, all_runs, trees_of}
-use Rattle.k_dict.specs.Interning.{CanIntern, HasNumber}
-use Rattle.k_dict.specs.declared.dict.DictFault.TheVariants.{Full}
-use Rattle.k_dict.specs.declared.dict.Which.TheVariants.{Entries, AllRuns}
-use Rattle.k_dict.specs.declared.entry.Entry.{Entry}
-use Rattle.k_dict.proofs.Numbers.{IsAbsent, IsIn, absent_is, is_in_or_absent}
-use Rattle.k_dict.proofs.Places.{is_there, place_behind}
-use Rattle.k_dict.proofs.Pushes.{AreDistinct-push, NameEarlier-push, interned}
+use Rattle.k_dict_entries.specs.Entries.{AreDistinct, AreInterned, all_runs, trees_of}
+use Rattle.k_dict_entries.specs.Interning.{CanIntern, HasNumber}
+use Rattle.k_dict_entries.specs.declared.dict.DictFault.TheVariants.{Full}
+use Rattle.k_dict_entries.specs.declared.dict.Which.TheVariants.{Entries, AllRuns}
+use Rattle.k_dict_entries.specs.declared.entry.Entry.{Entry}
+use Rattle.k_dict_entries.proofs.Numbers.{IsAbsent, IsIn, absent_is, is_in_or_absent}
+use Rattle.k_dict_entries.proofs.Places.{is_there, place_behind}
+use Rattle.k_dict_entries.proofs.Pushes.{AreDistinct-push, NameEarlier-push, interned}
 use Rattle.k_dict_saved.specs.Formats.{HaveRuns}
 use Rattle.k_dict_saved.specs.declared.format.Format.TheVariants.{One}
 use Rattle.k_dict_saved.specs.Migration.{AreOfShapes, renumbered_entry}

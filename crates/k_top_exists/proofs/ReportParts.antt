@@ -1,6 +1,6 @@
 -- What a report is made of: a tree whose regions there are has contexts, and contexts that may have a plan have one.
 use Rattle.std.proofs.Common.{refl, suc, arith}
-use Rattle.k_dict.specs.Trees.{alone, size}
+use Rattle.k_dict_entries.specs.Trees.{alone, size}
 use Rattle.k_selfpar.proofs.Under.{has_contexts}
 use Rattle.k_plan.specs.Plan.{picks_from}
 use Rattle.k_plan.specs.Choices.{total}

@@ -4,7 +4,7 @@ use Rattle.std.proofs.lemmas.Bool.{cases_eq, cases_lt, cond-false, ne_eqb}
 use Rattle.std.proofs.lemmas.Option.{none-some, same_Some}
 use Rattle.k_optab.specs.declared.node.Node.{Node}
 use Rattle.k_optab.specs.Meaning.{paths, serial_of, works}
-use Rattle.k_dict.specs.Trees.{list_of}
+use Rattle.k_dict_entries.specs.Trees.{list_of}
 use Rattle.k_selfpar.specs.Rows.{AreRows, HasRow, IsRow, of_region}
 use Rattle.k_selfpar.specs.declared.row.Row.{Row}
 use Rattle.k_selfpar.proofs.Under.{has_ratio}

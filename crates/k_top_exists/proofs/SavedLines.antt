@@ -3,9 +3,9 @@ use Rattle.std.proofs.Common.{◌≡◌, ◌≢◌, ◌⊎◌, inl, inr, ℕ, �
 use Rattle.std.specs.Prelude.{codes}
 use Rattle.std.proofs.lemmas.Option.{none-some}
 use Rattle.k_optab.specs.declared.region.Region.{Region}
-use Rattle.k_dict.specs.Entries.{AreDistinct}
-use Rattle.k_dict.specs.declared.entry.Entry.{Entry}
-use Rattle.k_dict.proofs.Pushes.{AreDistinct-push}
+use Rattle.k_dict_entries.specs.Entries.{AreDistinct}
+use Rattle.k_dict_entries.specs.declared.entry.Entry.{Entry}
+use Rattle.k_dict_entries.proofs.Pushes.{AreDistinct-push}
 use Rattle.k_dict_saved.specs.Extents.{extents_of}
 use Rattle.k_dict_saved.specs.FileText.{entry_line, file_text, region_line}
 use Rattle.k_dict_saved.specs.Files.{IsFile}

@@ -4,11 +4,11 @@ use Rattle.std.specs.Prelude.{codes}
 use Rattle.std.proofs.lemmas.Bool.{cases_eq}
 use Rattle.std.proofs.lemmas.Option.{none-some}
 use Rattle.k_optab.specs.declared.region.Region.{Region}
-use Rattle.k_dict.proofs.Pushes.{AreDistinct-push}
-use Rattle.k_dict.specs.Entries.{AreDistinct, NameEarlier}
-use Rattle.k_dict.specs.Rules.{child_works}
-use Rattle.k_dict.specs.declared.entry.Entry.{Entry}
-use Rattle.k_dict.specs.declared.entry.Run.{Run}
+use Rattle.k_dict_entries.proofs.Pushes.{AreDistinct-push}
+use Rattle.k_dict_entries.specs.Entries.{AreDistinct, NameEarlier}
+use Rattle.k_dict_entries.specs.Rules.{child_works}
+use Rattle.k_dict_entries.specs.declared.entry.Entry.{Entry}
+use Rattle.k_dict_entries.specs.declared.entry.Run.{Run}
 use Rattle.k_dict_saved.proofs.EntrySteps.{AtEntries, entries_done, entries_more, entries_start}
 use Rattle.k_dict_saved.proofs.RegionSteps.{AtRegions, regions_done, regions_more, regions_start}
 use Rattle.k_dict_saved.proofs.Spelled.{named_takes}

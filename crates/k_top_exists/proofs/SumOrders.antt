@@ -3,9 +3,9 @@ use Rattle.std.proofs.Common.{◌≡◌, ℕ, zero, suc, ◌+◌, ◌<◌, ◌�
 use Rattle.std.proofs.lemmas.Bool.{cases_eq, cases_lt}
 use Rattle.std.proofs.lemmas.Cmp.{nat_list_cmp_total}
 use Rattle.std.proofs.lemmas.List.{length-replicate}
-use Rattle.k_dict.specs.Entries.{NameEarlier}
-use Rattle.k_dict.specs.Rules.{entry_of}
-use Rattle.k_dict.specs.declared.entry.Entry.{Entry}
+use Rattle.k_dict_entries.specs.Entries.{NameEarlier}
+use Rattle.k_dict_entries.specs.Rules.{entry_of}
+use Rattle.k_dict_entries.specs.declared.entry.Entry.{Entry}
 use Rattle.k_dict_saved.specs.Migration.{renumbered}
 use Rattle.k_sum.specs.Laws.{TellsOfRuns}
 use Rattle.k_sum.specs.declared.sum.Sum.{Sum}

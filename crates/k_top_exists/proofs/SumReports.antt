@@ -1,7 +1,7 @@
 -- A sum that can be saved can be shown in each form.
 use Rattle.std.proofs.Common.{inl, inr, ℕ, suc, Bool, List, length, Option, Some, None, refl, arith}
 use Rattle.std.proofs.lemmas.Bool.{cases_lt}
-use Rattle.k_dict.specs.Trees.{size}
+use Rattle.k_dict_entries.specs.Trees.{size}
 use Rattle.k_data.specs.Document.{sum_json}
 use Rattle.k_data.specs.Table.{rows_csv}
 use Rattle.k_data_profile.specs.Shown.{listed}

@@ -4,9 +4,9 @@ use Rattle.std.specs.Prelude.{ℕ, ◌<◌, ◌≤◌, Bool, List, length, Optio
 use Rattle.k_optab.specs.declared.node.Node.{Node}
 use Rattle.k_optab.specs.declared.region.Region.{Region}
 use Rattle.k_optab.specs.Tree.{IsTree}
-use Rattle.k_dict.specs.Dictionary.{IsDictionaryOf}
-use Rattle.k_dict.specs.Trees.{Forest, Tree, alone, bare, grown, list_of}
-use Rattle.k_dict.specs.declared.entry.Entry.{Entry}
+use Rattle.k_dict_entries.specs.Dictionary.{IsDictionaryOf}
+use Rattle.k_dict_entries.specs.Trees.{Forest, Tree, alone, bare, grown, list_of}
+use Rattle.k_dict_entries.specs.declared.entry.Entry.{Entry}
 use Rattle.k_dict_saved.specs.Profile.{IsSaved, Reads}
 use Rattle.k_dict_saved.specs.declared.saved.Saved.{Saved}
 use Rattle.k_selfpar.specs.Contexts.{AreContexts}

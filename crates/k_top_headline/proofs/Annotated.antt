@@ -3,7 +3,7 @@ use Rattle.std.proofs.Common.{ℕ, ◌≡◌, Bool, refl, sym, subst, ◌∙◌,
 use Rattle.std.proofs.lemmas.Option.{same_Some}
 use Rattle.k_ending.specs.declared.ending.End.{End}
 use Rattle.k_ending.specs.declared.ending.End.TheVariants as end
-use Rattle.k_dict.specs.declared.dict.Which.{Which}
+use Rattle.k_dict_entries.specs.declared.dict.Which.{Which}
 use Rattle.k_marks_meaning.specs.Marking.{marks_of}
 use Rattle.k_carry_pairs.specs.Carried.{AreCarried}
 use Rattle.k_carry_pairs.specs.declared.pairs.LoopPairs.{LoopPairs}

@@ -3,7 +3,7 @@ use Rattle.std.proofs.Common.{ℕ, ◌≡◌, Bool, refl, sym, subst, ◌∙◌,
 use Rattle.std.proofs.lemmas.Option.{same_Some}
 use Rattle.k_ending.specs.declared.ending.End.{End}
 use Rattle.k_ending.specs.declared.ending.End.TheVariants as end
-use Rattle.k_dict.specs.declared.dict.Which.{Which}
+use Rattle.k_dict_entries.specs.declared.dict.Which.{Which}
 use Rattle.k_page.specs.Page.{large_page_text}
 use Rattle.k_report_profile.specs.RunReport.{Ran, ops_of}
 use Rattle.k_data_profile.specs.Pages.{IsRunPage}

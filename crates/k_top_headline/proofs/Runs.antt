@@ -8,12 +8,12 @@ use Rattle.k_optab.specs.declared.toml_table.TableFault.{TableFault}
 use Rattle.k_report_profile.specs.RunReport.{IsProfileOf, IsRunReport, Ran, ops_of}
 use Rattle.k_report_profile.specs.RunReport as reports
 use Rattle.k_report.specs.Report.{large_text}
-use Rattle.k_dict.proofs.Unique.{dictionary_expands}
-use Rattle.k_dict.specs.Dictionary.{IsDictionary}
-use Rattle.k_dict.specs.Entries.{expansion}
-use Rattle.k_dict.specs.Laws.{AreAlike}
-use Rattle.k_dict.specs.declared.dict.Which.{Which}
-use Rattle.k_dict.specs.declared.entry.Entry.{Entry}
+use Rattle.k_dict_entries.proofs.Unique.{dictionary_expands}
+use Rattle.k_dict_entries.specs.Dictionary.{IsDictionary}
+use Rattle.k_dict_entries.specs.Entries.{expansion}
+use Rattle.k_dict_entries.specs.Laws.{AreAlike}
+use Rattle.k_dict_entries.specs.declared.dict.Which.{Which}
+use Rattle.k_dict_entries.specs.declared.entry.Entry.{Entry}
 use Rattle.k_dict_saved.specs.declared.saved.Saved.{Saved}
 use Rattle.k_words.specs.declared.job.Job.{Job}
 use Rattle.k_words.specs.declared.job.Job.TheVariants as job

@@ -7,11 +7,11 @@ use Rattle.k_scan.proofs.Front.{word_again}
 use Rattle.k_scan.specs.Pieces.{word_at}
 use Rattle.k_sum_read.specs.AnyFile.{BeginsSum}
 use Rattle.k_optab.specs.declared.region.Region.{Region}
-use Rattle.k_dict.specs.Dictionary.{IsDictionaryOf}
-use Rattle.k_dict.specs.Entries.{expansion, tree_at}
-use Rattle.k_dict.specs.Laws.{AreAlike}
-use Rattle.k_dict.specs.Trees.{Tree}
-use Rattle.k_dict.proofs.Forests.{SameShape-refl}
+use Rattle.k_dict_entries.specs.Dictionary.{IsDictionaryOf}
+use Rattle.k_dict_entries.specs.Entries.{expansion, tree_at}
+use Rattle.k_dict_entries.specs.Laws.{AreAlike}
+use Rattle.k_dict_entries.specs.Trees.{Tree}
+use Rattle.k_dict_entries.proofs.Forests.{SameShape-refl}
 use Rattle.k_dict_saved.specs.Files.{IsFile}
 use Rattle.k_dict_saved.specs.FileText.{file_text}
 use Rattle.k_dict_saved.specs.Profile.{IsMigrated, IsOld, IsSaved, Reads}

@@ -21,11 +21,11 @@ use Rattle.k_types_meaning.specs.declared.tree.unit.TUnit.{TUnit}
 use Rattle.k_types_calls.specs.Getchar.{calls_getchar}
 use Rattle.k_ending.specs.declared.ending.End.{End}
 use Rattle.k_ending.specs.declared.ending.End.TheVariants.{Returned, Trapped, OutOfSteps}
-use Rattle.k_dict.specs.Dictionary.{IsDictionary, refusal}
-use Rattle.k_dict.specs.declared.dict.Which.{Which}
-use Rattle.k_dict.specs.Entries.{expansion}
-use Rattle.k_dict.specs.Laws.{AreAlike}
-use Rattle.k_dict.specs.declared.entry.Entry.{Entry}
+use Rattle.k_dict_entries.specs.Dictionary.{IsDictionary, refusal}
+use Rattle.k_dict_entries.specs.declared.dict.Which.{Which}
+use Rattle.k_dict_entries.specs.Entries.{expansion}
+use Rattle.k_dict_entries.specs.Laws.{AreAlike}
+use Rattle.k_dict_entries.specs.declared.entry.Entry.{Entry}
 use Rattle.k_dict_saved.specs.declared.saved.Saved.{Saved}
 use Rattle.k_report.specs.Report.{large_text}
 use Rattle.k_report_profile.specs.Report.{IsReportOf, asked}

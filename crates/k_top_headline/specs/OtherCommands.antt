@@ -16,10 +16,10 @@ use Rattle.k_carry_text.specs.Lines.{carried_text}
 use Rattle.k_gen.specs.Text.{program}
 use Rattle.k_graph.specs.Listings.{IsListing}
 use Rattle.k_graph.specs.declared.tree.Instance.{Instance}
-use Rattle.k_dict.specs.Dictionary.{IsDictionary, refusal}
-use Rattle.k_dict.specs.declared.dict.Which.{Which}
-use Rattle.k_dict.specs.Entries.{expansion}
-use Rattle.k_dict.specs.declared.entry.Entry.{Entry}
+use Rattle.k_dict_entries.specs.Dictionary.{IsDictionary, refusal}
+use Rattle.k_dict_entries.specs.declared.dict.Which.{Which}
+use Rattle.k_dict_entries.specs.Entries.{expansion}
+use Rattle.k_dict_entries.specs.declared.entry.Entry.{Entry}
 use Rattle.k_dict_saved.specs.Files.{IsFile}
 use Rattle.k_dict_saved.specs.FileText.{file_text}
 use Rattle.k_dict_saved.specs.declared.file.File.{File}

@@ -38,7 +38,7 @@ use Rattle.k_hcpa.specs.declared.profile.RunFault.{RunFault}
 use Rattle.k_hcpa.specs.declared.profile.RunFault.TheVariants as run_fault
 use Rattle.k_hcpa.specs.declared.profile.Summary.{Summary}
 use Rattle.k_hcpa.specs.declared.profile.Summary.TheVariants as summary
-use Rattle.k_dict.specs.declared.entry.Entry.{Entry}
+use Rattle.k_dict_entries.specs.declared.entry.Entry.{Entry}
 use Rattle.k_regions.specs.Regions.{regions_of}
 use Rattle.k_report_profile.specs.RunReport.{Ran}
 use Rattle.k_report_profile.specs.Summed.{AreTold, IsSummed}

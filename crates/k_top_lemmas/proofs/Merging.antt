@@ -8,11 +8,11 @@ use Rattle.k_edge.specs.declared.files.LoadFault.{LoadFault}
 use Rattle.k_edge.specs.declared.files.LoadFault.TheVariants as load
 use Rattle.k_edge.specs.declared.request.Request.{Request}
 use Rattle.k_edge.specs.declared.request.Request.TheVariants.{Load}
-use Rattle.k_dict.specs.Dictionary.{refusal}
-use Rattle.k_dict.specs.Entries.{AreInterned}
-use Rattle.k_dict.specs.declared.dict.DictFault.TheVariants as dict_fault
-use Rattle.k_dict.specs.declared.entry.Entry.{Entry}
-use Rattle.k_dict.proofs.Refusals.{refusal-behind}
+use Rattle.k_dict_entries.specs.Dictionary.{refusal}
+use Rattle.k_dict_entries.specs.Entries.{AreInterned}
+use Rattle.k_dict_entries.specs.declared.dict.DictFault.TheVariants as dict_fault
+use Rattle.k_dict_entries.specs.declared.entry.Entry.{Entry}
+use Rattle.k_dict_entries.proofs.Refusals.{refusal-behind}
 use Rattle.k_dict_saved.specs.declared.fault.SavedFault.{SavedFault}
 use Rattle.k_dict_saved.specs.declared.fault.SavedFault.TheVariants.{NotSaved, Memory}
 use Rattle.k_sum.specs.Sums.{AddsTo, both}

@@ -1,6 +1,6 @@
 -- Files that are put together have one answer.
 use Rattle.std.proofs.Common.{ℕ, zero, suc, ◌≡◌, refl, ap, sym, ◌∙◌, subst, arith, List, [], ◌∷◌, Option, Some, None, Result, Ok, Err, inl, inr}
-use Rattle.k_dict.proofs.Forests.{Alike-refl}
+use Rattle.k_dict_entries.proofs.Forests.{Alike-refl}
 use Rattle.k_sum.proofs.Bounds.{bounds_both}
 use Rattle.k_sum.specs.Laws.{forest_of}
 use Rattle.k_sum.specs.SumText.{sum_text}

@@ -6,9 +6,9 @@ use Rattle.k_ending.specs.declared.ending.End.TheVariants as end
 use Rattle.k_optab.specs.declared.node.Node.{Node}
 use Rattle.k_optab.specs.Latencies.{standard_latencies}
 use Rattle.k_optab.specs.Tree.{IsTree}
-use Rattle.k_dict.specs.Dictionary.{IsDictionary}
-use Rattle.k_dict.specs.Dictionary as dictionary
-use Rattle.k_dict.proofs.Unique.{alike_turned, dictionary_is_unique}
+use Rattle.k_dict_entries.specs.Dictionary.{IsDictionary}
+use Rattle.k_dict_entries.specs.Dictionary as dictionary
+use Rattle.k_dict_entries.proofs.Unique.{alike_turned, dictionary_is_unique}
 use Rattle.k_gen.specs.Text.{program}
 use Rattle.k_plan.specs.declared.advice.Advice.{Advice}
 use Rattle.k_report_profile.specs.Report.{IsPlanned, nodes_of_profile}

@@ -29,8 +29,8 @@ use Rattle.k_evaluation.specs.Laws.{AreAtMost}
 use Rattle.k_evaluation.specs.States.{Program}
 use Rattle.k_lower_accepted.specs.Accepted.{IsAccepted}
 use Rattle.k_regions.specs.Regions.{regions_of}
-use Rattle.k_regions.specs.Saving as saving
-use Rattle.k_regions.proofs.Paired.{can_be_saved}
+use Rattle.k_regions_saved.specs.Saving as saving
+use Rattle.k_regions_saved.proofs.Paired.{can_be_saved}
 
 -- the bytes of a name are the same in sources and in saved profiles
 or_grouped : (a b c : Bool) → (a || b || c) ≡ (a || (b || c))

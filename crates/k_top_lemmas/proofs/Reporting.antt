@@ -1,10 +1,10 @@
 -- What the summary of a run says of the tree of its profile.
 use Rattle.std.proofs.Common.{ℕ, ◌≡◌, ◌∙◌, ◌-◌, ap, sym, subst, List, [], ◌∷◌, length, Some, slice_get}
 use Rattle.k_optab.specs.declared.node.Node.{Node}
-use Rattle.k_dict.specs.declared.entry.Entry.{Entry}
-use Rattle.k_dict.specs.Entries.{expansion}
-use Rattle.k_dict.specs.Trees.{Label, node_at}
-use Rattle.k_dict.proofs.EntryTrees.{tree_is}
+use Rattle.k_dict_entries.specs.declared.entry.Entry.{Entry}
+use Rattle.k_dict_entries.specs.Entries.{expansion}
+use Rattle.k_dict_entries.specs.Trees.{Label, node_at}
+use Rattle.k_dict_entries.proofs.EntryTrees.{tree_is}
 use Rattle.k_report_profile.proofs.Reported.{at_root}
 use Rattle.k_dict_saved.specs.declared.saved.Saved.{Saved}
 use Rattle.k_dict_saved.specs.Profile.{IsSaved}

@@ -3,10 +3,10 @@ use Rattle.std.proofs.Common.{ℕ, ◌≡◌, ◌+◌, ◌-◌, Bool, arith, ap,
 use Rattle.std.proofs.lemmas.Option.{none-some, same_Some}
 use Rattle.k_optab.specs.declared.node.Node.{Node}
 use Rattle.k_optab.specs.Tree.{IsTree}
-use Rattle.k_dict.specs.Entries.{expansion}
-use Rattle.k_dict.specs.Laws.{AreAlike}
-use Rattle.k_dict.specs.Trees.{node_at}
-use Rattle.k_dict.proofs.Unique.{dictionary_expands}
+use Rattle.k_dict_entries.specs.Entries.{expansion}
+use Rattle.k_dict_entries.specs.Laws.{AreAlike}
+use Rattle.k_dict_entries.specs.Trees.{node_at}
+use Rattle.k_dict_entries.proofs.Unique.{dictionary_expands}
 use Rattle.k_report.specs.Report.{large_line}
 use Rattle.k_report_profile.specs.Report.{nodes_of_profile}
 use Rattle.k_report_profile.specs.RunReport.{IsProfileOf, IsRunReport, Ran, ops_of}

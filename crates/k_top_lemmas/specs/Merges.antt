@@ -2,7 +2,7 @@
 -- What the parts of `merge` come to, and what was seen of its files. The theorem on `kremlin` speaks of none of this.
 use Rattle.std.specs.Prelude.{ℕ, ◌≡◌, ◌≢◌, ◌⊎◌, List, [], ◌∷◌, Result, Ok, Err, Vec}
 use Rattle.std.specs.declared.alloc.Global.{Global}
-use Rattle.k_dict.specs.declared.dict.DictFault.TheVariants as dict_fault
+use Rattle.k_dict_entries.specs.declared.dict.DictFault.TheVariants as dict_fault
 use Rattle.k_dict_saved.specs.declared.fault.SavedFault.TheVariants.{NotSaved}
 use Rattle.k_edge.specs.FilesWords.{FilesState, Loads, after}
 use Rattle.k_edge.specs.declared.request.Request.{Request}

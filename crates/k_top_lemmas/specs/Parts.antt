@@ -23,7 +23,7 @@ use Rattle.k_marks_meaning.specs.Marking.{marks_of}
 use Rattle.k_evaluation.specs.States as evaluation
 use Rattle.k_lower_accepted.specs.Accepted.{IsAccepted}
 use Rattle.k_shadow.specs.Content.{Content, empty}
-use Rattle.k_dict.specs.declared.entry.Entry.{Entry}
+use Rattle.k_dict_entries.specs.declared.entry.Entry.{Entry}
 use Rattle.k_carry_pairs.specs.Carried.{AreCarried}
 use Rattle.k_carry_pairs.specs.declared.pairs.CarriedPairs.{CarriedPairs}
 use Rattle.k_carry_pairs.specs.declared.pairs.LoopPairs.{LoopPairs}

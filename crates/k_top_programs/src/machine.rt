@@ -5,7 +5,7 @@ ghost use Rattle.k_hcpa.specs.Profiles.{RunsHeld};
 ghost use Rattle.k_top_lemmas.specs.Parts.{IsFit, IsFresh, RunsProgram, dict_of, put_result, running_of};
 
 use k_code::Code;
-use k_dict::Dict;
+use k_dict_entries::Dict;
 use k_edge::{PutFault, Sink};
 use k_hcpa::{Profile, RunFault, Summary, run_held};
 use k_lower::lower;

@@ -1,12 +1,12 @@
 //! The end of the file.
 ghost use Rattle.std.specs.Prelude.{◌≡◌, ◌≤◌, ◌↔◌, IsTrue, IfOk, length, codes};
 ghost use Rattle.k_optab.specs.declared.region.RegionKind.TheVariants.{Func};
-ghost use Rattle.k_dict.specs.Entries.{NameBelow, NameEarlier};
+ghost use Rattle.k_dict_entries.specs.Entries.{NameBelow, NameEarlier};
 ghost use Rattle.k_dict_saved.specs.Formats.{AreNamed};
 ghost use Rattle.k_dict_saved.specs.Lines.{EndsInMain};
 ghost use Rattle.k_dict_saved.specs.Reading as spec;
 
-use k_dict::{Entry, Run};
+use k_dict_entries::{Entry, Run};
 use k_num::NoMemory;
 use k_optab::{Region, RegionKind};
 use std::alloc::Global;

@@ -1,7 +1,7 @@
 //! The lines of the entries.
 ghost use Rattle.std.specs.Prelude.{◌≡◌, ◌<◌, ◌≤◌, ◌↔◌, IsTrue, OnOk, length, List};
 ghost use Rattle.k_optab.specs.declared.region.Region.{Region as RegionValue};
-ghost use Rattle.k_dict.specs.Entries.{AreRuns, NameBelow};
+ghost use Rattle.k_dict_entries.specs.Entries.{AreRuns, NameBelow};
 ghost use Rattle.k_dict_saved.specs.Extents.{extents_of};
 ghost use Rattle.k_dict_saved.specs.Formats.{AreMaximal, AreRunsOf};
 ghost use Rattle.k_dict_saved.specs.Formats as spec;
@@ -11,7 +11,7 @@ use crate::format::Format;
 use crate::reading::extents::{Extent, extent_over, is_within, sums_of};
 use crate::reading::lines::{MOST_RUNS, entry};
 use crate::reading::stop::{Halt, Stop};
-use k_dict::{DictFault, Entry, EntryTable, Run};
+use k_dict_entries::{DictFault, Entry, EntryTable, Run};
 use k_num::{NoMemory, Seq};
 use std::alloc::Global;
 

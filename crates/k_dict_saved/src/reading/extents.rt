@@ -1,10 +1,10 @@
 //! How large the tree of an entry is, and whether its numbers keep within the rules.
 ghost use Rattle.std.specs.Prelude.{◌≡◌, ◌+◌, ◌*◌, ◌≤◌, length};
-ghost use Rattle.k_dict.specs.Entries.{NameBelow};
+ghost use Rattle.k_dict_entries.specs.Entries.{NameBelow};
 ghost use Rattle.k_dict_saved.specs.Extents.{capped, no_sums};
 ghost use Rattle.k_dict_saved.specs.Extents as spec;
 
-use k_dict::{Entry, Run};
+use k_dict_entries::{Entry, Run};
 
 /// The levels and the instances of a tree.
 #[derive(Clone, Copy, Debug, PartialEq, Eq)]

@@ -4,7 +4,7 @@ ghost use Rattle.k_scan.specs.Pieces.{Finds};
 ghost use Rattle.k_dict_saved.specs.Syntax.{Gives, entry_at, kind_at, named_at, number_then, numbers_at, part_at, place_at, region_at, region_of, run_at, runs_at};
 
 use crate::reading::stop::Stop;
-use k_dict::{Entry, Run};
+use k_dict_entries::{Entry, Run};
 use k_num::{NoMemory, Place, Seq, Text};
 use k_optab::{Region, RegionKind};
 use k_scan::{name, number, word};

@@ -1,12 +1,12 @@
 //! The order of the entries of a file in format 1.
 ghost use Rattle.std.specs.Prelude.{◌≡◌, ◌<◌, ◌≤◌, ◌↔◌, IsTrue, Some, length, slice_get};
-ghost use Rattle.k_dict.specs.declared.entry.Entry.{Entry as EntryValue};
-ghost use Rattle.k_dict.specs.Entries.{AreDistinct};
+ghost use Rattle.k_dict_entries.specs.declared.entry.Entry.{Entry as EntryValue};
+ghost use Rattle.k_dict_entries.specs.Entries.{AreDistinct};
 ghost use Rattle.k_dict_saved.specs.Formats.{HaveRuns, IsPostOrder};
 ghost use Rattle.k_dict_saved.specs.Order.{Visits};
 ghost use Rattle.k_dict_saved.specs.declared.format.Format.TheVariants.{One};
 
-use k_dict::{Entry, Run};
+use k_dict_entries::{Entry, Run};
 
 /// The runs of the entry of a number.
 fn runs_of(entries: &[Entry], number: u32) -> &[Run]

@@ -1,5 +1,5 @@
 use Rattle.std.proofs.Common.{ℕ, List, length, sym, ap, ◌∙◌, subst}
-use Rattle.k_dict.specs.Entries.{NameBelow}
+use Rattle.k_dict_entries.specs.Entries.{NameBelow}
 use Rattle.k_dict_saved.specs.Migration.{renumbered_entry}
 use Rattle.k_dict_saved.proofs.Migrating.{below_done, can_intern, migrating_more, migrating_start, never_full, place_of_next}
 use Rattle.k_dict_saved.proofs.migration.dictionary.Goals as goal

@@ -1,8 +1,8 @@
 use Rattle.std.proofs.Common.{List, refl, sym, ◌∙◌, subst}
 use Rattle.std.specs.Int.{w32}
 use Rattle.std.proofs.lemmas.Int.{to_z-of_z}
-use Rattle.k_dict.specs.Entries.{trees_of}
-use Rattle.k_dict.specs.declared.entry.Entry.{Entry}
+use Rattle.k_dict_entries.specs.Entries.{trees_of}
+use Rattle.k_dict_entries.specs.declared.entry.Entry.{Entry}
 use Rattle.k_dict_saved.specs.Formats.{HaveRuns}
 use Rattle.k_dict_saved.specs.Migration.{AreOfShapes, HaveFewChildren}
 use Rattle.k_dict_saved.specs.declared.format.Format.TheVariants.{One}

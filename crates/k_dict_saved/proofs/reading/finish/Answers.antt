@@ -1,10 +1,10 @@
 use Rattle.std.proofs.Common.{List, refl, sym, subst, ◌∙◌}
 use Rattle.std.proofs.lemmas.Bool.{false≢true}
 use Rattle.k_optab.specs.declared.region.Region.{Region}
-use Rattle.k_dict.specs.Entries.{AreDistinct}
+use Rattle.k_dict_entries.specs.Entries.{AreDistinct}
 use Rattle.k_dict_saved.specs.Formats.{HaveRuns}
 use Rattle.k_dict_saved.specs.Reading.{Ends}
-use Rattle.k_dict.specs.declared.entry.Entry.{Entry}
+use Rattle.k_dict_entries.specs.declared.entry.Entry.{Entry}
 use Rattle.k_dict_saved.proofs.reading.finish.Goals as goal
 
 pub may_end-requires-clause-runs : goal.may_end-requires-clause-runs

@@ -1,5 +1,5 @@
 use Rattle.std.proofs.Common.{◌≡◌, ◌+◌, ◌++◌, ◌<◌, ◌^◌, length}
-use Rattle.k_dict.specs.Tallies.{count_of, counted}
+use Rattle.k_dict_entries.specs.Tallies.{count_of, counted}
 use Rattle.k_hcpa_summaries.proofs.level.with_child.Given as goal
 
 -- the rest with the child is what is still to be added

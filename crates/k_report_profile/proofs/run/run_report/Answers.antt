@@ -4,8 +4,8 @@ use Rattle.std.proofs.lemmas.Option.{same_Some}
 use Rattle.std.proofs.lemmas.Result.{IfOk-weaker}
 use Rattle.k_optab.specs.declared.node.Node.{Node}
 use Rattle.k_optab.specs.Events.{operations}
-use Rattle.k_dict.specs.Interning.{Gathers}
-use Rattle.k_dict.specs.declared.dict.DictFault.{DictFault}
+use Rattle.k_dict_entries.specs.Interning.{Gathers}
+use Rattle.k_dict_entries.specs.declared.dict.DictFault.{DictFault}
 use Rattle.k_report.specs.Report.{large_text}
 use Rattle.k_dict_saved.specs.Profile.{IsSaved}
 use Rattle.k_dict_saved.specs.declared.saved.Saved.{Saved}

@@ -1,6 +1,6 @@
 use Rattle.std.proofs.Common.{◌≡◌, ℕ, ◌+◌, ◌-◌, refl, sym, ap, ◌∙◌, subst, arith, List, get_or}
-use Rattle.k_dict.specs.Entries.{AreRuns}
-use Rattle.k_dict.specs.declared.entry.Entry.{Entry}
+use Rattle.k_dict_entries.specs.Entries.{AreRuns}
+use Rattle.k_dict_entries.specs.declared.entry.Entry.{Entry}
 use Rattle.k_selfpar.specs.Counts.{CanCount, with_children}
 use Rattle.k_selfpar.specs.Sums.{all_of, one}
 use Rattle.k_selfpar.proofs.Counting.{Counted, all_counted, can_count_more, more_counted, root_counted}

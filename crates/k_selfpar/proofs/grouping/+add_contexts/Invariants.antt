@@ -1,5 +1,5 @@
 use Rattle.std.proofs.Common.{length}
-use Rattle.k_dict.specs.Trees.{height}
+use Rattle.k_dict_entries.specs.Trees.{height}
 use Rattle.k_selfpar.specs.Grouping.{standing}
 use Rattle.k_selfpar.proofs.Grouped.{Listing}
 use Rattle.k_selfpar.proofs.grouping.+add_contexts.Given as goal

@@ -1,7 +1,7 @@
 use Rattle.std.proofs.Common.{◌+◌, ◌*◌, ◌<◌, ◌^◌, sym, ap, ◌∙◌, subst, List, map}
 use Rattle.std.proofs.lemmas.List.{nil_from_length}
-use Rattle.k_dict.specs.Tallies.{total as count_all}
-use Rattle.k_dict.specs.declared.entry.Run.{Run}
+use Rattle.k_dict_entries.specs.Tallies.{total as count_all}
+use Rattle.k_dict_entries.specs.declared.entry.Run.{Run}
 use Rattle.k_selfpar.specs.Grouping.{item_for, tallied}
 use Rattle.k_selfpar.proofs.Grouped.{all_tallied, can_tally, more_tallied, none_tallied}
 use Rattle.k_selfpar.proofs.grouping.children_of.Goals as goal

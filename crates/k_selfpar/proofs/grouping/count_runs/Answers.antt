@@ -1,6 +1,6 @@
 use Rattle.std.proofs.Common.{◌+◌, ◌*◌, ◌<◌, ◌^◌, sym, ap, ◌∙◌, subst, List}
-use Rattle.k_dict.specs.Tallies.{total as count_all}
-use Rattle.k_dict.specs.declared.entry.Run.{Run}
+use Rattle.k_dict_entries.specs.Tallies.{total as count_all}
+use Rattle.k_dict_entries.specs.declared.entry.Run.{Run}
 use Rattle.k_selfpar.specs.Grouping.{tallied}
 use Rattle.k_selfpar.proofs.Grouped.{room_behind}
 use Rattle.k_selfpar.proofs.grouping.count_runs.Goals as goal

@@ -1,5 +1,5 @@
 use Rattle.std.proofs.Common.{◌≡◌, ◌+◌, ◌*◌, ◌<◌, ◌^◌, length}
-use Rattle.k_dict.specs.Tallies.{total as count_all}
+use Rattle.k_dict_entries.specs.Tallies.{total as count_all}
 use Rattle.k_selfpar.specs.Grouping.{tallied}
 use Rattle.k_selfpar.proofs.grouping.count_runs.Given as goal
 

@@ -1,5 +1,5 @@
 use Rattle.std.proofs.Common.{◌≡◌, ◌++◌, ℕ, map, length}
-use Rattle.k_dict.specs.Entries.{AreRuns}
+use Rattle.k_dict_entries.specs.Entries.{AreRuns}
 use Rattle.k_selfpar.specs.Grouping.{item_for}
 use Rattle.k_selfpar.proofs.grouping.items_of.Given as goal
 

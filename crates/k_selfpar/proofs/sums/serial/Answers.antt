@@ -1,6 +1,6 @@
 use Rattle.std.proofs.Common.{◌≡◌, ◌<◌, ◌^◌, ◌+◌, ◌-◌, List, length, sym, ap, ◌∙◌, subst, arith}
-use Rattle.k_dict.specs.Entries.{AreRuns}
-use Rattle.k_dict.specs.declared.entry.Run.{Run}
+use Rattle.k_dict_entries.specs.Entries.{AreRuns}
+use Rattle.k_dict_entries.specs.declared.entry.Run.{Run}
 use Rattle.k_selfpar.specs.Counts.{weighed}
 use Rattle.k_selfpar.specs.Sums.{path_at, work_at}
 use Rattle.k_selfpar.proofs.Adding.{paths_small, runs_are, runs_wider, serial_is, work_is, works_part, works_small}

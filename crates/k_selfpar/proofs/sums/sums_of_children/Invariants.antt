@@ -1,5 +1,5 @@
 use Rattle.std.proofs.Common.{◌≡◌, ℕ, ◌+◌, length}
-use Rattle.k_dict.specs.Entries.{AreRuns}
+use Rattle.k_dict_entries.specs.Entries.{AreRuns}
 use Rattle.k_selfpar.specs.Counts.{weighed}
 use Rattle.k_selfpar.specs.Sums.{path_at, work_at}
 use Rattle.k_selfpar.proofs.sums.sums_of_children.Given as goal

@@ -1,6 +1,6 @@
 use Rattle.std.proofs.Common.{sym, subst, List}
 use Rattle.std.proofs.lemmas.Result.{IfOk-weaker}
-use Rattle.k_dict.specs.Entries.{expansion}
+use Rattle.k_dict_entries.specs.Entries.{expansion}
 use Rattle.k_selfpar.specs.Items.{AreRowsOf, totals}
 use Rattle.k_selfpar.specs.Rows.{AreAtLeastOne, AreRows}
 use Rattle.k_selfpar.specs.Sums.{AreSmall}

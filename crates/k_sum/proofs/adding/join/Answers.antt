@@ -1,7 +1,7 @@
 use Rattle.std.proofs.Common.{ℕ, List, length, sym, ap, ◌∙◌, subst}
-use Rattle.k_dict.specs.Entries.{NameBelow}
-use Rattle.k_dict.specs.declared.entry.Run.{Run}
-use Rattle.k_dict.proofs.EntryTrees.{below_bound}
+use Rattle.k_dict_entries.specs.Entries.{NameBelow}
+use Rattle.k_dict_entries.specs.declared.entry.Run.{Run}
+use Rattle.k_dict_entries.proofs.EntryTrees.{below_bound}
 use Rattle.k_sum.proofs.adding.join.Goals as goal
 
 pub join_roots-requires-clause-below : goal.join_roots-requires-clause-below

@@ -1,5 +1,5 @@
 use Rattle.std.proofs.Common.{ℕ, List, length, Ok, Err, sym, subst}
-use Rattle.k_dict.specs.Entries.{NameBelow}
+use Rattle.k_dict_entries.specs.Entries.{NameBelow}
 use Rattle.k_sum.specs.Joining.{JoinsOne}
 use Rattle.k_sum.proofs.Joins.{goes_on_unpushed, joining_more, joining_refused, next_below, next_few}
 use Rattle.k_sum.proofs.entries.add_entries.Goals as goal

@@ -1,5 +1,5 @@
 use Rattle.std.proofs.Common.{length}
-use Rattle.k_dict.specs.Entries.{AreInterned}
+use Rattle.k_dict_entries.specs.Entries.{AreInterned}
 use Rattle.k_sum.proofs.Joins.{Joining}
 use Rattle.k_sum.proofs.entries.add_entries.Given as goal
 

@@ -1,5 +1,5 @@
 use Rattle.std.proofs.Common.{◌+◌}
-use Rattle.k_dict.specs.Tallies.{total}
+use Rattle.k_dict_entries.specs.Tallies.{total}
 use Rattle.k_sum.specs.Joining.{counted_all}
 use Rattle.k_sum.proofs.Joins.{fits, own_whole, sum_more}
 use Rattle.k_sum.proofs.entries.count_all.Goals as goal

@@ -1,5 +1,5 @@
 use Rattle.std.proofs.Common.{◌≡◌, ◌+◌, length}
-use Rattle.k_dict.specs.Tallies.{total}
+use Rattle.k_dict_entries.specs.Tallies.{total}
 use Rattle.k_sum.specs.Joining.{counted_all}
 use Rattle.k_sum.proofs.entries.count_all.Given as goal
 

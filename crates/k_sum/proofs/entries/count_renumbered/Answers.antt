@@ -1,5 +1,5 @@
 use Rattle.std.proofs.Common.{◌+◌, length}
-use Rattle.k_dict.specs.Tallies.{total}
+use Rattle.k_dict_entries.specs.Tallies.{total}
 use Rattle.k_dict_saved.specs.Migration.{renumbered}
 use Rattle.k_sum.proofs.Joins.{below_more, fits, numbered_whole, sum_more}
 use Rattle.k_sum.proofs.entries.count_renumbered.Goals as goal

@@ -1,6 +1,6 @@
 use Rattle.std.proofs.Common.{◌≡◌, ◌+◌, length}
-use Rattle.k_dict.specs.Entries.{NameBelow}
-use Rattle.k_dict.specs.Tallies.{total}
+use Rattle.k_dict_entries.specs.Entries.{NameBelow}
+use Rattle.k_dict_entries.specs.Tallies.{total}
 use Rattle.k_dict_saved.specs.Migration.{renumbered}
 use Rattle.k_sum.proofs.entries.count_renumbered.Given as goal
 

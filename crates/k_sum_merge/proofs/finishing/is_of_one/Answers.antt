@@ -1,7 +1,7 @@
 use Rattle.std.proofs.Common.{List, length, sym, subst, ◌↔◌, IsTrue}
-use Rattle.k_dict.specs.Entries.{NameBelow}
-use Rattle.k_dict.specs.declared.entry.Entry.{Entry}
-use Rattle.k_dict.specs.declared.entry.Run.{Run}
+use Rattle.k_dict_entries.specs.Entries.{NameBelow}
+use Rattle.k_dict_entries.specs.declared.entry.Entry.{Entry}
+use Rattle.k_dict_entries.specs.declared.entry.Run.{Run}
 use Rattle.k_sum_merge.proofs.Kept.{roots_below}
 use Rattle.k_sum_merge.proofs.finishing.is_of_one.Goals as goal
 use Rattle.k_sum_saved.specs.SumLines.{AreOfOneRegion}

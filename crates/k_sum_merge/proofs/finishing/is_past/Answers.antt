@@ -1,8 +1,8 @@
 use Rattle.std.proofs.Common.{◌≡◌, List, length, sym, ◌∙◌, subst}
-use Rattle.k_dict.specs.Entries.{NameBelow, NameEarlier, laid, trees_of}
-use Rattle.k_dict.specs.Trees.{size}
-use Rattle.k_dict.specs.declared.entry.Entry.{Entry}
-use Rattle.k_dict.specs.declared.entry.Run.{Run}
+use Rattle.k_dict_entries.specs.Entries.{NameBelow, NameEarlier, laid, trees_of}
+use Rattle.k_dict_entries.specs.Trees.{size}
+use Rattle.k_dict_entries.specs.declared.entry.Entry.{Entry}
+use Rattle.k_dict_entries.specs.declared.entry.Run.{Run}
 use Rattle.k_dict_saved.specs.Extents.{capped}
 use Rattle.k_sum.specs.Laws.{forest_of}
 use Rattle.k_sum_merge.proofs.Kept.{entries_earlier, roots_below}

@@ -1,5 +1,5 @@
 use Rattle.std.proofs.Common.{◌≡◌, List, length, sym, ap, ◌∙◌, subst}
-use Rattle.k_dict.specs.Entries.{NameBelow}
+use Rattle.k_dict_entries.specs.Entries.{NameBelow}
 use Rattle.k_dict_saved.specs.Extents.{capped}
 use Rattle.k_sum_merge.specs.Sizes.{instances_in}
 use Rattle.k_sum_merge.proofs.Sized.{capped_laid}

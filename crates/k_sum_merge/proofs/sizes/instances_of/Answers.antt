@@ -1,6 +1,6 @@
 use Rattle.std.proofs.Common.{List, length, subst, arith}
-use Rattle.k_dict.specs.Entries.{NameBelow}
-use Rattle.k_dict.specs.declared.entry.Run.{Run}
+use Rattle.k_dict_entries.specs.Entries.{NameBelow}
+use Rattle.k_dict_entries.specs.declared.entry.Run.{Run}
 use Rattle.k_sum_merge.proofs.Sized.{all_counted, counted_on}
 use Rattle.k_sum_merge.proofs.sizes.instances_of.Goals as goal
 

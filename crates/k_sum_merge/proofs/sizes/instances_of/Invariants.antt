@@ -1,5 +1,5 @@
 use Rattle.std.proofs.Common.{◌≡◌, ◌+◌, ◌≤◌, length}
-use Rattle.k_dict.specs.Entries.{NameBelow}
+use Rattle.k_dict_entries.specs.Entries.{NameBelow}
 use Rattle.k_dict_saved.specs.Extents.{capped}
 use Rattle.k_sum_merge.specs.Sizes.{instances_in}
 use Rattle.k_sum_merge.proofs.sizes.instances_of.Given as goal

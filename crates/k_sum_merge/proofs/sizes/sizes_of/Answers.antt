@@ -1,8 +1,8 @@
 use Rattle.std.proofs.Common.{◌≡◌, ℕ, ◌+◌, ◌∷◌, ◌++◌, [], List, length, sym, ap, ◌∙◌, subst, arith}
-use Rattle.k_dict.specs.Entries.{NameBelow}
-use Rattle.k_dict.specs.Rules.{entry_of}
-use Rattle.k_dict.specs.declared.entry.Entry.{Entry}
-use Rattle.k_dict.specs.declared.entry.Run.{Run}
+use Rattle.k_dict_entries.specs.Entries.{NameBelow}
+use Rattle.k_dict_entries.specs.Rules.{entry_of}
+use Rattle.k_dict_entries.specs.declared.entry.Entry.{Entry}
+use Rattle.k_dict_entries.specs.declared.entry.Run.{Run}
 use Rattle.k_dict_saved.specs.Extents.{capped}
 use Rattle.k_sum_merge.specs.Sizes.{instances_in}
 use Rattle.k_sum_merge.proofs.Sized.{next_below, no_sizes, sizes_more}

@@ -1,6 +1,6 @@
 use Rattle.std.proofs.Common.{◌≡◌, ℕ, ◌+◌, Global, List, Vec, refl, sym, ap, ◌∙◌, subst, arith}
 use Rattle.k_dict_saved.specs.Migration.{renumbered_entry}
-use Rattle.k_dict.specs.declared.entry.Entry.{Entry}
+use Rattle.k_dict_entries.specs.declared.entry.Entry.{Entry}
 use Rattle.k_sum_order.specs.Order.{key_of}
 use Rattle.k_sum_order.specs.Placing.{AreRanked, entry_with}
 use Rattle.k_sum_order.specs.declared.batch.Ranked.{Ranked}

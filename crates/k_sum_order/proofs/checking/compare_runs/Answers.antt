@@ -2,7 +2,7 @@ use Rattle.std.proofs.Common.{List, sym, ap, ◌∙◌}
 use Rattle.std.proofs.lemmas.List.{nil_from_length}
 use Rattle.std.specs.Cmp.Lexicographic.{slice_cmp}
 use Rattle.std.specs.Ordering.{nat_cmp}
-use Rattle.k_dict.specs.declared.entry.Run.{Run}
+use Rattle.k_dict_entries.specs.declared.entry.Run.{Run}
 use Rattle.k_sum_order.specs.Order.{run_numbers}
 use Rattle.k_sum_order.proofs.checking.compare_runs.Goals as goal
 

@@ -1,5 +1,5 @@
 use Rattle.std.proofs.Common.{◌≡◌, max, length}
-use Rattle.k_dict.specs.Entries.{NameBelow}
+use Rattle.k_dict_entries.specs.Entries.{NameBelow}
 use Rattle.k_sum_order.specs.Placing.{level_over}
 use Rattle.k_sum_order.proofs.levels.level_over.Given as goal
 

@@ -1,7 +1,7 @@
 use Rattle.std.proofs.Common.{List, sym, subst}
-use Rattle.k_dict.specs.Entries.{AreInterned}
-use Rattle.k_dict.specs.declared.entry.Entry.{Entry}
-use Rattle.k_dict.proofs.Pushes.{interned}
+use Rattle.k_dict_entries.specs.Entries.{AreInterned}
+use Rattle.k_dict_entries.specs.declared.entry.Entry.{Entry}
+use Rattle.k_dict_entries.proofs.Pushes.{interned}
 use Rattle.k_sum_order.proofs.Ordered.{ordered_earlier}
 use Rattle.k_sum_order.proofs.ordering.order.Goals as goal
 

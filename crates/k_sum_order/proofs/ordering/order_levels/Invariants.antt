@@ -1,4 +1,4 @@
-use Rattle.k_dict.specs.Entries.{AreDistinct}
+use Rattle.k_dict_entries.specs.Entries.{AreDistinct}
 use Rattle.k_sum_order.specs.Placing.{AreOrderedTo}
 use Rattle.k_sum_order.proofs.ordering.order_levels.Given as goal
 

@@ -1,7 +1,7 @@
 use Rattle.std.proofs.Common.{◌≡◌, ℕ, List, length, sym, ap, ◌∙◌, subst}
-use Rattle.k_dict.specs.Entries.{NameBelow}
-use Rattle.k_dict.specs.declared.entry.Run.{Run}
-use Rattle.k_dict.proofs.EntryTrees.{below_bound}
+use Rattle.k_dict_entries.specs.Entries.{NameBelow}
+use Rattle.k_dict_entries.specs.declared.entry.Run.{Run}
+use Rattle.k_dict_entries.proofs.EntryTrees.{below_bound}
 use Rattle.k_sum_order.proofs.ordering.ordered_parts.Goals as goal
 
 pub order_roots-requires-clause-below : goal.order_roots-requires-clause-below

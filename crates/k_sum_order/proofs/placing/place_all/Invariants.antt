@@ -1,5 +1,5 @@
 use Rattle.std.proofs.Common.{◌≡◌, ◌<◌, All, length}
-use Rattle.k_dict.specs.Entries.{AreDistinct}
+use Rattle.k_dict_entries.specs.Entries.{AreDistinct}
 use Rattle.k_sum_order.specs.Placing.{placed_all}
 use Rattle.k_sum_order.specs.declared.batch.Ranked.{Ranked}
 use Rattle.k_sum_order.proofs.Batches.{numbers_of}

@@ -1,6 +1,6 @@
 use Rattle.std.proofs.Common.{List, Err, subst, sym, refl, arith, ◌∙◌}
 use Rattle.std.proofs.lemmas.Bool.{false≢true}
-use Rattle.k_dict.specs.declared.entry.Entry.{Entry}
+use Rattle.k_dict_entries.specs.declared.entry.Entry.{Entry}
 use Rattle.k_dict_saved.specs.Reading.{NextEntry}
 use Rattle.k_dict_saved.specs.declared.format.Format.TheVariants.{Two}
 use Rattle.k_dict_saved.specs.declared.reading.stop.Stop.{Stop}

@@ -1,9 +1,9 @@
 use Rattle.std.proofs.Common.{◌≤◌, List, Ok, Err, length, sym, ap, ◌∙◌, subst}
 use Rattle.std.proofs.lemmas.Bool.{false≢true}
 use Rattle.k_optab.specs.declared.region.Region.{Region}
-use Rattle.k_dict.specs.Entries.{NameEarlier}
-use Rattle.k_dict.specs.Rules.{NameRegions}
-use Rattle.k_dict.specs.declared.entry.Entry.{Entry}
+use Rattle.k_dict_entries.specs.Entries.{NameEarlier}
+use Rattle.k_dict_entries.specs.Rules.{NameRegions}
+use Rattle.k_dict_entries.specs.declared.entry.Entry.{Entry}
 use Rattle.k_dict_saved.specs.Extents.{extents_of}
 use Rattle.k_dict_saved.specs.declared.reading.stop.Stop.{Stop}
 use Rattle.k_sum_read.specs.Reading.{FoundRoots}

@@ -1,5 +1,5 @@
 use Rattle.std.proofs.Common.{◌≡◌, ◌+◌, ◌≤◌, length}
-use Rattle.k_dict.specs.Tallies.{total}
+use Rattle.k_dict_entries.specs.Tallies.{total}
 use Rattle.k_dict_saved.specs.Extents.{capped}
 use Rattle.k_sum_read.proofs.roots.count_roots.Given as goal
 

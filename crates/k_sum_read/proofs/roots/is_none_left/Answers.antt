@@ -1,5 +1,5 @@
 use Rattle.std.proofs.Common.{◌≡◌, Bool, false, List, length, replicate, sym, ap, ◌∙◌, subst}
-use Rattle.k_dict.specs.Entries.{NameBelow}
+use Rattle.k_dict_entries.specs.Entries.{NameBelow}
 use Rattle.k_dict_saved.specs.Reading.{AllNameBelow, marked, marked_all}
 use Rattle.k_dict_saved.proofs.Marks.{below_marks}
 use Rattle.k_sum_read.specs.Reading.{are_all}

@@ -1,10 +1,10 @@
 use Rattle.std.proofs.Common.{ℕ, List, Bor, length, refl, sym, ap, ◌∙◌, subst}
 use Rattle.std.proofs.lemmas.Bool.{false≢true}
 use Rattle.std.proofs.lemmas.List.{length-map}
-use Rattle.k_dict.specs.Entries.{NameBelow, trees_of}
-use Rattle.k_dict.specs.declared.entry.Entry.{Entry}
-use Rattle.k_dict.specs.declared.entry.Run.{Run}
-use Rattle.k_dict.proofs.EntryTrees.{length-trees}
+use Rattle.k_dict_entries.specs.Entries.{NameBelow, trees_of}
+use Rattle.k_dict_entries.specs.declared.entry.Entry.{Entry}
+use Rattle.k_dict_entries.specs.declared.entry.Run.{Run}
+use Rattle.k_dict_entries.proofs.EntryTrees.{length-trees}
 use Rattle.k_dict_saved.specs.Extents.{extent_of, no_sums, sums_from}
 use Rattle.k_sum_saved.specs.SumLines.{AreRoots}
 use Rattle.k_sum_read.proofs.RootSteps.{no_word, refused_runs, right_roots, roots_named, work_is, wrong_roots}

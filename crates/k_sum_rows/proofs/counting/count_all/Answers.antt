@@ -1,5 +1,5 @@
 use Rattle.std.proofs.Common.{◌≡◌, ℕ, ◌+◌, ◌-◌, ◌∙◌, sym, ap, subst, arith, List, get_or}
-use Rattle.k_dict.specs.declared.entry.Entry.{Entry}
+use Rattle.k_dict_entries.specs.declared.entry.Entry.{Entry}
 use Rattle.k_selfpar.specs.Counts.{CanCount, with_children}
 use Rattle.k_sum_rows.proofs.Counted.{Done, all_done, can_count_children, can_count_roots, more_done, roots_done}
 use Rattle.k_sum_rows.proofs.counting.count_all.Goals as goal

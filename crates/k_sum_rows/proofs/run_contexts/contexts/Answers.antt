@@ -1,5 +1,5 @@
 use Rattle.std.proofs.Common.{List, sym, subst}
-use Rattle.k_dict.specs.declared.entry.Run.{Run}
+use Rattle.k_dict_entries.specs.declared.entry.Run.{Run}
 use Rattle.k_sum_rows.specs.Runs.{AreRunRoots, GivesRunContexts, run_trees}
 use Rattle.k_sum_rows.proofs.Listed.{sum_of_one, sum_roots}
 use Rattle.k_sum_rows.proofs.run_contexts.contexts.Goals as goal

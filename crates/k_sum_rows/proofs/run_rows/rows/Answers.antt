@@ -1,7 +1,7 @@
 use Rattle.std.proofs.Common.{List, sym, subst}
 use Rattle.std.specs.Prelude.{IfOk}
-use Rattle.k_dict.specs.Trees.{nodes_of}
-use Rattle.k_dict.specs.declared.entry.Run.{Run}
+use Rattle.k_dict_entries.specs.Trees.{nodes_of}
+use Rattle.k_dict_entries.specs.declared.entry.Run.{Run}
 use Rattle.k_selfpar.specs.Rows.{AreRows}
 use Rattle.k_sum_rows.specs.Runs.{AreRunRoots, run_trees}
 use Rattle.k_sum_rows.proofs.Listed.{sum_roots}

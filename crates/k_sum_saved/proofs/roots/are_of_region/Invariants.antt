@@ -1,5 +1,5 @@
 use Rattle.std.proofs.Common.{◌↔◌, length}
-use Rattle.k_dict.specs.Entries.{NameBelow}
+use Rattle.k_dict_entries.specs.Entries.{NameBelow}
 use Rattle.k_sum_saved.specs.SumLines.{AreOfRegion}
 use Rattle.k_sum_saved.proofs.roots.are_of_region.Given as goal
 

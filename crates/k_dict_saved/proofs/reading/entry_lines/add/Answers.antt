@@ -1,8 +1,8 @@
 use Rattle.std.proofs.Common.{List, ap, ◌∙◌, subst}
 use Rattle.k_dict_saved.specs.Extents.{extent_of}
-use Rattle.k_dict.specs.Entries.{tree_of, trees_of}
+use Rattle.k_dict_entries.specs.Entries.{tree_of, trees_of}
 use Rattle.k_dict_saved.specs.Reading.{IsWithinRules}
-use Rattle.k_dict.specs.declared.entry.Entry.{Entry}
+use Rattle.k_dict_entries.specs.declared.entry.Entry.{Entry}
 use Rattle.k_dict_saved.proofs.EntrySteps.{adds, adds_extent, adds_not}
 use Rattle.k_dict_saved.proofs.reading.entry_lines.add.Goals as goal
 

@@ -1,5 +1,5 @@
 use Rattle.std.proofs.Common.{◌↔◌, ◌≤◌, length}
-use Rattle.k_dict.specs.Entries.{AreRuns}
+use Rattle.k_dict_entries.specs.Entries.{AreRuns}
 use Rattle.k_dict_saved.proofs.reading.entry_lines.are_rising.Given as goal
 
 abbrev pub invariant-loop-run : goal.invariant-loop-run

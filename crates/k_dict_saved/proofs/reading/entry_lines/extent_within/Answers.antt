@@ -1,10 +1,10 @@
 use Rattle.std.proofs.Common.{◌≡◌, List, length, true, sym, ap, ◌∙◌, subst}
 use Rattle.std.proofs.lemmas.Bool.{false≢true}
 use Rattle.std.proofs.lemmas.List.{length-map}
-use Rattle.k_dict.specs.Entries.{NameBelow, trees_of}
+use Rattle.k_dict_entries.specs.Entries.{NameBelow, trees_of}
 use Rattle.k_dict_saved.specs.Extents.{extent_of, extent_over, extents_of, is_within, no_sums, sums_from}
-use Rattle.k_dict.specs.declared.entry.Run.{Run}
-use Rattle.k_dict.proofs.EntryTrees.{length-trees}
+use Rattle.k_dict_entries.specs.declared.entry.Run.{Run}
+use Rattle.k_dict_entries.proofs.EntryTrees.{length-trees}
 use Rattle.k_dict_saved.proofs.RunSums.{extent_is, rules_within, within_rules}
 use Rattle.k_dict_saved.proofs.reading.entry_lines.extent_within.Goals as goal
 

@@ -1,9 +1,9 @@
 use Rattle.std.proofs.Common.{List, ℕ, Bor, sym, ◌∙◌, subst, arith}
 use Rattle.std.proofs.lemmas.Bool.{false≢true}
-use Rattle.k_dict.specs.Entries.{NameBelow}
+use Rattle.k_dict_entries.specs.Entries.{NameBelow}
 use Rattle.k_dict_saved.specs.Formats.{AreRunsOf}
-use Rattle.k_dict.specs.declared.entry.Entry.{Entry}
-use Rattle.k_dict.specs.declared.entry.Run.{Run}
+use Rattle.k_dict_entries.specs.declared.entry.Entry.{Entry}
+use Rattle.k_dict_entries.specs.declared.entry.Run.{Run}
 use Rattle.k_dict_saved.proofs.EntrySteps.{added_entry, refused_add, refused_entry, wrong_runs}
 use Rattle.k_dict_saved.proofs.Keeping.{below_of}
 use Rattle.k_dict_saved.proofs.reading.entry_lines.next_entry.Goals as goal

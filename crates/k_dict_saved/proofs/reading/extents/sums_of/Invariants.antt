@@ -1,5 +1,5 @@
 use Rattle.std.proofs.Common.{◌≡◌, length}
-use Rattle.k_dict.specs.Entries.{NameBelow}
+use Rattle.k_dict_entries.specs.Entries.{NameBelow}
 use Rattle.k_dict_saved.specs.Extents.{no_sums, sums_from}
 use Rattle.k_dict_saved.proofs.reading.extents.sums_of.Given as goal
 

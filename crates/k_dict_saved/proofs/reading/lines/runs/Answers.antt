@@ -1,6 +1,6 @@
 use Rattle.std.proofs.Common.{◌≡◌, List, sym, subst, ◌-◌, ◌+◌}
 use Rattle.k_dict_saved.specs.Syntax.{runs_at}
-use Rattle.k_dict.specs.declared.entry.Run.{Run}
+use Rattle.k_dict_entries.specs.declared.entry.Run.{Run}
 use Rattle.k_dict_saved.proofs.ReadingRuns.{ends_here, goes_on, no_room, no_run, with_front}
 use Rattle.k_dict_saved.proofs.reading.lines.runs.Goals as goal
 

@@ -1,6 +1,6 @@
 use Rattle.std.proofs.Common.{◌+◌, ◌<◌, ◌^◌, List, ◌∙◌, ap, sym, subst}
-use Rattle.k_dict.specs.Tallies.{count_of}
-use Rattle.k_dict.specs.declared.entry.Run.{Run}
+use Rattle.k_dict_entries.specs.Tallies.{count_of}
+use Rattle.k_dict_entries.specs.declared.entry.Run.{Run}
 use Rattle.k_hcpa_summaries.proofs.level.Level.runs.Goals as goal
 
 pub with_child-all-requires : goal.with_child-all-requires

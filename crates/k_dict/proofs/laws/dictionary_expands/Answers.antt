@@ -1,5 +1,0 @@
-use Rattle.k_dict.proofs.Unique as unique
-use Rattle.k_dict.proofs.laws.dictionary_expands.Goals as goal
-
-pub returns : goal.returns
-returns c = unique.dictionary_expands

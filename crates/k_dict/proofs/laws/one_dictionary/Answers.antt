@@ -1,5 +1,0 @@
-use Rattle.k_dict.proofs.Unique.{dictionary_exists, dictionary_is_unique}
-use Rattle.k_dict.proofs.laws.one_dictionary.Goals as goal
-
-pub returns : goal.returns
-returns c = record { exists = dictionary_exists; unique = dictionary_is_unique }
