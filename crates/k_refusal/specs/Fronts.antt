@@ -35,3 +35,8 @@ behind_word text = drop (span in_word text) text
 -- what stands behind blanks
 abbrev pub behind_blanks : List ℕ → List ℕ
 behind_blanks text = drop (span is_blank text) text
+
+-- what stands behind the first `)`, or nothing
+abbrev pub behind_closing : List ℕ → List ℕ
+behind_closing [] = []
+behind_closing (b ∷ text) = if b == 41 then text else behind_closing text

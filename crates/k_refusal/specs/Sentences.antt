@@ -55,7 +55,7 @@ directive_text directive_says.MacroAgain = codes "this macro is defined a second
 unfoldable pub header_text : Header → List ℕ
 header_text header_says.OwnHeader = codes "a header in quotes is left out: put its text into this file"
 header_text header_says.MathHeader = codes "<math.h> is left out, with floating point: compute in whole numbers"
-header_text header_says.StringHeader = codes "<string.h> is left out: write a loop over the array of char"
+header_text header_says.StringHeader = codes "<string.h> is left out: write a loop over the array"
 header_text header_says.BoolHeader = codes "<stdbool.h> is left out: write int, 1 and 0"
 header_text header_says.WidthHeader = codes "this header is left out: char, short, int and long have 8, 16, 32 and 64 bits"
 header_text header_says.CharacterHeader = codes "<ctype.h> is left out: compare characters, as in c >= '0' && c <= '9'"
@@ -90,6 +90,7 @@ stray_word_text stray_word_says.StrayDeclaration = codes "no declaration begins 
 stray_word_text stray_word_says.StrayStatement = codes "this word can't stand here: a `;`, a `)` or a brace may be missing before it"
 stray_word_text stray_word_says.StrayMain = codes "a function begins with the type of its result: write int main(void)"
 stray_word_text stray_word_says.StrayName = codes "this name can't stand here: an operator, a `;` or a brace may be missing before it, or the word before it is no type"
+stray_word_text stray_word_says.StaticSize = codes "`static` between brackets is left out: write the size alone"
 stray_word_text stray_word_says.StrayNumber = codes "this number can't stand here: an operator, a `;` or a bracket may be missing before it"
 
 -- of marks and literals that can't stand where they do
@@ -97,6 +98,7 @@ unfoldable pub stray_mark_text : StrayMark → List ℕ
 stray_mark_text stray_mark_says.StrayClosingBrace = codes "this `}` can't stand here: a `;` may be missing before it"
 stray_mark_text stray_mark_says.StrayOpeningBrace = codes "this `{` can't stand here: compound literals are left out, as (int){1}"
 stray_mark_text stray_mark_says.StrayParenthesis = codes "this `(` can't stand here: pointers to functions and functions in functions are left out; a call names its function"
+stray_mark_text stray_mark_says.PointerToArray = codes "pointers to arrays are left out: a parameter is written as an array of rows, as int rows[][4], and a variable as a number that tells which"
 stray_mark_text stray_mark_says.StrayBracket = codes "this `[` can't stand here: designators are left out"
 stray_mark_text stray_mark_says.StrayColon = codes "this `:` can't stand here: labels are left out, with goto: write a loop with `break` or `continue`"
 stray_mark_text stray_mark_says.Arrow = codes "`->` is left out, with struct and union: write a variable or an array for each member"
@@ -129,6 +131,7 @@ name_text name_says.NoMain = codes "there is no function int main(void): main ha
 -- of types that do not fit
 unfoldable pub kinds_text : Kinds → List ℕ
 kinds_text kinds_says.ParameterKind = codes "a parameter is no pointer to a pointer and no array of pointers; main has no parameters: write int main(void)"
+kinds_text kinds_says.PointerToVoid = codes "pointers to void are left out: name the type of what the pointer points to, as const int *p"
 kinds_text kinds_says.PointerToPointer = codes "pointers to pointers are left out: write an array of rows, or a number that tells which"
 kinds_text kinds_says.ArrayOfPointers = codes "arrays of pointers are left out: write an array of rows, or of numbers that tell which"
 kinds_text kinds_says.PointerElsewhere = codes "a pointer is a variable of a function and begins with an address of its type, as &x or an array: at file scope and to void it is left out"

@@ -81,9 +81,21 @@ of_stars stars back rest =
     if stars == 2 then says.Kinds kinds_says.PointerToPointer else if stars == 1 then of_pointer (behind_blanks (behind_word rest))
     else of_place back rest
 
+-- what stands behind `const` and blanks, where `const` stands first
+abbrev pub behind_const : List ℕ → List ℕ
+behind_const text = if pointwise nat_eq (word_at text) (codes "const") then behind_blanks (behind_word text) else text
+
+-- the type of a pointer to void stands first: `void *`, `const void *` or `void const *`
+abbrev pub is_void_pointer : List ℕ → Bool
+is_void_pointer text =
+    pointwise nat_eq (word_at (behind_const text)) (codes "void")
+    && first_byte (behind_const (behind_blanks (behind_word (behind_const text)))) == 42
+
 -- types that do not fit, by the word at the place and by what stands round it
 unfoldable pub of_kinds : List ℕ → List ℕ → Sentence
-of_kinds back rest = unwrap_or (look_up words_of_kinds (word_at rest)) (of_stars (stars_at_end 0 back) back rest)
+of_kinds back rest =
+    if is_void_pointer rest then says.Kinds kinds_says.PointerToVoid
+    else unwrap_or (look_up words_of_kinds (word_at rest)) (of_stars (stars_at_end 0 back) back rest)
 
 -- what is no place, by the operator
 abbrev pub of_no_place : ℕ → Sentence

@@ -103,6 +103,20 @@ pub(crate) fn behind_word(text: &[u8]) -> &[u8]
     behind(text, word_span(text))
 }
 
+/// What stands behind the first `)`, or nothing.
+pub(crate) fn behind_closing(text: &[u8]) -> &[u8]
+    ensures { result.now ≡ spec.behind_closing text.now }
+{
+    let mut rest = text;
+    while let Some((byte, behind)) = rest.split_first() {
+        if *byte == b')' {
+            return behind;
+        }
+        rest = behind;
+    }
+    rest
+}
+
 /// What stands behind blanks.
 pub(crate) fn behind_blanks(text: &[u8]) -> &[u8]
     ensures { result.now ≡ spec.behind_blanks text.now }

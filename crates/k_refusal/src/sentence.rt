@@ -77,6 +77,7 @@ pub enum StrayWord {
     StrayStatement,
     StrayMain,
     StrayName,
+    StaticSize,
     StrayNumber,
 }
 
@@ -86,6 +87,7 @@ pub enum StrayMark {
     StrayClosingBrace,
     StrayOpeningBrace,
     StrayParenthesis,
+    PointerToArray,
     StrayBracket,
     StrayColon,
     Arrow,
@@ -124,6 +126,7 @@ pub enum Name {
 #[derive(Clone, Copy)]
 pub enum Kinds {
     ParameterKind,
+    PointerToVoid,
     PointerToPointer,
     ArrayOfPointers,
     PointerElsewhere,
@@ -224,7 +227,7 @@ fn header_text(sentence: Header) -> &'static str
     match sentence {
         Header::OwnHeader => "a header in quotes is left out: put its text into this file",
         Header::MathHeader => "<math.h> is left out, with floating point: compute in whole numbers",
-        Header::StringHeader => "<string.h> is left out: write a loop over the array of char",
+        Header::StringHeader => "<string.h> is left out: write a loop over the array",
         Header::BoolHeader => "<stdbool.h> is left out: write int, 1 and 0",
         Header::WidthHeader =>
             "this header is left out: char, short, int and long have 8, 16, 32 and 64 bits",
@@ -291,6 +294,7 @@ fn stray_word_text(sentence: StrayWord) -> &'static str
             "a function begins with the type of its result: write int main(void)",
         StrayWord::StrayName =>
             "this name can't stand here: an operator, a `;` or a brace may be missing before it, or the word before it is no type",
+        StrayWord::StaticSize => "`static` between brackets is left out: write the size alone",
         StrayWord::StrayNumber =>
             "this number can't stand here: an operator, a `;` or a bracket may be missing before it",
     }
@@ -307,6 +311,8 @@ fn stray_mark_text(sentence: StrayMark) -> &'static str
             "this `{` can't stand here: compound literals are left out, as (int){1}",
         StrayMark::StrayParenthesis =>
             "this `(` can't stand here: pointers to functions and functions in functions are left out; a call names its function",
+        StrayMark::PointerToArray =>
+            "pointers to arrays are left out: a parameter is written as an array of rows, as int rows[][4], and a variable as a number that tells which",
         StrayMark::StrayBracket => "this `[` can't stand here: designators are left out",
         StrayMark::StrayColon =>
             "this `:` can't stand here: labels are left out, with goto: write a loop with `break` or `continue`",
@@ -370,6 +376,8 @@ fn kinds_text(sentence: Kinds) -> &'static str
     match sentence {
         Kinds::ParameterKind =>
             "a parameter is no pointer to a pointer and no array of pointers; main has no parameters: write int main(void)",
+        Kinds::PointerToVoid =>
+            "pointers to void are left out: name the type of what the pointer points to, as const int *p",
         Kinds::PointerToPointer =>
             "pointers to pointers are left out: write an array of rows, or a number that tells which",
         Kinds::ArrayOfPointers =>

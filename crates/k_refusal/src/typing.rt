@@ -156,11 +156,34 @@ fn of_stars(stars: u8, back: &[u8], rest: &[u8]) -> Sentence
     }
 }
 
+/// What stands behind `const` and blanks, where `const` stands first.
+fn behind_const(text: &[u8]) -> &[u8]
+    ensures { result.now ≡ spec.behind_const text.now }
+{
+    if word_at(text) == b"const".as_slice() {
+        behind_blanks(behind_word(text))
+    } else {
+        text
+    }
+}
+
+/// Whether the type of a pointer to void stands first.
+fn is_void_pointer(text: &[u8]) -> bool
+    ensures { result ≡ spec.is_void_pointer text.now }
+{
+    let named = behind_const(text);
+    let star = behind_const(behind_blanks(behind_word(named)));
+    word_at(named) == b"void".as_slice() && first_byte(star) == b'*'
+}
+
 /// Types that do not fit, by what stands before and at the place.
 #[tactic(auto, unfolding(crate::specs::Typing::of_kinds))]
 pub(crate) fn of_kinds(back: &[u8], rest: &[u8]) -> Sentence
     ensures { result ≡ spec.of_kinds back.now rest.now }
 {
+    if is_void_pointer(rest) {
+        return Sentence::Kinds(Kinds::PointerToVoid);
+    }
     match word_of_kinds(word_at(rest)) {
         Some(sentence) => sentence,
         None => of_stars(stars_at_end(back), back, rest),
