@@ -6,8 +6,13 @@ use Rattle.k_lex_pieces.specs.declared.fault.Refusal.TheVariants as r
 use Rattle.k_lex_pieces.specs.Pieces.{piece_by}
 use Rattle.k_lex_groups.specs.Steps.{Opens}
 use Rattle.k_lex_expansion.specs.Laws.{PlainListsStay}
-use Rattle.k_lex_lines.specs.Lines.{fault_at, lexical, stray_else, Placed, Fault, error_line}
-use Rattle.k_lex_lines.specs.Text.{Sizes, Count, used, use_of, in_condition, Text, Follows}
+use Rattle.k_lex_lines.specs.declared.lines.Placed.{Placed}
+use Rattle.k_lex_lines.specs.declared.lines.Fault.{Fault}
+use Rattle.k_lex_lines.specs.declared.rules.Sizes.{Sizes}
+use Rattle.k_lex_lines.specs.declared.rules.Count.{Count}
+use Rattle.k_lex_lines.specs.declared.lines.Wrong.TheVariants as wrong
+use Rattle.k_lex_lines.specs.Lines.{fault_at}
+use Rattle.k_lex_lines.specs.Text.{used, use_of, in_condition, Text, Follows}
 use Rattle.k_lex_lines.specs.Reading.{State, start, opening, knowing, Reads, ReadsOn}
 use Rattle.k_lex_lines.specs.Laws.{plain_rules, at, word_at, AreOwn, AlternativesGive, SecondElseIsStray, OpenIfIsAtIf, empty_macro, FoundNameHolds, macro_of_one, CutUseIsRefused}
 use Rattle.k_lex_lines.proofs.Plain.{Stays, text_stays, one_unused}
@@ -37,8 +42,8 @@ x_is_own = AreOwn.token none_read (word_at 4 (codes "x")) [] (t.Name (codes "x")
 
 pub alternatives_give : PlainListsStay → AlternativesGive
 alternatives_give plain =
-    let found : Stays [] plain_rules.limits (Some (fault_at (lexical r.BadDirective) (at 5))) 0 none_read (word_at 4 (codes "x") ∷ []) (record { what = t.Name (codes "x"); place = at 4 } ∷ []) =
-    text_stays plain [] plain_rules.limits (Some (fault_at (lexical r.BadDirective) (at 5))) 0 x_is_own in
+    let found : Stays [] plain_rules.limits (Some (fault_at (wrong.Lexical r.BadDirective) (at 5))) 0 none_read (word_at 4 (codes "x") ∷ []) (record { what = t.Name (codes "x"); place = at 4 } ∷ []) =
+    text_stays plain [] plain_rules.limits (Some (fault_at (wrong.Lexical r.BadDirective) (at 5))) 0 x_is_own in
     let here : State = record { macros = []; opens = if_open false true true; count = found.count } in
     let first : State = opening (if_open true false false) start in
     let second : State = opening (if_open false true true) start in
@@ -58,7 +63,7 @@ second_else_is_stray =
     (Reads.moves first second _ _ _ refl
     (Reads.moves second second _ _ _ refl
     (Reads.moves second third _ _ _ refl
-    (Reads.refuses third _ _ (fault_at stray_else (at 5)) refl))))
+    (Reads.refuses third _ _ (fault_at wrong.StrayElse (at 5)) refl))))
 
 pub open_if_is_at_if : OpenIfIsAtIf
 open_if_is_at_if =
@@ -100,8 +105,8 @@ found_name_holds plain =
     let passed : Opens = record { place = at 2; waits = true; reads = false; ends = false } ∷ [] in
     let inside : State = opening taken known in
     Reads.moves start known _ _ _ refl
-    (Reads.tests known _ _ (at 2) _ taken passed (Ok (true, 0)) (Err (fault_at error_line (at 3))) refl (one_decided plain)
-    (ReadsOn.on [] inside _ (Err (fault_at error_line (at 3))) (Reads.refuses inside _ _ (fault_at error_line (at 3)) refl)))
+    (Reads.tests known _ _ (at 2) _ taken passed (Ok (true, 0)) (Err (fault_at wrong.ErrorLine (at 3))) refl (one_decided plain)
+    (ReadsOn.on [] inside _ (Err (fault_at wrong.ErrorLine (at 3))) (Reads.refuses inside _ _ (fault_at wrong.ErrorLine (at 3)) refl)))
 
 -- the name before the end of its text
 cut_off : Expands (macro_of_one ∷ []) 2097152 (use_of 0 (word_at 2 (codes "F")) [] false) (Err failure.Cut)
@@ -111,7 +116,7 @@ cut_off = Expands.goes (use_of 0 (word_at 2 (codes "F")) [] false) (Err failure.
 pub cut_use_is_refused : CutUseIsRefused
 cut_use_is_refused =
     let known : State = knowing (macro_of_one ∷ []) start in
-    let fault : Fault = fault_at (lexical r.BadDirective) (at 3) in
+    let fault : Fault = fault_at (wrong.Lexical r.BadDirective) (at 3) in
     Reads.moves start known _ _ _ refl
     (Reads.replaces known _ _ (word_at 2 (codes "F") ∷ []) (Err fault) (Err fault) refl
     (Text.use_first known.count (word_at 2 (codes "F")) [] (Err failure.Cut) (Err fault) cut_off (Follows.failed fault))

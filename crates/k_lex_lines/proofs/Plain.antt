@@ -11,9 +11,17 @@ use Rattle.k_lex_expansion.specs.declared.macros.Macro.{Macro}
 use Rattle.k_lex_expansion.specs.Listing.{unhidden}
 use Rattle.k_lex_expansion.specs.Expansion.{Work, used}
 use Rattle.k_lex_expansion.specs.Laws.{PlainListsStay}
-use Rattle.k_lex_lines.specs.Lines.{Placed, Fault, fault_at, lexical, Line, text, broken, branch, directive, text_of, behind_text, cut_by}
-use Rattle.k_lex_lines.specs.Text.{Limits, Sizes, Count, Text, Follows, Judged, in_text, kind_of, token_at, before_tokens, within, sized, fits, use_of, leaving}
-use Rattle.k_lex_lines.specs.Directives.{Rules}
+use Rattle.k_lex_lines.specs.declared.lines.Placed.{Placed}
+use Rattle.k_lex_lines.specs.declared.lines.Fault.{Fault}
+use Rattle.k_lex_lines.specs.declared.lines.Line.{Line}
+use Rattle.k_lex_lines.specs.declared.rules.Sizes.{Sizes}
+use Rattle.k_lex_lines.specs.declared.rules.Limits.{Limits}
+use Rattle.k_lex_lines.specs.declared.rules.Count.{Count}
+use Rattle.k_lex_lines.specs.declared.rules.Rules.{Rules}
+use Rattle.k_lex_lines.specs.declared.lines.Wrong.TheVariants as wrong
+use Rattle.k_lex_lines.specs.declared.lines.Line.TheVariants as l
+use Rattle.k_lex_lines.specs.Lines.{fault_at, text_of, behind_text, cut_by}
+use Rattle.k_lex_lines.specs.Text.{Text, Follows, Judged, in_text, kind_of, token_at, before_tokens, within, sized, fits, use_of, leaving}
 use Rattle.k_lex_lines.specs.Reading.{State, goes, reads, at_end, Reads, ReadsOn}
 use Rattle.k_lex_lines.specs.Laws.{AreOwn}
 
@@ -27,7 +35,7 @@ drop_none ts n e = ap (λ k. drop k ts) e
 
 -- a token, where there is room for it
 abbrev if_room : Limits → Placed → Sizes → TokenKind → Bool → Judged
-if_room limits t sizes what b = if b then Ok (record { what = what; place = t.place } ∷ [], sized (unhidden t.token ∷ []) sizes) else Err (fault_at (lexical r.TokensMany) t.place)
+if_room limits t sizes what b = if b then Ok (record { what = what; place = t.place } ∷ [], sized (unhidden t.token ∷ []) sizes) else Err (fault_at (wrong.Lexical r.TokensMany) t.place)
 
 -- the one token of a use is judged so
 own_judged : (limits : Limits) (t : Placed) (sizes : Sizes) (what : TokenKind) → kind_of t.place t.token.spelling ≡ Ok what → fits limits (sized (unhidden t.token ∷ []) sizes) ≡ true
@@ -73,10 +81,10 @@ text_stays plain macros limits cut made (AreOwn.token sizes t ts what us unnamed
 
 all_text : (lines : List Line) → behind_text lines ≡ [] → cut_by lines ≡ None
 all_text [] e = refl
-all_text (text ts ∷ lines) e = all_text lines e
-all_text (broken always fault ∷ lines) e = absurd (cc e)
-all_text (branch hash form it ∷ lines) e = absurd (cc e)
-all_text (directive hash form it ∷ lines) e = absurd (cc e)
+all_text (l.Text ts ∷ lines) e = all_text lines e
+all_text (l.Broken always fault ∷ lines) e = absurd (cc e)
+all_text (l.Branch hash form it ∷ lines) e = absurd (cc e)
+all_text (l.Directive hash form it ∷ lines) e = absurd (cc e)
 
 ends_so : (rules : Rules) (s : State) → s.opens ≡ [] → Reads rules s [] (Ok [])
 ends_so rules s e = subst (λ (o : Opens). Reads rules s [] (at_end (innermost o))) e (Reads.over s)
@@ -87,13 +95,13 @@ stays plain rules s [] us e x own = nothing_own own
   where
     nothing_own : {vs : List Token} → AreOwn s.macros rules.limits s.count.sizes [] vs → Reads rules s [] (Ok vs)
     nothing_own (AreOwn.no_token sizes) = ends_so rules s e
-stays plain rules s (text ts ∷ lines) us e x own =
+stays plain rules s (l.Text ts ∷ lines) us e x own =
     let found : Stays s.macros rules.limits None s.count.made s.count.sizes (ts ++ text_of lines) us = text_stays plain s.macros rules.limits None s.count.made own in
     let new : State = record { macros = s.macros; opens = s.opens; count = found.count } in
-    Reads.replaces s (text ts) lines ts (Ok (us, found.count)) (Ok us) (ap (λ (o : Opens). if is_read o then reads ts else goes s) e)
+    Reads.replaces s (l.Text ts) lines ts (Ok (us, found.count)) (Ok us) (ap (λ (o : Opens). if is_read o then reads ts else goes s) e)
     (subst (λ z. Text s.macros rules.limits.made (in_text rules.limits) z s.count (ts ++ text_of lines) (Ok (us, found.count))) (sym (all_text lines x)) found.text)
     (subst (λ z. ReadsOn rules (Ok (us, new)) z (Ok us)) (sym x)
     (subst (λ z. ReadsOn rules (Ok (us, new)) [] (Ok z)) (append-nil us) (ReadsOn.on us new [] (Ok []) (ends_so rules new e))))
-stays plain rules s (broken always fault ∷ lines) us e x own = absurd (cc x)
-stays plain rules s (branch hash form it ∷ lines) us e x own = absurd (cc x)
-stays plain rules s (directive hash form it ∷ lines) us e x own = absurd (cc x)
+stays plain rules s (l.Broken always fault ∷ lines) us e x own = absurd (cc x)
+stays plain rules s (l.Branch hash form it ∷ lines) us e x own = absurd (cc x)
+stays plain rules s (l.Directive hash form it ∷ lines) us e x own = absurd (cc x)

@@ -13,9 +13,14 @@ use Rattle.k_lex_expansion.specs.declared.macros.Macro.{Macro}
 use Rattle.k_lex_expansion.specs.declared.failure.Failure.{Failure}
 use Rattle.k_lex_expansion.specs.Expansion.{Done, Expands}
 use Rattle.k_lex_expansion.specs.Laws.{ExpansionsAreOne}
-use Rattle.k_lex_lines.specs.Lines.{Placed, Fault, Line, text_of, behind_text, cut_by}
-use Rattle.k_lex_lines.specs.Text.{Judge, Count, TextRead, Used, used, use_of, before, in_text, Text, Follows}
-use Rattle.k_lex_lines.specs.Directives.{Rules, Decision, decision, Decided, DecidesFound, Decides, found, is_defined}
+use Rattle.k_lex_lines.specs.declared.lines.Placed.{Placed}
+use Rattle.k_lex_lines.specs.declared.lines.Fault.{Fault}
+use Rattle.k_lex_lines.specs.declared.lines.Line.{Line}
+use Rattle.k_lex_lines.specs.declared.rules.Count.{Count}
+use Rattle.k_lex_lines.specs.declared.rules.Rules.{Rules}
+use Rattle.k_lex_lines.specs.Lines.{text_of, behind_text, cut_by}
+use Rattle.k_lex_lines.specs.Text.{Judge, TextRead, Used, used, use_of, before, in_text, Text, Follows}
+use Rattle.k_lex_lines.specs.Directives.{Decision, decision, Decided, DecidesFound, Decides, found, is_defined}
 use Rattle.k_lex_lines.specs.Reading.{State, Turn, stops, goes, reads, decides, turn, Answer, in_front, at_end, Behind, after_text, after_condition, Reads, ReadsOn}
 
 -- ---- conditions

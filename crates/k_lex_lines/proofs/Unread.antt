@@ -4,8 +4,11 @@ use Rattle.std.proofs.lemmas.Bool.{false≢true}
 use Rattle.k_num.specs.declared.place.Place.{Place}
 use Rattle.k_lex_groups.specs.declared.groups.Group.{Group}
 use Rattle.k_lex_groups.specs.Steps.{Opens, is_read, opened}
-use Rattle.k_lex_lines.specs.Lines.{Fault, starts, elif, final, endif, Line, text, broken, branch, directive}
-use Rattle.k_lex_lines.specs.Directives.{Rules}
+use Rattle.k_lex_lines.specs.declared.lines.Fault.{Fault}
+use Rattle.k_lex_lines.specs.declared.lines.Line.{Line}
+use Rattle.k_lex_lines.specs.declared.rules.Rules.{Rules}
+use Rattle.k_lex_lines.specs.declared.lines.Branch.TheVariants as parts
+use Rattle.k_lex_lines.specs.declared.lines.Line.TheVariants as l
 use Rattle.k_lex_lines.specs.Reading.{State, opening, Turn, stops, goes, reads, decides, formed, tested, obeyed, turn, Answer, Reads}
 use Rattle.k_lex_lines.specs.Sections.{is_part, is_right, IsGroup, IsRest}
 use Rattle.k_lex_lines.specs.Laws.{settled}
@@ -18,11 +21,11 @@ by_form true (Some fault) t e = absurd (false≢true e)
 
 -- a part of a group that isn't read changes nothing
 part_turn : (rules : Rules) (s : State) (line : Line) → is_part line ≡ true → is_read s.opens ≡ false → turn rules s line ≡ goes s
-part_turn rules s (text ts) p e = ap (λ b. if b then reads ts else goes s) e
-part_turn rules s (broken true fault) p e = absurd (false≢true p)
-part_turn rules s (broken false fault) p e = ap (λ b. if b then stops fault else goes s) e
-part_turn rules s (branch hash form it) p e = absurd (false≢true p)
-part_turn rules s (directive hash form it) p e = ap (λ b. if b then formed form (obeyed rules hash it s) else goes s) e
+part_turn rules s (l.Text ts) p e = ap (λ b. if b then reads ts else goes s) e
+part_turn rules s (l.Broken true fault) p e = absurd (false≢true p)
+part_turn rules s (l.Broken false fault) p e = ap (λ b. if b then stops fault else goes s) e
+part_turn rules s (l.Branch hash form it) p e = absurd (false≢true p)
+part_turn rules s (l.Directive hash form it) p e = ap (λ b. if b then formed form (obeyed rules hash it s) else goes s) e
 
 -- an open `#if` behind which more groups may follow
 abbrev group : Place → Bool → Bool → Group
@@ -35,9 +38,9 @@ section_lines line ts us vs ws =
 
 -- the `#endif` of any group
 end_read : (rules : Rules) (s : State) (g : Group) (opens : Opens) (hash : Place) (form : Option Fault) (vs : List Line) (r : Answer) → is_right (is_read opens) form ≡ true
-    → Reads rules (opening opens s) vs r → Reads rules (opening (g ∷ opens) s) (branch hash form endif ∷ vs) r
+    → Reads rules (opening opens s) vs r → Reads rules (opening (g ∷ opens) s) (l.Branch hash form parts.Endif ∷ vs) r
 end_read rules s g opens hash form vs r e d =
-    Reads.moves (opening (g ∷ opens) s) (opening opens s) (branch hash form endif) vs r (by_form (is_read opens) form (goes (opening opens s)) e) d
+    Reads.moves (opening (g ∷ opens) s) (opening opens s) (l.Branch hash form parts.Endif) vs r (by_form (is_read opens) form (goes (opening opens s)) e) d
 
 mutual
   group_skips : (rules : Rules) {ts : List Line} → IsGroup ts → (s : State) → is_read s.opens ≡ false → (us : List Line) (r : Answer) → Reads rules s us r → Reads rules s (ts ++ us) r
@@ -46,8 +49,8 @@ mutual
       Reads.moves s s line (ts ++ us) r (part_turn rules s line p e) (group_skips rules g s e us r d)
   group_skips rules (IsGroup.section hash form test ts vs ws a b c) s e us r d =
       let new : State = opening (opened hash false s.opens) s in
-      subst (λ z. Reads rules s z r) (section_lines (branch hash form (starts test)) ts vs ws us)
-      (Reads.moves s new (branch hash form (starts test)) (ts ++ (vs ++ (ws ++ us))) r
+      subst (λ z. Reads rules s z r) (section_lines (l.Branch hash form (parts.Starts test)) ts vs ws us)
+      (Reads.moves s new (l.Branch hash form (parts.Starts test)) (ts ++ (vs ++ (ws ++ us))) r
       (ap (λ z. if z then formed form (tested rules hash test s) else goes new) e)
       (group_skips rules a new (ap (λ z. z && false) e) (vs ++ (ws ++ us)) r
       (rest_skips rules b s hash (is_read s.opens && true) (is_read s.opens && false) s.opens (ap (λ z. z && true) e) (λ form x. subst (λ z. is_right z form ≡ true) (sym e) x) (ws ++ us) r
@@ -60,16 +63,16 @@ mutual
       end_read rules s (group place waits on) opens hash form vs r (right form p) d
   rest_skips rules (IsRest.last looked hash end form end_form ts p q a) s place waits on opens e right vs r d =
       let new : Group = record { place = place; waits = false; reads = waits; ends = true } in
-      subst (λ z. Reads rules (opening (group place waits on ∷ opens) s) (branch hash form final ∷ z) r) (sym (append_assoc ts (branch end end_form endif ∷ []) vs))
-      (Reads.moves (opening (group place waits on ∷ opens) s) (opening (new ∷ opens) s) (branch hash form final) (ts ++ (branch end end_form endif ∷ vs)) r
+      subst (λ z. Reads rules (opening (group place waits on ∷ opens) s) (l.Branch hash form parts.Final ∷ z) r) (sym (append_assoc ts (l.Branch end end_form parts.Endif ∷ []) vs))
+      (Reads.moves (opening (group place waits on ∷ opens) s) (opening (new ∷ opens) s) (l.Branch hash form parts.Final) (ts ++ (l.Branch end end_form parts.Endif ∷ vs)) r
       (by_form (is_read opens) form (goes (opening (new ∷ opens) s)) (right form p))
-      (group_skips rules a (opening (new ∷ opens) s) e (branch end end_form endif ∷ vs) r
+      (group_skips rules a (opening (new ∷ opens) s) e (l.Branch end end_form parts.Endif ∷ vs) r
       (end_read rules s new opens end end_form vs r (right end_form q) d)))
   rest_skips rules (IsRest.other looked hash form asked ts us a b) s place waits on opens e right vs r d =
       let taken : Opens = group place (waits && false) (waits && true) ∷ opens in
       let passed : Opens = group place (waits && true) (waits && false) ∷ opens in
-      subst (λ z. Reads rules (opening (group place waits on ∷ opens) s) (branch hash form (elif asked) ∷ z) r) (sym (append_assoc ts us vs))
-      (Reads.moves (opening (group place waits on ∷ opens) s) (opening passed s) (branch hash form (elif asked)) (ts ++ (us ++ vs)) r
+      subst (λ z. Reads rules (opening (group place waits on ∷ opens) s) (l.Branch hash form (parts.Elif asked) ∷ z) r) (sym (append_assoc ts us vs))
+      (Reads.moves (opening (group place waits on ∷ opens) s) (opening passed s) (l.Branch hash form (parts.Elif asked)) (ts ++ (us ++ vs)) r
       (ap (λ z. if z then formed form (decides hash asked taken passed) else goes (opening passed s)) e)
       (group_skips rules a (opening passed s) (ap (λ z. z && false) e) (us ++ vs) r
       (rest_skips rules b s place (waits && true) (waits && false) opens (ap (λ z. z && true) e) right vs r d)))

@@ -17,19 +17,15 @@ use Rattle.k_lex_expansion.specs.declared.macros.Chain.{Chain}
 use Rattle.k_lex_expansion.specs.declared.macros.Operand.{Operand}
 use Rattle.k_lex_expansion.specs.declared.macros.Operand.TheVariants as o
 use Rattle.k_lex_expansion.specs.Expansion.{named}
-use Rattle.k_lex_lines.specs.Lines.{Placed, Fault, Wrong, fault_at, macro_arguments, bad_condition}
-use Rattle.k_lex_lines.specs.Text.{Limits, TextRead, Text, in_condition, kind_of}
-
--- a header: its name with its brackets, and its macros
-pub record Header : Type 0 where
-  pub name : List ℕ
-  pub macros : List Macro
-
--- what is laid down for every source: limits, headers, and names that are known without one, with their values
-pub record Rules : Type 0 where
-  pub limits : Limits
-  pub headers : List Header
-  pub names : List Known
+use Rattle.k_lex_lines.specs.declared.lines.Placed.{Placed}
+use Rattle.k_lex_lines.specs.declared.lines.Wrong.{Wrong}
+use Rattle.k_lex_lines.specs.declared.lines.Fault.{Fault}
+use Rattle.k_lex_lines.specs.declared.rules.Limits.{Limits}
+use Rattle.k_lex_lines.specs.declared.rules.Header.{Header}
+use Rattle.k_lex_lines.specs.declared.rules.Rules.{Rules}
+use Rattle.k_lex_lines.specs.declared.lines.Wrong.TheVariants as wrong
+use Rattle.k_lex_lines.specs.Lines.{fault_at}
+use Rattle.k_lex_lines.specs.Text.{TextRead, Text, in_condition, kind_of}
 
 -- ---- macros
 
@@ -188,12 +184,12 @@ Decision = Result (Bool × ℕ) Fault
 
 -- the decision of the directive with this `#`, where the tokens are no condition or one that holds or not
 abbrev pub decision : Place → ℕ → Option Bool → Decision
-decision hash made None = Err (fault_at bad_condition hash)
+decision hash made None = Err (fault_at wrong.BadCondition hash)
 decision hash made (Some holds) = Ok (holds, made)
 
 -- a call without its arguments is the directive's fault
 abbrev pub of_directive : Place → Wrong → Place → Fault
-of_directive hash macro_arguments place = fault_at macro_arguments hash
+of_directive hash wrong.MacroArguments place = fault_at wrong.MacroArguments hash
 of_directive hash what place = fault_at what place
 
 -- the tokens with their macros replaced are a condition that holds or not, or none (6.10.1p4)
@@ -215,7 +211,7 @@ pub record Evaluates (rules : Rules) (macros : List Macro) (hash : Place) (made 
 
 -- the tokens in which each `defined` is replaced are decided; where one has another form there is no condition
 abbrev pub DecidesFound : Rules → List Macro → Place → ℕ → Option (List Placed) → Decision → Type 0
-DecidesFound rules macros hash made None d = d ≡ Err (fault_at bad_condition hash)
+DecidesFound rules macros hash made None d = d ≡ Err (fault_at wrong.BadCondition hash)
 DecidesFound rules macros hash made (Some ts) d = Evaluates rules macros hash made ts d
 
 -- the condition of the directive with this `#`, where so much is made, is decided so (6.10.1p1 to p4)

@@ -11,9 +11,18 @@ use Rattle.k_lex_expansion.specs.declared.macros.Macro.{Macro}
 use Rattle.k_lex_expansion.specs.declared.macros.Operand.TheVariants as o
 use Rattle.k_lex_expansion.specs.Listing.{unhidden}
 use Rattle.k_lex_expansion.specs.Expansion.{named}
-use Rattle.k_lex_lines.specs.Lines.{Placed, fault_at, lexical, stray_else, open_if, error_line, asks_condition, asks_name, starts, elif, final, endif, define, error, nothing, Line, text, broken, branch, directive, text_of, behind_text}
-use Rattle.k_lex_lines.specs.Text.{Limits, Sizes, kind_of, sized, fits}
-use Rattle.k_lex_lines.specs.Directives.{Rules}
+use Rattle.k_lex_lines.specs.declared.lines.Placed.{Placed}
+use Rattle.k_lex_lines.specs.declared.lines.Line.{Line}
+use Rattle.k_lex_lines.specs.declared.rules.Sizes.{Sizes}
+use Rattle.k_lex_lines.specs.declared.rules.Limits.{Limits}
+use Rattle.k_lex_lines.specs.declared.rules.Rules.{Rules}
+use Rattle.k_lex_lines.specs.declared.lines.Wrong.TheVariants as wrong
+use Rattle.k_lex_lines.specs.declared.lines.Test.TheVariants as question
+use Rattle.k_lex_lines.specs.declared.lines.Branch.TheVariants as parts
+use Rattle.k_lex_lines.specs.declared.lines.Directive.TheVariants as does
+use Rattle.k_lex_lines.specs.declared.lines.Line.TheVariants as l
+use Rattle.k_lex_lines.specs.Lines.{fault_at, text_of, behind_text}
+use Rattle.k_lex_lines.specs.Text.{kind_of, sized, fits}
 use Rattle.k_lex_lines.specs.Reading.{State, start, opening, Answer, Reads}
 use Rattle.k_lex_lines.specs.Sections.{IsGroup, IsRest}
 
@@ -62,8 +71,8 @@ word_at line spelling = record { token = record { spelling = spelling; spaced = 
 
 -- `#ifdef A`, a byte that begins no token, `#else`, `x`, `#endif`
 abbrev pub alternatives : List Line
-alternatives = branch (at 1) None (starts (asks_name true (codes "A"))) ∷ broken false (fault_at (lexical r.BadByte) (at 2)) ∷ branch (at 3) None final
-    ∷ text (word_at 4 (codes "x") ∷ []) ∷ branch (at 5) None endif ∷ []
+alternatives = l.Branch (at 1) None (parts.Starts (question.AsksName true (codes "A"))) ∷ l.Broken false (fault_at (wrong.Lexical r.BadByte) (at 2)) ∷ l.Branch (at 3) None parts.Final
+    ∷ l.Text (word_at 4 (codes "x") ∷ []) ∷ l.Branch (at 5) None parts.Endif ∷ []
 
 -- they give `x`: in a group that isn't read no token is asked for
 abbrev pub AlternativesGive : Type 0
@@ -71,21 +80,21 @@ AlternativesGive = Reads plain_rules start alternatives (Ok (record { what = t.N
 
 -- `#ifndef A`, `#elif` without a condition, `#error`, `#else`, `#else`
 abbrev pub second_else : List Line
-second_else = branch (at 1) None (starts (asks_name false (codes "A"))) ∷ branch (at 2) None (elif []) ∷ directive (at 3) None error ∷ branch (at 4) None final
-    ∷ branch (at 5) None final ∷ []
+second_else = l.Branch (at 1) None (parts.Starts (question.AsksName false (codes "A"))) ∷ l.Branch (at 2) None (parts.Elif []) ∷ l.Directive (at 3) None does.Error ∷ l.Branch (at 4) None parts.Final
+    ∷ l.Branch (at 5) None parts.Final ∷ []
 
 -- the second `#else` is refused, and nothing before it: the group of `#ifndef` is read
 abbrev pub SecondElseIsStray : Type 0
-SecondElseIsStray = Reads plain_rules start second_else (Err (fault_at stray_else (at 5)))
+SecondElseIsStray = Reads plain_rules start second_else (Err (fault_at wrong.StrayElse (at 5)))
 
 -- `#define A`, `#ifdef A`, and the end
 abbrev pub open_section : List Line
-open_section = directive (at 1) None (define (at 1) (record { name = codes "A"; parameters = None; body = [] }))
-    ∷ branch (at 2) None (starts (asks_name true (codes "A"))) ∷ []
+open_section = l.Directive (at 1) None (does.Define (at 1) (record { name = codes "A"; parameters = None; body = [] }))
+    ∷ l.Branch (at 2) None (parts.Starts (question.AsksName true (codes "A"))) ∷ []
 
 -- the fault is at the `#ifdef`
 abbrev pub OpenIfIsAtIf : Type 0
-OpenIfIsAtIf = Reads plain_rules start open_section (Err (fault_at open_if (at 2)))
+OpenIfIsAtIf = Reads plain_rules start open_section (Err (fault_at wrong.OpenIf (at 2)))
 
 -- a macro A without tokens
 abbrev pub empty_macro : Macro
@@ -93,13 +102,13 @@ empty_macro = record { name = codes "A"; parameters = None; body = [] }
 
 -- `#define A`, `#if defined(A)`, `#error`
 abbrev pub found_name : List Line
-found_name = directive (at 1) None (define (at 1) empty_macro)
-    ∷ branch (at 2) None (starts (asks_condition (word_at 2 (codes "defined") ∷ word_at 2 (codes "(") ∷ word_at 2 (codes "A") ∷ word_at 2 (codes ")") ∷ [])))
-    ∷ directive (at 3) None error ∷ []
+found_name = l.Directive (at 1) None (does.Define (at 1) empty_macro)
+    ∷ l.Branch (at 2) None (parts.Starts (question.AsksCondition (word_at 2 (codes "defined") ∷ word_at 2 (codes "(") ∷ word_at 2 (codes "A") ∷ word_at 2 (codes ")") ∷ [])))
+    ∷ l.Directive (at 3) None does.Error ∷ []
 
 -- the condition holds, so that `#error` is read
 abbrev pub FoundNameHolds : Type 0
-FoundNameHolds = Reads plain_rules start found_name (Err (fault_at error_line (at 3)))
+FoundNameHolds = Reads plain_rules start found_name (Err (fault_at wrong.ErrorLine (at 3)))
 
 -- `#define F(a) a`
 abbrev pub macro_of_one : Macro
@@ -107,8 +116,8 @@ macro_of_one = record { name = codes "F"; parameters = Some (codes "a" ∷ []); 
 
 -- that, `F`, and `#` in the next line
 abbrev pub cut_use : List Line
-cut_use = directive (at 1) None (define (at 1) macro_of_one) ∷ text (word_at 2 (codes "F") ∷ []) ∷ directive (at 3) None nothing ∷ []
+cut_use = l.Directive (at 1) None (does.Define (at 1) macro_of_one) ∷ l.Text (word_at 2 (codes "F") ∷ []) ∷ l.Directive (at 3) None does.Nothing ∷ []
 
 -- the use goes on in the next line, and a directive is a fault there, at its `#`
 abbrev pub CutUseIsRefused : Type 0
-CutUseIsRefused = Reads plain_rules start cut_use (Err (fault_at (lexical r.BadDirective) (at 3)))
+CutUseIsRefused = Reads plain_rules start cut_use (Err (fault_at (wrong.Lexical r.BadDirective) (at 3)))

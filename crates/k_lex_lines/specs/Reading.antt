@@ -6,9 +6,22 @@ use Rattle.k_tree.specs.declared.tokens.Token.{Token}
 use Rattle.k_lex_pieces.specs.declared.fault.Refusal.TheVariants as r
 use Rattle.k_lex_groups.specs.Steps.{Opens, is_read, asks, innermost, opened, another, otherwise, closed}
 use Rattle.k_lex_expansion.specs.declared.macros.Macro.{Macro}
-use Rattle.k_lex_lines.specs.Lines.{Placed, Fault, fault_at, lexical, stray_else, open_if, error_line, Test, asks_condition, asks_name, Branch, starts, elif, final, endif, Directive, define, undefine, include, error, nothing, Line, text, broken, branch, directive, text_of, behind_text, cut_by}
-use Rattle.k_lex_lines.specs.Text.{Count, TextRead, Text, in_text}
-use Rattle.k_lex_lines.specs.Directives.{Rules, defined, undefined, Included, no_header, another_macro, with_macros, included, is_defined, Decision, Decides}
+use Rattle.k_lex_lines.specs.declared.lines.Placed.{Placed}
+use Rattle.k_lex_lines.specs.declared.lines.Fault.{Fault}
+use Rattle.k_lex_lines.specs.declared.lines.Test.{Test}
+use Rattle.k_lex_lines.specs.declared.lines.Branch.{Branch}
+use Rattle.k_lex_lines.specs.declared.lines.Directive.{Directive}
+use Rattle.k_lex_lines.specs.declared.lines.Line.{Line}
+use Rattle.k_lex_lines.specs.declared.rules.Count.{Count}
+use Rattle.k_lex_lines.specs.declared.rules.Rules.{Rules}
+use Rattle.k_lex_lines.specs.declared.lines.Wrong.TheVariants as wrong
+use Rattle.k_lex_lines.specs.declared.lines.Test.TheVariants as question
+use Rattle.k_lex_lines.specs.declared.lines.Branch.TheVariants as parts
+use Rattle.k_lex_lines.specs.declared.lines.Directive.TheVariants as does
+use Rattle.k_lex_lines.specs.declared.lines.Line.TheVariants as l
+use Rattle.k_lex_lines.specs.Lines.{fault_at, text_of, behind_text, cut_by}
+use Rattle.k_lex_lines.specs.Text.{TextRead, Text, in_text}
+use Rattle.k_lex_lines.specs.Directives.{defined, undefined, Included, no_header, another_macro, with_macros, included, is_defined, Decision, Decides}
 
 -- what is known where a line stands: the macros, the `#if`s that are open, and how much there is
 pub record State : Type 0 where
@@ -49,56 +62,56 @@ is_read_around (g ∷ opens) = is_read opens
 
 -- an `#if` in a group that is read (6.10.1p3, p5)
 abbrev pub tested : Rules → Place → Test → State → Turn
-tested rules hash (asks_condition ts) s = decides hash ts (opened hash true s.opens) (opened hash false s.opens)
-tested rules hash (asks_name true name) s = goes (opening (opened hash (is_defined rules s.macros name) s.opens) s)
-tested rules hash (asks_name false name) s = goes (opening (opened hash (not (is_defined rules s.macros name)) s.opens) s)
+tested rules hash (question.AsksCondition ts) s = decides hash ts (opened hash true s.opens) (opened hash false s.opens)
+tested rules hash (question.AsksName true name) s = goes (opening (opened hash (is_defined rules s.macros name) s.opens) s)
+tested rules hash (question.AsksName false name) s = goes (opening (opened hash (not (is_defined rules s.macros name)) s.opens) s)
 
 -- an `#elif` that leaves these open where its condition holds, or these; none where it can't stand
 abbrev pub alternative : Place → Option Fault → List Placed → Option Opens → Option Opens → State → Turn
 alternative hash form ts (Some taken) (Some passed) s = if asks s.opens then formed form (decides hash ts taken passed) else goes (opening passed s)
-alternative hash form ts _ _ s = stops (fault_at stray_else hash)
+alternative hash form ts _ _ s = stops (fault_at wrong.StrayElse hash)
 
 -- an `#else` or `#endif` that leaves these open; none where it can't stand
 abbrev pub changed : Place → Option Fault → Option Opens → State → Turn
-changed hash form None s = stops (fault_at stray_else hash)
+changed hash form None s = stops (fault_at wrong.StrayElse hash)
 changed hash form (Some new) s = if is_read_around s.opens then formed form (goes (opening new s)) else goes (opening new s)
 
 -- A directive that parts lines (6.10.1p6). Its form and its condition are looked at only where they say which lines are read.
 abbrev pub parted : Rules → Place → Option Fault → Branch → State → Turn
-parted rules hash form (starts test) s = if is_read s.opens then formed form (tested rules hash test s) else goes (opening (opened hash false s.opens) s)
-parted rules hash form (elif ts) s = alternative hash form ts (another true s.opens) (another false s.opens) s
-parted rules hash form final s = changed hash form (otherwise s.opens) s
-parted rules hash form endif s = changed hash form (closed s.opens) s
+parted rules hash form (parts.Starts test) s = if is_read s.opens then formed form (tested rules hash test s) else goes (opening (opened hash false s.opens) s)
+parted rules hash form (parts.Elif ts) s = alternative hash form ts (another true s.opens) (another false s.opens) s
+parted rules hash form parts.Final s = changed hash form (otherwise s.opens) s
+parted rules hash form parts.Endif s = changed hash form (closed s.opens) s
 
 -- ---- other directives
 
 -- with these macros, or MacroAgain at this place
 abbrev pub defining : Place → Option (List Macro) → State → Turn
-defining place None s = stops (fault_at (lexical r.MacroAgain) place)
+defining place None s = stops (fault_at (wrong.Lexical r.MacroAgain) place)
 defining place (Some macros) s = goes (knowing macros s)
 
 -- the same behind a header
 abbrev pub including : Place → Included → State → Turn
-including place no_header s = stops (fault_at (lexical r.UnknownHeader) place)
-including place another_macro s = stops (fault_at (lexical r.MacroAgain) place)
+including place no_header s = stops (fault_at (wrong.Lexical r.UnknownHeader) place)
+including place another_macro s = stops (fault_at (wrong.Lexical r.MacroAgain) place)
 including place (with_macros macros) s = goes (knowing macros s)
 
 -- another directive in a group that is read (6.10.2, 6.10.3, 6.10.5 to 6.10.7)
 abbrev pub obeyed : Rules → Place → Directive → State → Turn
-obeyed rules hash (define place m) s = defining place (defined s.macros m) s
-obeyed rules hash (undefine name) s = goes (knowing (undefined s.macros name) s)
-obeyed rules hash (include place name) s = including place (included rules s.macros name) s
-obeyed rules hash error s = stops (fault_at error_line hash)
-obeyed rules hash nothing s = goes s
+obeyed rules hash (does.Define place m) s = defining place (defined s.macros m) s
+obeyed rules hash (does.Undefine name) s = goes (knowing (undefined s.macros name) s)
+obeyed rules hash (does.Include place name) s = including place (included rules s.macros name) s
+obeyed rules hash does.Error s = stops (fault_at wrong.ErrorLine hash)
+obeyed rules hash does.Nothing s = goes s
 
 -- ---- lines
 
 -- What a line does. In a group that isn't read it does nothing, but where it parts lines into groups (6.10.1p6).
 abbrev pub turn : Rules → State → Line → Turn
-turn rules s (text ts) = if is_read s.opens then reads ts else goes s
-turn rules s (broken always fault) = if always || is_read s.opens then stops fault else goes s
-turn rules s (branch hash form it) = parted rules hash form it s
-turn rules s (directive hash form it) = if is_read s.opens then formed form (obeyed rules hash it s) else goes s
+turn rules s (l.Text ts) = if is_read s.opens then reads ts else goes s
+turn rules s (l.Broken always fault) = if always || is_read s.opens then stops fault else goes s
+turn rules s (l.Branch hash form it) = parted rules hash form it s
+turn rules s (l.Directive hash form it) = if is_read s.opens then formed form (obeyed rules hash it s) else goes s
 
 -- the tokens that are read, or the first fault
 abbrev pub Answer : Type 0
@@ -112,7 +125,7 @@ in_front us (Err e) = Err e
 -- the end of the source: each `#if` has its `#endif`
 abbrev pub at_end : Option Place → Answer
 at_end None = Ok []
-at_end (Some place) = Err (fault_at open_if place)
+at_end (Some place) = Err (fault_at wrong.OpenIf place)
 
 -- tokens and what is known behind them, or a fault
 abbrev pub Behind : Type 0

@@ -14,7 +14,13 @@ use Rattle.k_lex_expansion.specs.declared.failure.Failure.{Failure}
 use Rattle.k_lex_expansion.specs.declared.failure.Failure.TheVariants as f
 use Rattle.k_lex_expansion.specs.Listing.{unhidden}
 use Rattle.k_lex_expansion.specs.Expansion.{Work, Done, Expands}
-use Rattle.k_lex_lines.specs.Lines.{Placed, Fault, fault_at, lexical, macro_arguments, bad_paste, bad_condition}
+use Rattle.k_lex_lines.specs.declared.lines.Placed.{Placed}
+use Rattle.k_lex_lines.specs.declared.lines.Fault.{Fault}
+use Rattle.k_lex_lines.specs.declared.rules.Sizes.{Sizes}
+use Rattle.k_lex_lines.specs.declared.rules.Limits.{Limits}
+use Rattle.k_lex_lines.specs.declared.rules.Count.{Count}
+use Rattle.k_lex_lines.specs.declared.lines.Wrong.TheVariants as wrong
+use Rattle.k_lex_lines.specs.Lines.{fault_at}
 
 -- ---- tokens
 
@@ -25,7 +31,7 @@ kind_of place s = token_of place s (piece_by class_of s).0
 -- the token at this place, or what is wrong in it
 abbrev pub token_at : Place → Result TokenKind pieces.Fault → Result Token Fault
 token_at place (Ok what) = Ok (record { what = what; place = place })
-token_at place (Err e) = Err (fault_at (lexical e.what) e.place)
+token_at place (Err e) = Err (fault_at (wrong.Lexical e.what) e.place)
 
 -- a token before others, or the first fault
 abbrev pub before_tokens : Result Token Fault → Result (List Token) Fault → Result (List Token) Fault
@@ -37,17 +43,6 @@ before_tokens (Ok t) (Err e) = Err e
 abbrev pub tokens_of : Place → List Listed → Result (List Token) Fault
 tokens_of place [] = Ok []
 tokens_of place (t ∷ ts) = before_tokens (token_at place (kind_of place t.spelling)) (tokens_of place ts)
-
--- how many tokens there are, and how many bytes spell them
-pub record Sizes : Type 0 where
-  pub tokens : ℕ
-  pub bytes : ℕ
-
--- how much may be made, and how many tokens, spelled with how many bytes, there may be
-pub record Limits : Type 0 where
-  pub made : ℕ
-  pub tokens : ℕ
-  pub bytes : ℕ
 
 -- how many bytes spell the tokens
 abbrev pub spelled : List Listed → ℕ
@@ -68,7 +63,7 @@ Judged = Result (List Token × Sizes) Fault
 
 -- these tokens of a use make so many, if so many may be there
 abbrev pub within : Limits → Place → Sizes → Result (List Token) Fault → Judged
-within limits place sizes (Ok us) = if fits limits sizes then Ok (us, sizes) else Err (fault_at (lexical r.TokensMany) place)
+within limits place sizes (Ok us) = if fits limits sizes then Ok (us, sizes) else Err (fault_at (wrong.Lexical r.TokensMany) place)
 within limits place sizes (Err e) = Err e
 
 -- what is made of the tokens that a use at this place gives
@@ -82,18 +77,13 @@ in_text limits place ts sizes = within limits place (sized ts sizes) (tokens_of 
 -- these tokens of a condition, or BadCondition at the `#`
 abbrev pub for_condition : Place → Sizes → Result (List Token) Fault → Judged
 for_condition hash sizes (Ok us) = Ok (us, sizes)
-for_condition hash sizes (Err e) = Err (fault_at bad_condition hash)
+for_condition hash sizes (Err e) = Err (fault_at wrong.BadCondition hash)
 
 -- in the condition of the directive with this `#`: its tokens, which no limit counts; with what is no token there is no condition
 abbrev pub in_condition : Place → Judge
 in_condition hash place ts sizes = for_condition hash sizes (tokens_of place ts)
 
 -- ---- uses
-
--- how much is made, and how many tokens there are
-pub record Count : Type 0 where
-  pub made : ℕ
-  pub sizes : Sizes
 
 -- what text gives: its tokens, and how much there is behind it, or its first fault
 abbrev pub TextRead : Type 0
@@ -110,11 +100,11 @@ use_of made t ts ends = record { list = unhidden t.token ∷ []; source = record
 
 -- why a use at this place fails, where what follows the text has that fault
 abbrev pub failure_at : Option Fault → Place → Failure → Fault
-failure_at cut place f.Arguments = fault_at macro_arguments place
-failure_at cut place f.Paste = fault_at bad_paste place
-failure_at cut place f.TokensMany = fault_at (lexical r.TokensMany) place
+failure_at cut place f.Arguments = fault_at wrong.MacroArguments place
+failure_at cut place f.Paste = fault_at wrong.BadPaste place
+failure_at cut place f.TokensMany = fault_at (wrong.Lexical r.TokensMany) place
 failure_at (Some fault) place f.Cut = fault
-failure_at None place f.Cut = fault_at macro_arguments place
+failure_at None place f.Cut = fault_at wrong.MacroArguments place
 
 -- what a use gives: tokens, how much there is, and the text that is left
 abbrev pub Used : Type 0

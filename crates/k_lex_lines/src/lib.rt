@@ -3,3 +3,8 @@
 #![tactic(auto)]
 
 pub mod laws;
+mod lines;
+mod rules;
+
+pub use lines::{Branch, Directive, Fault, Line, Placed, Test, Wrong};
+pub use rules::{Count, Header, Limits, Rules, Sizes};
