@@ -13,7 +13,8 @@ use Rattle.k_lex_lines.specs.declared.rules.Count.{Count}
 use Rattle.k_lex_lines.specs.declared.lines.Wrong.TheVariants as wrong
 use Rattle.k_lex_lines.specs.Lines.{fault_at}
 use Rattle.k_lex_lines.specs.Text.{used, use_of, in_condition, Text, Follows}
-use Rattle.k_lex_lines.specs.Reading.{State, start, opening, knowing, Reads, ReadsOn}
+use Rattle.k_lex_lines.specs.declared.state.State.{State}
+use Rattle.k_lex_lines.specs.Reading.{start, opening, knowing, Reads, ReadsOn}
 use Rattle.k_lex_lines.specs.Laws.{plain_rules, at, word_at, AreOwn, AlternativesGive, SecondElseIsStray, OpenIfIsAtIf, empty_macro, FoundNameHolds, macro_of_one, CutUseIsRefused}
 use Rattle.k_lex_lines.proofs.Plain.{Stays, text_stays, one_unused}
 use Rattle.k_tree.specs.declared.tokens.Token.{Token}

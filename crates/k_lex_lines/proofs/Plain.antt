@@ -22,7 +22,8 @@ use Rattle.k_lex_lines.specs.declared.lines.Wrong.TheVariants as wrong
 use Rattle.k_lex_lines.specs.declared.lines.Line.TheVariants as l
 use Rattle.k_lex_lines.specs.Lines.{fault_at, text_of, behind_text, cut_by}
 use Rattle.k_lex_lines.specs.Text.{Text, Follows, Judged, in_text, kind_of, token_at, before_tokens, within, sized, fits, use_of, leaving}
-use Rattle.k_lex_lines.specs.Reading.{State, goes, reads, at_end, Reads, ReadsOn}
+use Rattle.k_lex_lines.specs.declared.state.State.{State}
+use Rattle.k_lex_lines.specs.Reading.{goes, reads, at_end, Reads, ReadsOn}
 use Rattle.k_lex_lines.specs.Laws.{AreOwn}
 
 -- so much of a text is left as there was

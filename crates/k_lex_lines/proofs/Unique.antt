@@ -21,7 +21,8 @@ use Rattle.k_lex_lines.specs.declared.rules.Rules.{Rules}
 use Rattle.k_lex_lines.specs.Lines.{text_of, behind_text, cut_by}
 use Rattle.k_lex_lines.specs.Text.{Judge, TextRead, Used, used, use_of, before, in_text, Text, Follows}
 use Rattle.k_lex_lines.specs.Directives.{Decision, decision, Decided, DecidesFound, Decides, found, is_defined}
-use Rattle.k_lex_lines.specs.Reading.{State, Turn, stops, goes, reads, decides, turn, Answer, in_front, at_end, Behind, after_text, after_condition, Reads, ReadsOn}
+use Rattle.k_lex_lines.specs.declared.state.State.{State}
+use Rattle.k_lex_lines.specs.Reading.{Turn, stops, goes, reads, decides, turn, Answer, in_front, at_end, Behind, after_text, after_condition, Reads, ReadsOn}
 
 -- ---- conditions
 

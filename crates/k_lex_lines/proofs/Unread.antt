@@ -9,7 +9,8 @@ use Rattle.k_lex_lines.specs.declared.lines.Line.{Line}
 use Rattle.k_lex_lines.specs.declared.rules.Rules.{Rules}
 use Rattle.k_lex_lines.specs.declared.lines.Branch.TheVariants as parts
 use Rattle.k_lex_lines.specs.declared.lines.Line.TheVariants as l
-use Rattle.k_lex_lines.specs.Reading.{State, opening, Turn, stops, goes, reads, decides, formed, tested, obeyed, turn, Answer, Reads}
+use Rattle.k_lex_lines.specs.declared.state.State.{State}
+use Rattle.k_lex_lines.specs.Reading.{opening, Turn, stops, goes, reads, decides, formed, tested, obeyed, turn, Answer, Reads}
 use Rattle.k_lex_lines.specs.Sections.{is_part, is_right, IsGroup, IsRest}
 use Rattle.k_lex_lines.specs.Laws.{settled}
 

@@ -23,7 +23,8 @@ use Rattle.k_lex_lines.specs.declared.lines.Directive.TheVariants as does
 use Rattle.k_lex_lines.specs.declared.lines.Line.TheVariants as l
 use Rattle.k_lex_lines.specs.Lines.{fault_at, text_of, behind_text}
 use Rattle.k_lex_lines.specs.Text.{kind_of, sized, fits}
-use Rattle.k_lex_lines.specs.Reading.{State, start, opening, Answer, Reads}
+use Rattle.k_lex_lines.specs.declared.state.State.{State}
+use Rattle.k_lex_lines.specs.Reading.{start, opening, Answer, Reads}
 use Rattle.k_lex_lines.specs.Sections.{IsGroup, IsRest}
 
 -- lines have one reading, or are refused in one way

@@ -14,6 +14,7 @@ use Rattle.k_lex_lines.specs.declared.lines.Directive.{Directive}
 use Rattle.k_lex_lines.specs.declared.lines.Line.{Line}
 use Rattle.k_lex_lines.specs.declared.rules.Count.{Count}
 use Rattle.k_lex_lines.specs.declared.rules.Rules.{Rules}
+use Rattle.k_lex_lines.specs.declared.state.State.{State}
 use Rattle.k_lex_lines.specs.declared.lines.Wrong.TheVariants as wrong
 use Rattle.k_lex_lines.specs.declared.lines.Test.TheVariants as question
 use Rattle.k_lex_lines.specs.declared.lines.Branch.TheVariants as parts
@@ -22,12 +23,6 @@ use Rattle.k_lex_lines.specs.declared.lines.Line.TheVariants as l
 use Rattle.k_lex_lines.specs.Lines.{fault_at, text_of, behind_text, cut_by}
 use Rattle.k_lex_lines.specs.Text.{TextRead, Text, in_text}
 use Rattle.k_lex_lines.specs.Directives.{defined, undefined, Included, no_header, another_macro, with_macros, included, is_defined, Decision, Decides}
-
--- what is known where a line stands: the macros, the `#if`s that are open, and how much there is
-pub record State : Type 0 where
-  pub macros : List Macro
-  pub opens : Opens
-  pub count : Count
 
 -- nothing is read: no macro is known
 abbrev pub start : State

@@ -1,12 +1,14 @@
 -- Believed with a public law.
 -- Text in which macros are replaced (C17 6.10.3): each use is the list of its name alone, with the text behind it as its source.
-use Rattle.std.specs.Prelude.{ℕ, ◌+◌, ◌-◌, Bool, ◌&&◌, List, [], ◌∷◌, ◌++◌, Option, Some, None, Result, Ok, Err, if◌then◌else◌, nat_le, length, map, drop, is_none}
+use Rattle.std.specs.Prelude.{ℕ, ◌+◌, ◌-◌, Bool, ◌&&◌, ◌==◌, List, [], ◌∷◌, ◌++◌, Option, Some, None, Result, Ok, Err, if◌then◌else◌, nat_le, length, map, drop, is_none}
 use Rattle.k_num.specs.declared.place.Place.{Place}
 use Rattle.k_tree.specs.declared.tokens.Token.{Token}
 use Rattle.k_tree.specs.declared.tokens.TokenKind.{TokenKind}
 use Rattle.k_lex_pieces.specs.declared.fault.Refusal.TheVariants as r
 use Rattle.k_lex_pieces.specs.declared.fault.Fault as pieces
+use Rattle.k_lex_pieces.specs.declared.pieces.Piece.{Piece}
 use Rattle.k_lex_pieces.specs.Pieces.{class_of, piece_by}
+use Rattle.k_lex_pieces.specs.Outcome.{refused}
 use Rattle.k_lex.specs.Lines.{token_of}
 use Rattle.k_lex_expansion.specs.declared.tokens.Listed.{Listed}
 use Rattle.k_lex_expansion.specs.declared.macros.Macro.{Macro}
@@ -24,9 +26,13 @@ use Rattle.k_lex_lines.specs.Lines.{fault_at}
 
 -- ---- tokens
 
+-- what bytes spell whose longest piece at the front is this, where it has them all
+abbrev pub kind_by : Place → List ℕ → Piece × ℕ → Result TokenKind pieces.Fault
+kind_by place s piece = if piece.1 == length s then token_of place s piece.0 else refused r.BadByte place
+
 -- what bytes spell that are one piece (6.4)
 abbrev pub kind_of : Place → List ℕ → Result TokenKind pieces.Fault
-kind_of place s = token_of place s (piece_by class_of s).0
+kind_of place s = kind_by place s (piece_by class_of s)
 
 -- the token at this place, or what is wrong in it
 abbrev pub token_at : Place → Result TokenKind pieces.Fault → Result Token Fault

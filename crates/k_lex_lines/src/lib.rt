@@ -5,6 +5,8 @@
 pub mod laws;
 mod lines;
 mod rules;
+mod state;
 
 pub use lines::{Branch, Directive, Fault, Line, Placed, Test, Wrong};
 pub use rules::{Count, Header, Limits, Rules, Sizes};
+pub use state::State;
