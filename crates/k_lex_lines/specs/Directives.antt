@@ -20,7 +20,6 @@ use Rattle.k_lex_expansion.specs.Expansion.{named}
 use Rattle.k_lex_lines.specs.declared.lines.Placed.{Placed}
 use Rattle.k_lex_lines.specs.declared.lines.Wrong.{Wrong}
 use Rattle.k_lex_lines.specs.declared.lines.Fault.{Fault}
-use Rattle.k_lex_lines.specs.declared.rules.Limits.{Limits}
 use Rattle.k_lex_lines.specs.declared.rules.Header.{Header}
 use Rattle.k_lex_lines.specs.declared.rules.Rules.{Rules}
 use Rattle.k_lex_lines.specs.declared.lines.Wrong.TheVariants as wrong

@@ -1,17 +1,11 @@
 -- Believed with a public law.
 -- The lines of a source, by what they are (C17 6.10).
-use Rattle.std.specs.Prelude.{ℕ, Bool, List, [], ◌∷◌, ◌++◌, Option, Some, None}
+use Rattle.std.specs.Prelude.{List, [], ◌∷◌, ◌++◌, Option, Some, None}
 use Rattle.k_num.specs.declared.place.Place.{Place}
-use Rattle.k_lex_pieces.specs.declared.fault.Refusal.{Refusal}
 use Rattle.k_lex_pieces.specs.declared.fault.Refusal.TheVariants as r
-use Rattle.k_lex_expansion.specs.declared.tokens.Spelled.{Spelled}
-use Rattle.k_lex_expansion.specs.declared.macros.Macro.{Macro}
 use Rattle.k_lex_lines.specs.declared.lines.Placed.{Placed}
 use Rattle.k_lex_lines.specs.declared.lines.Wrong.{Wrong}
 use Rattle.k_lex_lines.specs.declared.lines.Fault.{Fault}
-use Rattle.k_lex_lines.specs.declared.lines.Test.{Test}
-use Rattle.k_lex_lines.specs.declared.lines.Branch.{Branch}
-use Rattle.k_lex_lines.specs.declared.lines.Directive.{Directive}
 use Rattle.k_lex_lines.specs.declared.lines.Line.{Line}
 use Rattle.k_lex_lines.specs.declared.lines.Wrong.TheVariants as wrong
 use Rattle.k_lex_lines.specs.declared.lines.Line.TheVariants as l

@@ -12,7 +12,6 @@ use Rattle.k_lex_lines.specs.declared.lines.Test.{Test}
 use Rattle.k_lex_lines.specs.declared.lines.Branch.{Branch}
 use Rattle.k_lex_lines.specs.declared.lines.Directive.{Directive}
 use Rattle.k_lex_lines.specs.declared.lines.Line.{Line}
-use Rattle.k_lex_lines.specs.declared.rules.Count.{Count}
 use Rattle.k_lex_lines.specs.declared.rules.Rules.{Rules}
 use Rattle.k_lex_lines.specs.declared.state.State.{State}
 use Rattle.k_lex_lines.specs.declared.lines.Wrong.TheVariants as wrong
