@@ -1,0 +1,5 @@
+pub mod Laws
+pub mod Rows
+pub mod Splicing
+pub mod Taking
+pub mod Turning
