@@ -1,4 +1,6 @@
 pub mod Among
+pub mod ByContext
+pub mod ByRegion
 pub mod Judged
 pub mod Picked
 pub mod Telling

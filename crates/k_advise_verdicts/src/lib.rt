@@ -4,14 +4,17 @@
 
 mod facts;
 mod figures;
+mod gathering;
 mod judging;
 pub mod laws;
+mod placing;
 mod standing;
 mod walk;
 mod word;
 
 pub use facts::{Condition, Failing, LoopFacts, Named, Turns};
 pub use figures::{is_uneven, share, tenths};
+pub use gathering::standings;
 pub use judging::verdict_of;
 pub use standing::Standing;
 pub use walk::verdicts;
