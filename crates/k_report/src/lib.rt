@@ -14,4 +14,4 @@ mod report_lines;
 pub use graph_lines::graph_text;
 pub use heading::Heading;
 pub use plan_lines::wide_line;
-pub use report_lines::{large_line, report, report_large};
+pub use report_lines::{headed_report, large_line, report, report_large};

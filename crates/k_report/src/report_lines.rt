@@ -4,6 +4,7 @@ ghost use Rattle.std.specs.List.{flat_map};
 ghost use Rattle.std.specs.Option.{ForSome, option_copied};
 ghost use Rattle.k_plan.specs.Plan.{ParentsComeFirst};
 ghost use Rattle.k_report.specs.PlanLines.{NamesContexts};
+ghost use Rattle.k_report.specs.declared.heading.Heading.TheVariants.{Exit};
 ghost use Rattle.k_report.specs.Report.{large_line, large_text, numbers_text, report_text, row_line, row_text};
 
 use crate::dict_lines::push_dict;
@@ -59,7 +60,7 @@ fn push_rows(text: &mut Vec<u8>, regions: &[Region], rows: &[Row]) -> Result<(),
 
 /// The report of a run that ended by a return, or of many runs: what main returned or how many runs there were, how many operations were
 /// made, a line for each row, the lines of the dictionary where one is given, and the plan. Where no plan is given there were too many contexts for one.
-pub fn report(
+pub fn headed_report(
     alloc: Global,
     regions: &Seq<Region>,
     heading: Heading,
@@ -82,6 +83,35 @@ pub fn report(
     push_dict(&mut text, dict)?;
     push_plan(alloc, &mut text, regions, contexts.as_slice(), plan)?;
     Ok(text)
+}
+
+/// The report of a run that ended by a return, which is told by what main returned.
+pub fn report(
+    alloc: Global,
+    regions: &Seq<Region>,
+    exit: i32,
+    ops: u64,
+    rows: &Seq<Row>,
+    dict: Option<&Dict>,
+    contexts: &ContextList,
+    plan: Option<&Advice>,
+) -> Result<Vec<u8>, NoMemory>
+    requires rows { All (λ row. row.region < length regions.now) rows.now }
+    requires contexts { All (λ context. context.region < length regions.now) contexts.now }
+    requires parents { ParentsComeFirst contexts.now }
+    requires plan { ForSome (option_copied plan) (NamesContexts contexts.now) }
+    ensures { IfOk result (λ text. text.items ≡ report_text regions.now (Exit exit) ops rows.now (option_copied dict.entry) contexts.now (option_copied plan.entry)) }
+{
+    headed_report(
+        alloc,
+        regions,
+        Heading::Exit(exit),
+        ops,
+        rows,
+        dict,
+        contexts,
+        plan,
+    )
 }
 
 /// The line where the dictionary is over its limits.

@@ -10,7 +10,7 @@ use k_dict_entries::Dict;
 use k_dict_saved::Saved;
 use k_num::{NoMemory, Seq};
 use k_plan::{ContextFault, ContextList, contexts, plan, standard_limits};
-use k_report::{Heading, report};
+use k_report::report;
 use k_selfpar::{Row, rows};
 use std::alloc::Global;
 
@@ -39,7 +39,7 @@ fn with_plan(
     report(
         alloc,
         &saved.regions,
-        Heading::Exit(saved.exit),
+        saved.exit,
         saved.ops,
         rows,
         listed(saved, with_dict),
@@ -64,7 +64,7 @@ fn without_plan(
     report(
         alloc,
         &saved.regions,
-        Heading::Exit(saved.exit),
+        saved.exit,
         saved.ops,
         rows,
         listed(saved, with_dict),

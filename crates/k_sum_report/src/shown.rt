@@ -8,7 +8,7 @@ use crate::parts::parts_of;
 use k_data::{rows_csv, sum_json};
 use k_dict_entries::Dict;
 use k_num::NoMemory;
-use k_report::{Heading, report};
+use k_report::{Heading, headed_report};
 use k_sum::Sum;
 use k_sum_rows::rows;
 use std::alloc::Global;
@@ -27,7 +27,7 @@ pub fn sum_report(alloc: Global, sum: &Sum, with_dict: bool) -> Result<Vec<u8>, 
     ensures { IfOk result (λ text. IsSumReport sum.now with_dict text.items) }
 {
     let parts = parts_of(alloc, sum)?;
-    report(
+    headed_report(
         alloc,
         &sum.regions,
         Heading::Runs(sum.runs),

@@ -6,21 +6,21 @@ use Rattle.k_sum_report.specs.SumReport.{IsSumReport}
 use Rattle.k_sum_report.proofs.Texts.{parts_report}
 use Rattle.k_sum_report.proofs.shown.sum_report.Goals as goal
 
-pub report-requires-clause-rows : goal.report-requires-clause-rows
-report-requires-clause-rows c = c.in_ok-parts.ensures.rows_named
+pub headed_report-requires-clause-rows : goal.headed_report-requires-clause-rows
+headed_report-requires-clause-rows c = c.in_ok-parts.ensures.rows_named
 
-pub report-requires-clause-contexts : goal.report-requires-clause-contexts
-report-requires-clause-contexts c = c.in_ok-parts.ensures.contexts_named
+pub headed_report-requires-clause-contexts : goal.headed_report-requires-clause-contexts
+headed_report-requires-clause-contexts c = c.in_ok-parts.ensures.contexts_named
 
-pub report-requires-clause-parents : goal.report-requires-clause-parents
-report-requires-clause-parents c = c.in_ok-parts.ensures.parents
+pub headed_report-requires-clause-parents : goal.headed_report-requires-clause-parents
+headed_report-requires-clause-parents c = c.in_ok-parts.ensures.parents
 
-pub report-requires-clause-plan : goal.report-requires-clause-plan
-report-requires-clause-plan c =
+pub headed_report-requires-clause-plan : goal.headed_report-requires-clause-plan
+headed_report-requires-clause-plan c =
     subst (λ p. ForSome p (NamesContexts c.in_ok-parts.parts.contexts)) (sym c.as_ref.ensures.value) c.in_ok-parts.ensures.picks_named
 
 pub returns : goal.returns
 returns c =
-    IfOk-weaker c.report.result _ (λ text. IsSumReport c.args.sum.now c.args.with_dict text.items)
+    IfOk-weaker c.headed_report.result _ (λ text. IsSumReport c.args.sum.now c.args.with_dict text.items)
     (λ text is. parts_report c.args.sum.now c.args.with_dict c.in_ok-parts.parts c.in_ok-parts.ensures _ c.listed.ensures _ c.as_ref.ensures.value text.items is)
-    c.report.ensures
+    c.headed_report.ensures
