@@ -3,6 +3,7 @@
 
 mod advance;
 mod kind;
+pub mod laws;
 mod log;
 mod program;
 mod running;
