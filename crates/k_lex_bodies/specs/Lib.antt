@@ -1,0 +1,4 @@
+pub mod Bodies
+pub mod Forms
+pub mod Laws
+pub mod Taking
