@@ -1,0 +1,4 @@
+pub mod Directives
+pub mod Laws
+pub mod Sources
+pub mod Tokens
