@@ -1,7 +1,7 @@
 -- Where each context stands, told one behind the other.
-use Rattle.std.proofs.Common.{ℕ, zero, suc, ◌+◌, ◌≡◌, ◌≢◌, ◌⊎◌, ◌<◌, ◌≤◌, ◌^◌, nat_eq, nat_lt, Bool, true, false, List, [], ◌∷◌, ◌++◌, length, Option, Some, None, slice_get, arith, refl, sym, ap, ◌∙◌, subst, inl, inr}
-use Rattle.std.specs.Prelude.{IsTrue, if◌then◌else◌, slice_index_or}
-use Rattle.std.proofs.lemmas.Bool.{cases_Bool, true≢false}
+use Rattle.std.proofs.Common.{ℕ, zero, suc, ◌+◌, ◌≡◌, ◌≢◌, ◌⊎◌, ◌<◌, ◌^◌, nat_eq, Bool, true, false, List, [], ◌∷◌, ◌++◌, length, Option, Some, None, slice_get, arith, refl, sym, ap, ◌∙◌, subst, inl, inr}
+use Rattle.std.specs.Prelude.{if◌then◌else◌, slice_index_or}
+use Rattle.std.proofs.lemmas.Bool.{true≢false}
 use Rattle.std.proofs.lemmas.Bool.Decides.{eqb_tells}
 use Rattle.std.proofs.lemmas.List.{append-nil}
 use Rattle.std.proofs.lemmas.Option.{none-some, same_Some}
@@ -13,10 +13,9 @@ use Rattle.k_advise_plan.specs.declared.plan.ThreadedPick.{ThreadedPick}
 use Rattle.k_advise_plan.specs.declared.team.Team.{Team}
 use Rattle.k_advise_plan.specs.Plan.{pick_with, picks_from}
 use Rattle.k_advise_plan.specs.Recast.{AreSmall}
-use Rattle.k_advise_plan.specs.Saving.{threaded_saving}
 use Rattle.k_advise_verdicts.specs.declared.placing.Placed.{Placed}
-use Rattle.k_advise_verdicts.specs.Placing.{ArePlaced, IsPlaced, IsUnder, behind, is_first, later_picks, pick_of, placed_at, placed_by, unplaced}
-use Rattle.k_advise_verdicts.specs.Standings.{IsContextOf, IsUnderPick}
+use Rattle.k_advise_verdicts.specs.Placing.{ArePlaced, IsPlaced, IsUnder, behind, is_first, pick_of, placed_at, placed_by, unplaced}
+use Rattle.k_advise_verdicts.specs.Standings.{IsUnderPick}
 
 pub get_there : {X : Type 0} (xs : List X) (n : ℕ) (d : X) → n < length xs → slice_get xs n ≡ Some (slice_index_or xs n d)
 get_there [] n d low = absurd (omega (arith, low))

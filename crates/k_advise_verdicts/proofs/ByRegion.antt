@@ -1,7 +1,7 @@
 -- Where loops stand, by what is told of the contexts of their regions together.
-use Rattle.std.proofs.Common.{ℕ, zero, suc, ◌+◌, ◌≡◌, ◌≢◌, ◌⊎◌, ◌<◌, ◌≤◌, nat_eq, nat_lt, Bool, true, false, ◌||◌, List, [], ◌∷◌, ◌++◌, length, map, Option, Some, None, slice_get, arith, refl, sym, ap, ◌∙◌, subst, inl, inr}
+use Rattle.std.proofs.Common.{ℕ, zero, suc, ◌+◌, ◌≡◌, ◌≢◌, ◌⊎◌, ◌<◌, nat_eq, nat_lt, Bool, true, false, ◌||◌, List, [], ◌∷◌, ◌++◌, length, map, Option, Some, None, slice_get, arith, refl, sym, ap, ◌∙◌, subst, inl, inr}
 use Rattle.std.specs.Prelude.{IsTrue, if◌then◌else◌, slice_index_or, slice_set, ◌↔◌}
-use Rattle.std.proofs.lemmas.Bool.{cases_Bool, or_cases, or_left, or_right, true≢false}
+use Rattle.std.proofs.lemmas.Bool.{or_cases, or_left, or_right, true≢false}
 use Rattle.std.proofs.lemmas.Bool.Decides.{eqb_tells, nat_tests}
 use Rattle.std.proofs.lemmas.Option.{none-some, same_Some, slice_get_within}
 use Rattle.k_selfpar.specs.declared.context.Context.{Context}
@@ -12,8 +12,8 @@ use Rattle.k_advise_verdicts.specs.declared.gathering.Gathered.{Gathered}
 use Rattle.k_advise_verdicts.specs.declared.placing.Placed.{Placed}
 use Rattle.k_advise_verdicts.specs.declared.standing.Standing.{Standing}
 use Rattle.k_advise_verdicts.specs.Placing.{AreGathered, ArePlaced, IsAdded, IsPlaced, IsUnder, Reaches, gathered, gathered_at, is_missing, joined, joined_if, nothing, standing_of, unplaced}
-use Rattle.k_advise_verdicts.specs.Standings.{AreStandings, IsContextOf, IsFirstOf, IsInside, IsStanding, IsUnderPick, IsWithin}
-use Rattle.k_advise_verdicts.specs.Told.{outside, standing_at}
+use Rattle.k_advise_verdicts.specs.Standings.{AreStandings, IsContextOf, IsFirstOf, IsInside, IsStanding, IsUnderPick}
+use Rattle.k_advise_verdicts.specs.Told.{standing_at}
 use Rattle.k_advise_verdicts.proofs.ByContext.{get_there}
 use Rattle.k_advise_verdicts.proofs.Walking.{below}
 
