@@ -1,0 +1,6 @@
+//! The loops of a source, as Wide sees them, found in text order.
+#![tactic(auto)]
+
+mod found;
+
+pub use found::{LoopText, find_stmts};
