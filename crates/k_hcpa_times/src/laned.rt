@@ -1,10 +1,11 @@
 //! The contract of the times of all locations while the control source's and the paths stand in lanes.
-ghost use Rattle.std.specs.Prelude.{◌≡◌, ℕ, ◌+◌, ◌*◌, ◌^◌, ◌<◌, ◌≤◌, true, false, [], ◌∷◌, ◌++◌, length, IfSome};
+ghost use Rattle.std.specs.Prelude.{◌≡◌, ℕ, ◌+◌, ◌*◌, ◌^◌, ◌<◌, ◌≤◌, true, false, [], ◌∷◌, ◌++◌, length, None, IfSome};
 ghost use Rattle.k_hcpa_meaning.specs.Calls.{arguments_handed};
 ghost use Rattle.k_hcpa_meaning.specs.Timings.{Register, Element, Control, begun, settled, operated, given_to, registers_cleared, control_saved, control_restored, control_kept, control_back, left_below};
 ghost use Rattle.k_hcpa_times.specs.AtOnce.{at_once};
 ghost use Rattle.k_hcpa_times.specs.Seen.{AreBelow, levels, made, instance_entered};
-ghost use Rattle.k_hcpa_times.specs.Lanes.{with_lanes, locations_from, AreRegistersBelow};
+ghost use Rattle.k_hcpa_times.specs.Lanes.{with_lanes, locations_from, register_held, AreRegistersBelow, IsOperated};
+ghost use Rattle.k_shadow.specs.Content.{at_levels};
 
 use crate::timed::Timed;
 use k_code::Arg;
@@ -53,6 +54,7 @@ pub struct From {
 ///
 /// A call that answers false changed nothing that is seen, and took no step: what it was asked for may need more than lanes have, or memory.
 pub trait Laned: Timed {
+    ghost use Rattle.std.specs.Prelude.{List};
     ghost use Rattle.k_hcpa_times.specs.Lanes.{Laid};
 
     /// These lanes may stand for the control source's times and the paths.
@@ -63,6 +65,9 @@ pub trait Laned: Timed {
 
     /// An instance may be entered where so many are open, of which those below the depth have levels.
     ghost enters: { Self → Laid → ℕ → ℕ → Type 0 };
+
+    /// A register may get these times, one for each live level.
+    ghost gets: { Self → ℕ → List ℕ → Type 0 };
 
     /// Moves the control source's times and the paths into lanes, where these can hold them. It takes no step: the control source is read by the operations
     /// that depend on it.
@@ -206,6 +211,36 @@ pub trait Laned: Timed {
         ensures sure { enters self.old lanes.old depth opened → result ≡ true }
         ensures entered { result ≡ true → with_lanes lanes.new (Self.seen self.new) ≡ instance_entered depth opened (with_lanes lanes.old (Self.seen self.old)) }
         ensures same { result ≡ false → with_lanes lanes.new (Self.seen self.new) ≡ with_lanes lanes.old (Self.seen self.old) };
+
+    /// An operation is made that depends on registers, and its times are told: no location has them yet, and a register may get them. Where the lanes that
+    /// were there stand again, nothing has changed that is seen. It answers none, and changes nothing, where that is not so.
+    fn move_lanes<V: TimeLanes, L: Ledger>(
+        &mut self,
+        lanes: &mut Lanes<V>,
+        from: From,
+        latency: u32,
+        to: u32,
+        steps: &mut Steps<L>,
+    ) -> Option<V>
+        requires laned { laned self.old lanes.old }
+        requires from { AreRegistersBelow (Self.seen self.old).registers (locations_from from) }
+        requires below { to < (Self.seen self.old).registers }
+        ensures same { Self.seen self.new ≡ Self.seen self.old }
+        ensures laned { laned self.new lanes.new }
+        ensures back { laned self.new lanes.old }
+        ensures operated { IfSome result (λ times. IsOperated (locations_from from) latency (with_lanes lanes.old (Self.seen self.old)) (at_levels (levels (Self.seen self.old)) (V.time times)) (with_lanes lanes.new (Self.seen self.old))) }
+        ensures gets { IfSome result (λ times. gets self.new to (at_levels (levels (Self.seen self.old)) (V.time times))) }
+        ensures steps { IfSome result (λ times. steps.new ≡ steps.old + (1 + length (locations_from from)) * levels (with_lanes lanes.old (Self.seen self.old))) }
+        ensures untouched { result ≡ None → lanes.new ≡ lanes.old }
+        ensures none { result ≡ None → steps.new ≡ steps.old };
+
+    /// A register gets these times.
+    fn hold_lanes<V: TimeLanes>(&mut self, lanes: &Lanes<V>, to: u32, times: V)
+        requires laned { laned self.old lanes.now }
+        requires below { to < (Self.seen self.old).registers }
+        requires gets { gets self.old to (at_levels (levels (Self.seen self.old)) (V.time times)) }
+        ensures laned { laned self.new lanes.now }
+        ensures held { with_lanes lanes.now (Self.seen self.new) ≡ made (register_held to (at_levels (levels (Self.seen self.old)) (V.time times))) (with_lanes lanes.now (Self.seen self.old)) };
 
     /// Leaves the innermost of so many open instances, of which those below the depth have levels.
     fn leave_lanes<V: TimeLanes>(&mut self, lanes: &Lanes<V>, depth: u32, opened: u64)

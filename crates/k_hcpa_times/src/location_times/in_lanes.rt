@@ -13,13 +13,15 @@ use std::sync::ledger::Ledger;
 
 impl<R: Shadow, P: Shadow> Laned for LocationTimes<R, P> {
     ghost use Rattle.std.specs.Prelude.{length};
-    ghost use Rattle.k_hcpa_times.specs.Lanes.{AreLanes, MayCall, MayEnter};
+    ghost use Rattle.k_hcpa_times.specs.Lanes.{AreLanes, MayCall, MayEnter, MayHold};
 
     ghost laned = { λ t l. AreLanes (length t.paths) (R.content t.registers).entries t.reach t.admitted l };
 
     ghost calls = { λ t. MayCall (R.room t.registers) t.reach };
 
     ghost enters = { λ t l. MayEnter (length t.paths) (R.content t.registers).entries l.lanes };
+
+    ghost gets = { λ t. MayHold (R.room t.registers) t.reach };
 
     fn open<V: TimeLanes>(&mut self) -> Option<Lanes<V>> {
         if self.paths.len() > V::count()
@@ -185,6 +187,32 @@ impl<R: Shadow, P: Shadow> Laned for LocationTimes<R, P> {
         }
         self.enter_everywhere();
         true
+    }
+
+    #[inline]
+    fn move_lanes<V: TimeLanes, L: Ledger>(
+        &mut self,
+        lanes: &mut Lanes<V>,
+        from: From,
+        latency: u32,
+        to: u32,
+        steps: &mut Steps<L>,
+    ) -> Option<V> {
+        let reach = self.reach + latency as u64;
+        if reach > GREATEST || !admit_lanes(&mut self.registers, to) {
+            return None;
+        }
+        steps.tick_each(self.paths.as_slice());
+        let times = operate_lanes(&self.registers, lanes, from, latency, steps);
+        self.reach = reach;
+        Some(times)
+    }
+
+    #[tactic(auto, using(k_shadow::proofs::Laws::depth_written))]
+    #[inline]
+    fn hold_lanes<V: TimeLanes>(&mut self, lanes: &Lanes<V>, to: u32, times: V) {
+        let _control = lanes.control;
+        self.registers.put_lanes(to, times);
     }
 
     #[inline]
