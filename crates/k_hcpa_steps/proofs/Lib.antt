@@ -9,6 +9,7 @@ pub mod OtherRow
 pub mod Quietly
 pub mod Reading
 pub mod Returning
+pub mod ReturningSurely
 pub mod Rooms
 pub mod Running
 pub mod Silence

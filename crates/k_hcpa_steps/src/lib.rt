@@ -9,7 +9,9 @@ mod instructions;
 mod joined;
 mod operation;
 mod parts;
+mod ran;
 mod returns;
+mod returns_surely;
 mod silent;
 mod start;
 mod step;
@@ -17,4 +19,5 @@ mod sure;
 mod turn;
 
 pub use parts::Parts;
+pub use ran::Ran;
 pub use turn::Turn;
