@@ -1,4 +1,4 @@
--- For contracts between functions: nobody has to believe it.
+-- For contracts between crates: nobody has to believe it.
 -- Where each context stands in a plan, and what is told of the contexts of a region together.
 use Rattle.std.specs.Prelude.{ℕ, ◌≡◌, ◌<◌, ◌||◌, nat_eq, nat_lt, Bool, true, false, List, [], ◌∷◌, length, Option, Some, None, slice_get, slice_index_or, if◌then◌else◌}
 use Rattle.k_selfpar.specs.declared.context.Context.{Context}
