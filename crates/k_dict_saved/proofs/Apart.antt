@@ -8,6 +8,7 @@ use Rattle.k_dict_entries.specs.declared.entry.Entry.{Entry}
 use Rattle.k_dict_entries.specs.declared.entry.Run.{Run}
 use Rattle.k_dict_entries.proofs.Coding.{entry_at}
 use Rattle.k_dict_entries.proofs.EntryTrees.{tree_named}
+use Rattle.k_profile_trees.proofs.Labels.{wider}
 use Rattle.k_dict_saved.specs.Formats.{AreMaximal, Differs, HaveRuns}
 use Rattle.k_dict_saved.specs.declared.format.Format.TheVariants.{One}
 
@@ -80,11 +81,6 @@ module _ (trees : List Tree) (high : ℕ) (apart : (i j : ℕ) → i < high → 
       first_is : (n : ℕ) (t : Tree) (f : Forest) → 1 ≤ n → first_tree (copies n t f) ≡ t
       first_is zero t f some = absurd (omega arith)
       first_is (suc n) t f some = refl
-
--- runs that name entries below a number name them below a greater one
-pub wider : (low high : ℕ) (list : List Run) → low ≤ high → NameBelow low list → NameBelow high list
-wider low high [] le below = tt
-wider low high (run ∷ list) le below = let first = below.0 in (omega arith, below.1, wider low high list le below.2)
 
 module _ (entries : List Entry) (runs : HaveRuns One entries) (apart : AreApart entries) where
   trees_below : (k m n : ℕ) → m < k → n < k → m < length entries → n < length entries → tree_at entries m ≡ tree_at entries n → m ≡ n

@@ -12,7 +12,7 @@ pub mod Profiles
 pub mod ReadingRuns
 pub mod RegionSteps
 pub mod RunSums
-pub mod Shapes
 pub mod Spelled
+pub mod Tops
 pub mod Visiting
 pub mod Whole

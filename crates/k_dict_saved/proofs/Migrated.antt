@@ -26,8 +26,9 @@ use Rattle.k_dict_saved.specs.Profile.{IsMigrated, IsOld, IsSaved}
 use Rattle.k_dict_saved.specs.declared.format.Format.TheVariants.{One}
 use Rattle.k_dict_saved.specs.declared.saved.Old.{Old}
 use Rattle.k_dict_saved.specs.declared.saved.Saved.{Saved}
-use Rattle.k_dict_saved.proofs.Apart.{wider}
-use Rattle.k_dict_saved.proofs.Shapes.{HasTop, TopsUpTo, height_of_shape, laid_up_to, parent_of, paths_laid, size_of_shape, top_alike, top_laid, tops_alike, up_to_alike, up_to_laid, works_laid}
+use Rattle.k_profile_trees.proofs.Labels.{wider}
+use Rattle.k_dict_saved.proofs.Tops.{top_laid}
+use Rattle.k_profile_trees.proofs.Shapes.{HasTop, TopsUpTo, height_of_shape, laid_up_to, parent_of, paths_laid, size_of_shape, top_alike, tops_alike, up_to_alike, up_to_laid, works_laid}
 use Rattle.k_dict_saved.proofs.RunSums.{size-copies}
 use Rattle.k_dict_saved.proofs.Visiting.{Firsts-grow}
 

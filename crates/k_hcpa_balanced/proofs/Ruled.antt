@@ -21,10 +21,10 @@ use Rattle.k_dict_entries.specs.Dictionary.{IsDictionary, refusal}
 use Rattle.k_dict_entries.specs.Entries.{AreInterned}
 use Rattle.k_dict_entries.specs.Trees.{Forest, alone, bare, grown, height, nodes_of, size}
 use Rattle.k_dict_entries.specs.declared.entry.Entry.{Entry}
-use Rattle.k_report_profile.proofs.Children.{HaveBounds, tree_has_bounds}
-use Rattle.k_report_profile.proofs.Grown.{AreWithin}
-use Rattle.k_report_profile.proofs.Rules.{are_profile, name_regions}
-use Rattle.k_report_profile.proofs.Within.{interned_of}
+use Rattle.k_profile_trees.proofs.Children.{HaveBounds, tree_has_bounds}
+use Rattle.k_profile_trees.proofs.Grown.{AreWithin}
+use Rattle.k_profile_trees.proofs.Rules.{are_profile, name_regions}
+use Rattle.k_profile_trees.proofs.Within.{interned_of}
 use Rattle.k_hcpa_balanced.specs.Laws.{IsOneInstance, MeetRules, ReturnedRunsHaveProfiles}
 
 -- the regions of closed instances are of so many

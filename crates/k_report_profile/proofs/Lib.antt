@@ -1,9 +1,5 @@
-pub mod Children
-pub mod Grown
 pub mod Named
 pub mod OneRun
 pub mod Recorded
 pub mod Reported
-pub mod Rules
 pub mod Summed
-pub mod Within

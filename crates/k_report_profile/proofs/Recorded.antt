@@ -26,17 +26,17 @@ use Rattle.k_dict_saved.specs.Profile.{IsSaved}
 use Rattle.k_dict_saved.specs.declared.saved.Saved.{Saved}
 use Rattle.k_dict_saved.proofs.Migrated.{all_named}
 use Rattle.k_selfpar.specs.Contexts.{AreContexts}
-use Rattle.k_selfpar.proofs.Profile.{label_is}
 use Rattle.k_selfpar.proofs.Siblings.{contexts_forget_order, rows_forget_order}
 use Rattle.k_report.specs.declared.heading.Heading.TheVariants.{Exit}
 use Rattle.k_report.specs.Report.{large_text, report_text}
 use Rattle.k_report_profile.specs.Report.{IsReport, IsReportOf, asked, nodes_of_profile}
 use Rattle.k_optab.specs.Entered.{EnterBelow}
 use Rattle.k_report_profile.specs.RunReport.{IsProfileOf, IsRunReport, IsWhole, Ran, large, ops_of, whole}
-use Rattle.k_report_profile.proofs.Children.{HaveBounds, tree_has_bounds}
-use Rattle.k_report_profile.proofs.Grown.{AreWithin, IsGrown, enter_split, grown_of}
-use Rattle.k_report_profile.proofs.Rules.{are_profile, name_regions}
-use Rattle.k_report_profile.proofs.Within.{interned_of}
+use Rattle.k_profile_trees.proofs.Children.{HaveBounds, tree_has_bounds}
+use Rattle.k_profile_trees.proofs.Labels.{label_is}
+use Rattle.k_profile_trees.proofs.Grown.{AreWithin, IsGrown, enter_split, grown_of}
+use Rattle.k_profile_trees.proofs.Rules.{are_profile, name_regions}
+use Rattle.k_profile_trees.proofs.Within.{interned_of}
 
 -- what two clauses say of a value
 pub both_ok : {X Y : Type 0} (r : Result X Y) (P Q R : X → Type 0) → ((x : X) → P x → Q x → R x) → IfOk r P → IfOk r Q → IfOk r R

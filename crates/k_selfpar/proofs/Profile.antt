@@ -8,6 +8,7 @@ use Rattle.k_dict_entries.specs.Rules.{AreProfile, HaveBoundedNumbers, child_pat
 use Rattle.k_dict_entries.specs.declared.entry.Entry.{Entry}
 use Rattle.k_dict_entries.specs.declared.entry.Run.{Run}
 use Rattle.k_dict_entries.proofs.EntryTrees.{tree_is}
+use Rattle.k_profile_trees.proofs.Labels.{label_is}
 use Rattle.k_selfpar.specs.Counts.{weighed}
 use Rattle.k_selfpar.specs.Sums.{HaveChildren, all_of, inner_paths, inner_works, one, outer_paths, outer_works, own_of, path, path_at, serial_in, sum_of, work, work_at}
 use Rattle.k_selfpar.proofs.Giving.{outer_paths-laid, outer_works-laid}
@@ -35,24 +36,18 @@ bounded_laid trees low high (run ∷ runs) are each =
     bounded_copies run.count (get_or trees run.entry no_tree) (laid trees runs) (each run.entry are.1) (bounded_laid trees (run.entry + 1) high runs are.3 each)
 
 module _ (entries : List Entry) (earlier : NameEarlier entries) where
-  -- what is told of an entry's instances
-  pub label_is : (n : ℕ) → n < length entries → (tree_at entries n).label ≡ label_of (entry_of entries n)
-  label_is n lt =
-      let at : slice_get entries n ≡ Some (entry_of entries n) = slice_get-get_or entries n no_entry lt in
-      ap (λ (t : Tree). t.label) (tree_is entries n (entry_of entries n) at (earlier n (entry_of entries n) at))
-
   works_are : (low high : ℕ) (runs : List Run) → AreRuns low high runs → high ≤ length entries → child_works entries runs ≡ weighed (work_at entries) runs
   works_are low high [] are within = refl
   works_are low high (run ∷ runs) are within =
       let below : run.entry < high = are.1 in
-      ap (λ (l : Label). run.count * l.work + child_works entries runs) (sym (label_is run.entry (omega arith)))
+      ap (λ (l : Label). run.count * l.work + child_works entries runs) (sym (label_is entries earlier run.entry (omega arith)))
       ∙ ap (λ x. run.count * work_at entries run.entry + x) (works_are (run.entry + 1) high runs are.3 within)
 
   paths_are : (low high : ℕ) (runs : List Run) → AreRuns low high runs → high ≤ length entries → child_paths entries runs ≡ weighed (path_at entries) runs
   paths_are low high [] are within = refl
   paths_are low high (run ∷ runs) are within =
       let below : run.entry < high = are.1 in
-      ap (λ (l : Label). run.count * l.path + child_paths entries runs) (sym (label_is run.entry (omega arith)))
+      ap (λ (l : Label). run.count * l.path + child_paths entries runs) (sym (label_is entries earlier run.entry (omega arith)))
       ∙ ap (λ x. run.count * path_at entries run.entry + x) (paths_are (run.entry + 1) high runs are.3 within)
 
   module _ (numbers : HaveBoundedNumbers entries) where

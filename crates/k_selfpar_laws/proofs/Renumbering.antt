@@ -19,7 +19,7 @@ use Rattle.k_dict_entries.proofs.Lists.{same_tree}
 use Rattle.k_dict_entries.proofs.Unique.{one_dictionary}
 use Rattle.k_dict_entries.proofs.Walking.{EachWith-at, EachWith-back, none_seen, tree_there, walk, walk_is, walks_well}
 use Rattle.k_dict_saved.specs.Formats.{IsNamedBy, Names}
-use Rattle.k_dict_saved.proofs.Shapes.{at_back, at_front}
+use Rattle.k_profile_trees.proofs.Shapes.{at_back, at_front}
 use Rattle.k_selfpar_laws.specs.Renumbered.{AreRenumbered, EntriesAreGatheredAgain, IsRenumbered, MeetRules, times_named}
 
 -- ---- each entry's tree occurs in the root's

@@ -14,7 +14,7 @@ use Rattle.k_dict_entries.proofs.EntryTrees.{below_bound, tree_is}
 use Rattle.k_dict_entries.proofs.Forests.{Alike-size, Alike-sym, SameShape-sym}
 use Rattle.k_dict_saved.specs.Files.{AreRegions}
 use Rattle.k_dict_saved.specs.Formats.{IsNamedBy, Names}
-use Rattle.k_dict_saved.proofs.Shapes.{tops_alike, works_laid}
+use Rattle.k_profile_trees.proofs.Shapes.{tops_alike, works_laid}
 use Rattle.k_sum.specs.Exits as ends
 use Rattle.k_sum.specs.Laws.{TellsOfRuns, forest_of}
 use Rattle.k_sum.specs.Sums.{HasBounds}

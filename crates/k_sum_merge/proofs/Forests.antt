@@ -7,7 +7,7 @@ use Rattle.k_dict_entries.specs.declared.entry.Entry.{Entry}
 use Rattle.k_dict_entries.specs.declared.entry.Run.{Run}
 use Rattle.k_dict_entries.proofs.EntryTrees.{below_bound, tree_is}
 use Rattle.k_dict_entries.proofs.Forests.{SameShape-sym}
-use Rattle.k_dict_saved.proofs.Shapes.{tops}
+use Rattle.k_profile_trees.proofs.Shapes.{tops}
 use Rattle.k_sum.specs.Laws.{together}
 use Rattle.k_sum_order.specs.Laws.{Has}
 use Rattle.k_sum_order.proofs.OneOrder.{entry_there}

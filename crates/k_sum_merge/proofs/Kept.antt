@@ -17,7 +17,7 @@ use Rattle.k_dict_saved.specs.Files.{AreRegions}
 use Rattle.k_dict_saved.specs.Formats.{IsNamedBy, Names}
 use Rattle.k_dict_saved.specs.Profile.{IsSaved}
 use Rattle.k_dict_saved.specs.declared.saved.Saved.{Saved}
-use Rattle.k_dict_saved.proofs.Shapes.{tops, tops_alike, works_laid}
+use Rattle.k_profile_trees.proofs.Shapes.{tops, tops_alike, works_laid}
 use Rattle.k_sum.specs.Exits.{counted, with_exits}
 use Rattle.k_sum.specs.Laws.{TellsOfRuns, forest_of, together}
 use Rattle.k_sum.specs.Sums.{AddsTo, HasBounds, sum_of}

@@ -6,8 +6,8 @@ use Rattle.k_dict_entries.specs.Rules.{HasBoundedNumbers, HaveBoundedNumbers, Ha
 use Rattle.k_dict_entries.specs.Trees.{SameShape, Tree, alone, height, size}
 use Rattle.k_dict_entries.specs.declared.entry.Entry.{Entry}
 use Rattle.k_dict_entries.proofs.EntryTrees.{below_bound, tree_is}
-use Rattle.k_dict_saved.proofs.Apart.{wider}
-use Rattle.k_dict_saved.proofs.Shapes.{TopsUpTo, height_of_shape, laid_up_to, paths_laid, size_of_shape, tops, tops_alike, up_to_alike, up_to_laid, works_laid}
+use Rattle.k_profile_trees.proofs.Labels.{wider}
+use Rattle.k_profile_trees.proofs.Shapes.{TopsUpTo, height_of_shape, laid_up_to, paths_laid, size_of_shape, tops, tops_alike, up_to_alike, up_to_laid, works_laid}
 use Rattle.k_sum_order.proofs.OneOrder.{entry_there}
 
 -- a tree keeps the rules: its region is one of the list, its numbers are bounded, and it has at most 32 levels and 2 ^ 59 instances

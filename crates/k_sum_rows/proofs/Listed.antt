@@ -28,7 +28,8 @@ use Rattle.k_selfpar.proofs.Giving.{outer_works-laid, sums_add}
 use Rattle.k_selfpar.proofs.ItemLists.{total-in, total_some}
 use Rattle.k_selfpar.proofs.Listed.{gross_is_sum, length_is_gross, serial_of_forest, sum_is_gross}
 use Rattle.k_selfpar.proofs.Nested.{forest_can_be_planned}
-use Rattle.k_selfpar.proofs.Profile.{Bounded, count_is_size, label_is, paths_limit, serial_limit, works_limit}
+use Rattle.k_profile_trees.proofs.Labels.{label_is}
+use Rattle.k_selfpar.proofs.Profile.{Bounded, count_is_size, paths_limit, serial_limit, works_limit}
 use Rattle.k_selfpar.proofs.Rowed.{ratio_at_least_one, within_less}
 use Rattle.k_selfpar.proofs.Standing.{bounded_standing, count-laid, items-runs, standing-runs}
 use Rattle.k_selfpar.proofs.Under.{one_list, under_alike, under_at_least_one}

@@ -11,7 +11,7 @@ use Rattle.k_dict_saved.specs.Profile.{IsSaved}
 use Rattle.k_dict_saved.specs.declared.saved.Saved.{Saved}
 use Rattle.k_report_profile.specs.RunReport.{IsProfileOf, IsRunReport, Ran, ops_of}
 use Rattle.k_report_profile.proofs.Recorded.{both_ok, run_in_order, run_large, run_reported, run_saved}
-use Rattle.k_report_profile.proofs.Within.{none_passed}
+use Rattle.k_profile_trees.proofs.Within.{none_passed}
 use Rattle.k_report_profile.proofs.run.run_report.Goals as goal
 
 pub gather-requires : goal.gather-requires

@@ -1,15 +1,14 @@
 -- What trees that differ in the order of siblings alone have in common.
-use Rattle.std.proofs.Common.{◌≡◌, ℕ, zero, suc, ◌+◌, ◌*◌, ◌<◌, ◌≤◌, max, ◌⊎◌, inl, inr, List, [], ◌∷◌, ◌++◌, get_or, Some, slice_get, refl, sym, ap, ◌∙◌, subst, arith}
+use Rattle.std.proofs.Common.{◌≡◌, ℕ, zero, suc, ◌+◌, ◌*◌, ◌<◌, ◌≤◌, max, ◌⊎◌, inl, inr, List, [], ◌∷◌, ◌++◌, Some, slice_get, refl, sym, ap, ◌∙◌, subst, arith}
 use Rattle.std.proofs.Math.Nat.{suc-mul}
 use Rattle.std.proofs.lemmas.Option.{none-some, same_Some}
 use Rattle.k_dict_entries.specs.Trees.{Alike, Forest, Label, SameShape, Tree, alone, bare, both, exchanged, further, grown, height, neither, post_order, size}
-use Rattle.k_dict_entries.specs.Entries.{NameBelow, copies, label_of, laid, no_tree, tree_at, trees_of}
+use Rattle.k_dict_entries.specs.Entries.{NameBelow, copies, label_of, laid, tree_at, trees_of}
 use Rattle.k_dict_entries.specs.Rules.{HavePathsUpTo, child_paths, child_works, entry_of}
 use Rattle.k_dict_entries.specs.declared.entry.Entry.{Entry}
 use Rattle.k_dict_entries.specs.declared.entry.Run.{Run}
 use Rattle.k_dict_entries.proofs.Forests.{Alike-height, Alike-size, SameShape-further, SameShape-refl}
 use Rattle.k_dict_entries.proofs.Places.{place_kept}
-use Rattle.k_dict_saved.specs.Formats.{Names}
 
 -- ---- levels and instances
 
@@ -64,20 +63,6 @@ top_alike u _ _ (exchanged x y i j l) has = elim has [
   | inr rest ↦ elim rest [ inl second ↦ inl second | inr last ↦ inr (inr last) ]
 ]
 top_alike u _ _ (further f g h first second) has = top_alike u g h second (top_alike u f g first has)
-
--- an outermost tree of what runs stand for is that of an entry that they name
-pub top_laid : (u : Tree) (trees : List Tree) (runs : List Run) → HasTop u (laid trees runs)
-    → (n : ℕ) × Names n runs × SameShape u (get_or trees n no_tree)
-top_laid u trees [] has = absurd has
-top_laid u trees (run ∷ runs) has = by (λ behind. top_laid u trees runs behind) run.count has
-  where
-    by : (HasTop u (laid trees runs) → (n : ℕ) × Names n runs × SameShape u (get_or trees n no_tree)) → (count : ℕ)
-        → HasTop u (copies count (get_or trees run.entry no_tree) (laid trees runs)) → (n : ℕ) × Names n (run ∷ runs) × SameShape u (get_or trees n no_tree)
-    by later zero has = let rest = later has in (rest.0, inr rest.1, rest.2)
-    by later (suc count) has = elim has [
-      | inl here ↦ (run.entry, inl refl, here)
-      | inr behind ↦ by later count behind
-    ]
 
 -- a tree is among these
 abbrev pub IsAt : List Tree → Tree → Type 0

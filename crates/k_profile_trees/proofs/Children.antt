@@ -1,12 +1,12 @@
 -- An instance's children in a list of nodes are the outermost instances of those within it.
-use Rattle.std.proofs.Common.{◌≡◌, ℕ, suc, ◌+◌, ◌-◌, ◌<◌, ◌≤◌, nat_lt, ◌==◌, length, List, [], ◌∷◌, ◌++◌, refl, sym, ap, ◌∙◌, subst, arith, append_assoc, append-nil}
+use Rattle.std.proofs.Common.{◌≡◌, ℕ, suc, ◌+◌, ◌-◌, ◌<◌, ◌≤◌, nat_lt, ◌==◌, List, [], ◌∷◌, ◌++◌, refl, sym, ap, ◌∙◌, subst, arith, append_assoc, append-nil}
 use Rattle.std.specs.Prelude.{All, filter, take_while}
 use Rattle.std.proofs.lemmas.Bool.{cond-true, cond-false, eq-eqb, ne_eqb, lt-ltb, le-ltb}
 use Rattle.std.proofs.lemmas.List.Sums.{sum_by-cons, take_while-cons}
 use Rattle.k_optab.specs.declared.node.Node.{Node}
 use Rattle.k_optab.specs.Meaning.{HasBoundedPath, HaveBoundedPaths, children, paths, works}
 use Rattle.k_dict_entries.specs.Trees.{Forest, Label, Tree, alone, bare, grown, list_of, node_at, nodes_of}
-use Rattle.k_dict_saved.proofs.Shapes.{TopsUpTo, tops}
+use Rattle.k_profile_trees.proofs.Shapes.{TopsUpTo, tops}
 
 -- a list begins with no node of this depth or deeper
 abbrev Stops : ℕ → List Node → Type 0

@@ -1,5 +1,5 @@
 -- The dictionary of a tree keeps the rules of a profile, where the tree's instances have bounds.
-use Rattle.std.proofs.Common.{◌≡◌, ℕ, zero, suc, ◌+◌, ◌-◌, ◌<◌, ◌≤◌, ◌⊎◌, inl, inr, max, List, [], ◌∷◌, ◌++◌, length, Some, slice_get, refl, sym, ap, ◌∙◌, subst, arith}
+use Rattle.std.proofs.Common.{◌≡◌, ℕ, zero, suc, ◌+◌, ◌-◌, ◌<◌, ◌≤◌, ◌⊎◌, inl, inr, List, [], ◌∷◌, ◌++◌, length, Some, slice_get, sym, ap, ◌∙◌, subst, arith}
 use Rattle.std.proofs.lemmas.Option.{none-some, same_Some, slice_get_within}
 use Rattle.k_dict_entries.specs.Dictionary.{IsDictionaryOf}
 use Rattle.k_dict_entries.specs.Entries.{AreInterned, NameBelow, label_of, laid, tree_at, tree_of, trees_of}
@@ -11,11 +11,10 @@ use Rattle.k_dict_entries.proofs.EntryTrees.{below_bound, tree_is}
 use Rattle.k_dict_entries.proofs.Forests.{Alike-sym, SameShape-sym}
 use Rattle.k_dict_entries.proofs.Unique.{root_is}
 use Rattle.k_dict_entries.proofs.Walking.{EachWith-back, tree_there}
-use Rattle.k_dict_saved.proofs.Apart.{wider}
-use Rattle.k_dict_saved.proofs.Shapes.{TopsUpTo, height_of_shape, laid_up_to, paths_laid, size_of_shape, tops, tops_alike, up_to_alike, works_laid}
-use Rattle.k_selfpar.proofs.Profile.{label_is}
-use Rattle.k_report_profile.proofs.Children.{HasBounds, HaveBounds}
-use Rattle.k_report_profile.proofs.Grown.{AreWithin}
+use Rattle.k_profile_trees.proofs.Labels.{label_is, wider}
+use Rattle.k_profile_trees.proofs.Shapes.{TopsUpTo, height_of_shape, laid_up_to, paths_laid, size_of_shape, tops, tops_alike, up_to_alike, works_laid}
+use Rattle.k_profile_trees.proofs.Children.{HasBounds, HaveBounds}
+use Rattle.k_profile_trees.proofs.Grown.{AreWithin}
 
 -- a tree of this forest, with those within it: its numbers are bounded, its region is one of the list, and it is no higher or larger than the forest
 record IsPart (count bound high large : ℕ) (t : Tree) : Type 0 where
