@@ -7,7 +7,7 @@ use Rattle.std.proofs.lemmas.List.{get_or-replicate, get_or_past, length-replica
 use Rattle.k_shadow.specs.declared.row.Row.{Row}
 use Rattle.k_shadow.specs.Content.{with_time, set_times, without}
 use Rattle.k_shadow.specs.Numbers.{AreRising, AreStarts, WereGiven}
-use Rattle.k_shadow.specs.Rows.{Seen, seen, row_time, blank_row, unwritten, with_places, times_of, levels_of, row_at, WereStamped}
+use Rattle.k_shadow.specs.Rows.{Seen, seen, row_time, blank_row, unwritten, unwritten_seen, with_places, times_of, levels_of, row_at, WereStamped}
 use Rattle.k_shadow.proofs.Places.{length-with_places, with_places-append, with_places-take, get_or-with_places, with_places_same}
 
 -- a number that was given later is above every stamp
@@ -284,16 +284,6 @@ one_row_written {levels} rows others loc given times row h same stamp each =
       each = λ k lt. ap (λ r. r.time k) here ∙ each k lt;
       rest = λ at ne. ap (λ rs. row_at rs at) same ∙ ap seen (get_or-set_other rows loc at row (blank_row levels) ne);
     }
-
--- what is seen of a row that was never written
-pub unwritten_seen : (levels : ℕ) → seen (blank_row levels) ≡ unwritten
-unwritten_seen levels = λ i. record { stamp = 0; time = λ level. zeros level i }
-  where
-    zeros : (level : ℕ) → ◌≡◌ {A = ℕ} (get_or (replicate levels 0) level 0) 0
-    zeros level = ⊎_elim
-        (λ (lt : level < levels). get_or-replicate levels level 0 0 lt)
-        (λ (ge : levels ≤ level). get_or_past (replicate levels 0) level 0 (omega (arith, length-replicate {A = ℕ} levels 0)))
-        (cases_lt level levels)
 
 -- a location that has no row
 pub unwritten_at : {levels : ℕ} (rows : List (Row levels)) (loc : ℕ) → length rows ≤ loc → row_at rows loc ≡ unwritten

@@ -2,10 +2,11 @@
 -- One stamp for each location: the last instance number that was given when the location was last written. Instances
 -- nest and a write goes to all live levels, so a level's time is live exactly where the level's instance began no
 -- later than that write.
-use Rattle.std.specs.Prelude.{◌≡◌, true, ℕ, ◌+◌, ◌≤◌, nat_le, if◌then◌else◌, List, [], ◌∷◌, length, take, replicate, map, slice_index, slice_index_or, Bool}
+use Rattle.std.specs.Prelude.{◌≡◌, refl, true, ℕ, zero, suc, ◌+◌, ◌≤◌, nat_le, if◌then◌else◌, List, [], ◌∷◌, length, take, replicate, map, slice_index, slice_index_or, Bool}
 use Rattle.k_shadow.specs.Content.{Content}
 use Rattle.k_shadow.specs.Numbers.{Numbers}
 use Rattle.k_shadow.specs.Stack.{Stack}
+use Rattle.k_shadow.specs.declared.row.NarrowRow.{NarrowRow}
 use Rattle.k_shadow.specs.declared.row.Row.{Row}
 
 -- what is seen of a row, however many levels it has times for: its stamp, and the time of each level, 0 behind the last
@@ -17,6 +18,10 @@ pub record Seen : Type 0 where
 abbrev pub seen : {levels : ℕ} → Row levels → Seen
 seen row = record { stamp = row.stamp; time = λ level. slice_index row.times level }
 
+-- what is seen of a narrow row
+abbrev pub seen_narrow : {levels : ℕ} → NarrowRow levels → Seen
+seen_narrow row = record { stamp = row.stamp; time = λ level. slice_index row.times level }
+
 -- the time of a row at a level, where the level's instance has that number
 abbrev pub row_time : Seen → ℕ → ℕ → ℕ
 row_time row number level = if nat_le number row.stamp then row.time level else 0
@@ -25,9 +30,23 @@ row_time row number level = if nat_le number row.stamp then row.time level else 
 abbrev pub blank_row : (levels : ℕ) → Row levels
 blank_row levels = record { stamp = 0; times = replicate levels 0 }
 
+-- a narrow row that was never written
+abbrev pub blank_narrow : (levels : ℕ) → NarrowRow levels
+blank_narrow levels = record { stamp = 0; times = replicate levels 0 }
+
 -- what is seen of a row that was never written
 abbrev pub unwritten : Seen
 unwritten = record { stamp = 0; time = λ _. 0 }
+
+-- each of so many zeros is 0, and so is what stands behind them
+zeros : (n level : ℕ) → ◌≡◌ {A = ℕ} (slice_index (replicate n 0) level) 0
+zeros zero level = refl
+zeros (suc n) zero = refl
+zeros (suc n) (suc level) = zeros n level
+
+-- a row that was never written is seen so
+pub unwritten_seen : (levels : ℕ) → seen (blank_row levels) ≡ unwritten
+unwritten_seen levels = λ i. record { stamp = 0; time = λ level. zeros levels level i }
 
 -- f of each number and its place, places being counted from k on
 abbrev pub with_places : {A : Type 0} → (ℕ → ℕ → A) → ℕ → List ℕ → List A

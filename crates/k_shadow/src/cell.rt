@@ -9,7 +9,7 @@ use std::sync::ledger::Ledger;
 
 /// The times of one location that stands in no shadow, as those of a program's input and output, one for each live
 /// level. A level that is entered has 0, so times are read without a test.
-#[derive(Debug, Drop)]
+#[derive(Drop)]
 pub struct Cell {
     times: [u64; 32],
     depth: usize,

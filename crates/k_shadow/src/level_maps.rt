@@ -64,10 +64,12 @@ impl Shadow for LevelMaps {
     }
 
     fn read<L: Ledger>(&self, loc: u32, level: usize, steps: &mut Steps<L>) -> u64 {
-        steps.tick();
         match self.maps.get(level) {
-            Some(map) => time_in(map, loc),
-            None => 0,
+            Some(map) => time_in(map, loc, steps),
+            None => {
+                steps.tick();
+                0
+            }
         }
     }
 

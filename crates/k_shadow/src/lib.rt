@@ -21,7 +21,7 @@ pub use level_maps::LevelMaps;
 pub use lists::{
     advance, copy_behind, copy_to, live_levels, narrowed, raise_each, times_after, widened,
 };
-pub use row::Row;
+pub use row::{Carried, LevelRow, NarrowRow, Row};
 pub use shadow::Shadow;
 pub use steps::Steps;
 pub use time_lanes::TimeLanes;

@@ -5,14 +5,18 @@ ghost use Rattle.std.specs.BTreeMap.{get};
 ghost use Rattle.k_shadow.specs.Content.{set_times, without};
 ghost use Rattle.k_shadow.specs.Maps.{map_time, levels_in, StandsIn};
 
+use crate::Steps;
 use k_num::NoMemory;
 use std::alloc::Global;
 use std::collections::BTreeMap;
+use std::sync::ledger::Ledger;
 
-/// The time of a location, 0 where it is absent.
-pub fn time_in(map: &BTreeMap<u32, u64>, loc: u32) -> u64
-    ensures { result ≡ map_time map.now loc }
+/// The time of a location, 0 where it is absent, in one step.
+pub fn time_in<L: Ledger>(map: &BTreeMap<u32, u64>, loc: u32, steps: &mut Steps<L>) -> u64
+    ensures time { result ≡ map_time map.now loc }
+    ensures step { steps.new ≡ steps.old + 1 }
 {
+    steps.tick();
     map.get(&loc).copied().unwrap_or(0)
 }
 

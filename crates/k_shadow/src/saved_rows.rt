@@ -3,7 +3,6 @@ ghost use Rattle.std.specs.Prelude.{◌≡◌, ℕ, ◌^◌, ◌<◌, ◌≤◌,
 ghost use Rattle.k_shadow.specs.Content.{at_levels};
 ghost use Rattle.k_shadow.specs.Rows.{row_at, row_time, times_of, IsKept, WereStamped};
 
-use crate::lists::{copy_lanes, cut};
 use crate::{Row, TimeLanes, Versions};
 use k_num::NoMemory;
 
@@ -70,8 +69,7 @@ pub fn write_lanes<V: TimeLanes>(rows: &mut Vec<Row<32>>, at: usize, versions: &
     ensures stamped { WereStamped versions.now.given rows.old.items → WereStamped versions.now.given rows.new.items }
 {
     let row = &mut rows[at];
-    row.stamp = versions.last_given();
-    copy_lanes(&mut row.times, times);
+    row.write_lanes(versions.last_given(), times);
 }
 
 /// The times of the row at a place, in lanes.
@@ -86,6 +84,5 @@ pub fn read_lanes<V: TimeLanes>(rows: &Vec<Row<32>>, at: usize, versions: &Versi
     ensures { times_of (row_at rows.now.items at) versions.now.live ≡ at_levels (length versions.now.live) (V.time result) }
 {
     let row = &rows[at];
-    let times: V = cut(&row.times);
-    times.begun(V::of(versions.starts()), row.stamp as u32)
+    row.begun(versions.starts())
 }

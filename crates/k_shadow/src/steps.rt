@@ -4,8 +4,8 @@ ghost use Rattle.std.specs.Prelude.{◌≡◌, ◌+◌, ◌<◌, length};
 use std::marker::Model;
 use std::sync::ledger::{Blank, Book, Ledger, Share};
 
-/// How many steps were taken, a step being one read of a time. It takes no bytes at run time, and only `tick`
-/// and `tick_each` change it.
+/// How many steps were taken, a step being one read of a time. It takes no bytes at run time, and only `tick`,
+/// `tick_each` and `tick_levels` change it.
 #[derive(Drop)]
 pub struct Steps<L: Ledger> {
     book: Book<L>,
@@ -48,5 +48,13 @@ impl<L: Ledger> Steps<L> {
         ensures each { self.new ≡ self.old + length times.now }
     {
         self.book.add(&mut self.share, times.len() as u64);
+    }
+
+    /// Takes a step for each of so many levels.
+    #[inline]
+    pub fn tick_levels(&mut self, levels: usize)
+        ensures each { self.new ≡ self.old + levels }
+    {
+        self.book.add(&mut self.share, levels as u64);
     }
 }

@@ -48,6 +48,29 @@ pub trait TimeLanes: Copy {
         ensures { (k : ℕ) → k < count → time result k ≡ (if nat_le (time starts k) stamp then time self k else 0) };
 }
 
+/// The times of a list that has fewer than there are lanes, and 0 in each lane behind its end.
+#[cold]
+#[inline]
+fn padded<const N: usize>(times: &[u32]) -> Simd<u32, N>
+    requires { length times.now < N }
+    ensures { (k : ℕ) → k < N → slice_index result k ≡ slice_index times.now k }
+{
+    let mut lanes = [0; N];
+    lanes[..times.len()].copy_from_slice(times);
+    Simd::from_array(lanes)
+}
+
+/// Copies the first of these times to a list that has fewer.
+#[cold]
+#[inline]
+fn copy_first(from: &[u32], times: &mut [u32])
+    requires { length times.old < length from.now }
+    ensures { (k : ℕ) → k < length times.old → slice_index times.new k ≡ slice_index from.now k }
+{
+    let many = times.len();
+    times.copy_from_slice(&from[..many]);
+}
+
 impl<const N: usize> TimeLanes for Simd<u32, N> {
     ghost time = { λ lanes k. slice_index lanes k };
 
@@ -60,17 +83,19 @@ impl<const N: usize> TimeLanes for Simd<u32, N> {
 
     #[inline(always)]
     fn of(times: &[u32]) -> Simd<u32, N> {
-        let many = N.min(times.len());
-        let mut lanes = [0; N];
-        lanes[..many].copy_from_slice(&times[..many]);
-        Simd::from_array(lanes)
+        match times.first_chunk() {
+            Some(lanes) => Simd::from_array(*lanes),
+            None => padded(times),
+        }
     }
 
     #[inline(always)]
     fn copy_to(self, times: &mut [u32]) {
-        let many = N.min(times.len());
         let lanes = self.to_array();
-        times[..many].copy_from_slice(&lanes[..many]);
+        match times.first_chunk_mut() {
+            Some(front) => *front = lanes,
+            None => copy_first(&lanes, times),
+        }
     }
 
     #[inline(always)]

@@ -1,18 +1,10 @@
 -- For contracts between crates: nobody has to believe it.
 -- What is seen of rows, whatever their width is and whatever their times take.
-use Rattle.std.specs.Prelude.{ℕ, ◌<◌, ◌≤◌, List, length, replicate, slice_index, slice_index_or}
-use Rattle.k_shadow.specs.Rows.{Seen, row_at}
-use Rattle.k_shadow_rows.specs.declared.narrow.NarrowRow.{NarrowRow}
+use Rattle.std.specs.Prelude.{ℕ, ◌<◌, ◌≤◌, List, length, slice_index_or}
+use Rattle.k_shadow.specs.declared.row.NarrowRow.{NarrowRow}
+use Rattle.k_shadow.specs.Rows.{Seen, blank_narrow, row_at, seen_narrow}
 use Rattle.k_shadow_rows.specs.declared.rows.Rows.{Rows}
 use Rattle.k_shadow_rows.specs.declared.rows.Rows.TheVariants.{NarrowEight, NarrowThirtyTwo, Eight, ThirtyTwo}
-
--- what is seen of a narrow row
-abbrev pub seen_narrow : {levels : ℕ} → NarrowRow levels → Seen
-seen_narrow row = record { stamp = row.stamp; time = λ level. slice_index row.times level }
-
--- a narrow row that was never written
-abbrev pub blank_narrow : (levels : ℕ) → NarrowRow levels
-blank_narrow levels = record { stamp = 0; times = replicate levels 0 }
 
 -- the row of each location, where narrow rows stand in the order of locations; blank where there is none
 abbrev pub narrow_at : {levels : ℕ} → List (NarrowRow levels) → ℕ → Seen

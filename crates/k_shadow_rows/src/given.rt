@@ -1,5 +1,5 @@
 //! The times that an operation gives to a row, where its operands stand among the same rows, of whatever kind.
-ghost use Rattle.std.specs.Prelude.{◌≡◌, ◌≢◌, ◌+◌, ◌%◌, ◌^◌, ◌<◌, ◌≤◌, ℕ, true, false, length, max, slice_index};
+ghost use Rattle.std.specs.Prelude.{◌≡◌, ◌≢◌, ◌+◌, ◌-◌, ◌*◌, ◌%◌, ◌^◌, ◌<◌, ◌≤◌, ℕ, true, false, length, max, slice_index};
 ghost use Rattle.k_shadow.specs.Content.{after_none, time_after};
 ghost use Rattle.k_shadow.specs.Numbers.{AreRising};
 ghost use Rattle.k_shadow.specs.Rooms.{delayed};
@@ -7,7 +7,8 @@ ghost use Rattle.k_shadow.specs.Rows.{row_time};
 ghost use Rattle.k_shadow_rows.specs.Given.{AreGiven, AreRaised, IsGiven, after_row, after_rows, after_live_row, after_live_rows};
 ghost use Rattle.k_shadow_rows.specs.Rows.{rows_at};
 
-use crate::level_row::LevelRow;
+use k_shadow::{LevelRow, Steps};
+use std::sync::ledger::Ledger;
 
 /// The time of an operation that waits for this time.
 #[inline(always)]
@@ -17,38 +18,49 @@ fn after(before: u64, latency: u64) -> u64
     before.wrapping_add(latency)
 }
 
-/// The time at a level of an operation that waits for this time and for a row's.
+/// The time at a level of an operation that waits for this time and for a row's, in one step.
 #[inline(always)]
-fn after_one<R: LevelRow>(rows: &[R], from: usize, level: usize, before: u64, latency: u64) -> u64
+fn after_one<R: LevelRow, L: Ledger>(
+    rows: &[R],
+    from: usize,
+    level: usize,
+    before: u64,
+    latency: u64,
+    steps: &mut Steps<L>,
+) -> u64
     requires within { from < length rows.now }
     requires shallow { level < R.width }
-    ensures { result ≡ (max ((rows_at R.seen R.blank rows.now from).time level) before + latency) % 2 ^ 64 }
+    ensures time { result ≡ (max ((rows_at R.seen R.blank rows.now from).time level) before + latency) % 2 ^ 64 }
+    ensures step { steps.new ≡ steps.old + 1 }
 {
     let row = &rows[from];
-    row.time_within(level).max(before).wrapping_add(latency)
+    row.time_within(level, steps)
+        .max(before)
+        .wrapping_add(latency)
 }
 
-/// The time at a level of an operation that waits for this time and for two rows'.
+/// The time at a level of an operation that waits for this time and for two rows', in two steps.
 #[inline(always)]
-fn after_both<R: LevelRow>(
+fn after_both<R: LevelRow, L: Ledger>(
     rows: &[R],
     left: usize,
     right: usize,
     level: usize,
     before: u64,
     latency: u64,
+    steps: &mut Steps<L>,
 ) -> u64
     requires left { left < length rows.now }
     requires right { right < length rows.now }
     requires shallow { level < R.width }
-    ensures { result ≡ time_after ((rows_at R.seen R.blank rows.now left).time level) ((rows_at R.seen R.blank rows.now right).time level) before latency }
+    ensures step { steps.new ≡ steps.old + 2 }
+    ensures time { result ≡ time_after ((rows_at R.seen R.blank rows.now left).time level) ((rows_at R.seen R.blank rows.now right).time level) before latency }
 {
     let left_row = &rows[left];
     let right_row = &rows[right];
-    let latest = left_row
-        .time_within(level)
-        .max(right_row.time_within(level));
-    latest.max(before).wrapping_add(latency)
+    let left_time = left_row.time_within(level, steps);
+    let right_time = right_row.time_within(level, steps);
+    left_time.max(right_time).max(before).wrapping_add(latency)
 }
 
 /// Gives a row a time at a level, and raises the level's path to it.
@@ -80,9 +92,9 @@ fn is_live(numbers: &[u64], level: usize, stamp: u64) -> bool
 }
 
 /// Gives a row the times of an operation with two rows, at the levels at which what was written when that stamp was given
-/// is live, and answers how many these are.
+/// is live, in two steps each, and answers how many these are.
 #[inline(always)]
-fn give_both<R: LevelRow>(
+fn give_both<R: LevelRow, L: Ledger>(
     rows: &mut [R],
     left: usize,
     right: usize,
@@ -92,6 +104,7 @@ fn give_both<R: LevelRow>(
     before: &[u64],
     latency: u64,
     paths: &mut [u64],
+    steps: &mut Steps<L>,
 ) -> usize
     requires left { 0 < stamp → left < length rows.old }
     requires right { 0 < stamp → right < length rows.old }
@@ -105,22 +118,23 @@ fn give_both<R: LevelRow>(
     ensures live { (k : ℕ) → k < result → slice_index numbers.now k ≤ stamp }
     ensures gone { (k : ℕ) → result ≤ k → k < length numbers.now → stamp < slice_index numbers.now k }
     ensures given { AreGiven (after_live_rows (rows_at R.seen R.blank rows.old left) (rows_at R.seen R.blank rows.old right) before.now latency) to 0 result (rows_at R.seen R.blank rows.old) (rows_at R.seen R.blank rows.new) paths.old paths.new }
+    ensures steps { steps.new ≡ steps.old + 2 * result }
     ensures size { length rows.new ≡ length rows.old }
 {
     for level in 0..before.len() {
         if !is_live(numbers, level, stamp) {
             return level;
         }
-        let time = after_both(rows, left, right, level, before[level], latency);
+        let time = after_both(rows, left, right, level, before[level], latency, steps);
         give(rows, to, level, time, paths);
     }
     before.len()
 }
 
 /// Gives a row the times of an operation with one row, at the levels from `low` on at which what was written when that
-/// stamp was given is live, and answers where these end.
+/// stamp was given is live, in one step each, and answers where these end.
 #[inline(always)]
-fn give_one<R: LevelRow>(
+fn give_one<R: LevelRow, L: Ledger>(
     rows: &mut [R],
     from: usize,
     to: usize,
@@ -130,6 +144,7 @@ fn give_one<R: LevelRow>(
     before: &[u64],
     latency: u64,
     paths: &mut [u64],
+    steps: &mut Steps<L>,
 ) -> usize
     requires from { 0 < stamp → from < length rows.old }
     requires within { to < length rows.old }
@@ -144,13 +159,14 @@ fn give_one<R: LevelRow>(
     ensures live { (k : ℕ) → low ≤ k → k < result → slice_index numbers.now k ≤ stamp }
     ensures gone { (k : ℕ) → result ≤ k → k < length numbers.now → stamp < slice_index numbers.now k }
     ensures given { AreGiven (after_live_row (rows_at R.seen R.blank rows.old from) before.now latency) to low result (rows_at R.seen R.blank rows.old) (rows_at R.seen R.blank rows.new) paths.old paths.new }
+    ensures steps { steps.new ≡ steps.old + (result - low) }
     ensures size { length rows.new ≡ length rows.old }
 {
     for level in low..before.len() {
         if !is_live(numbers, level, stamp) {
             return level;
         }
-        let time = after_one(rows, from, level, before[level], latency);
+        let time = after_one(rows, from, level, before[level], latency, steps);
         give(rows, to, level, time, paths);
     }
     before.len()
@@ -181,9 +197,9 @@ fn give_none<R: LevelRow>(
 }
 
 /// Gives a row the times of an operation with two rows, of which one was written no later than the other. Their stamps are
-/// `low` and `high`.
+/// `low` and `high`. It takes two steps a level.
 #[inline(always)]
-fn give_ordered<R: LevelRow>(
+fn give_ordered<R: LevelRow, L: Ledger>(
     rows: &mut [R],
     older: usize,
     newer: usize,
@@ -194,6 +210,7 @@ fn give_ordered<R: LevelRow>(
     before: &[u64],
     latency: u64,
     paths: &mut [u64],
+    steps: &mut Steps<L>,
 )
     requires older { 0 < low → older < length rows.old }
     requires newer { 0 < high → newer < length rows.old }
@@ -207,16 +224,23 @@ fn give_ordered<R: LevelRow>(
     requires rising { AreRising 0 numbers.now }
     requires small { (k : ℕ) → k < length before.now → after_rows (rows_at R.seen R.blank rows.old older) (rows_at R.seen R.blank rows.old newer) numbers.now before.now latency k ≤ R.greatest }
     ensures given { AreGiven (after_rows (rows_at R.seen R.blank rows.old older) (rows_at R.seen R.blank rows.old newer) numbers.now before.now latency) to 0 (length before.now) (rows_at R.seen R.blank rows.old) (rows_at R.seen R.blank rows.new) paths.old paths.new }
+    ensures steps { steps.new ≡ steps.old + 2 * length before.now }
     ensures size { length rows.new ≡ length rows.old }
 {
-    let both = give_both(rows, older, newer, to, low, numbers, before, latency, paths);
-    let one = give_one(rows, newer, to, both, high, numbers, before, latency, paths);
+    let both = give_both(
+        rows, older, newer, to, low, numbers, before, latency, paths, steps,
+    );
+    let one = give_one(
+        rows, newer, to, both, high, numbers, before, latency, paths, steps,
+    );
     give_none(rows, to, one, before, latency, paths);
+    steps.tick_levels(before.len() - both);
+    steps.tick_levels(before.len() - one);
 }
 
-/// Gives a row the times of an operation with two rows that have these stamps.
+/// Gives a row the times of an operation with two rows that have these stamps, in two steps a level.
 #[inline(always)]
-fn give_rows<R: LevelRow>(
+fn give_rows<R: LevelRow, L: Ledger>(
     rows: &mut [R],
     left: usize,
     right: usize,
@@ -227,6 +251,7 @@ fn give_rows<R: LevelRow>(
     before: &[u64],
     latency: u64,
     paths: &mut [u64],
+    steps: &mut Steps<L>,
 )
     requires left { 0 < left_stamp → left < length rows.old }
     requires right { 0 < right_stamp → right < length rows.old }
@@ -239,6 +264,7 @@ fn give_rows<R: LevelRow>(
     requires rising { AreRising 0 numbers.now }
     requires small { (k : ℕ) → k < length before.now → after_rows (rows_at R.seen R.blank rows.old left) (rows_at R.seen R.blank rows.old right) numbers.now before.now latency k ≤ R.greatest }
     ensures given { AreGiven (after_rows (rows_at R.seen R.blank rows.old left) (rows_at R.seen R.blank rows.old right) numbers.now before.now latency) to 0 (length before.now) (rows_at R.seen R.blank rows.old) (rows_at R.seen R.blank rows.new) paths.old paths.new }
+    ensures steps { steps.new ≡ steps.old + 2 * length before.now }
     ensures size { length rows.new ≡ length rows.old }
 {
     if left_stamp <= right_stamp {
@@ -253,6 +279,7 @@ fn give_rows<R: LevelRow>(
             before,
             latency,
             paths,
+            steps,
         );
     } else {
         give_ordered(
@@ -266,6 +293,7 @@ fn give_rows<R: LevelRow>(
             before,
             latency,
             paths,
+            steps,
         );
     }
 }
@@ -319,9 +347,9 @@ pub fn write_none<R: LevelRow>(
     stamp_row(rows, to, stamp);
 }
 
-/// Gives a row the times of an operation that waits for these times and for a row's.
+/// Gives a row the times of an operation that waits for these times and for a row's, in one step a level.
 #[inline]
-pub fn write_one<R: LevelRow>(
+pub fn write_one<R: LevelRow, L: Ledger>(
     rows: &mut Vec<R>,
     from: usize,
     to: usize,
@@ -330,6 +358,7 @@ pub fn write_one<R: LevelRow>(
     before: &[u64],
     latency: u64,
     paths: &mut [u64],
+    steps: &mut Steps<L>,
 )
     requires row { to < length rows.old.items }
     requires few { length before.now ≤ R.width }
@@ -339,18 +368,22 @@ pub fn write_one<R: LevelRow>(
     requires within { (k : ℕ) → k < length before.now → delayed (max (row_time (rows_at R.seen R.blank rows.old.items from) (slice_index numbers.now k) k) (slice_index before.now k)) latency ≤ R.greatest }
     ensures given { IsGiven (after_row (rows_at R.seen R.blank rows.old.items from) numbers.now before.now latency) to stamp (length before.now) (rows_at R.seen R.blank rows.old.items) (rows_at R.seen R.blank rows.new.items) }
     ensures raised { AreRaised (after_row (rows_at R.seen R.blank rows.old.items from) numbers.now before.now latency) (length before.now) paths.old paths.new }
+    ensures steps { steps.new ≡ steps.old + length before.now }
     ensures size { length rows.new.items ≡ length rows.old.items }
 {
     let rows = rows.as_mut_slice();
     let written = stamp_at(rows, from);
-    let live = give_one(rows, from, to, 0, written, numbers, before, latency, paths);
+    let live = give_one(
+        rows, from, to, 0, written, numbers, before, latency, paths, steps,
+    );
     give_none(rows, to, live, before, latency, paths);
+    steps.tick_levels(before.len() - live);
     stamp_row(rows, to, stamp);
 }
 
-/// Gives a row the times of an operation that waits for these times and for two rows'.
+/// Gives a row the times of an operation that waits for these times and for two rows', in two steps a level.
 #[inline]
-pub fn write_both<R: LevelRow>(
+pub fn write_both<R: LevelRow, L: Ledger>(
     rows: &mut Vec<R>,
     left: usize,
     right: usize,
@@ -360,6 +393,7 @@ pub fn write_both<R: LevelRow>(
     before: &[u64],
     latency: u64,
     paths: &mut [u64],
+    steps: &mut Steps<L>,
 )
     requires row { to < length rows.old.items }
     requires few { length before.now ≤ R.width }
@@ -369,6 +403,7 @@ pub fn write_both<R: LevelRow>(
     requires within { (k : ℕ) → k < length before.now → delayed (max (max (row_time (rows_at R.seen R.blank rows.old.items left) (slice_index numbers.now k) k) (row_time (rows_at R.seen R.blank rows.old.items right) (slice_index numbers.now k) k)) (slice_index before.now k)) latency ≤ R.greatest }
     ensures given { IsGiven (after_rows (rows_at R.seen R.blank rows.old.items left) (rows_at R.seen R.blank rows.old.items right) numbers.now before.now latency) to stamp (length before.now) (rows_at R.seen R.blank rows.old.items) (rows_at R.seen R.blank rows.new.items) }
     ensures raised { AreRaised (after_rows (rows_at R.seen R.blank rows.old.items left) (rows_at R.seen R.blank rows.old.items right) numbers.now before.now latency) (length before.now) paths.old paths.new }
+    ensures steps { steps.new ≡ steps.old + 2 * length before.now }
     ensures size { length rows.new.items ≡ length rows.old.items }
 {
     let rows = rows.as_mut_slice();
@@ -385,6 +420,7 @@ pub fn write_both<R: LevelRow>(
         before,
         latency,
         paths,
+        steps,
     );
     stamp_row(rows, to, stamp);
 }

@@ -1,74 +1,22 @@
-//! One location's times, for however many levels and of however many bits.
-ghost use Rattle.std.specs.Prelude.{◌≡◌, ◌≢◌, ◌+◌, ◌<◌, ◌≤◌, ℕ, length, max, slice_index};
+//! What operations read of one location's times, for however many levels and of however many bits, and what is written.
+ghost use Rattle.std.specs.Prelude.{◌≡◌, ◌+◌, ◌<◌, ◌≤◌, ℕ, length, max, slice_index};
 ghost use Rattle.k_shadow.specs.Numbers.{AreRising};
-ghost use Rattle.k_shadow.specs.Rows.{Seen, row_time, unwritten};
+ghost use Rattle.k_shadow.specs.Rows.{row_time};
 
-use k_shadow::{Row, Steps, copy_behind, live_levels};
+use k_shadow::{LevelRow, Steps, copy_behind, live_levels};
 use std::sync::ledger::Ledger;
 
-/// The times of one location, one for each of the outermost levels, and the number of the last entry into a level before
-/// they were written.
-pub trait LevelRow: Copy {
-    /// Its stamp, and the time of each level, 0 behind the last.
-    ghost seen: { Self → Seen };
-
-    /// The row that was never written.
-    ghost blank: { Self };
-
-    /// For how many levels it has times.
-    ghost width: { ℕ };
-
-    /// The greatest time that it can have.
-    ghost greatest: { ℕ };
-
-    /// A row that was never written.
-    fn blank() -> Self
-        ensures { result ≡ blank };
-
-    /// For how many levels the row has times.
-    fn levels(&self) -> usize
-        ensures count { result ≡ width }
-        ensures behind { (level : ℕ) → width ≤ level → (seen self.now).time level ≡ 0 };
-
-    /// The last instance number that was given when the times were written; 0 where they never were.
-    fn stamp(&self) -> u64
-        ensures { result ≡ (seen self.now).stamp };
-
-    /// The time at a level, whether it is live or not.
-    fn time_within(&self, level: usize) -> u64
-        requires { level < width }
-        ensures time { result ≡ (seen self.now).time level }
-        ensures most { result ≤ greatest };
-
-    /// Gives the row a stamp, and leaves its times.
-    fn set_stamp(&mut self, stamp: u64)
-        ensures stamp { (seen self.new).stamp ≡ stamp }
-        ensures times { (level : ℕ) → (seen self.new).time level ≡ (seen self.old).time level };
-
-    /// Gives the row a time at a level.
-    fn set_time(&mut self, level: usize, time: u64)
-        requires within { level < width }
-        requires small { time ≤ greatest }
-        ensures stamp { (seen self.new).stamp ≡ (seen self.old).stamp }
-        ensures here { (seen self.new).time level ≡ time }
-        ensures others { (at : ℕ) → at ≢ level → (seen self.new).time at ≡ (seen self.old).time at };
-
-    /// The row that was never written is seen so.
-    ghost never: { seen blank ≡ unwritten };
-}
-
-/// The time at a level, where the level's instance has that number: 0 at a level behind the last.
+/// The time at a level, where the level's instance has that number, in one step: 0 at a level behind the last.
 #[inline]
-pub fn time<R: LevelRow>(row: &R, number: u64, level: usize) -> u64
-    ensures { result ≡ row_time (R.seen row.now) number level }
+pub fn time<R: LevelRow, L: Ledger>(row: &R, number: u64, level: usize, steps: &mut Steps<L>) -> u64
+    ensures time { result ≡ row_time (R.seen row.now) number level }
+    ensures step { steps.new ≡ steps.old + 1 }
 {
-    if level >= row.levels() {
+    if level >= row.levels() || number > row.stamp() {
+        steps.tick();
         return 0;
     }
-    if number > row.stamp() {
-        return 0;
-    }
-    row.time_within(level)
+    row.time_within(level, steps)
 }
 
 /// At how many levels the row has a time that is live. The levels' instances have these numbers.
@@ -97,10 +45,11 @@ pub fn raise<R: LevelRow, L: Ledger>(
     ensures raised { (k : ℕ) → k < length numbers.now → slice_index times.new k ≡ max (slice_index times.old k) (row_time (R.seen row.now) (slice_index numbers.now k) k) }
     ensures steps { steps.new ≡ steps.old + length numbers.now }
 {
-    steps.tick_each(numbers);
-    for level in 0..live_within(row, numbers) {
-        times[level] = times[level].max(row.time_within(level));
+    let levels = live_within(row, numbers);
+    for level in 0..levels {
+        times[level] = times[level].max(row.time_within(level, steps));
     }
+    steps.tick_levels(numbers.len() - levels);
 }
 
 /// Fills the list with the later of two times at each level, `before`'s and the row's, in one step a level. The
@@ -119,11 +68,11 @@ pub fn latest<R: LevelRow, L: Ledger>(
     ensures times { (k : ℕ) → k < length numbers.now → slice_index times.new k ≡ max (row_time (R.seen row.now) (slice_index numbers.now k) k) (slice_index before.now k) }
     ensures steps { steps.new ≡ steps.old + length numbers.now }
 {
-    steps.tick_each(numbers);
     let live = live_within(row, numbers);
     for level in 0..live {
-        times[level] = row.time_within(level).max(before[level]);
+        times[level] = row.time_within(level, steps).max(before[level]);
     }
+    steps.tick_levels(numbers.len() - live);
     copy_behind(live, before, times);
 }
 
@@ -147,53 +96,4 @@ pub fn write<R: LevelRow>(row: &mut R, stamp: u64, times: &[u64])
     if level < times.len() {
         row.set_time(level, times[level]);
     }
-}
-
-impl<const N: usize> LevelRow for Row<N> {
-    ghost use Rattle.k_shadow.specs.Rows.{blank_row, seen as seen_row};
-    ghost use Rattle.k_shadow.proofs.Rows.{unwritten_seen};
-
-    ghost seen = { λ row. seen_row row };
-
-    ghost blank = { blank_row N };
-
-    ghost width = { N };
-
-    ghost greatest = { 18446744073709551615 };
-
-    #[inline(always)]
-    fn blank() -> Row<N> {
-        Row {
-            stamp: 0,
-            times: [0; N],
-        }
-    }
-
-    #[inline(always)]
-    fn levels(&self) -> usize {
-        let times: &[u64] = &self.times;
-        times.len()
-    }
-
-    #[inline(always)]
-    fn stamp(&self) -> u64 {
-        self.stamp
-    }
-
-    #[inline(always)]
-    fn time_within(&self, level: usize) -> u64 {
-        self.times[level]
-    }
-
-    #[inline(always)]
-    fn set_stamp(&mut self, stamp: u64) {
-        self.stamp = stamp;
-    }
-
-    #[inline(always)]
-    fn set_time(&mut self, level: usize, time: u64) {
-        self.times[level] = time;
-    }
-
-    ghost never = { unwritten_seen N };
 }

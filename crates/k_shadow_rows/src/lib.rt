@@ -5,8 +5,6 @@ mod given;
 mod lanes;
 mod level_row;
 mod lists;
-mod narrow;
 mod rows;
 
-pub use narrow::NarrowRow;
 pub use rows::Rows;

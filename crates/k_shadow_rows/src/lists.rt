@@ -5,20 +5,30 @@ ghost use Rattle.k_shadow.specs.Rows.{row_time};
 ghost use Rattle.k_shadow_rows.specs.Given.{IsGiven};
 ghost use Rattle.k_shadow_rows.specs.Rows.{rows_at};
 
-use crate::level_row::{self, LevelRow};
+use crate::level_row;
 use k_num::NoMemory;
-use k_shadow::{Steps, copy_to};
+use k_shadow::{LevelRow, Steps, copy_to};
 use std::alloc::Global;
 use std::sync::ledger::Ledger;
 
-/// The time of a location at a level, whose instance has that number.
+/// The time of a location at a level, whose instance has that number, in one step.
 #[inline]
-pub fn time_of<R: LevelRow>(rows: &[R], loc: usize, number: u64, level: usize) -> u64
-    ensures { result ≡ row_time (rows_at R.seen R.blank rows.now loc) number level }
+pub fn time_of<R: LevelRow, L: Ledger>(
+    rows: &[R],
+    loc: usize,
+    number: u64,
+    level: usize,
+    steps: &mut Steps<L>,
+) -> u64
+    ensures time { result ≡ row_time (rows_at R.seen R.blank rows.now loc) number level }
+    ensures step { steps.new ≡ steps.old + 1 }
 {
     match rows.get(loc) {
-        Some(row) => level_row::time(row, number, level),
-        None => 0,
+        Some(row) => level_row::time(row, number, level, steps),
+        None => {
+            steps.tick();
+            0
+        }
     }
 }
 
@@ -168,7 +178,7 @@ fn widened_row<R: LevelRow, W: LevelRow>(row: &R) -> W
     let mut wide = W::blank();
     wide.set_stamp(row.stamp());
     for level in 0..row.levels() {
-        wide.set_time(level, row.time_within(level));
+        wide.set_carried(level, row.carried(level));
     }
     wide
 }

@@ -1,5 +1,5 @@
 //! Rows of any of the four kinds.
-ghost use Rattle.std.specs.Prelude.{◌≡◌, ◌≢◌, ◌+◌, ◌^◌, ◌<◌, ◌≤◌, ℕ, length, max, slice_index, OnOk, true};
+ghost use Rattle.std.specs.Prelude.{◌≡◌, ◌≢◌, ◌+◌, ◌*◌, ◌^◌, ◌<◌, ◌≤◌, ℕ, length, max, slice_index, OnOk, true};
 ghost use Rattle.k_shadow.specs.Content.{after_none};
 ghost use Rattle.k_shadow.specs.Numbers.{AreRising};
 ghost use Rattle.k_shadow.specs.Rooms.{delayed};
@@ -7,9 +7,9 @@ ghost use Rattle.k_shadow.specs.Rows.{row_time, unwritten};
 ghost use Rattle.k_shadow_rows.specs.Given.{AreRaised, IsGiven, after_row, after_rows};
 ghost use Rattle.k_shadow_rows.specs.Rows.{greatest, row_in, size, width, HasRow};
 
-use crate::{NarrowRow, given, lanes, lists};
+use crate::{given, lanes, lists};
 use k_num::NoMemory;
-use k_shadow::{Row, Steps, TimeLanes};
+use k_shadow::{NarrowRow, Row, Steps, TimeLanes};
 use std::alloc::Global;
 use std::sync::ledger::Ledger;
 
@@ -240,16 +240,23 @@ impl Rows {
         }
     }
 
-    /// The time of a location at a level, whose instance has that number.
+    /// The time of a location at a level, whose instance has that number, in one step.
     #[inline]
-    pub fn time(&self, loc: usize, number: u64, level: usize) -> u64
-        ensures { result ≡ row_time (row_in self.now loc) number level }
+    pub fn time<L: Ledger>(
+        &self,
+        loc: usize,
+        number: u64,
+        level: usize,
+        steps: &mut Steps<L>,
+    ) -> u64
+        ensures time { result ≡ row_time (row_in self.now loc) number level }
+        ensures step { steps.new ≡ steps.old + 1 }
     {
         match self {
-            Rows::NarrowEight(rows) => lists::time_of(rows, loc, number, level),
-            Rows::NarrowThirtyTwo(rows) => lists::time_of(rows, loc, number, level),
-            Rows::Eight(rows) => lists::time_of(rows, loc, number, level),
-            Rows::ThirtyTwo(rows) => lists::time_of(rows, loc, number, level),
+            Rows::NarrowEight(rows) => lists::time_of(rows, loc, number, level, steps),
+            Rows::NarrowThirtyTwo(rows) => lists::time_of(rows, loc, number, level, steps),
+            Rows::Eight(rows) => lists::time_of(rows, loc, number, level, steps),
+            Rows::ThirtyTwo(rows) => lists::time_of(rows, loc, number, level, steps),
         }
     }
 
@@ -319,18 +326,27 @@ impl Rows {
         }
     }
 
-    /// The later of two times in each lane: the lane's, and the location's, where that is below 2^32. The levels' instances
-    /// have the numbers `starts`.
+    /// The later of two times in each lane of the `depth` outermost levels: the lane's, and the location's, where that is below
+    /// 2^32, in one step a level. The levels' instances have the numbers `starts`. What the other lanes have then is not told.
     #[inline(always)]
-    pub fn later_lanes<V: TimeLanes>(&self, loc: usize, starts: &[u32; 32], before: V) -> V
+    pub fn later_lanes<V: TimeLanes, L: Ledger>(
+        &self,
+        loc: usize,
+        starts: &[u32; 32],
+        depth: usize,
+        before: V,
+        steps: &mut Steps<L>,
+    ) -> V
         requires within { V.count ≤ 32 }
+        requires shallow { depth ≤ V.count }
         requires stamp { (row_in self.now loc).stamp < 2 ^ 32 }
-        ensures times { (k : ℕ) → k < V.count → row_time (row_in self.now loc) (slice_index starts.now k) k < 2 ^ 32 → V.time result k ≡ max (V.time before k) (row_time (row_in self.now loc) (slice_index starts.now k) k) }
+        ensures times { (k : ℕ) → k < depth → row_time (row_in self.now loc) (slice_index starts.now k) k < 2 ^ 32 → V.time result k ≡ max (V.time before k) (row_time (row_in self.now loc) (slice_index starts.now k) k) }
+        ensures steps { steps.new ≡ steps.old + depth }
     {
         match self {
-            Rows::NarrowEight(rows) => lanes::later(rows, loc, starts, before),
-            Rows::NarrowThirtyTwo(rows) => lanes::later(rows, loc, starts, before),
-            _ => lanes::later_slowly(self, loc, starts, before),
+            Rows::NarrowEight(rows) => lanes::later(rows, loc, starts, depth, before, steps),
+            Rows::NarrowThirtyTwo(rows) => lanes::later(rows, loc, starts, depth, before, steps),
+            _ => lanes::later_slowly(self, loc, starts, depth, before, steps),
         }
     }
 
@@ -423,9 +439,10 @@ impl Rows {
     }
 
     /// Gives a location the times of an operation that waits for these times and for another location's. The levels'
-    /// instances have these numbers. Raises each level's path to them.
+    /// instances have these numbers. Raises each level's path to them, in one step
+    /// a level.
     #[inline]
-    pub fn write_one(
+    pub fn write_one<L: Ledger>(
         &mut self,
         from: usize,
         to: usize,
@@ -434,6 +451,7 @@ impl Rows {
         before: &[u64],
         latency: u64,
         paths: &mut [u64],
+        steps: &mut Steps<L>,
     )
         requires row { HasRow self.old to (length before.now) }
         requires within { (k : ℕ) → k < length before.now → delayed (max (row_time (row_in self.old from) (slice_index numbers.now k) k) (slice_index before.now k)) latency ≤ greatest self.old }
@@ -442,29 +460,38 @@ impl Rows {
         requires rising { AreRising 0 numbers.now }
         ensures given { IsGiven (after_row (row_in self.old from) numbers.now before.now latency) to stamp (length before.now) (row_in self.old) (row_in self.new) }
         ensures raised { AreRaised (after_row (row_in self.old from) numbers.now before.now latency) (length before.now) paths.old paths.new }
+        ensures steps { steps.new ≡ steps.old + length before.now }
         ensures size { size self.new ≡ size self.old }
         ensures width { width self.new ≡ width self.old }
         ensures greatest { greatest self.new ≡ greatest self.old }
     {
         match self {
             Rows::NarrowEight(rows) => {
-                given::write_one(rows, from, to, numbers, stamp, before, latency, paths)
+                given::write_one(
+                    rows, from, to, numbers, stamp, before, latency, paths, steps,
+                )
             }
             Rows::NarrowThirtyTwo(rows) => {
-                given::write_one(rows, from, to, numbers, stamp, before, latency, paths)
+                given::write_one(
+                    rows, from, to, numbers, stamp, before, latency, paths, steps,
+                )
             }
             Rows::Eight(rows) => {
-                given::write_one(rows, from, to, numbers, stamp, before, latency, paths)
+                given::write_one(
+                    rows, from, to, numbers, stamp, before, latency, paths, steps,
+                )
             }
             Rows::ThirtyTwo(rows) => {
-                given::write_one(rows, from, to, numbers, stamp, before, latency, paths)
+                given::write_one(
+                    rows, from, to, numbers, stamp, before, latency, paths, steps,
+                )
             }
         }
     }
 
-    /// `write_one` with two locations.
+    /// `write_one` with two locations, in two steps a level.
     #[inline]
-    pub fn write_both(
+    pub fn write_both<L: Ledger>(
         &mut self,
         left: usize,
         right: usize,
@@ -474,6 +501,7 @@ impl Rows {
         before: &[u64],
         latency: u64,
         paths: &mut [u64],
+        steps: &mut Steps<L>,
     )
         requires row { HasRow self.old to (length before.now) }
         requires within { (k : ℕ) → k < length before.now → delayed (max (max (row_time (row_in self.old left) (slice_index numbers.now k) k) (row_time (row_in self.old right) (slice_index numbers.now k) k)) (slice_index before.now k)) latency ≤ greatest self.old }
@@ -482,6 +510,7 @@ impl Rows {
         requires rising { AreRising 0 numbers.now }
         ensures given { IsGiven (after_rows (row_in self.old left) (row_in self.old right) numbers.now before.now latency) to stamp (length before.now) (row_in self.old) (row_in self.new) }
         ensures raised { AreRaised (after_rows (row_in self.old left) (row_in self.old right) numbers.now before.now latency) (length before.now) paths.old paths.new }
+        ensures steps { steps.new ≡ steps.old + 2 * length before.now }
         ensures size { size self.new ≡ size self.old }
         ensures width { width self.new ≡ width self.old }
         ensures greatest { greatest self.new ≡ greatest self.old }
@@ -489,22 +518,22 @@ impl Rows {
         match self {
             Rows::NarrowEight(rows) => {
                 given::write_both(
-                    rows, left, right, to, numbers, stamp, before, latency, paths,
+                    rows, left, right, to, numbers, stamp, before, latency, paths, steps,
                 )
             }
             Rows::NarrowThirtyTwo(rows) => {
                 given::write_both(
-                    rows, left, right, to, numbers, stamp, before, latency, paths,
+                    rows, left, right, to, numbers, stamp, before, latency, paths, steps,
                 )
             }
             Rows::Eight(rows) => {
                 given::write_both(
-                    rows, left, right, to, numbers, stamp, before, latency, paths,
+                    rows, left, right, to, numbers, stamp, before, latency, paths, steps,
                 )
             }
             Rows::ThirtyTwo(rows) => {
                 given::write_both(
-                    rows, left, right, to, numbers, stamp, before, latency, paths,
+                    rows, left, right, to, numbers, stamp, before, latency, paths, steps,
                 )
             }
         }

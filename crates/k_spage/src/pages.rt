@@ -68,20 +68,25 @@ pub fn has_rows_for(
     }
 }
 
-/// The time of a location at a level, whose instance has that number: 0 where its page is not there.
+/// The time of a location at a level, whose instance has that number, in one step: 0 where its page is not there.
 #[inline]
-pub fn time_of(
+pub fn time_of<L: Ledger>(
     pages: &Slab<Rows>,
     table: &[Option<usize>],
     loc: usize,
     number: u64,
     level: usize,
+    steps: &mut Steps<L>,
 ) -> u64
-    ensures { result ≡ row_time (paged_row pages.now.slots table.now loc) number level }
+    ensures time { result ≡ row_time (paged_row pages.now.slots table.now loc) number level }
+    ensures step { steps.new ≡ steps.old + 1 }
 {
     match rows_of(pages, table, loc / PAGE) {
-        Some(rows) => rows.time(loc % PAGE, number, level),
-        None => 0,
+        Some(rows) => rows.time(loc % PAGE, number, level, steps),
+        None => {
+            steps.tick();
+            0
+        }
     }
 }
 
@@ -134,23 +139,30 @@ pub fn latest<L: Ledger>(
     }
 }
 
-/// The later of two times in each lane: the lane's, and the location's, where that is below 2^32. The levels' instances have
-/// the numbers `starts`.
+/// The later of two times in each lane of the `depth` outermost levels: the lane's, and the location's, where that is below
+/// 2^32, in one step a level. The levels' instances have the numbers `starts`. What the other lanes have then is not told.
 #[inline(always)]
-pub fn later_lanes<V: TimeLanes>(
+pub fn later_lanes<V: TimeLanes, L: Ledger>(
     pages: &Slab<Rows>,
     table: &[Option<usize>],
     loc: usize,
     starts: &[u32; 32],
+    depth: usize,
     before: V,
+    steps: &mut Steps<L>,
 ) -> V
     requires within { V.count ≤ 32 }
+    requires shallow { depth ≤ V.count }
     requires stamp { (paged_row pages.now.slots table.now loc).stamp < 2 ^ 32 }
-    ensures times { (k : ℕ) → k < V.count → row_time (paged_row pages.now.slots table.now loc) (slice_index starts.now k) k < 2 ^ 32 → V.time result k ≡ max (V.time before k) (row_time (paged_row pages.now.slots table.now loc) (slice_index starts.now k) k) }
+    ensures times { (k : ℕ) → k < depth → row_time (paged_row pages.now.slots table.now loc) (slice_index starts.now k) k < 2 ^ 32 → V.time result k ≡ max (V.time before k) (row_time (paged_row pages.now.slots table.now loc) (slice_index starts.now k) k) }
+    ensures steps { steps.new ≡ steps.old + depth }
 {
     match rows_of(pages, table, loc / PAGE) {
-        Some(rows) => rows.later_lanes(loc % PAGE, starts, before),
-        None => before,
+        Some(rows) => rows.later_lanes(loc % PAGE, starts, depth, before, steps),
+        None => {
+            steps.tick_levels(depth);
+            before
+        }
     }
 }
 

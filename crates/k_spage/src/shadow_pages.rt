@@ -131,9 +131,9 @@ impl Shadow for ShadowPages {
 
     #[inline]
     fn read<L: Ledger>(&self, loc: u32, level: usize, steps: &mut Steps<L>) -> u64 {
-        steps.tick();
         let number = self.versions.number(level);
-        pages::time_of(&self.pages, &self.table, loc as usize, number, level)
+        let location = loc as usize;
+        pages::time_of(&self.pages, &self.table, location, number, level, steps)
     }
 
     #[inline]
@@ -165,9 +165,17 @@ impl Shadow for ShadowPages {
 
     #[inline(always)]
     fn later_lanes<V: TimeLanes, L: Ledger>(&self, loc: u32, before: V, steps: &mut Steps<L>) -> V {
-        steps.tick_each(self.versions.live());
+        let depth = self.versions.depth();
         let starts = self.versions.starts();
-        pages::later_lanes(&self.pages, &self.table, loc as usize, starts, before)
+        pages::later_lanes(
+            &self.pages,
+            &self.table,
+            loc as usize,
+            starts,
+            depth,
+            before,
+            steps,
+        )
     }
 
     #[inline]

@@ -78,9 +78,8 @@ impl Shadow for ShadowRegs {
 
     #[inline]
     fn read<L: Ledger>(&self, loc: u32, level: usize, steps: &mut Steps<L>) -> u64 {
-        steps.tick();
         self.rows
-            .time(loc as usize, self.versions.number(level), level)
+            .time(loc as usize, self.versions.number(level), level, steps)
     }
 
     #[inline]
@@ -97,9 +96,10 @@ impl Shadow for ShadowRegs {
 
     #[inline(always)]
     fn later_lanes<V: TimeLanes, L: Ledger>(&self, loc: u32, before: V, steps: &mut Steps<L>) -> V {
-        steps.tick_each(self.versions.live());
+        let depth = self.versions.depth();
+        let starts = self.versions.starts();
         self.rows
-            .later_lanes(loc as usize, self.versions.starts(), before)
+            .later_lanes(loc as usize, starts, depth, before, steps)
     }
 
     #[inline]
@@ -119,7 +119,6 @@ impl Shadow for ShadowRegs {
         paths: &mut [u64],
         steps: &mut Steps<L>,
     ) {
-        steps.tick_each(before);
         let stamp = self.versions.last_given();
         self.rows.write_one(
             from as usize,
@@ -129,6 +128,7 @@ impl Shadow for ShadowRegs {
             before,
             latency,
             paths,
+            steps,
         );
     }
 
@@ -143,8 +143,6 @@ impl Shadow for ShadowRegs {
         paths: &mut [u64],
         steps: &mut Steps<L>,
     ) {
-        steps.tick_each(before);
-        steps.tick_each(before);
         let stamp = self.versions.last_given();
         self.rows.write_both(
             left as usize,
@@ -155,6 +153,7 @@ impl Shadow for ShadowRegs {
             before,
             latency,
             paths,
+            steps,
         );
     }
 

@@ -18,9 +18,8 @@ returns g c =
     is-at_levels (length live) (time c.begun.result) (times_of row live) (length-with_places (row_time row) 0 live)
     (λ k lt.
     let inside : k < g.V.TimeLanes.count = omega (arith, lt, c.requires.shallow) in
-    let start : time c.of.result k ≡ slice_index live k = c.of.ensures k inside ∙ c.starts.ensures.starts c.requires.few k lt in
-    time_from_row row live k lt ∙ sym (c.begun.ensures k inside
-    ∙ ap (λ n. if nat_le n read.stamp then time c.cut-times.result k else 0) start
-    ∙ ap (λ t. if nat_le (slice_index live k) read.stamp then t else 0) (c.cut-times.ensures.times k inside)
+    let start : slice_index c.starts.result.now k ≡ slice_index live k = c.starts.ensures.starts c.requires.few k lt in
+    time_from_row row live k lt ∙ sym (c.begun.ensures.times k inside
+    ∙ ap (λ n. if nat_le n read.stamp then slice_index read.times k % 2 ^ 32 else 0) start
     ∙ ap (λ (r : Seen). if nat_le (slice_index live k) r.stamp then r.time k % 2 ^ 32 else 0) same
     ∙ cut_time row (slice_index live k) k (c.requires.small k lt)))

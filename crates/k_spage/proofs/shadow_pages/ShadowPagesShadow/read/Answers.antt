@@ -14,6 +14,6 @@ returns-clause-time g c =
     let s = c.args.self.now in
     let row = paged_row s.pages.slots c.deref.result.now c.args.loc in
     let here = ap (λ table. paged_row s.pages.slots table c.args.loc) c.deref.ensures.value in
-    c.time_of.ensures
+    c.time_of.ensures.time
     ∙ ap (λ n. row_time row n c.args.level) c.number-number.ensures.number
     ∙ time_here (paged_row s.pages.slots s.table.items) s.versions 4194304 c.args.loc row s.versions.live here refl c.args.level c.requires.live

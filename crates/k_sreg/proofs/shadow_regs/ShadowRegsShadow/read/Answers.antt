@@ -15,4 +15,4 @@ returns-clause-time g c =
     let rows = row_in s.rows in
     let level = c.args.level in
     let here = time_here rows s.versions 2097152 c.args.loc (rows c.args.loc) s.versions.live refl refl level c.requires.live in
-    c.time.ensures ∙ ap (λ n. row_time (rows c.args.loc) n level) c.number.ensures.number ∙ here
+    c.time.ensures.time ∙ ap (λ n. row_time (rows c.args.loc) n level) c.number.ensures.number ∙ here
