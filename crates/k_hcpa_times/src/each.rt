@@ -24,15 +24,6 @@ pub fn leave_times(times: &mut Times)
     times.pop();
 }
 
-/// The list becomes the other, which is as long.
-#[inline]
-pub fn copy_times(times: &mut Times, from: &Times)
-    requires { length times.old ≡ length from.now }
-    ensures { times.new ≡ from.now }
-{
-    times.as_mut_slice().copy_from_slice(from.as_slice());
-}
-
 /// Each time is at least the other list's.
 #[tactic(auto, using(crate::proofs::Lists::later_is))]
 #[inline]
@@ -69,11 +60,11 @@ fn zero_each(times: &mut [u64])
 
 /// Each time is at least the other list's, in no step.
 #[inline]
-pub fn raise_times(times: &mut Times, by: &Times)
+pub fn raise_times(times: &mut Times, by: &[u64])
     requires { length times.old ≡ length by.now }
     ensures { times.new ≡ later times.old by.now }
 {
-    raise_each(times.as_mut_slice(), by.as_slice());
+    raise_each(times.as_mut_slice(), by);
 }
 
 /// `raise_times`, where a dependence is not broken.
@@ -83,7 +74,7 @@ pub fn raise_unless(broken: bool, times: &mut Times, by: &Times)
     ensures { times.new ≡ if broken then times.old else later times.old by.now }
 {
     if !broken {
-        raise_times(times, by);
+        raise_times(times, by.as_slice());
     }
 }
 
@@ -117,16 +108,6 @@ pub fn zero_times(times: &mut Times)
     ensures { times.new ≡ replicate (length times.old) 0 }
 {
     zero_each(times.as_mut_slice());
-}
-
-/// Takes as many steps as there are times.
-#[inline]
-pub fn count_reads<L: Ledger>(times: &Times, steps: &mut Steps<L>)
-    ensures { steps.new ≡ steps.old + length times.now }
-{
-    for _level in 0..times.len() {
-        steps.tick();
-    }
 }
 
 /// Each time is at least the location's at its level, for which that is read once.

@@ -8,24 +8,24 @@ mod in_lanes;
 
 use crate::at_once::{write_none, write_one, write_two};
 use crate::each::{
-    copy_times, count_reads, enter_times, leave_times, paths_behind, raise_by, raise_times,
-    raise_unless, read_by, settle_times,
+    enter_times, leave_times, paths_behind, raise_by, raise_times, raise_unless, read_by,
+    settle_times,
 };
 use crate::timed::Timed;
 use k_num::NoMemory;
-use k_shadow::{Control, Shadow, Steps, Times};
+use k_shadow::{Cell, Control, Shadow, Steps, Times};
 use std::alloc::Global;
 use std::sync::ledger::Ledger;
 
-/// The times of all locations: a shadow of registers and one of elements, the control sources, and a list of times for each cell, for the operation
-/// that is being made, and for the paths.
+/// The times of all locations: a shadow of registers and one of elements, the control sources, the cells of input and output, and a list of times for the
+/// operation that is being made, and one for the paths.
 #[derive(Drop)]
 pub struct LocationTimes<R: Shadow, P: Shadow> {
     registers: R,
     elements: P,
     control: Control,
-    in_cell: Times,
-    out_cell: Times,
+    in_cell: Cell,
+    out_cell: Cell,
     row: Times,
     paths: Times,
     /// What a register holds while it is handed on.
@@ -53,8 +53,8 @@ impl<R: Shadow, P: Shadow> LocationTimes<R, P> {
             registers,
             elements,
             control: Control::new(alloc),
-            in_cell: Times::new(alloc),
-            out_cell: Times::new(alloc),
+            in_cell: Cell::new(),
+            out_cell: Cell::new(),
             row: Times::new(alloc),
             paths: Times::new(alloc),
             handed: Times::new(alloc),
@@ -74,8 +74,8 @@ impl<R: Shadow, P: Shadow> LocationTimes<R, P> {
         self.registers.enter();
         self.elements.enter();
         self.control.enter();
-        enter_times(&mut self.in_cell);
-        enter_times(&mut self.out_cell);
+        self.in_cell.enter();
+        self.out_cell.enter();
         enter_times(&mut self.row);
         enter_times(&mut self.paths);
         enter_times(&mut self.handed);
@@ -91,8 +91,8 @@ impl<R: Shadow, P: Shadow> LocationTimes<R, P> {
         self.registers.leave();
         self.elements.leave();
         self.control.leave();
-        leave_times(&mut self.in_cell);
-        leave_times(&mut self.out_cell);
+        self.in_cell.leave();
+        self.out_cell.leave();
         leave_times(&mut self.row);
         leave_times(&mut self.paths);
         leave_times(&mut self.handed);
@@ -161,15 +161,13 @@ impl<R: Shadow, P: Shadow> Timed for LocationTimes<R, P> {
     #[tactic(auto, using(crate::proofs::Lists::later_length), unfolding(k_hcpa_meaning::specs::Timings::times_at))]
     #[inline]
     fn raise_input<L: Ledger>(&mut self, steps: &mut Steps<L>) {
-        count_reads(&self.in_cell, steps);
-        raise_times(&mut self.row, &self.in_cell);
+        raise_times(&mut self.row, self.in_cell.times(steps));
     }
 
     #[tactic(auto, using(crate::proofs::Lists::later_length), unfolding(k_hcpa_meaning::specs::Timings::times_at))]
     #[inline]
     fn raise_output<L: Ledger>(&mut self, steps: &mut Steps<L>) {
-        count_reads(&self.out_cell, steps);
-        raise_times(&mut self.row, &self.out_cell);
+        raise_times(&mut self.row, self.out_cell.times(steps));
     }
 
     #[tactic(auto, using(crate::proofs::Lists::later_length))]
@@ -257,13 +255,13 @@ impl<R: Shadow, P: Shadow> Timed for LocationTimes<R, P> {
     #[tactic(auto, unfolding(k_hcpa_meaning::specs::Timings::given_to))]
     #[inline]
     fn give_input(&mut self) {
-        copy_times(&mut self.in_cell, &self.row);
+        self.in_cell.put(self.row.as_slice());
     }
 
     #[tactic(auto, unfolding(k_hcpa_meaning::specs::Timings::given_to))]
     #[inline]
     fn give_output(&mut self) {
-        copy_times(&mut self.out_cell, &self.row);
+        self.out_cell.put(self.row.as_slice());
     }
 
     #[tactic(auto, unfolding(k_hcpa_meaning::specs::Timings::given_to))]

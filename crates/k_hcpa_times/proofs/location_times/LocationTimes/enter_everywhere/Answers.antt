@@ -11,8 +11,8 @@ invariant_of-self-clause-levels g c =
     let r = g.R.Shadow.content s.registers in
     let e = g.P.Shadow.content s.elements in
     all_entered (seen_of r e s.control s.in_cell s.out_cell s.row s.paths).timing s.paths _
-    (timing_entered r e s.control s.in_cell s.out_cell s.row s.paths c.enter.ensures.content c.enter-2.ensures.content c.enter-3.ensures.entered c.enter_times.ensures c.enter_times-2.ensures c.enter_times-3.ensures
-    c.enter_times-4.ensures) c.enter_times-4.ensures s.levels
+    (timing_entered r e s.control s.in_cell s.out_cell s.row s.paths c.enter.ensures.content c.enter-2.ensures.content c.enter-3.ensures.entered c.enter-4.ensures.entered c.enter-5.ensures.entered c.enter_times.ensures
+    c.enter_times-2.ensures) c.enter_times-2.ensures s.levels
 
 pub invariant_of-self-clause-within : goal.invariant_of-self-clause-within
 invariant_of-self-clause-within g c =
@@ -20,6 +20,6 @@ invariant_of-self-clause-within g c =
     let r = g.R.Shadow.content s.registers in
     let e = g.P.Shadow.content s.elements in
     subst (λ (t : Timing). AreWithin s.reach t)
-    (sym (timing_entered r e s.control s.in_cell s.out_cell s.row s.paths c.enter.ensures.content c.enter-2.ensures.content c.enter-3.ensures.entered c.enter_times.ensures c.enter_times-2.ensures
-    c.enter_times-3.ensures c.enter_times-4.ensures))
+    (sym (timing_entered r e s.control s.in_cell s.out_cell s.row s.paths c.enter.ensures.content c.enter-2.ensures.content c.enter-3.ensures.entered c.enter-4.ensures.entered c.enter-5.ensures.entered
+    c.enter_times.ensures c.enter_times-2.ensures))
     (within_entered s.reach (seen_of r e s.control s.in_cell s.out_cell s.row s.paths).timing s.within)

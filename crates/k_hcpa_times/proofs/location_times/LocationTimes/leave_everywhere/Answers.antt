@@ -11,8 +11,8 @@ invariant_of-self-clause-levels g c =
     let r = g.R.Shadow.content s.registers in
     let e = g.P.Shadow.content s.elements in
     all_left (seen_of r e s.control s.in_cell s.out_cell s.row s.paths).timing s.paths _
-    (timing_left r e s.control s.in_cell s.out_cell s.row s.paths c.leave.ensures.content c.leave-2.ensures.content c.leave-3.ensures.left c.leave_times.ensures c.leave_times-2.ensures c.leave_times-3.ensures
-    c.leave_times-4.ensures) c.leave_times-4.ensures s.levels
+    (timing_left r e s.control s.in_cell s.out_cell s.row s.paths c.leave.ensures.content c.leave-2.ensures.content c.leave-3.ensures.left c.leave-4.ensures.left c.leave-5.ensures.left c.leave_times.ensures
+    c.leave_times-2.ensures) c.leave_times-2.ensures s.levels
 
 pub invariant_of-self-clause-within : goal.invariant_of-self-clause-within
 invariant_of-self-clause-within g c =
@@ -20,6 +20,6 @@ invariant_of-self-clause-within g c =
     let r = g.R.Shadow.content s.registers in
     let e = g.P.Shadow.content s.elements in
     subst (λ (t : Timing). AreWithin s.reach t)
-    (sym (timing_left r e s.control s.in_cell s.out_cell s.row s.paths c.leave.ensures.content c.leave-2.ensures.content c.leave-3.ensures.left c.leave_times.ensures c.leave_times-2.ensures c.leave_times-3.ensures
-    c.leave_times-4.ensures))
+    (sym (timing_left r e s.control s.in_cell s.out_cell s.row s.paths c.leave.ensures.content c.leave-2.ensures.content c.leave-3.ensures.left c.leave-4.ensures.left c.leave-5.ensures.left c.leave_times.ensures
+    c.leave_times-2.ensures))
     (within_left s.reach (seen_of r e s.control s.in_cell s.out_cell s.row s.paths).timing s.within)
