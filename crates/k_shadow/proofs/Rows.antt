@@ -1,9 +1,9 @@
 -- What the calls make of rows, and what that is of the maps that they stand for.
-use Rattle.std.proofs.Common.{◌≡◌, ℕ, ◌+◌, ◌-◌, ◌%◌, ◌^◌, ◌<◌, ◌≤◌, ◌≢◌, ⊎_elim, subst, zero, suc, List, [], ◌∷◌, ◌++◌, length, take, map, replicate, get_or, set, get_or-set_same, get_or-set_other, cond, Bool, true, false, nat_le, nat_lt, refl, ap, sym, ◌∙◌, arith}
+use Rattle.std.proofs.Common.{◌≡◌, ℕ, ◌+◌, ◌-◌, ◌%◌, ◌^◌, ◌<◌, ◌≤◌, ◌≢◌, ⊎_elim, subst, zero, suc, List, [], ◌∷◌, ◌++◌, length, take, map, get_or, set, get_or-set_same, get_or-set_other, cond, Bool, true, false, nat_le, nat_lt, refl, ap, sym, ◌∙◌, arith}
 use Rattle.std.specs.Prelude.{slice_index}
 use Rattle.std.proofs.lemmas.Bool.Decides.{nat_tests}
 use Rattle.std.proofs.lemmas.Bool.{cases_eq, cases_lt}
-use Rattle.std.proofs.lemmas.List.{get_or-replicate, get_or_past, length-replicate}
+use Rattle.std.proofs.lemmas.List.{get_or_past}
 use Rattle.k_shadow.specs.declared.row.Row.{Row}
 use Rattle.k_shadow.specs.Content.{with_time, set_times, without}
 use Rattle.k_shadow.specs.Numbers.{AreRising, AreStarts, WereGiven}
