@@ -16,7 +16,9 @@ untimed_left (job.Carried file steps depth latency storage) not_run not_page not
 untimed_left (job.Replay file steps depth latency workers seed) not_run not_page not_annotate not_demo = refl
 untimed_left (job.Page file steps depth latency dict) not_run not_page not_annotate not_demo = absurd (not_page file steps depth latency dict refl)
 untimed_left (job.Annotate file steps depth latency strict) not_run not_page not_annotate not_demo = absurd (not_annotate file steps depth latency strict refl)
-untimed_left (job.Show file form) not_run not_page not_annotate not_demo = refl
+untimed_left (job.Show file dict) not_run not_page not_annotate not_demo = refl
+untimed_left (job.ShowJson file dict) not_run not_page not_annotate not_demo = refl
+untimed_left (job.ShowCsv file) not_run not_page not_annotate not_demo = refl
 untimed_left (job.Merge save parts) not_run not_page not_annotate not_demo = refl
 untimed_left (job.Check file) not_run not_page not_annotate not_demo = refl
 untimed_left (job.Demo number loops) not_run not_page not_annotate not_demo = absurd (not_demo number loops refl)

@@ -19,7 +19,7 @@ use k_top_commands::{
 };
 use k_top_merge::merge_answer;
 use k_top_programs::make_ready;
-use k_words::{Asked, Job, asked_for, help, version, words};
+use k_words::{Asked, Form, Job, asked_for, help, version, words};
 use std::alloc::Global;
 
 /// A text as an answer.
@@ -208,7 +208,9 @@ fn untimed_answer<F: Files, S: Source>(
         } => replay_job(
             alloc, files, input, file, steps, depth, latency, workers, seed,
         ),
-        Job::Show { file, form } => show_answer(alloc, files, file, form),
+        Job::Show { file, dict } => show_answer(alloc, files, file, Form::Report { dict }),
+        Job::ShowJson { file, dict } => show_answer(alloc, files, file, Form::Json { dict }),
+        Job::ShowCsv { file } => show_answer(alloc, files, file, Form::Csv),
         Job::Merge { save, parts } => merge_answer(alloc, files, save, &parts),
         Job::Check { file } => check_answer(alloc, files, file),
         _ => unreachable!(),

@@ -177,6 +177,11 @@ AnswersShown form answer bytes =
     (BeginsSum bytes × ((read : Result Sum ℕ) × AnswersSumShown form answer bytes read))
     ⊎ ((¬ BeginsSum bytes) × ((read : Result Saved ℕ) × AnswersProfile form answer bytes read))
 
+-- SHOW of a file in a form
+abbrev pub AnswersShownFile : Outside → List ℕ → Form → Answer → Type 0
+AnswersShownFile outside file form answer =
+    AnswersFile (λ failure. answer ≡ refusal failure) outside profile_limit file (AnswersShown form answer)
+
 -- CHECK puts nothing on out: nothing is told of a source that is accepted, and of one that is refused, on err behind the line, where and why
 abbrev pub AnswersChecked : List ℕ → Answer → List ℕ → Type 0
 AnswersChecked file answer source =
@@ -206,8 +211,9 @@ AnswersJob outside answer (job.Page file steps depth latency dict) =
     AnswersRunning (λ failure. answer ≡ refusal failure) outside file latency steps (IsPaged outside file depth dict answer)
 AnswersJob outside answer (job.Annotate file steps depth latency strict) =
     AnswersRunning (λ failure. answer ≡ refusal failure) outside file latency steps (IsAnnotated outside file depth strict answer)
-AnswersJob outside answer (job.Show file form) =
-    AnswersFile (λ failure. answer ≡ refusal failure) outside profile_limit file (AnswersShown form answer)
+AnswersJob outside answer (job.Show file dict) = AnswersShownFile outside file (shown.Report dict) answer
+AnswersJob outside answer (job.ShowJson file dict) = AnswersShownFile outside file (shown.Json dict) answer
+AnswersJob outside answer (job.ShowCsv file) = AnswersShownFile outside file shown.Csv answer
 AnswersJob outside answer (job.Merge save parts) = AnswersSum (λ failure. answer ≡ refusal failure) outside (IsMerge save answer) parts
 AnswersJob outside answer (job.Check file) = AnswersFile (λ failure. answer ≡ refusal failure) outside file_limit file (AnswersChecked file answer)
 AnswersJob outside answer (job.Demo number loops) =
@@ -242,7 +248,9 @@ JobCalls outside (job.Carried file steps depth latency storage) = FilesCall outs
 JobCalls outside (job.Replay file steps depth latency workers seed) = FilesCall outside file latency
 JobCalls outside (job.Page file steps depth latency dict) = FilesCall outside file latency
 JobCalls outside (job.Annotate file steps depth latency strict) = FilesCall outside file latency
-JobCalls outside (job.Show file form) = ⊥
+JobCalls outside (job.Show file dict) = ⊥
+JobCalls outside (job.ShowJson file dict) = ⊥
+JobCalls outside (job.ShowCsv file) = ⊥
 JobCalls outside (job.Merge save parts) = ⊥
 JobCalls outside (job.Check file) = ⊥
 JobCalls outside (job.Demo number loops) = ⊥
@@ -259,7 +267,9 @@ JobLoads (job.Carried file steps depth latency storage) = Unit {0}
 JobLoads (job.Replay file steps depth latency workers seed) = Unit {0}
 JobLoads (job.Page file steps depth latency dict) = Unit {0}
 JobLoads (job.Annotate file steps depth latency strict) = Unit {0}
-JobLoads (job.Show file form) = Unit {0}
+JobLoads (job.Show file dict) = Unit {0}
+JobLoads (job.ShowJson file dict) = Unit {0}
+JobLoads (job.ShowCsv file) = Unit {0}
 JobLoads (job.Merge save parts) = Unit {0}
 JobLoads (job.Check file) = Unit {0}
 JobLoads (job.Demo number loops) = ⊥

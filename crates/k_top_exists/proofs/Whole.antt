@@ -33,6 +33,7 @@ use Rattle.k_words.specs.Words as words
 use Rattle.k_words.specs.declared.about.Asked.{Asked}
 use Rattle.k_words.specs.declared.about.Asked.TheVariants.{Help, Version}
 use Rattle.k_words.specs.declared.job.Form.{Form}
+use Rattle.k_words.specs.declared.job.Form.TheVariants as shown
 use Rattle.k_words.specs.declared.job.Job.{Job}
 use Rattle.k_words.specs.declared.job.Job.TheVariants as job
 use Rattle.k_words.specs.declared.usage.Usage.{Usage}
@@ -40,7 +41,7 @@ use Rattle.k_words.specs.declared.usage.Usage.TheVariants as usage
 use Rattle.k_words.proofs.Within.{jobs_are_within}
 use Rattle.k_top_answers.specs.declared.failure.Failure.TheVariants as why
 use Rattle.k_evaluation.specs.Runs.{listing_of}
-use Rattle.k_top_answers.specs.Answers.{AnswersAnnotated, AnswersAsked, AnswersCarried, AnswersChecked, AnswersJob, AnswersMade, AnswersPage, AnswersProfile, AnswersReplayed, AnswersRun, AnswersShown, AnswersSumShown, AnswersWords, IsAnnotated, IsAnswer, IsListed, IsPaged, IsShown, IsSumShown, checked, done, ended, made_running, ran_of, refusal, saved_file}
+use Rattle.k_top_answers.specs.Answers.{AnswersAnnotated, AnswersAsked, AnswersCarried, AnswersChecked, AnswersJob, AnswersMade, AnswersPage, AnswersProfile, AnswersReplayed, AnswersRun, AnswersShown, AnswersShownFile, AnswersSumShown, AnswersWords, IsAnnotated, IsAnswer, IsListed, IsPaged, IsShown, IsSumShown, checked, done, ended, made_running, ran_of, refusal, saved_file}
 use Rattle.k_top_answers.specs.Checks.{told}
 use Rattle.k_top_answers.specs.Steps.{Outside, Running, file_limit, profile_limit, run_of}
 use Rattle.k_top_answers.specs.Storage.{MayBeMarked, WritesStorage}
@@ -209,6 +210,10 @@ shown_answers form bytes (inl begins) =
 shown_answers form bytes (inr begins_not) =
     let a : Answered (λ a. (read : Result Saved ℕ) × AnswersProfile form a bytes read) = by_profile form bytes (saved_file_is_answered bytes) in (a.0, inr (begins_not, a.1))
 
+show_answers : (outside : Outside) (file : List ℕ) (form : Form) → Answered (λ a. AnswersShownFile outside file form a)
+show_answers outside file form =
+    found_answers profile_limit file (AnswersShown form) (λ bytes fits. shown_answers form bytes (begins_decided bytes)) (outside.files file)
+
 -- CHECK
 checked_answers : (file bytes : List ℕ) → Answered (λ a. AnswersChecked file a bytes)
 checked_answers file bytes =
@@ -246,8 +251,9 @@ job_answers outside (job.Page file steps depth latency dict) within =
     paged_answers outside file latency steps depth dict within.steps.at_most within.depth.at_least within.depth.at_most (outside.files file) refl
 job_answers outside (job.Annotate file steps depth latency strict) within =
     annotate_answers outside file latency steps depth strict within.steps.at_most within.depth.at_least within.depth.at_most
-job_answers outside (job.Show file form) within =
-    found_answers profile_limit file (AnswersShown form) (λ bytes fits. shown_answers form bytes (begins_decided bytes)) (outside.files file)
+job_answers outside (job.Show file dict) within = show_answers outside file (shown.Report dict)
+job_answers outside (job.ShowJson file dict) within = show_answers outside file (shown.Json dict)
+job_answers outside (job.ShowCsv file) within = show_answers outside file shown.Csv
 job_answers outside (job.Merge save parts) within = merged_answers save outside parts
 job_answers outside (job.Check file) within = found_answers file_limit file (AnswersChecked file) (λ bytes fits. checked_answers file bytes) (outside.files file)
 job_answers outside (job.Demo number loops) within =

@@ -32,16 +32,17 @@ use Rattle.k_report_profile.specs.Report.{asked, nodes_of_profile}
 use Rattle.k_data.specs.Document.{profile_json}
 use Rattle.k_data.specs.Table.{rows_csv}
 use Rattle.k_data_profile.specs.Shown.{listed}
+use Rattle.k_words.specs.Words.{shown_as}
 use Rattle.k_words.specs.declared.job.Form.{Form}
 use Rattle.k_words.specs.declared.job.Form.TheVariants as shown
 use Rattle.k_words.specs.declared.job.Job.{Job}
-use Rattle.k_words.specs.declared.job.Job.TheVariants as job
 use Rattle.k_top_answers.specs.declared.answer.Answer.{Answer}
 use Rattle.k_top_answers.specs.declared.failure.Failure.{Failure}
 use Rattle.k_top_answers.specs.Answers.{AnswersJob, AnswersProfile, AnswersShown, IsShown, done, refusal}
 use Rattle.k_top_answers.specs.Clauses.{IsGiven, TellsEnd}
 use Rattle.k_top_answers.specs.Failures.{status_of}
 use Rattle.k_top_answers.specs.Steps.{AnswersFound, profile_limit}
+use Rattle.k_top_lemmas.proofs.FileLemmas.{show_answered}
 use Rattle.k_top_headline.specs.OtherCommands.{AreShown, ShowIsTold, Shows, tree_of_file}
 use Rattle.k_top_headline.proofs.Given.{job_given}
 use Rattle.k_top_headline.proofs.Ready.{found_answered, held_outside}
@@ -185,14 +186,14 @@ shown_of_file file rules form answer (inr (begins, (read, answers))) = answer_sh
 -- SHOW
 pub show_is_told : ShowIsTold
 show_is_told words status old new name file form keeps is holds =
-    let j : Job = job.Show name form in
+    let j : Job = shown_as name form in
     let given : IsGiven (λ (answer : Answer). AnswersJob keeps.outside answer j) status old new = job_given words j status old new keeps is in
     let F : Failure → Type 0 = λ failure. given.answer ≡ refusal failure in
     let next : List ℕ → Type 0 = AnswersShown form given.answer in
     let shown : next (file_text file) =
     found_answered F profile_limit name next (file_text file) holds.few
     (subst (λ (content : Option (List ℕ)). AnswersFound F profile_limit name next content)
-    (held_outside old.files.held keeps.outside.files name (file_text file) keeps.fits.files holds.held) given.is_answer) in
+    (held_outside old.files.held keeps.outside.files name (file_text file) keeps.fits.files holds.held) (show_answered name form keeps.outside given.answer given.is_answer)) in
     let report = shown_of_file file holds.rules form given.answer shown in
     let failure : given.answer.failure ≡ None = ap (λ (a : Answer). a.failure) report.2 in
     let out : given.answer.out ≡ report.0 = ap (λ (a : Answer). a.out) report.2 in

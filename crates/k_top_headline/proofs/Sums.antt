@@ -8,6 +8,7 @@ use Rattle.k_sum_merge.specs.Merges.{IsPast}
 use Rattle.k_sum_order.specs.Order.{IsOrdered}
 use Rattle.k_sum_read.specs.SumFile.{ReadsSum}
 use Rattle.k_sum_saved.specs.SumLines.{AreOfMain}
+use Rattle.k_words.specs.Words.{shown_as}
 use Rattle.k_words.specs.declared.job.Form.{Form}
 use Rattle.k_words.specs.declared.job.Job.{Job}
 use Rattle.k_words.specs.declared.job.Job.TheVariants as job
@@ -20,6 +21,7 @@ use Rattle.k_top_answers.specs.Clauses.{Fits, HoldsAfter, IsGiven, TellsEnd, Wor
 use Rattle.k_top_answers.specs.Failures.{status_of}
 use Rattle.k_top_answers.specs.Merges.{AnswersAdded, AnswersFinished, AnswersFirst, AnswersOthers, AnswersSumFile, AnswersSumRead, IsMerge}
 use Rattle.k_top_answers.specs.Steps.{AnswersFound, Outside, profile_limit}
+use Rattle.k_top_lemmas.proofs.FileLemmas.{show_answered}
 use Rattle.k_top_lemmas.proofs.OneSum.{begins_of, one_read, read_not_refused, sum_not_refused, sum_same}
 use Rattle.k_top_headline.specs.Sums.{AddUp, HoldsRuns, MayAdd, MergeIsTold, SumIsTold, one_fewer, with_runs}
 use Rattle.k_top_headline.proofs.Given.{job_given}
@@ -112,14 +114,14 @@ module _ (form : Form) (answer : Answer) (sum : Sum) (reads : ReadsSum (sum_text
 -- SHOW
 pub sum_is_told : SumIsTold
 sum_is_told words status old new name sum form keeps is holds =
-    let j : Job = job.Show name form in
+    let j : Job = shown_as name form in
     let given : IsGiven (λ (answer : Answer). AnswersJob keeps.outside answer j) status old new = job_given words j status old new keeps is in
     let F : Failure → Type 0 = λ failure. given.answer ≡ refusal failure in
     let next : List ℕ → Type 0 = AnswersShown form given.answer in
     let shown : next (sum_text sum) =
     found_answered F profile_limit name next (sum_text sum) holds.few
     (subst (λ (content : Option (List ℕ)). AnswersFound F profile_limit name next content)
-    (held_outside old.files.held keeps.outside.files name (sum_text sum) keeps.fits.files holds.held) given.is_answer) in
+    (held_outside old.files.held keeps.outside.files name (sum_text sum) keeps.fits.files holds.held) (show_answered name form keeps.outside given.answer given.is_answer)) in
     let report : (text : List ℕ) × IsSumShown form sum text × (given.answer ≡ done text) = of_sum form given.answer sum (holds.rules, refl) shown in
     let failure : given.answer.failure ≡ None = ap (λ (a : Answer). a.failure) report.2 in
     let out : given.answer.out ≡ report.0 = ap (λ (a : Answer). a.out) report.2 in

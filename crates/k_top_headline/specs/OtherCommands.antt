@@ -34,6 +34,7 @@ use Rattle.k_data_profile.specs.Shown.{IsDocumentOf, IsTableOf}
 use Rattle.k_pragma_profile.specs.Annotated.{IsAnnotationOf}
 use Rattle.k_types_meaning.specs.declared.tree.unit.TUnit.{TUnit}
 use Rattle.k_words.specs.Setting.{standard_depth}
+use Rattle.k_words.specs.Words.{shown_as}
 use Rattle.k_words.specs.declared.job.Form.{Form}
 use Rattle.k_words.specs.declared.job.Form.TheVariants as shown
 use Rattle.k_words.specs.declared.job.Job.TheVariants as job
@@ -209,7 +210,7 @@ pub record ShowTells (file : File) (form : Form) (status : ℕ) (old new : World
 -- SHOW. The words ask to show a file in a form, and it is a saved profile
 abbrev pub ShowIsTold : Type 0
 ShowIsTold = (words : List (List ℕ)) (status : ℕ) (old new : World) (name : List ℕ) (file : File) (form : Form)
-    → Keeps words status old new → WentWell words (job.Show name form) status old new → HoldsProfile old name file
+    → Keeps words status old new → WentWell words (shown_as name form) status old new → HoldsProfile old name file
     → ShowTells file form status old new
 
 -- CHECK of a source that is accepted: the words ask to check a file, and it is one; nothing is written on out or err, and the status is 0

@@ -11,6 +11,7 @@ use Rattle.k_sum_order.specs.Order.{IsOrdered}
 use Rattle.k_sum_read.specs.AnyFile.{ReadsAny}
 use Rattle.k_sum_saved.specs.SumLines.{AreOfMain}
 use Rattle.k_sum_saved.specs.SumRules.{IsSum}
+use Rattle.k_words.specs.Words.{shown_as}
 use Rattle.k_words.specs.declared.job.Form.{Form}
 use Rattle.k_words.specs.declared.job.Job.TheVariants as job
 use Rattle.k_words.specs.declared.merging.Part.{Part}
@@ -97,5 +98,5 @@ pub record SumTells (sum : Sum) (form : Form) (status : ℕ) (old new : World) :
 -- SHOW of a sum. The words ask to show a file in a form, and it is a saved sum
 abbrev pub SumIsTold : Type 0
 SumIsTold = (words : List (List ℕ)) (status : ℕ) (old new : World) (name : List ℕ) (sum : Sum) (form : Form)
-    → Keeps words status old new → WentWell words (job.Show name form) status old new → HoldsSaved old name sum
+    → Keeps words status old new → WentWell words (shown_as name form) status old new → HoldsSaved old name sum
     → SumTells sum form status old new

@@ -14,14 +14,16 @@ use Rattle.k_dict_saved.specs.declared.fault.SavedFault.TheVariants as saved
 use Rattle.k_dict_saved.specs.Profile.{Reads}
 use Rattle.k_sum_read.specs.AnyFile.{BeginsSum}
 use Rattle.k_sum_read.specs.SumFile.{ReadsSum}
+use Rattle.k_words.specs.Words.{shown_as}
 use Rattle.k_words.specs.declared.job.Form.{Form}
+use Rattle.k_words.specs.declared.job.Form.TheVariants as shown
 use Rattle.k_words.specs.declared.job.Job.{Job}
 use Rattle.k_words.specs.declared.job.Job.TheVariants as job
 use Rattle.k_top_answers.specs.declared.answer.Answer.{Answer}
 use Rattle.k_top_answers.specs.declared.failure.Failure.{Failure}
 use Rattle.k_top_answers.specs.declared.failure.Failure.TheVariants as why
 use Rattle.k_top_lemmas.specs.declared.program.Program.{Program}
-use Rattle.k_top_answers.specs.Answers.{AnswersChecked, AnswersJob, AnswersShown, JobCalls, JobLoads, checked, done, refusal}
+use Rattle.k_top_answers.specs.Answers.{AnswersChecked, AnswersJob, AnswersShown, AnswersShownFile, JobCalls, JobLoads, checked, done, refusal}
 use Rattle.k_top_answers.specs.Checks.{refuses_source, told}
 use Rattle.k_top_answers.specs.Failures.{failure_of_load, failure_of_saved, status_of}
 use Rattle.k_top_answers.specs.Requests.{loads_of}
@@ -102,32 +104,61 @@ module _ (file : List ℕ) (limit : ℕ) (asked : Job) (next : Answer → List �
       (inl (reads, (Load file ∷ [], named, (Load file ∷ [], front_same (Load file ∷ []) (Load file ∷ []) refl, same)), same_input), tt),
     )
 
--- SHOW
+-- SHOW: whatever the form, the file alone is read
+show_reads : (file : List ℕ) (form : Form) → JobLoads (shown_as file form)
+show_reads file (shown.Report dict) = tt
+show_reads file (shown.Json dict) = tt
+show_reads file shown.Csv = tt
+
+show_named : (file : List ℕ) (form : Form) → Load file ∷ [] ≡ loads_of (shown_as file form)
+show_named file (shown.Report dict) = refl
+show_named file (shown.Json dict) = refl
+show_named file shown.Csv = refl
+
+show_calls_not : (file : List ℕ) (form : Form) (outside : Outside) → JobCalls outside (shown_as file form) → ⊥
+show_calls_not file (shown.Report dict) outside calls = calls
+show_calls_not file (shown.Json dict) outside calls = calls
+show_calls_not file shown.Csv outside calls = calls
+
+show_answers : (file : List ℕ) (form : Form) (outside : Outside) (answer : Answer) → AnswersShownFile outside file form answer → AnswersJob outside answer (shown_as file form)
+show_answers file (shown.Report dict) outside answer holds = holds
+show_answers file (shown.Json dict) outside answer holds = holds
+show_answers file shown.Csv outside answer holds = holds
+
+-- and the answer to the job is that of the file in its form
+pub show_answered : (file : List ℕ) (form : Form) (outside : Outside) (answer : Answer) → AnswersJob outside answer (shown_as file form)
+    → AnswersShownFile outside file form answer
+show_answered file (shown.Report dict) outside answer holds = holds
+show_answered file (shown.Json dict) outside answer holds = holds
+show_answered file shown.Csv outside answer holds = holds
+
 module _ (file : List ℕ) (form : Form) (old new : Around) (same_input : new.input ≡ old.input) where
   -- bytes that are not shown
   show_refused : (bytes : List ℕ) → Has old.files.held file (Some bytes) → length bytes ≤ profile_limit → new.files ≡ after (Load file ∷ []) old.files → (failure : Failure)
-      → RefusesShown failure bytes form → FindsJob (Err failure) (job.Show file form) old new
+      → RefusesShown failure bytes form → FindsJob (Err failure) (shown_as file form) old new
   show_refused bytes has fits same failure (inl short) =
-      subst (λ f. FindsJob (Err f) (job.Show file form) old new) (sym short)
-      (file_short file profile_limit (job.Show file form) (AnswersShown form) tt refl (λ outside calls. calls) (λ outside answer holds. holds) old new same_input bytes has fits same)
-  show_refused bytes has fits same failure (inr (place, is, shown)) =
-      subst (λ f. FindsJob (Err f) (job.Show file form) old new) (sym is) (
+      subst (λ f. FindsJob (Err f) (shown_as file form) old new) (sym short)
+      (file_short file profile_limit (shown_as file form) (AnswersShown form) (show_reads file form) (show_named file form) (show_calls_not file form) (show_answers file form)
+      old new same_input bytes has fits same)
+  show_refused bytes has fits same failure (inr (place, is, refused)) =
+      subst (λ f. FindsJob (Err f) (shown_as file form) old new) (sym is) (
         of_files (one_seen file (Some bytes)),
         record { files = (has, tt, tt); input = not_seen old.input.left },
         (
-          inl (tt, (Load file ∷ [], refl, (Load file ∷ [], refl, same)), same_input),
-          with_bytes file profile_limit (job.Show file form) (AnswersShown form) tt refl (λ outside calls. calls) (λ outside answer holds. holds) old new same_input bytes has fits same
-              (refusal (why.Saved place)) shown,
+          inl (show_reads file form, (Load file ∷ [], show_named file form, (Load file ∷ [], refl, same)), same_input),
+          with_bytes file profile_limit (shown_as file form) (AnswersShown form) (show_reads file form) (show_named file form) (show_calls_not file form) (show_answers file form)
+              old new same_input bytes has fits same (refusal (why.Saved place)) refused,
         ),
       )
 
-  pub show_found : (result : Result Answer Failure) → ShowsFile result file form old.files new.files → FindsJob result (job.Show file form) old new
-  show_found (Ok answer) (bytes, (has, fits, same), (shown, done)) =
-      file_told file profile_limit (job.Show file form) (AnswersShown form) tt refl (λ outside calls. calls) (λ outside answer holds. holds) old new same_input bytes.items has fits same answer
-      (record { low = done_low answer.failure done; saves = inl done }) shown
+  pub show_found : (result : Result Answer Failure) → ShowsFile result file form old.files new.files → FindsJob result (shown_as file form) old new
+  show_found (Ok answer) (bytes, (has, fits, same), (told, done)) =
+      file_told file profile_limit (shown_as file form) (AnswersShown form) (show_reads file form) (show_named file form) (show_calls_not file form) (show_answers file form)
+      old new same_input bytes.items has fits same answer (record { low = done_low answer.failure done; saves = inl done }) told
   show_found (Err failure) (inl (bytes, (has, fits, same), refuses)) = show_refused bytes.items has fits same failure refuses
   show_found (Err failure) (inr unloaded) =
-      file_unloaded file profile_limit (job.Show file form) (AnswersShown form) tt refl (λ outside calls. calls) (λ outside answer holds. holds) old new same_input failure unloaded
+      file_unloaded file profile_limit (shown_as file form) (AnswersShown form) (show_reads file form) (show_named file form) (show_calls_not file form) (show_answers file form)
+      old new same_input failure unloaded
 
 -- bytes begin as a sum, or they do not
 pub begins_sum : (bytes rest : List ℕ) → word_at (codes "kremlin sum 1\n") bytes ≡ Some rest → BeginsSum bytes

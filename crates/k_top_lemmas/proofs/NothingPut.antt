@@ -11,6 +11,7 @@ use Rattle.k_words.specs.Words as words
 use Rattle.k_words.specs.declared.about.Asked.{Asked}
 use Rattle.k_words.specs.declared.about.Asked.TheVariants.{Help, Version}
 use Rattle.k_words.specs.declared.job.Form.{Form}
+use Rattle.k_words.specs.declared.job.Form.TheVariants as as_form
 use Rattle.k_words.specs.declared.job.Job.{Job}
 use Rattle.k_words.specs.declared.job.Job.TheVariants as job
 use Rattle.k_words.specs.declared.merging.Part.{Part}
@@ -18,7 +19,7 @@ use Rattle.k_words.specs.declared.usage.Usage.{Usage}
 use Rattle.k_words.specs.declared.usage.Usage.TheVariants as usage
 use Rattle.k_top_answers.specs.declared.answer.Answer.{Answer}
 use Rattle.k_top_answers.specs.declared.failure.Failure.{Failure}
-use Rattle.k_top_answers.specs.Answers.{AnswersAnnotated, AnswersAsked, AnswersCarried, AnswersChecked, AnswersJob, AnswersMade, AnswersPage, AnswersProfile, AnswersReplayed, AnswersRun, AnswersShown, AnswersSumShown, AnswersWords, IsAnnotated, IsListed, IsPaged, checked, done, ended, made_running, refusal}
+use Rattle.k_top_answers.specs.Answers.{AnswersAnnotated, AnswersAsked, AnswersCarried, AnswersChecked, AnswersJob, AnswersMade, AnswersPage, AnswersProfile, AnswersReplayed, AnswersRun, AnswersShown, AnswersShownFile, AnswersSumShown, AnswersWords, IsAnnotated, IsListed, IsPaged, checked, done, ended, made_running, refusal}
 use Rattle.k_top_answers.specs.Checks.{told}
 use Rattle.k_top_answers.specs.Failures.{failure_of_end, status_of}
 use Rattle.k_top_answers.specs.Laws.{OthersTellTheirLine, RefusalsPutNothing}
@@ -121,6 +122,9 @@ module _ (answer : Answer) where
   shown form bytes (inr (begins_not, (Ok profile, (reads, (text, told, is))))) = is_done text is
   shown form bytes (inr (begins_not, (Err place, (reads, is)))) = refused _ is
 
+  shown_file : (form : Form) (outside : Outside) (file : List ℕ) → AnswersShownFile outside file form answer → IsPlain answer
+  shown_file form outside file holds = by_file (AnswersShown form answer) (shown form) outside profile_limit file holds
+
   -- MERGE
   module _ (save : List ℕ) (outside : Outside) where
     finished : (file : List ℕ) (sum : Sum) → AnswersFinished fails (IsMerge save answer) file sum → IsPlain answer
@@ -195,7 +199,9 @@ module _ (answer : Answer) where
       inl (by_running (IsPaged outside file depth dict answer) (λ r is. paged file is.0 depth dict r (run_of r).end is.2) outside file latency steps holds)
   right outside (job.Annotate file steps depth latency strict) holds =
       inl (by_running (IsAnnotated outside file depth strict answer) (λ r is. annotated is.0 depth strict r (run_of r).end is.2) outside file latency steps holds)
-  right outside (job.Show file form) holds = inl (by_file (AnswersShown form answer) (shown form) outside profile_limit file holds)
+  right outside (job.Show file dict) holds = inl (shown_file (as_form.Report dict) outside file holds)
+  right outside (job.ShowJson file dict) holds = inl (shown_file (as_form.Json dict) outside file holds)
+  right outside (job.ShowCsv file) holds = inl (shown_file as_form.Csv outside file holds)
   right outside (job.Merge save parts) holds = inl (merged save outside parts holds)
   right outside (job.Check file) holds = inr ((file, refl), loads_checked outside file holds)
   right outside (job.Demo number loops) holds =

@@ -30,7 +30,7 @@ use Rattle.k_words.specs.declared.usage.Usage.TheVariants as usage
 use Rattle.k_top_answers.specs.declared.answer.Answer.{Answer}
 use Rattle.k_top_answers.specs.declared.failure.Failure.{Failure}
 use Rattle.k_top_answers.specs.declared.failure.Failure.TheVariants as why
-use Rattle.k_top_answers.specs.Answers.{AnswersAsked, AnswersCarried, AnswersChecked, AnswersJob, AnswersProfile, AnswersReplayed, AnswersRun, AnswersShown, AnswersSumShown, AnswersWords, IsAnnotated, IsListed, IsPaged, IsShown, IsSumShown, checked, done, refusal}
+use Rattle.k_top_answers.specs.Answers.{AnswersAsked, AnswersCarried, AnswersChecked, AnswersJob, AnswersProfile, AnswersReplayed, AnswersRun, AnswersShown, AnswersShownFile, AnswersSumShown, AnswersWords, IsAnnotated, IsListed, IsPaged, IsShown, IsSumShown, checked, done, refusal}
 use Rattle.k_top_answers.specs.Checks.{told}
 use Rattle.k_top_answers.specs.Laws.{AnswersAreUnique}
 use Rattle.k_top_answers.specs.Steps.{Outside, Running, file_limit, profile_limit, run_of}
@@ -131,6 +131,13 @@ by_check : (file : List ℕ) (one other : Answer) → Agree {A = List ℕ} (λ f
 by_check file one other (inl (failure, a, b)) = a ∙ sym b
 by_check file one other (inr (bytes, a, b)) = one_checked file one other bytes a b
 
+-- SHOW of a file
+one_shown_file : (outside : Outside) (file : List ℕ) (form : Form) (one other : Answer) → AnswersShownFile outside file form one
+    → AnswersShownFile outside file form other → one ≡ other
+one_shown_file outside file form one other a b =
+    by_file form one other
+    (file_agrees (λ failure. one ≡ refusal failure) (λ failure. other ≡ refusal failure) (AnswersShown form one) (AnswersShown form other) outside profile_limit file a b)
+
 one_job : (outside : Outside) (one other : Answer) (asked : Job) → IsJobWithin asked → AnswersJob outside one asked → AnswersJob outside other asked → one ≡ other
 one_job outside one other (job.Run file steps depth latency dict save) within a b =
     by_run one other (λ r. AnswersRun depth dict save one r (run_of r).end × IsSound r) (λ r. AnswersRun depth dict save other r (run_of r).end)
@@ -158,9 +165,9 @@ one_job outside one other (job.Annotate file steps depth latency strict) within 
     by_annotated outside file depth strict one other within.depth.at_least within.depth.at_most
     (running_agrees (λ failure. one ≡ refusal failure) (λ failure. other ≡ refusal failure) _ _ outside steps file latency
     (running_sound (λ failure. one ≡ refusal failure) (IsAnnotated outside file depth strict one) outside steps within.steps.at_most file latency a) b)
-one_job outside one other (job.Show file form) within a b =
-    by_file form one other
-    (file_agrees (λ failure. one ≡ refusal failure) (λ failure. other ≡ refusal failure) (AnswersShown form one) (AnswersShown form other) outside profile_limit file a b)
+one_job outside one other (job.Show file dict) within a b = one_shown_file outside file (shown.Report dict) one other a b
+one_job outside one other (job.ShowJson file dict) within a b = one_shown_file outside file (shown.Json dict) one other a b
+one_job outside one other (job.ShowCsv file) within a b = one_shown_file outside file shown.Csv one other a b
 one_job outside one other (job.Merge save parts) within a b = one_merged save one other outside parts a b
 one_job outside one other (job.Check file) within a b =
     by_check file one other

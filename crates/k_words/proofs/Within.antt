@@ -4,6 +4,8 @@ use Rattle.std.proofs.lemmas.Bool.{and_parts, false≢true}
 use Rattle.std.proofs.lemmas.Bool.Decides.{nat_tests}
 use Rattle.std.specs.Prelude.{unwrap_or}
 use Rattle.std.specs.Str.Parse.{digits_value}
+use Rattle.k_words.specs.declared.job.Form.{Form}
+use Rattle.k_words.specs.declared.job.Form.TheVariants as form
 use Rattle.k_words.specs.declared.job.Job.{Job}
 use Rattle.k_words.specs.declared.job.Job.TheVariants as job
 use Rattle.k_words.specs.declared.option.Command.{Command}
@@ -13,7 +15,7 @@ use Rattle.k_words.specs.Number.{is_numeral, number_within, within}
 use Rattle.k_words.specs.Setting.{most_depth, most_seed, most_steps, most_workers, or_else}
 use Rattle.k_words.specs.Settings.{depth_in, first_of, given, seed_in, steps_in, text_in, workers_in}
 use Rattle.k_words.specs.Within.{IsJobWithin, IsReplayWithin, IsRunWithin, IsWithin, JobsAreWithin}
-use Rattle.k_words.specs.Words.{AreRight, annotate_of, argument_fault, carried_of, command_of, fault_behind, demo_loops, demo_number, graph_of, job_with, page_of, replay_of, run_of}
+use Rattle.k_words.specs.Words.{AreRight, annotate_of, argument_fault, carried_of, command_of, fault_behind, demo_loops, demo_number, form_of, graph_of, job_with, page_of, replay_of, run_of, show_of, shown_as}
 use Rattle.k_words.proofs.Given.{mapped, some_inner}
 use Rattle.k_words.proofs.FilesToMerge.{are_parts}
 
@@ -104,6 +106,12 @@ replay_within words = record {
       (record { at_least = omega arith; at_most = omega arith });
 }
 
+-- `show` has no numbers, in whatever form
+show_within : (file : List ℕ) (shown : Form) → IsJobWithin (shown_as file shown)
+show_within file (form.Report dict) = tt
+show_within file (form.Json dict) = tt
+show_within file form.Csv = tt
+
 -- a command with its arguments
 command_within : (command : Command) (words : List (List ℕ)) (asked : Job) → AreRight (argument_fault command words) → job_with words command ≡ Some asked → IsJobWithin asked
 command_within Run [] asked right is = no_some asked is
@@ -129,7 +137,7 @@ command_within Annotate (file ∷ words) asked right is =
     subst IsJobWithin (some_inner (annotate_of file (given Annotate words)) asked is)
     (options_within Annotate words 100000000 (record { at_least = omega arith; at_most = omega arith }))
 command_within Show [] asked right is = no_some asked is
-command_within Show (file ∷ words) asked right is = subst IsJobWithin (some_inner _ asked is) tt
+command_within Show (file ∷ words) asked right is = subst IsJobWithin (some_inner (show_of file (given Show words)) asked is) (show_within file (form_of (given Show words)))
 command_within Merge [] asked right is = no_some asked is
 command_within Merge (save ∷ files) asked right is = subst IsJobWithin (some_inner _ asked is) (are_parts save files right)
 command_within Check [] asked right is = no_some asked is

@@ -144,9 +144,15 @@ annotate_of file g = job.Annotate file (unwrap_or g.steps standard_steps) (unwra
 abbrev pub form_of : Given → Form
 form_of g = if g.csv then form.Csv else if g.json then form.Json g.dict else form.Report g.dict
 
+-- what is asked for where a file is to be shown in a form
+abbrev pub shown_as : List ℕ → Form → Job
+shown_as file (form.Report dict) = job.Show file dict
+shown_as file (form.Json dict) = job.ShowJson file dict
+shown_as file form.Csv = job.ShowCsv file
+
 -- what `show` with this file and these options asks for
 abbrev pub show_of : List ℕ → Given → Job
-show_of file g = job.Show file (form_of g)
+show_of file g = shown_as file (form_of g)
 
 -- what `run` with these arguments asks for
 abbrev pub run_job : List (List ℕ) → Option Job

@@ -1,7 +1,7 @@
 //! What the words of the command line ask for.
 ghost use Rattle.std.specs.Prelude.{◌≡◌, MatchResult, IfOk, option_map};
 ghost use Rattle.k_words.specs.Settings.{IsFirst, seen, seen_words};
-ghost use Rattle.k_words.specs.Words.{Answers, IsAnswer, ReadsFile, annotate_job, carried_job, check_job, command_of, demo_fault, demo_job, file_fault, graph_job, is_no_file, merge_fault, merge_job, page_job, replay_job, run_job, show_job, form_of};
+ghost use Rattle.k_words.specs.Words.{Answers, IsAnswer, ReadsFile, annotate_job, carried_job, check_job, command_of, demo_fault, demo_job, file_fault, graph_job, is_no_file, merge_fault, merge_job, page_job, replay_job, run_job, show_job, shown_as, form_of};
 
 use crate::merging::{Part, are_files, parts_of};
 use crate::number::number_within;
@@ -78,10 +78,19 @@ pub enum Job {
         latency: Option<Text>,
         strict: bool,
     },
-    /// A saved profile is shown.
+    /// The report of a saved profile is shown, with the dictionary listed where this is asked for.
     Show {
         file: Text,
-        form: Form,
+        dict: bool,
+    },
+    /// A saved profile is shown by a JSON document, which has the dictionary where this is asked for.
+    ShowJson {
+        file: Text,
+        dict: bool,
+    },
+    /// The rows of a saved profile are shown as CSV.
+    ShowCsv {
+        file: Text,
     },
     /// The runs of saved profiles and of sums are put together, and their sum is saved.
     Merge {
@@ -268,6 +277,17 @@ fn form_of(settings: &Settings<'_>) -> Form
     }
 }
 
+/// What is asked for where a file is to be shown in this form.
+fn shown_as(file: Text, form: Form) -> Job
+    ensures { result ≡ shown_as file form }
+{
+    match form {
+        Form::Report { dict } => Job::Show { file, dict },
+        Form::Json { dict } => Job::ShowJson { file, dict },
+        Form::Csv => Job::ShowCsv { file },
+    }
+}
+
 /// What `show` with these arguments asks for.
 fn show_job(alloc: Global, arguments: &[String]) -> Result<Job, Usage>
     ensures { Answers (file_fault Command.Show (seen_words arguments.now)) (show_job (seen_words arguments.now)) result }
@@ -276,10 +296,8 @@ fn show_job(alloc: Global, arguments: &[String]) -> Result<Job, Usage>
         Ok(read) => read,
         Err(fault) => return Err(fault),
     };
-    Ok(Job::Show {
-        file: Text::copy_of(alloc, file)?,
-        form: form_of(&settings),
-    })
+    let file = Text::copy_of(alloc, file)?;
+    Ok(shown_as(file, form_of(&settings)))
 }
 
 /// What `merge` with these arguments asks for.

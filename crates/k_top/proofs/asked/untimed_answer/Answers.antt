@@ -1,5 +1,6 @@
 use Rattle.std.proofs.Common.{refl, sym, subst}
 use Rattle.k_words.specs.Within.{IsJobWithin}
+use Rattle.k_words.specs.declared.job.Form.TheVariants as shown
 use Rattle.k_words.specs.declared.job.Job.{Job}
 use Rattle.k_top_lemmas.specs.Phases.{Around, FindsJob}
 use Rattle.k_top_lemmas.proofs.FileLemmas.{check_found, show_found}
@@ -40,7 +41,19 @@ pub returns-in-Show : goal.returns-in-Show
 returns-in-Show g c =
     let old : Around = record { files = g.F.Files.seen c.args.files.now; input = g.S.Source.seen c.args.input.now } in
     let new : Around = record { files = g.F.Files.seen c.show_answer.new.files; input = g.S.Source.seen c.args.input.now } in
-    subst (λ (j : Job). FindsJob c.show_answer.result j old new) (sym c.in-Show.is) (show_found c.in-Show.file c.in-Show.form old new refl c.show_answer.result c.show_answer.ensures)
+    subst (λ (j : Job). FindsJob c.show_answer.result j old new) (sym c.in-Show.is) (show_found c.in-Show.file (shown.Report c.in-Show.dict) old new refl c.show_answer.result c.show_answer.ensures)
+
+pub returns-in-ShowJson : goal.returns-in-ShowJson
+returns-in-ShowJson g c =
+    let old : Around = record { files = g.F.Files.seen c.args.files.now; input = g.S.Source.seen c.args.input.now } in
+    let new : Around = record { files = g.F.Files.seen c.show_answer-in-ShowJson.new.files; input = g.S.Source.seen c.args.input.now } in
+    subst (λ (j : Job). FindsJob c.show_answer-in-ShowJson.result j old new) (sym c.in-ShowJson.is) (show_found c.in-ShowJson.file (shown.Json c.in-ShowJson.dict) old new refl c.show_answer-in-ShowJson.result c.show_answer-in-ShowJson.ensures)
+
+pub returns-in-ShowCsv : goal.returns-in-ShowCsv
+returns-in-ShowCsv g c =
+    let old : Around = record { files = g.F.Files.seen c.args.files.now; input = g.S.Source.seen c.args.input.now } in
+    let new : Around = record { files = g.F.Files.seen c.show_answer-in-ShowCsv.new.files; input = g.S.Source.seen c.args.input.now } in
+    subst (λ (j : Job). FindsJob c.show_answer-in-ShowCsv.result j old new) (sym c.in-ShowCsv.is) (show_found c.in-ShowCsv.file shown.Csv old new refl c.show_answer-in-ShowCsv.result c.show_answer-in-ShowCsv.ensures)
 
 pub returns-in-Merge : goal.returns-in-Merge
 returns-in-Merge g c =
