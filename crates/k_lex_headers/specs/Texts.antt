@@ -1,4 +1,4 @@
--- Believed with a public law.
+-- For contracts between crates: nobody has to believe it.
 -- The macros of the headers (C17 7), as lines of a C source define them.
 use Rattle.std.specs.Prelude.{ℕ, List, ◌++◌, codes}
 
