@@ -1,0 +1,7 @@
+use Rattle.std.proofs.Common.{◌≡◌, ◌++◌, drop}
+use Rattle.std.specs.List.{flat_map}
+use Rattle.k_advise_text.specs.Table.{row_text}
+use Rattle.k_advise_text.proofs.table.push_rows.Given as goal
+
+abbrev pub invariant-loop-row : goal.invariant-loop-row
+invariant-loop-row l = l.text.items ++ flat_map (row_text l.ran l.regions) (drop l.row-index l.rows) ≡ l.fn.text.items ++ flat_map (row_text l.fn.ran l.fn.regions) l.fn.rows

@@ -1,0 +1,5 @@
+pub mod Numbers
+pub mod Reasons
+pub mod Sources
+pub mod Table
+pub mod Words
